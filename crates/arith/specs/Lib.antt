@@ -1,0 +1,3 @@
+pub mod Notation
+pub mod Pick
+pub mod Floor

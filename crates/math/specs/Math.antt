@@ -1,0 +1,122 @@
+-- Vec3, Frame, Aabb and Interval of math.rs, each operation rounded once, in the Rust's order. Definitions only.
+use mathlib.Core.Bool.{Bool, true, false, cond, _&&_, _||_}
+use Prim.Native.Nat.{ℕ}
+use lib.Ieee.{Float, inf, lt, le, neg}
+use lib.Ieee.Scale.{finite}
+use Rattle.arith.specs.Notation.{_⊕_, _⊖_, _⊗_, _⊘_, bits, nought, half, one}
+use Rattle.arith.specs.Pick.{minOf, maxOf}
+use Rattle.roots.specs.Root.{rootOf}
+use Rattle.trig.specs.Trig.{sinOf, cosOf}
+use Rattle.math.specs.declared.Vec3.{Vec3}
+use Rattle.math.specs.declared.Direction.{Direction}
+use Rattle.math.specs.declared.Direction.the-variants.{Unit, Nothing}
+use Rattle.math.specs.declared.Frame.{Frame}
+use Rattle.math.specs.declared.Aabb.{Aabb}
+use Rattle.math.specs.declared.Interval.{Interval}
+
+-- Vec3::new
+abbrev pub vec : Float → Float → Float → Vec3
+vec x y z = record { x = x; y = y; z = z }
+
+-- Vec3::ZERO
+abbrev pub vZero : Vec3
+vZero = vec nought nought nought
+
+-- a + b, a - b, a * k, -a
+unfoldable pub vAdd : Vec3 → Vec3 → Vec3
+vAdd a b = vec (a .x ⊕ b .x) (a .y ⊕ b .y) (a .z ⊕ b .z)
+
+unfoldable pub vSub : Vec3 → Vec3 → Vec3
+vSub a b = vec (a .x ⊖ b .x) (a .y ⊖ b .y) (a .z ⊖ b .z)
+
+unfoldable pub vScale : Vec3 → Float → Vec3
+vScale a k = vec (a .x ⊗ k) (a .y ⊗ k) (a .z ⊗ k)
+
+unfoldable pub vNeg : Vec3 → Vec3
+vNeg a = vec (neg (a .x)) (neg (a .y)) (neg (a .z))
+
+-- Vec3::dot, cross
+unfoldable pub vDot : Vec3 → Vec3 → Float
+vDot a b = a .x ⊗ b .x ⊕ a .y ⊗ b .y ⊕ a .z ⊗ b .z
+
+unfoldable pub vCross : Vec3 → Vec3 → Vec3
+vCross a b =
+    vec (a .y ⊗ b .z ⊖ a .z ⊗ b .y) (a .z ⊗ b .x ⊖ a .x ⊗ b .z) (a .x ⊗ b .y ⊖ a .y ⊗ b .x)
+
+-- Vec3::length_squared, length
+abbrev pub vLengthSquared : Vec3 → Float
+vLengthSquared a = vDot a a
+
+unfoldable pub vLength : Vec3 → Float
+vLength a = rootOf (vLengthSquared a)
+
+-- the computed distance of two points
+abbrev pub distance : Vec3 → Vec3 → Float
+distance a b = vLength (vSub a b)
+
+-- 2^-511, the root of the least normal number
+abbrev pub shortest : Float
+shortest = bits 0x2000000000000000
+
+-- Vec3::try_normalized: none unless the length is finite and above 2^-511
+unfoldable pub tryNormalized : Vec3 → Direction
+tryNormalized a = cond (finite (vLength a) && lt shortest (vLength a)) (Unit (vScale a (one ⊘ vLength a))) Nothing
+
+-- Vec3::lerp, min, max, is_finite
+unfoldable pub vLerp : Vec3 → Vec3 → Float → Vec3
+vLerp a b t = vAdd a (vScale (vSub b a) t)
+
+unfoldable pub vMin : Vec3 → Vec3 → Vec3
+vMin a b = vec (minOf (a .x) (b .x)) (minOf (a .y) (b .y)) (minOf (a .z) (b .z))
+
+unfoldable pub vMax : Vec3 → Vec3 → Vec3
+vMax a b = vec (maxOf (a .x) (b .x)) (maxOf (a .y) (b .y)) (maxOf (a .z) (b .z))
+
+unfoldable pub vFinite : Vec3 → Bool
+vFinite a = finite (a .x) && (finite (a .y) && finite (a .z))
+
+-- Frame::y_dir: axis cross ref_dir
+unfoldable pub yDir : Frame → Vec3
+yDir f = vCross (f .axis) (f .«ref_dir»)
+
+-- Frame::polar: origin + ref_dir * (r * cos t) + y_dir * (r * sin t)
+unfoldable pub polar : Frame → Float → Float → Vec3
+polar f r t = vAdd (vAdd (f .origin) (vScale (f .«ref_dir») (r ⊗ cosOf t))) (vScale (yDir f) (r ⊗ sinOf t))
+
+-- Aabb::EMPTY
+abbrev pub emptyBox : Aabb
+emptyBox = record { min = vec (inf false) (inf false) (inf false); max = vec (inf true) (inf true) (inf true) }
+
+-- Aabb::is_empty, add_point
+unfoldable pub isEmpty : Aabb → Bool
+isEmpty b = lt (b .max .x) (b .min .x) || (lt (b .max .y) (b .min .y) || lt (b .max .z) (b .min .z))
+
+unfoldable pub addPoint : Aabb → Vec3 → Aabb
+addPoint b p = record { min = vMin (b .min) p; max = vMax (b .max) p }
+
+-- Aabb::size, centre, diagonal
+unfoldable pub boxSize : Aabb → Vec3
+boxSize b = cond (isEmpty b) vZero (vSub (b .max) (b .min))
+
+unfoldable pub centre : Aabb → Vec3
+centre b = cond (isEmpty b) vZero (vScale (vAdd (b .min) (b .max)) half)
+
+unfoldable pub diagonal : Aabb → Float
+diagonal b = vLength (boxSize b)
+
+-- Interval::new, UNIT
+abbrev pub interval : Float → Float → Interval
+interval lo hi = record { lo = lo; hi = hi }
+
+abbrev pub unitInterval : Interval
+unitInterval = interval nought one
+
+-- Interval::span, at, contains
+unfoldable pub spanOf : Interval → Float
+spanOf i = i .hi ⊖ i .lo
+
+unfoldable pub at : Interval → Float → Float
+at i t = i .lo ⊕ (i .hi ⊖ i .lo) ⊗ t
+
+unfoldable pub contains : Interval → Float → Bool
+contains i t = le (i .lo) t && le t (i .hi)

@@ -1,0 +1,1 @@
+// Laws of the order of floats, in proofs/. There is no code.

@@ -1,0 +1,1 @@
+// sin, cos and acos in fixed steps.
