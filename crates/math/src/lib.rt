@@ -1,4 +1,9 @@
 // Vectors, frames, boxes and intervals: the part of math.rs that the road from an edge to its chain uses.
+ghost use mathlib.Core.Path.{_≡_};
+ghost use lib.Ieee.Scale.{finite};
+ghost use Rattle.math.specs.Math.{vAdd, vSub, vScale, vNeg, vDot, vCross, vLengthSquared, vLength, distance};
+ghost use Rattle.math.specs.Math.{tryNormalized, vLerp, vMin, vMax, vFinite, yDir};
+ghost use Rattle.math.specs.Math.{emptyBox, isEmpty, addPoint, boxSize, centre, diagonal, spanOf, at, contains};
 
 pub struct Vec3 {
     pub x: f64,
@@ -29,4 +34,237 @@ pub struct Aabb {
 pub struct Interval {
     pub lo: f64,
     pub hi: f64,
+}
+
+// 2^-511, the root of the least normal number: what is not longer has no direction.
+const SHORTEST: f64 = 1.4916681462400413e-154;
+
+// Neither a NaN nor an infinity.
+fn finite(x: f64) -> bool
+    ensures { λ r. ⌜ r ≡ finite x ⌝ }
+{
+    let most = arith::infinity();
+    -most < x && x < most
+}
+
+impl Vec3 {
+    pub const ZERO: Vec3 = Vec3 {
+        x: 0.0,
+        y: 0.0,
+        z: 0.0,
+    };
+
+    pub fn dot(self, o: Vec3) -> f64
+        ensures { λ r. ⌜ r ≡ vDot self o ⌝ }
+    {
+        self.x * o.x + self.y * o.y + self.z * o.z
+    }
+
+    pub fn cross(self, o: Vec3) -> Vec3
+        ensures { λ r. ⌜ r ≡ vCross self o ⌝ }
+    {
+        Vec3 {
+            x: self.y * o.z - self.z * o.y,
+            y: self.z * o.x - self.x * o.z,
+            z: self.x * o.y - self.y * o.x,
+        }
+    }
+
+    pub fn length(self) -> f64
+        ensures { λ r. ⌜ r ≡ vLength self ⌝ }
+    {
+        roots::root(self.dot(self))
+    }
+
+    pub fn length_squared(self) -> f64
+        ensures { λ r. ⌜ r ≡ vLengthSquared self ⌝ }
+    {
+        self.dot(self)
+    }
+
+    pub fn try_normalized(self) -> Direction
+        ensures { λ r. ⌜ r ≡ tryNormalized self ⌝ }
+    {
+        let n = self.length();
+        if finite(n) {
+            if SHORTEST < n {
+                return Direction::Unit(self.scale(1.0 / n));
+            }
+        }
+        Direction::Nothing
+    }
+
+    pub fn lerp(self, o: Vec3, t: f64) -> Vec3
+        ensures { λ r. ⌜ r ≡ vLerp self o t ⌝ }
+    {
+        self.add(o.sub(self).scale(t))
+    }
+
+    pub fn min(self, o: Vec3) -> Vec3
+        ensures { λ r. ⌜ r ≡ vMin self o ⌝ }
+    {
+        Vec3 {
+            x: arith::min(self.x, o.x),
+            y: arith::min(self.y, o.y),
+            z: arith::min(self.z, o.z),
+        }
+    }
+
+    pub fn max(self, o: Vec3) -> Vec3
+        ensures { λ r. ⌜ r ≡ vMax self o ⌝ }
+    {
+        Vec3 {
+            x: arith::max(self.x, o.x),
+            y: arith::max(self.y, o.y),
+            z: arith::max(self.z, o.z),
+        }
+    }
+
+    pub fn is_finite(self) -> bool
+        ensures { λ r. ⌜ r ≡ vFinite self ⌝ }
+    {
+        finite(self.x) && (finite(self.y) && finite(self.z))
+    }
+
+    pub fn add(self, o: Vec3) -> Vec3
+        ensures { λ r. ⌜ r ≡ vAdd self o ⌝ }
+    {
+        Vec3 {
+            x: self.x + o.x,
+            y: self.y + o.y,
+            z: self.z + o.z,
+        }
+    }
+
+    pub fn sub(self, o: Vec3) -> Vec3
+        ensures { λ r. ⌜ r ≡ vSub self o ⌝ }
+    {
+        Vec3 {
+            x: self.x - o.x,
+            y: self.y - o.y,
+            z: self.z - o.z,
+        }
+    }
+
+    // The Rust's `mul`.
+    pub fn scale(self, s: f64) -> Vec3
+        ensures { λ r. ⌜ r ≡ vScale self s ⌝ }
+    {
+        Vec3 {
+            x: self.x * s,
+            y: self.y * s,
+            z: self.z * s,
+        }
+    }
+
+    pub fn neg(self) -> Vec3
+        ensures { λ r. ⌜ r ≡ vNeg self ⌝ }
+    {
+        Vec3 {
+            x: -self.x,
+            y: -self.y,
+            z: -self.z,
+        }
+    }
+}
+
+// The computed distance of two points.
+pub fn distance(a: Vec3, b: Vec3) -> f64
+    ensures { λ r. ⌜ r ≡ distance a b ⌝ }
+{
+    a.sub(b).length()
+}
+
+impl Frame {
+    // Local +Y, which completes the right-handed frame.
+    pub fn y_dir(self) -> Vec3
+        ensures { λ r. ⌜ r ≡ yDir self ⌝ }
+    {
+        self.axis.cross(self.ref_dir)
+    }
+}
+
+impl Aabb {
+    // The empty box, which takes in any point. No constant can hold an infinity.
+    pub fn empty() -> Aabb
+        ensures { λ r. ⌜ r ≡ emptyBox ⌝ }
+    {
+        let most = arith::infinity();
+        let least = -most;
+        Aabb {
+            min: Vec3 {
+                x: most,
+                y: most,
+                z: most,
+            },
+            max: Vec3 {
+                x: least,
+                y: least,
+                z: least,
+            },
+        }
+    }
+
+    pub fn is_empty(self) -> bool
+        ensures { λ r. ⌜ r ≡ isEmpty self ⌝ }
+    {
+        self.min.x > self.max.x || (self.min.y > self.max.y || self.min.z > self.max.z)
+    }
+
+    pub fn add_point(self, p: Vec3) -> Aabb
+        ensures { λ r. ⌜ r ≡ addPoint self p ⌝ }
+    {
+        Aabb {
+            min: self.min.min(p),
+            max: self.max.max(p),
+        }
+    }
+
+    pub fn size(self) -> Vec3
+        ensures { λ r. ⌜ r ≡ boxSize self ⌝ }
+    {
+        if self.is_empty() {
+            Vec3::ZERO
+        } else {
+            self.max.sub(self.min)
+        }
+    }
+
+    pub fn centre(self) -> Vec3
+        ensures { λ r. ⌜ r ≡ centre self ⌝ }
+    {
+        if self.is_empty() {
+            Vec3::ZERO
+        } else {
+            self.min.add(self.max).scale(0.5)
+        }
+    }
+
+    pub fn diagonal(self) -> f64
+        ensures { λ r. ⌜ r ≡ diagonal self ⌝ }
+    {
+        self.size().length()
+    }
+}
+
+impl Interval {
+    pub const UNIT: Interval = Interval { lo: 0.0, hi: 1.0 };
+
+    pub fn span(self) -> f64
+        ensures { λ r. ⌜ r ≡ spanOf self ⌝ }
+    {
+        self.hi - self.lo
+    }
+
+    pub fn at(self, t: f64) -> f64
+        ensures { λ r. ⌜ r ≡ at self t ⌝ }
+    {
+        self.lo + (self.hi - self.lo) * t
+    }
+
+    pub fn contains(self, t: f64) -> bool
+        ensures { λ r. ⌜ r ≡ contains self t ⌝ }
+    {
+        self.lo <= t && t <= self.hi
+    }
 }

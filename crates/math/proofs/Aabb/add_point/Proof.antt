@@ -1,0 +1,18 @@
+-- `math::Aabb::add_point` meets its contract. Assumes nothing.
+use Rattle.math.specs.Math.{addPoint}
+use borrow.Author.Needs.{needs}
+use Rattle.math.proofs.Aabb.add_point.Statement.{statement}
+use Rattle.math.proofs.Aabb.add_point.Tie as tie
+
+min-requires : tie.Need-min-requires
+min-requires c κs = search needs
+
+max-requires : tie.Need-max-requires
+max-requires c κs = search needs
+
+returns : tie.Need-returns
+unfolding addPoint
+returns c = cc
+
+pub add-point-spec : {M : Type 1} → statement M
+add-point-spec = tie.close (tie.spec min-requires max-requires returns)

@@ -1,0 +1,26 @@
+-- `math::Aabb::centre` meets its contract. Assumes nothing.
+use mathlib.Core.Path.{sym, _∙_}
+use Rattle.math.specs.Math.{centre}
+use borrow.Author.Needs.{needs}
+use Rattle.math.proofs.Aabb.centre.Statement.{statement}
+use Rattle.math.proofs.Aabb.centre.Tie as tie
+
+is-empty-requires : tie.Need-is-empty-requires
+is-empty-requires c κs = search needs
+
+add-requires : tie.Need-add-requires
+add-requires c κs = search needs
+
+scale-requires : tie.Need-scale-requires
+scale-requires c κs = search needs
+
+returns : tie.Need-returns
+unfolding centre
+returns c = simp (sym (c .before .is-empty .ensures) ∙ c .if1 .taken)
+
+returns-2 : tie.Need-returns-2
+unfolding centre
+returns-2 c = simp (sym (c .before .before .before .is-empty .ensures) ∙ c .before .before .if1 .left) cc
+
+pub centre-spec : {M : Type 1} → statement M
+centre-spec = tie.close (tie.spec is-empty-requires add-requires scale-requires returns returns-2)

@@ -1,0 +1,18 @@
+-- `math::Aabb::diagonal` meets its contract. Assumes nothing.
+use Rattle.math.specs.Math.{diagonal}
+use borrow.Author.Needs.{needs}
+use Rattle.math.proofs.Aabb.diagonal.Statement.{statement}
+use Rattle.math.proofs.Aabb.diagonal.Tie as tie
+
+size-requires : tie.Need-size-requires
+size-requires c κs = search needs
+
+length-requires : tie.Need-length-requires
+length-requires c κs = search needs
+
+returns : tie.Need-returns
+unfolding diagonal
+returns c = cc
+
+pub diagonal-spec : {M : Type 1} → statement M
+diagonal-spec = tie.close (tie.spec size-requires length-requires returns)

@@ -1,0 +1,18 @@
+-- `math::Vec3::length` meets its contract. Assumes nothing.
+use Rattle.math.specs.Math.{vLength}
+use borrow.Author.Needs.{needs}
+use Rattle.math.proofs.Vec3.length.Statement.{statement}
+use Rattle.math.proofs.Vec3.length.Tie as tie
+
+dot-requires : tie.Need-dot-requires
+dot-requires c κs = search needs
+
+root-requires : tie.Need-root-requires
+root-requires c κs = search needs
+
+returns : tie.Need-returns
+unfolding vLength
+returns c = cc
+
+pub length-spec : {M : Type 1} → statement M
+length-spec = tie.close (tie.spec dot-requires root-requires returns)

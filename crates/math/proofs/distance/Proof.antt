@@ -1,0 +1,17 @@
+-- `math::distance` meets its contract. Assumes nothing.
+use Rattle.math.specs.Math.{distance}
+use borrow.Author.Needs.{needs}
+use Rattle.math.proofs.distance.Statement.{statement}
+use Rattle.math.proofs.distance.Tie as tie
+
+sub-requires : tie.Need-sub-requires
+sub-requires c κs = search needs
+
+length-requires : tie.Need-length-requires
+length-requires c κs = search needs
+
+returns : tie.Need-returns
+returns c = cc
+
+pub distance-spec : {M : Type 1} → statement M
+distance-spec = tie.close (tie.spec sub-requires length-requires returns)
