@@ -6,6 +6,7 @@ use lib.Ieee.{Float, nan, inf, fin, up, down, eq, lt, neg}
 use Rattle.arith.specs.Floor.{floorOf}
 use Rattle.arith.specs.Notation.{_⊕_, _⊖_, _⊗_, _⊘_, bits, count, half, one}
 use Rattle.roots.specs.Root.{rootOf}
+use Rattle.trig.specs.declared.SinCos.{SinCos}
 
 -- 2 / π, and π / 2 in two parts
 abbrev pub twoOverPi : Float
@@ -68,6 +69,9 @@ sinOf t = sinBy (quarter (turns t)) (reduced t (turns t))
 
 unfoldable pub cosOf : Float → Float
 cosOf t = cosBy (quarter (turns t)) (reduced t (turns t))
+
+unfoldable pub sinCosOf : Float → SinCos
+sinCosOf t = record { sin = sinOf t; cos = cosOf t }
 
 -- y becomes y / (1 + root(1 + y * y)): the tangent of half the angle
 abbrev pub halved : Float → Float

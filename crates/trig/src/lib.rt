@@ -1,1 +1,126 @@
 // sin, cos and acos in fixed steps.
+ghost use mathlib.Core.Path.{_≡_};
+ghost use Rattle.trig.specs.Trig.{turns, reduced, quarter, sinKernel, cosKernel, sinOf, cosOf, sinCosOf};
+
+// The sine and the cosine of one angle.
+pub struct SinCos {
+    pub sin: f64,
+    pub cos: f64,
+}
+
+// An angle as quarter turns and what is left.
+struct Reduced {
+    quarter: u64,
+    rest: f64,
+}
+
+// k mod 4 of a whole k, from 0 to 3. From 2^64 on every float is a multiple of 4.
+fn quarter(k: f64) -> u64
+    ensures { λ r. ⌜ r ≡ quarter k ⌝ }
+{
+    let size = arith::abs(k);
+    if size < 18446744073709551616.0 {
+        let n = std::num::truncating_f64_to_u64(size) % 4;
+        if k < 0.0 { (4 - n) % 4 } else { n }
+    } else {
+        0
+    }
+}
+
+// t less its k quarter turns, to the nearest: what is left, and k mod 4. π / 2 is in two parts.
+fn reduce(t: f64) -> Reduced
+    ensures { λ r. ⌜ (r .quarter ≡ quarter (turns t)) × (r .rest ≡ reduced t (turns t)) ⌝ }
+{
+    let k = arith::floor(t * 0.6366197723675814 + 0.5);
+    Reduced {
+        quarter: quarter(k),
+        rest: t - k * 1.5707963267341256 - k * 6.077100506506192e-11,
+    }
+}
+
+// The sine of an r at most an eighth turn from 0.
+fn sin_kernel(r: f64) -> f64
+    ensures { λ s. ⌜ s ≡ sinKernel r ⌝ }
+{
+    let z = r * r;
+    let mut w = 1.0;
+    w = 1.0 - z / 272.0 * w;
+    w = 1.0 - z / 210.0 * w;
+    w = 1.0 - z / 156.0 * w;
+    w = 1.0 - z / 110.0 * w;
+    w = 1.0 - z / 72.0 * w;
+    w = 1.0 - z / 42.0 * w;
+    w = 1.0 - z / 20.0 * w;
+    w = 1.0 - z / 6.0 * w;
+    r * w
+}
+
+// The cosine of such an r.
+fn cos_kernel(r: f64) -> f64
+    ensures { λ s. ⌜ s ≡ cosKernel r ⌝ }
+{
+    let z = r * r;
+    let mut w = 1.0;
+    w = 1.0 - z / 240.0 * w;
+    w = 1.0 - z / 182.0 * w;
+    w = 1.0 - z / 132.0 * w;
+    w = 1.0 - z / 90.0 * w;
+    w = 1.0 - z / 56.0 * w;
+    w = 1.0 - z / 30.0 * w;
+    w = 1.0 - z / 12.0 * w;
+    1.0 - z / 2.0 * w
+}
+
+pub fn sin(t: f64) -> f64
+    ensures { λ s. ⌜ s ≡ sinOf t ⌝ }
+{
+    let m = reduce(t);
+    let q = m.quarter;
+    let r = m.rest;
+    if q == 0 {
+        sin_kernel(r)
+    } else if q == 1 {
+        cos_kernel(r)
+    } else if q == 2 {
+        -sin_kernel(r)
+    } else {
+        -cos_kernel(r)
+    }
+}
+
+pub fn cos(t: f64) -> f64
+    ensures { λ s. ⌜ s ≡ cosOf t ⌝ }
+{
+    let m = reduce(t);
+    let q = m.quarter;
+    let r = m.rest;
+    if q == 0 {
+        cos_kernel(r)
+    } else if q == 1 {
+        -sin_kernel(r)
+    } else if q == 2 {
+        -cos_kernel(r)
+    } else {
+        sin_kernel(r)
+    }
+}
+
+// Both, with the work that they share done once.
+pub fn sin_cos(t: f64) -> SinCos
+    ensures { λ s. ⌜ s ≡ sinCosOf t ⌝ }
+{
+    let m = reduce(t);
+    let q = m.quarter;
+    let r = m.rest;
+    let s = sin_kernel(r);
+    let c = cos_kernel(r);
+    if q == 0 {
+        SinCos { sin: s, cos: c }
+    } else if q == 1 {
+        SinCos { sin: c, cos: -s }
+    } else if q == 2 {
+        SinCos { sin: -s, cos: -c }
+    } else {
+        SinCos { sin: -c, cos: s }
+    }
+}

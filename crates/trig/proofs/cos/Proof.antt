@@ -1,0 +1,70 @@
+-- `trig::cos` meets its contract: each arm returns what the definition gives where k mod 4 is as the arm found it. Assumes nothing.
+use borrow.Author.Needs.{needs}
+use mathlib.Core.Path.{_≡_, ap, _∙_}
+use native.Mathlib.Omega.{arith}
+use lib.Ieee.{neg}
+use Rattle.trig.specs.Trig.{cosOf, cosBy, turns}
+use Rattle.trig.proofs.Cases.{by-case}
+use Rattle.trig.proofs.Modulo.{below-four}
+use Rattle.trig.proofs.cos.Statement.{statement}
+use Rattle.trig.proofs.cos.Tie as tie
+use Rattle.trig.proofs.cos.Reads as reads
+use Rattle.trig.proofs.cos.Lts as lts
+use Rattle.trig.proofs.cos_kernel.Reads as cos-kernel-reads
+use Rattle.trig.proofs.reduce.Reads as reduce-reads
+use Rattle.trig.proofs.sin_kernel.Reads as sin-kernel-reads
+
+reduce-requires : tie.Need-reduce-requires
+reduce-requires c κs = search needs
+
+cos-kernel-requires : tie.Need-cos-kernel-requires
+cos-kernel-requires c κs = search needs
+
+sin-kernel-requires : tie.Need-sin-kernel-requires
+sin-kernel-requires c κs = search needs
+
+cos-kernel-requires-2 : tie.Need-cos-kernel-requires-2
+cos-kernel-requires-2 c κs = search needs
+
+sin-kernel-requires-2 : tie.Need-sin-kernel-requires-2
+sin-kernel-requires-2 c κs = search needs
+
+returns : tie.Need-returns
+unfolding cosOf cosBy
+returns c =
+    let d = c .before .before in
+    c .cos-kernel .ensures ∙ by-case cosBy (d .before .args .t) (d .reduce .result .rest) (d .reduce .result .quarter) 0 (d .reduce .ensures) (c .before .if1 .taken)
+
+returns-2 : tie.Need-returns-2
+unfolding cosOf cosBy
+returns-2 c =
+    let d = c .before .before .before in
+    ap neg (c .sin-kernel .ensures) ∙ by-case cosBy (d .before .args .t) (d .reduce .result .rest) (d .reduce .result .quarter) 1 (d .reduce .ensures) (c .before .if2 .taken)
+
+returns-3 : tie.Need-returns-3
+unfolding cosOf cosBy
+returns-3 c =
+    let d = c .before .before .before .before in
+    ap neg (c .cos-kernel2 .ensures) ∙ by-case cosBy (d .before .args .t) (d .reduce .result .rest) (d .reduce .result .quarter) 2 (d .reduce .ensures) (c .before .if3 .taken)
+
+returns-4 : tie.Need-returns-4
+unfolding cosOf cosBy
+returns-4 c =
+    let d = c .before .before .before .before in
+    let q = d .reduce .result .quarter in
+    let e : q ≡ 3 = omega (arith, below-four (turns (d .before .args .t))) in
+    c .sin-kernel2 .ensures ∙ by-case cosBy (d .before .args .t) (d .reduce .result .rest) q 3 (d .reduce .ensures) e
+
+pub cos-spec : {M : Type 1} → statement M
+cos-spec =
+    tie.close
+    (tie.spec
+    reduce-requires
+    cos-kernel-requires
+    sin-kernel-requires
+    cos-kernel-requires-2
+    sin-kernel-requires-2
+    returns
+    returns-2
+    returns-3
+    returns-4)
