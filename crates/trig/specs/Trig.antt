@@ -1,10 +1,13 @@
 -- sin, cos and acos in fixed steps, every operation rounded once. Definitions only.
+-- Where t is NaN or an infinity, so is k, r is NaN, and so are sin and cos. The steps are the same for every other t. Measured, not proved: up to
+-- 6e6 in magnitude they give the sine and the cosine to about one rounding; at 1e9 to within 6e-8; beyond about 1e15 what is left of t is no
+-- longer small, and what they give is neither, but still one fixed float.
 use mathlib.Core.Bool.{Bool, true, false, cond}
 use mathlib.Core.List.{List, [], _∷_}
 use Prim.Native.Nat.{ℕ, zero, suc, _-_, _*_, _/_, _%_}
 use lib.Ieee.{Float, nan, inf, fin, up, down, eq, lt, neg}
 use Rattle.arith.specs.Floor.{floorOf}
-use Rattle.arith.specs.Notation.{_⊕_, _⊖_, _⊗_, _⊘_, bits, count, half, one}
+use Rattle.arith.specs.Notation.{_⊕_, _⊖_, _⊗_, _⊘_, bits, count, nought, half, one}
 use Rattle.roots.specs.Root.{rootOf}
 use Rattle.trig.specs.declared.SinCos.{SinCos}
 
@@ -30,7 +33,7 @@ turns t = floorOf (t ⊗ twoOverPi ⊕ half)
 abbrev pub reduced : Float → Float → Float
 reduced t k = t ⊖ k ⊗ halfPiHigh ⊖ k ⊗ halfPiLow
 
--- k mod 4 of a whole k, from 0 to 3 for a k below zero too
+-- k mod 4 of a whole k, from 0 to 3 for a k below zero too; 0 where k is NaN or an infinity
 unfoldable pub quarter : Float → ℕ
 quarter nan = 0
 quarter (inf s) = 0
@@ -63,7 +66,7 @@ cosBy (suc zero) r = neg (sinKernel r)
 cosBy (suc (suc zero)) r = neg (cosKernel r)
 cosBy (suc (suc (suc q))) r = sinKernel r
 
--- sin and cos
+-- f64::sin, f64::cos, f64::sin_cos
 unfoldable pub sinOf : Float → Float
 sinOf t = sinBy (quarter (turns t)) (reduced t (turns t))
 
@@ -74,7 +77,7 @@ unfoldable pub sinCosOf : Float → SinCos
 sinCosOf t = record { sin = sinOf t; cos = cosOf t }
 
 -- y becomes y / (1 + root(1 + y * y)): the tangent of half the angle
-abbrev pub halved : Float → Float
+unfoldable pub halved : Float → Float
 halved y = y ⊘ (one ⊕ rootOf (one ⊕ y ⊗ y))
 
 -- for each d of the list in turn: v = 1/d - z * v
@@ -82,17 +85,18 @@ unfoldable pub summed : Float → Float → List ℕ → Float
 summed z v [] = v
 summed z v (d ∷ ds) = summed z (one ⊘ count d ⊖ z ⊗ v) ds
 
--- 16 * (y * v) of the y that was halved three times
+-- 16 * (y * v)
 unfoldable pub arcOf : Float → Float
 arcOf y = count 16 ⊗ (y ⊗ summed (y ⊗ y) (one ⊘ count 15) (13 ∷ 11 ∷ 9 ∷ 7 ∷ 5 ∷ 3 ∷ 1 ∷ []))
 
--- with y the tangent of half the angle, turned over where it is above 1
-unfoldable pub acosBy : Float → Float
-acosBy y = cond (lt one y) (pi ⊖ arcOf (halved (halved (halved (one ⊘ y))))) (arcOf (halved (halved (halved y))))
+-- twice the angle whose tangent is y: three halvings, then sixteen times what is left
+unfoldable pub angleOf : Float → Float
+angleOf y = arcOf (halved (halved (halved y)))
 
--- acos: 1 gives 0, -1 gives π
+-- the same, with y turned over where it is above 1
+unfoldable pub acosBy : Float → Float
+acosBy y = cond (lt one y) (pi ⊖ angleOf (one ⊘ y)) (angleOf y)
+
+-- f64::acos: 1 gives 0, -1 gives π; NaN for a NaN and for what is no cosine
 unfoldable pub acosOf : Float → Float
-acosOf a =
-    cond (eq a one) (bits 0)
-    (cond (eq a (neg one)) pi
-    (acosBy (rootOf ((one ⊖ a) ⊘ (one ⊕ a)))))
+acosOf a = cond (eq a one) nought (cond (eq a (neg one)) pi (acosBy (rootOf ((one ⊖ a) ⊘ (one ⊕ a)))))

@@ -1,6 +1,6 @@
 // sin, cos and acos in fixed steps.
 ghost use mathlib.Core.Path.{_≡_};
-ghost use Rattle.trig.specs.Trig.{turns, reduced, quarter, sinKernel, cosKernel, sinOf, cosOf, sinCosOf};
+ghost use Rattle.trig.specs.Trig.{turns, reduced, quarter, sinKernel, cosKernel, sinOf, cosOf, sinCosOf, halved, arcOf, angleOf, acosBy, acosOf};
 
 // The sine and the cosine of one angle.
 pub struct SinCos {
@@ -122,5 +122,59 @@ pub fn sin_cos(t: f64) -> SinCos
         SinCos { sin: -s, cos: -c }
     } else {
         SinCos { sin: -c, cos: s }
+    }
+}
+
+// y becomes y / (1 + root(1 + y * y)): the tangent of half the angle.
+fn halved(y: f64) -> f64
+    ensures { λ r. ⌜ r ≡ halved y ⌝ }
+{
+    y / (1.0 + roots::root(1.0 + y * y))
+}
+
+// Sixteen times the angle whose tangent is y.
+fn arc(y: f64) -> f64
+    ensures { λ r. ⌜ r ≡ arcOf y ⌝ }
+{
+    let z = y * y;
+    let mut v = 1.0 / 15.0;
+    v = 1.0 / 13.0 - z * v;
+    v = 1.0 / 11.0 - z * v;
+    v = 1.0 / 9.0 - z * v;
+    v = 1.0 / 7.0 - z * v;
+    v = 1.0 / 5.0 - z * v;
+    v = 1.0 / 3.0 - z * v;
+    v = 1.0 / 1.0 - z * v;
+    16.0 * (y * v)
+}
+
+// Twice the angle whose tangent is y, by an eighth of the angle.
+fn angle(y: f64) -> f64
+    ensures { λ r. ⌜ r ≡ angleOf y ⌝ }
+{
+    arc(halved(halved(halved(y))))
+}
+
+// The same, by 1 / y where y is above 1.
+fn acos_by(y: f64) -> f64
+    ensures { λ r. ⌜ r ≡ acosBy y ⌝ }
+{
+    if 1.0 < y {
+        3.141592653589793 - angle(1.0 / y)
+    } else {
+        angle(y)
+    }
+}
+
+// The angle from 0 to π whose cosine is a; NaN where there is none.
+pub fn acos(a: f64) -> f64
+    ensures { λ r. ⌜ r ≡ acosOf a ⌝ }
+{
+    if a == 1.0 {
+        0.0
+    } else if a == -1.0 {
+        3.141592653589793
+    } else {
+        acos_by(roots::root((1.0 - a) / (1.0 + a)))
     }
 }

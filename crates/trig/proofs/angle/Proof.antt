@@ -1,0 +1,29 @@
+-- `trig::angle` meets its contract: the calls in turn. Assumes nothing.
+use Rattle.trig.specs.Trig.{angleOf}
+use borrow.Author.Needs.{needs}
+use Rattle.trig.proofs.angle.Statement.{statement}
+use Rattle.trig.proofs.angle.Tie as tie
+use Rattle.trig.proofs.angle.Reads as reads
+use Rattle.trig.proofs.angle.Lts as lts
+use Rattle.trig.proofs.arc.Reads as arc-reads
+use Rattle.trig.proofs.halved.Reads as halved-reads
+
+halved-requires : tie.Need-halved-requires
+halved-requires c κs = search needs
+
+halved-requires-2 : tie.Need-halved-requires-2
+halved-requires-2 c κs = search needs
+
+halved-requires-3 : tie.Need-halved-requires-3
+halved-requires-3 c κs = search needs
+
+arc-requires : tie.Need-arc-requires
+arc-requires c κs = search needs
+
+returns : tie.Need-returns
+unfolding angleOf
+returns c = cc
+
+pub angle-spec : {M : Type 1} → statement M
+angle-spec =
+    tie.close (tie.spec halved-requires halved-requires-2 halved-requires-3 arc-requires returns)

@@ -1,0 +1,18 @@
+-- `trig::halved` meets its contract: the root is that of `roots`. Assumes nothing.
+use Rattle.trig.specs.Trig.{halved}
+use borrow.Author.Needs.{needs}
+use Rattle.trig.proofs.halved.Statement.{statement}
+use Rattle.trig.proofs.halved.Tie as tie
+use Rattle.trig.proofs.halved.Reads as reads
+use Rattle.trig.proofs.halved.Lts as lts
+use Rattle.roots.proofs.root.Reads as root-reads
+
+root-requires : tie.Need-root-requires
+root-requires c κs = search needs
+
+returns : tie.Need-returns
+unfolding halved
+returns c = rw (c .root .ensures)
+
+pub halved-spec : {M : Type 1} → statement M
+halved-spec = tie.close (tie.spec root-requires returns)
