@@ -1,0 +1,78 @@
+-- `brep::kind_of` meets its contract. The kind is the arm's number, or none of the seven. Assumes nothing.
+use Rattle.brep.specs.Rows.{kindOf}
+use borrow.Author.Tests.{ne-eqb}
+use native.Mathlib.Omega.{arith}
+use native.Mathlib.Nat.{add-zero}
+use mathlib.Core.Path.{_≡_}
+use borrow.Author.Needs.{needs}
+use Rattle.brep.proofs.kind_of.Statement.{statement}
+use Rattle.brep.proofs.kind_of.Tie as tie
+use Rattle.brep.proofs.kind_of.Reads as reads
+use Rattle.brep.proofs.kind_of.Lts as lts
+use Rattle.brep.proofs.frame_at.Reads as frame-at-reads
+use Rattle.brep.proofs.point_in.Reads as point-in-reads
+
+point-in-requires : tie.Need-point-in-requires
+point-in-requires c κs = search needs
+
+point-in-requires-2 : tie.Need-point-in-requires-2
+point-in-requires-2 c κs = search needs
+
+frame-at-requires : tie.Need-frame-at-requires
+frame-at-requires c κs = search needs
+
+frame-at-requires-2 : tie.Need-frame-at-requires-2
+frame-at-requires-2 c κs = search needs
+
+frame-at-requires-3 : tie.Need-frame-at-requires-3
+frame-at-requires-3 c κs = search needs
+
+returns : tie.Need-returns
+unfolding kindOf
+returns c = let k : c .before .before .before .before .args .kind ≡ 1 = omega arith in simp (k, c .before .point-in .ensures, c .point-in2 .ensures, add-zero)
+
+returns-2 : tie.Need-returns-2
+unfolding kindOf
+returns-2 c = let k : c .before .before .before .args .kind ≡ 2 = omega arith in simp (k, c .frame-at .ensures)
+
+returns-3 : tie.Need-returns-3
+unfolding kindOf
+returns-3 c = let k : c .before .before .before .args .kind ≡ 3 = omega arith in simp (k, c .frame-at2 .ensures)
+
+returns-4 : tie.Need-returns-4
+unfolding kindOf
+returns-4 c = let k : c .before .before .before .args .kind ≡ 4 = omega arith in simp (k, c .frame-at3 .ensures)
+
+returns-5 : tie.Need-returns-5
+unfolding kindOf
+returns-5 c = let k : c .before .before .args .kind ≡ 5 = omega arith in simp k
+
+returns-6 : tie.Need-returns-6
+unfolding kindOf
+returns-6 c = let k : c .before .before .args .kind ≡ 6 = omega arith in simp k
+
+returns-7 : tie.Need-returns-7
+unfolding kindOf
+returns-7 c = let k : c .before .before .args .kind ≡ 7 = omega arith in simp k
+
+returns-8 : tie.Need-returns-8
+unfolding kindOf
+returns-8 c = let k = c .before .before .args .kind in simp (ne-eqb k 1 (c .match .rest .0 .0 .0 .0 .0 .0 .1), ne-eqb k 2 (c .match .rest .0 .0 .0 .0 .0 .1), ne-eqb k 3 (c .match .rest .0 .0 .0 .0 .1), ne-eqb k 4 (c .match .rest .0 .0 .0 .1), ne-eqb k 5 (c .match .rest .0 .0 .1), ne-eqb k 6 (c .match .rest .0 .1), ne-eqb k 7 (c .match .rest .1))
+
+pub kind-of-spec : {M : Type 1} → statement M
+kind-of-spec =
+    tie.close
+    (tie.spec
+    point-in-requires
+    point-in-requires-2
+    frame-at-requires
+    frame-at-requires-2
+    frame-at-requires-3
+    returns
+    returns-2
+    returns-3
+    returns-4
+    returns-5
+    returns-6
+    returns-7
+    returns-8)

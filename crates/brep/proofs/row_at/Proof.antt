@@ -1,0 +1,68 @@
+-- `brep::row_at` meets its contract. Assumes nothing.
+use Rattle.brep.specs.Rows.{curveOf}
+use borrow.Author.Needs.{needs}
+use Rattle.brep.proofs.row_at.Statement.{statement}
+use Rattle.brep.proofs.row_at.Tie as tie
+use Rattle.brep.proofs.row_at.Reads as reads
+use Rattle.brep.proofs.row_at.Lts as lts
+use Rattle.brep.proofs.float_at.Reads as float-at-reads
+use Rattle.brep.proofs.int_at.Reads as int-at-reads
+use Rattle.brep.proofs.kind_of.Reads as kind-of-reads
+
+mul-at : tie.Need-mul-at
+mul-at c = search needs
+
+int-at-requires : tie.Need-int-at-requires
+int-at-requires c κs = search needs
+
+add-int-at : tie.Need-add-int-at
+add-int-at c = search needs
+
+int-at-requires-2 : tie.Need-int-at-requires-2
+int-at-requires-2 c κs = search needs
+
+add-int-at-2 : tie.Need-add-int-at-2
+add-int-at-2 c = search needs
+
+int-at-requires-3 : tie.Need-int-at-requires-3
+int-at-requires-3 c κs = search needs
+
+mul-float-at : tie.Need-mul-float-at
+mul-float-at c = search needs
+
+float-at-requires : tie.Need-float-at-requires
+float-at-requires c κs = search needs
+
+mul-float-at-2 : tie.Need-mul-float-at-2
+mul-float-at-2 c = search needs
+
+add-float-at : tie.Need-add-float-at
+add-float-at c = search needs
+
+float-at-requires-2 : tie.Need-float-at-requires-2
+float-at-requires-2 c κs = search needs
+
+kind-of-requires : tie.Need-kind-of-requires
+kind-of-requires c κs = search needs
+
+returns : tie.Need-returns
+unfolding curveOf
+returns c = cc
+
+pub row-at-spec : {M : Type 1} → statement M
+row-at-spec =
+    tie.close
+    (tie.spec
+    mul-at
+    int-at-requires
+    add-int-at
+    int-at-requires-2
+    add-int-at-2
+    int-at-requires-3
+    mul-float-at
+    float-at-requires
+    mul-float-at-2
+    add-float-at
+    float-at-requires-2
+    kind-of-requires
+    returns)

@@ -1,0 +1,78 @@
+-- The Rust's recursive curve, and how a row of the tables is read as one. Definitions only.
+use mathlib.Core.Bool.{Bool, true, false}
+use mathlib.Core.List.{List, [], _∷_}
+use Prim.Native.Nat.{ℕ, zero, suc}
+use lib.Dec.{eqb}
+use lib.Ieee.{Float}
+use Rattle.math.specs.declared.Vec3.{Vec3}
+use Rattle.math.specs.declared.Frame.{Frame}
+use Rattle.math.specs.declared.Interval.{Interval}
+use Rattle.brep.specs.declared.Segment.{Segment}
+use Rattle.brep.specs.declared.Curve.{Curve}
+use Rattle.brep.specs.declared.Curve.the-variants.{Line, Circle, Ellipse, Parabola, Polyline, Trimmed, Composite}
+use Rattle.brep.specs.Rows.{Tables, pointOf, segmentOf, curveOf}
+
+-- Curve and Vec<CompositeSegment> of brep.rs, the kinds that are kept
+mutual
+  pub data CurveTree : Type 0 where
+    -- origin, direction
+    line : Vec3 → Vec3 → CurveTree
+    -- frame, radius
+    circle : Frame → Float → CurveTree
+    -- frame, semi_major, semi_minor
+    ellipse : Frame → Float → Float → CurveTree
+    -- frame, focal_dist
+    parabola : Frame → Float → CurveTree
+    -- points
+    polyline : List Vec3 → CurveTree
+    -- base, range
+    trimmed : CurveTree → Interval → CurveTree
+    composite : Segments → CurveTree
+
+  pub data Segments : Type 0 where
+    none : Segments
+    -- curve, range, same_sense, and the segments after it
+    segment : CurveTree → Interval → Bool → Segments → Segments
+
+-- n points from number first on
+unfoldable pub run : List Float → ℕ → ℕ → List Vec3
+run points first zero = []
+run points first (suc n) = pointOf points first ∷ run points (suc first) n
+
+-- segment number i of the tables
+abbrev pub segmentIn : Tables → ℕ → Segment
+segmentIn T i = segmentOf (T .parts) (T .ranges) i
+
+-- curve row number i of the tables
+abbrev pub rowIn : Tables → ℕ → Curve
+rowIn T i = curveOf (T .points) (T .curves) (T .reals) i
+
+-- n segments from number first on; f gives the curve of a row
+unfoldable pub segments : Tables → (ℕ → CurveTree) → ℕ → ℕ → Segments
+segments T f first zero = none
+segments T f first (suc n) =
+    segment (f (segmentIn T first .curve)) (segmentIn T first .range) (segmentIn T first .«same_sense»)
+    (segments T f (suc first) n)
+
+-- a row as a tree, where f gives the tree of each row that it refers to
+unfoldable pub grown : Tables → (ℕ → CurveTree) → Curve → CurveTree
+grown T f (Line origin direction) = line origin direction
+grown T f (Circle frame radius) = circle frame radius
+grown T f (Ellipse frame major minor) = ellipse frame major minor
+grown T f (Parabola frame focal) = parabola frame focal
+grown T f (Polyline first count) = polyline (run (T .points) first count)
+grown T f (Trimmed base range) = trimmed (f base) range
+grown T f (Composite first count) = composite (segments T f first count)
+
+-- the trees of the rows below n; any other row is the empty polyline
+unfoldable pub below : Tables → ℕ → ℕ → CurveTree
+below T zero i = polyline []
+below T (suc n) i = elim (eqb i n) [ true ↦ grown T (below T n) (rowIn T n) | false ↦ below T n i ]
+
+-- THE READING: a row's tree, over the trees of the rows below it. A reference that does not fall reads as the empty polyline.
+unfoldable pub tree : Tables → ℕ → CurveTree
+tree T i = grown T (below T i) (rowIn T i)
+
+-- the composite of a run of segments that row refers to
+abbrev pub runOf : Tables → ℕ → ℕ → ℕ → CurveTree
+runOf T row first count = composite (segments T (below T row) first count)
