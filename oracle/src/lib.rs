@@ -1,0 +1,17 @@
+//! The oracle: the published Rust behind the tables, causes and buffers of document 01.
+
+pub mod arith;
+pub mod causes;
+pub mod damage;
+pub mod draw;
+pub mod gen_arith;
+pub mod generate;
+pub mod random;
+pub mod shapes;
+pub mod sheet;
+pub mod tables;
+
+pub use draw::{Drawn, draw, draw_chain};
+pub use road::edge::Way;
+pub use sheet::Sheet;
+pub use tables::{Edge, Options, OwnedTables, Tables};
