@@ -1,0 +1,6 @@
+pub mod Examples
+pub mod Steady
+pub mod Runs
+pub mod Lists
+pub mod Sampled
+pub mod Ends
