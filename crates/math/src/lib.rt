@@ -2,7 +2,7 @@
 ghost use mathlib.Core.Path.{_≡_};
 ghost use lib.Ieee.Scale.{finite};
 ghost use Rattle.math.specs.Math.{vAdd, vSub, vScale, vNeg, vDot, vCross, vLengthSquared, vLength, distance};
-ghost use Rattle.math.specs.Math.{tryNormalized, vLerp, vMin, vMax, vFinite, yDir};
+ghost use Rattle.math.specs.Math.{tryNormalized, vLerp, vMin, vMax, vFinite, yDir, polar};
 ghost use Rattle.math.specs.Math.{emptyBox, isEmpty, addPoint, boxSize, centre, diagonal, spanOf, at, contains};
 
 pub struct Vec3 {
@@ -181,6 +181,16 @@ impl Frame {
         ensures { λ r. ⌜ r ≡ yDir self ⌝ }
     {
         self.axis.cross(self.ref_dir)
+    }
+
+    // The point of the frame's XY plane at the angle theta and the radius r.
+    pub fn polar(self, r: f64, theta: f64) -> Vec3
+        ensures { λ p. ⌜ p ≡ polar self r theta ⌝ }
+    {
+        let turn = trig::sin_cos(theta);
+        let along = self.ref_dir.scale(r * turn.cos);
+        let across = self.y_dir().scale(r * turn.sin);
+        self.origin.add(along).add(across)
     }
 }
 

@@ -4,9 +4,6 @@ use Rattle.brep.specs.Rows.{frameOf}
 use borrow.Author.Needs.{needs}
 use Rattle.brep.proofs.frame_at.Statement.{statement}
 use Rattle.brep.proofs.frame_at.Tie as tie
-use Rattle.brep.proofs.frame_at.Reads as reads
-use Rattle.brep.proofs.frame_at.Lts as lts
-use Rattle.brep.proofs.point_in.Reads as point-in-reads
 
 point-in-requires : tie.Need-point-in-requires
 point-in-requires c κs = search needs

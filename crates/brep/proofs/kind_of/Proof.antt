@@ -7,10 +7,6 @@ use mathlib.Core.Path.{_≡_}
 use borrow.Author.Needs.{needs}
 use Rattle.brep.proofs.kind_of.Statement.{statement}
 use Rattle.brep.proofs.kind_of.Tie as tie
-use Rattle.brep.proofs.kind_of.Reads as reads
-use Rattle.brep.proofs.kind_of.Lts as lts
-use Rattle.brep.proofs.frame_at.Reads as frame-at-reads
-use Rattle.brep.proofs.point_in.Reads as point-in-reads
 
 point-in-requires : tie.Need-point-in-requires
 point-in-requires c κs = search needs

@@ -3,9 +3,6 @@ use Rattle.brep.specs.Rows.{pointOf}
 use borrow.Author.Needs.{needs}
 use Rattle.brep.proofs.point_in.Statement.{statement}
 use Rattle.brep.proofs.point_in.Tie as tie
-use Rattle.brep.proofs.point_in.Reads as reads
-use Rattle.brep.proofs.point_in.Lts as lts
-use Rattle.brep.proofs.float_at.Reads as float-at-reads
 
 add-at : tie.Need-add-at
 add-at c = search needs

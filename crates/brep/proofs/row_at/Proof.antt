@@ -3,11 +3,6 @@ use Rattle.brep.specs.Rows.{curveOf}
 use borrow.Author.Needs.{needs}
 use Rattle.brep.proofs.row_at.Statement.{statement}
 use Rattle.brep.proofs.row_at.Tie as tie
-use Rattle.brep.proofs.row_at.Reads as reads
-use Rattle.brep.proofs.row_at.Lts as lts
-use Rattle.brep.proofs.float_at.Reads as float-at-reads
-use Rattle.brep.proofs.int_at.Reads as int-at-reads
-use Rattle.brep.proofs.kind_of.Reads as kind-of-reads
 
 mul-at : tie.Need-mul-at
 mul-at c = search needs

@@ -3,10 +3,6 @@ use Rattle.brep.specs.Rows.{segmentOf}
 use borrow.Author.Needs.{needs}
 use Rattle.brep.proofs.segment_at.Statement.{statement}
 use Rattle.brep.proofs.segment_at.Tie as tie
-use Rattle.brep.proofs.segment_at.Reads as reads
-use Rattle.brep.proofs.segment_at.Lts as lts
-use Rattle.brep.proofs.float_at.Reads as float-at-reads
-use Rattle.brep.proofs.int_at.Reads as int-at-reads
 
 add-at : tie.Need-add-at
 add-at c = search needs
