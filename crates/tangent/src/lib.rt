@@ -1,0 +1,1 @@
+// Derivatives and tangents on rows: eval/curve.rs.
