@@ -1,50 +1,16 @@
 -- A chain's records in a buffer: stores at its start, and what is read of it afterwards. Assumes nothing.
 use mathlib.Core.Path.{_≡_, refl, sym, ap, _∙_}
-use mathlib.Core.List.{List, [], _∷_, _++_, append-assoc, append-nil}
-use Prim.Native.Nat.{ℕ, zero, suc, _+_, _-_, _*_, _<_, _≤_}
+use mathlib.Core.List.{List, [], _∷_, _++_, append-assoc}
+use Prim.Native.Nat.{ℕ, zero, suc, _+_, _*_, _<_, _≤_}
 use native.Mathlib.Nat.{add-zero, add-suc, suc-add}
 use native.Mathlib.Numerals.{add-one}
 use native.Mathlib.Omega.{arith}
-use lib.ListN.{length, getD, take, drop, set, replicate, length-append, length-replicate, getD-replicate}
-use lib.Seq.{getD-at, getD-append-add, set-comm, set-set, set-getD, sets, sets-eq, length-sets, getD-set-other, paste, paste-zero, paste-suc, take-all, take-at, drop-length}
+use lib.ListN.{length, getD, take, drop, set, length-append}
+use lib.Seq.{getD-at, getD-append-add, set-comm, set-set, set-getD, sets, sets-eq, length-sets, getD-set-other, take-at}
 use lib.Ieee.{Float, nan}
-use Rattle.arith.specs.Notation.{nought}
+use Rattle.lists.specs.Room.{filled}
 use Rattle.samples.specs.declared.Sample.{Sample}
-use Rattle.samples.specs.Chain.{width, row, flat, pointAt, sampleAt, samplesFrom, samples, cleared, buffer}
-
--- ---- the loop of `clear_from`: a buffer with +0.0 in the floats from `from` to i
-abbrev pub clearing : List Float → ℕ → ℕ → List Float
-clearing c from i = paste c from (replicate (length c - from) nought) (i - from)
-
-pub clear-none : (c : List Float) (from : ℕ) → c ≡ clearing c from from
-clear-none c from =
-    let q : zero ≡ from - from = omega arith in
-    paste-zero c from (replicate (length c - from) nought) ∙ ap (paste c from (replicate (length c - from) nought)) q
-
-pub clear-one : (c d : List Float) (from i : ℕ) → from ≤ i → i < length c → d ≡ clearing c from i → set d i nought ≡ clearing c from (i + 1)
-clear-one c d from i h l e =
-    let s = replicate (length c - from) nought in
-    let q : from + (i - from) ≡ i = omega arith in
-    let g : getD s (i - from) nought ≡ nought = getD-replicate (length c - from) (i - from) nought nought (omega arith) in
-    let k : suc (i - from) ≡ i + 1 - from = omega arith in
-    ap (λ (r : List Float). set r i nought) e
-    ∙ ap (λ (j : ℕ). set (paste c from s (i - from)) j nought) (sym q)
-    ∙ ap (λ (v : Float). set (paste c from s (i - from)) (from + (i - from)) v) (sym g)
-    ∙ paste-suc c from s (i - from) nought (omega arith) (rw (length-replicate (length c - from) nought) (omega arith))
-    ∙ ap (paste c from s) k
-
-pub clear-all : (c d : List Float) (n i : ℕ) → width * n ≤ i → i ≡ length c → d ≡ clearing c (width * n) i → d ≡ cleared n c
-unfolding cleared
-clear-all c d n i h l e =
-    let from = width * n in
-    let m = length c - from in
-    let s = replicate m nought in
-    let q : from + (i - from) ≡ length c = omega arith in
-    e
-    ∙ ap (λ (k : ℕ). take from c ++ take (i - from) s ++ drop k c) q
-    ∙ ap (λ (r : List Float). take from c ++ take (i - from) s ++ r) (drop-length c)
-    ∙ append-nil (take from c ++ take (i - from) s)
-    ∙ ap (λ (r : List Float). take from c ++ r) (take-all (i - from) s (rw (length-replicate m nought) (omega arith)))
+use Rattle.samples.specs.Chain.{width, row, flat, pointAt, sampleAt, samplesFrom, samples}
 
 -- ---- stores of a run of floats
 pub sets-append : (l : List Float) (n : ℕ) (a b : List Float) → sets l n (a ++ b) ≡ sets (sets l n a) (n + length a) b
@@ -159,16 +125,15 @@ samples-own c i (suc n) =
     ∙ ap (λ (k : ℕ). sets c k (flat (samplesFrom c (suc i) n))) q
     ∙ samples-own c (suc i) n
 
--- ---- what a caller reads: the leading part is the chain, and with the rest cleared the buffer is `buffer`
+-- ---- what a caller reads: the leading part is the chain, and +0.0 behind it once the rest is cleared
 pub lead : (c : List Float) (l : List Sample) → width * length l ≤ length c → take (width * length l) (sets c 0 (flat l)) ≡ flat l
 lead c l h =
     let e = length-flat l in
     ap (take (width * length l)) (sets-eq (flat l) c 0 (omega arith))
     ∙ take-at (flat l) (drop (0 + length (flat l)) c) (width * length l) (omega arith)
 
-pub cleared-stored : (c : List Float) (l : List Sample) → width * length l ≤ length c → cleared (length l) (sets c 0 (flat l)) ≡ buffer (length c) l
-unfolding cleared buffer
-cleared-stored c l h = rw (lead c l h, length-sets c 0 (flat l))
+pub rest-cleared : (c : List Float) (l : List Sample) → width * length l ≤ length c → filled (length (sets c 0 (flat l))) (take (width * length l) (sets c 0 (flat l))) ≡ filled (length c) (flat l)
+rest-cleared c l h = rw (length-sets c 0 (flat l), lead c l h)
 
 -- a buffer that holds a chain, read again
 row-read : (p r : List Float) (s : Sample) (i : ℕ) → length p ≡ width * i → sampleAt (p ++ (row s ++ r)) i ≡ s

@@ -1,11 +1,10 @@
 -- A chain: its samples, and the records that a buffer holds of them. Definitions only.
 use mathlib.Core.Path.{_≡_}
 use mathlib.Core.List.{List, [], _∷_, _++_, dropLast}
-use Prim.Native.Nat.{ℕ, zero, suc, _+_, _-_, _*_}
-use lib.ListN.{length, getD, take, replicate}
+use Prim.Native.Nat.{ℕ, zero, suc, _+_, _*_}
+use lib.ListN.{length, getD}
 use lib.Seq.{sets}
 use lib.Ieee.{Float, nan}
-use Rattle.arith.specs.Notation.{nought}
 use Rattle.lists.specs.Result.{Result, refused, got}
 use Rattle.math.specs.declared.Vec3.{Vec3}
 use Rattle.math.specs.Math.{vec}
@@ -51,14 +50,6 @@ lastOf d (a ∷ l) = lastOf a l
 abbrev pub between : List Sample → List Sample
 between [] = []
 between (p ∷ l) = dropLast l
-
--- a buffer with +0.0 in every float from record n on
-unfoldable pub cleared : ℕ → List Float → List Float
-cleared n c = take (width * n) c ++ replicate (length c - width * n) nought
-
--- a buffer of size floats that holds a chain from its start, and +0.0 in every other float
-unfoldable pub buffer : ℕ → List Sample → List Float
-buffer size l = flat l ++ replicate (size - width * length l) nought
 
 -- what a pass over a chain leaves: its samples stand at the buffer's start, what lies behind them stays, and their number is the answer
 pub record Stored (entry exit : List Float) (answer : ℕ) (l : List Sample) : Type 0 where

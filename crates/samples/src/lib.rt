@@ -4,7 +4,7 @@ ghost use mathlib.Core.Path.{_≡_};
 ghost use Prim.Native.Nat.{_+_, _*_, _≤_};
 ghost use lib.ListN.{length};
 ghost use lib.Seq.{sets};
-ghost use Rattle.samples.specs.Chain.{width, row, pointAt, sampleAt, cleared};
+ghost use Rattle.samples.specs.Chain.{width, row, pointAt, sampleAt};
 
 // How many floats a record has.
 pub const WIDTH: usize = 4;
@@ -56,16 +56,4 @@ pub fn put(chain: &mut [f64], i: usize, s: Sample)
     chain[at + 1] = s.point.y;
     chain[at + 2] = s.point.z;
     chain[at + 3] = s.param;
-}
-
-// +0.0 in every float from record n on.
-pub fn clear_from(chain: &mut [f64], n: usize)
-    requires { ⌜ width * n ≤ length (now chain) ⌝ }
-    ensures { λ _. ⌜ now (chain .exit) ≡ cleared n (now (chain .entry)) ⌝ }
-{
-    let mut i = WIDTH * n;
-    while i < chain.len() {
-        chain[i] = 0.0;
-        i += 1;
-    }
 }
