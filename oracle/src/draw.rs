@@ -4,15 +4,12 @@ use crate::causes::cause;
 use crate::tables::{Edge, Options, Tables};
 use road::brep::{CurveId, Edge as RoadEdge, Solid, VertexId};
 use road::edge::{Chain, Way, discretise_all};
-use road::math::{Aabb, Interval};
+use road::math::{Aabb, Interval, Vec3};
 use road::options::{Options as RoadOptions, Resolved};
 
 /// Floats of a point in a chain buffer: x y z t.
 pub const WIDTH: usize = 4;
 const MOST_ROOM: usize = 16_384;
-
-/// What a NaN that an operation makes counts as.
-const MADE_NAN: f64 = f64::from_bits(0x7ff8000000000000);
 
 /// The answer: a refusal's number, or how the chain was got and how many points it has.
 #[derive(Debug, Clone, Copy, PartialEq, Eq)]
@@ -115,16 +112,16 @@ pub fn resolved(options: &Options) -> Resolved {
 
 /// The two chords copy the edge's lo and hi, a NaN with its bits; any other NaN an operation made.
 fn with_made_nans(mut chain: Chain) -> Chain {
-    let made = |x: &mut f64| {
-        if x.is_nan() {
-            *x = MADE_NAN;
-        }
-    };
     for p in &mut chain.points {
-        [&mut p.x, &mut p.y, &mut p.z].into_iter().for_each(made);
+        *p = Vec3::new(made(p.x), made(p.y), made(p.z));
     }
     if !matches!(chain.way, Way::ChordForWantOfARange | Way::RunawayChord) {
-        chain.params.iter_mut().for_each(made);
+        chain.params.iter_mut().for_each(|t| *t = made(*t));
     }
     chain
+}
+
+/// A float that an operation gave: its NaN counts as 7ff8000000000000.
+pub fn made(x: f64) -> f64 {
+    if x.is_nan() { f64::from_bits(0x7ff8000000000000) } else { x }
 }

@@ -1,9 +1,8 @@
 //! Seeded sheets, valid and damaged. Each is made alone from the run's seed and its own number.
 
 use crate::damage;
-use crate::draw::solid;
 use crate::random::Random;
-use crate::shapes::{Draft, Shape};
+use crate::shapes::{Draft, Point, Shape};
 use crate::sheet::{Sheet, write};
 use crate::tables::{Edge, Options, OwnedTables};
 use road::brep::Curve;
@@ -23,7 +22,7 @@ pub fn contents(seed: u64, index: u64) -> Sheet {
 }
 
 fn drafted(random: &mut Random) -> Sheet {
-    let mut sheet = sound(random);
+    let mut sheet = if random.percent(1) { redrawn(random) } else { sound(random) };
     damage::tweak(random, &mut sheet);
     damage::contents(random, &mut sheet);
     sheet
@@ -36,30 +35,137 @@ fn sound(random: &mut Random) -> Sheet {
         draft.simple(); // a row and points that the edge may not use
     }
     let shape = shape(&mut draft);
+    if draft.random.percent(5) {
+        draft.stray_segment();
+    }
     let (mut tables, size) = (draft.tables, draft.size);
-    let mut edge = Edge {
-        curve: shape.row,
-        start: 0,
-        end: 0,
-        sense: random.pick(&[1, 1, 0]),
-        lo: 0.0,
-        hi: 0.0,
-        tolerance: 0.0,
-        low: 0,
-        high: 0,
-    };
     if tables.points.is_empty() {
         tables.push_point([0.0; 3]);
     }
-    (edge.lo, edge.hi) = range(random, shape);
-    let curve = solid(&tables.lent(), &edge).curves.remove(0);
-    let path = path(&curve, shape, &edge);
-    vertices(random, &mut tables, &mut edge, &path, size);
-    let extent = largest_side(&path, size);
-    boxed(random, &mut tables, &mut edge, &path, extent);
+    let curve = tables.lent().curve(shape.row);
+    let plan = if random.percent(14) {
+        runaway(random, &curve)
+    } else {
+        usual(random, &curve, shape, size)
+    };
+    let extent = largest_side(&plan.path, size);
     let options = options(random, extent);
-    edge.tolerance = tolerance(random, extent, options.deflection);
+    let edge = Edge {
+        curve: shape.row,
+        start: vertex(random, &mut tables, plan.start),
+        end: vertex(random, &mut tables, plan.end),
+        sense: random.pick(&[1, 1, 0]),
+        lo: plan.lo,
+        hi: plan.hi,
+        tolerance: tolerance(random, extent, options.deflection),
+        low: vertex(random, &mut tables, plan.bounds.min),
+        high: vertex(random, &mut tables, plan.bounds.max),
+    };
     Sheet { tables, edge, options }
+}
+
+/// An edge that escapes its box and is drawn again between its vertices, where a random one seldom is.
+fn redrawn(random: &mut Random) -> Sheet {
+    let mut draft = Draft::new(random);
+    let (shape, start, end) =
+        if draft.random.percent(70) { far_polyline(&mut draft) } else { swept_line(&mut draft) };
+    let mut tables = draft.tables;
+    let quarter = |k: f64| [0, 1, 2].map(|i| start[i] + (end[i] - start[i]) * 0.25 * k);
+    let edge = Edge {
+        curve: shape.row,
+        start: tables.push_point(start),
+        end: tables.push_point(end),
+        sense: 1,
+        lo: shape.lo,
+        hi: shape.hi,
+        tolerance: 0.0,
+        low: tables.push_point(quarter(1.0)),
+        high: tables.push_point(quarter(3.0)),
+    };
+    let options = Options {
+        deflection: random.pick(&[1.0, 1e-3]),
+        angle: random.pick(&[0.01, 0.14]),
+        relative: 0,
+        segments: 2 + random.below(3) as u64,
+        depth: 1,
+        scale: 0.0,
+    };
+    Sheet { tables, edge, options }
+}
+
+/// Two points a few units in the last place apart, then three far off. Between the two, thinning may
+/// meet a span that it would split for ever.
+fn far_polyline(draft: &mut Draft) -> (Shape, Point, Point) {
+    let close = draft.units_in_the_last_place();
+    let far = [[1e3, 0.0, 0.0], [0.0, 1e3, 0.0], [0.0, 0.0, 1e3]];
+    let shape = draft.polyline_of(&[&close[1..3], &far].concat());
+    (shape, close[1], close[2])
+}
+
+/// A line so slow that the sweep over its natural range of 2e12 tells its vertices apart.
+fn swept_line(draft: &mut Draft) -> (Shape, Point, Point) {
+    let speed = draft.random.decade(-7, -3);
+    draft.origin = [0.0; 3];
+    let shape = draft.line_along([speed, 0.0, 0.0]);
+    let end = 2e12 / 512.0 * speed;
+    (Shape { lo: -1e9, hi: 0.0, ..shape }, [0.0; 3], [end, 0.0, 0.0])
+}
+
+/// Where an edge runs, before its points are put into the table.
+struct Plan {
+    lo: f64,
+    hi: f64,
+    start: Vec3,
+    end: Vec3,
+    bounds: Aabb,
+    /// Points of the curve that the tolerances are sized by.
+    path: Vec<Vec3>,
+}
+
+/// An edge over the curve's own range, or over one that a file got wrong.
+fn usual(random: &mut Random, curve: &Curve, shape: Shape, size: f64) -> Plan {
+    let (lo, hi) = range(random, shape);
+    let bounded = lo.is_finite() && hi.is_finite();
+    let path = if bounded { path(curve, lo, hi) } else { path(curve, shape.lo, shape.hi) };
+    let (start, end) = vertices(random, &path, size);
+    let bounds = bounds(random, start, end, &path, largest_side(&path, size));
+    Plan { lo, hi, start, end, bounds, path }
+}
+
+/// An edge whose range is not the arc between its vertices, in a box that holds that arc alone.
+fn runaway(random: &mut Random, curve: &Curve) -> Plan {
+    let natural = curve.natural_range();
+    let span = curve.period().unwrap_or(natural.span());
+    // Places that the sweep for the nearest parameter meets.
+    let from = natural.lo + span * random.below(8) as f64 * 0.125;
+    let to = from + span * random.pick(&[0.25, 1.0 / 512.0, 0.1, 0.01, 1e-3, 1e-5]);
+    let (lo, hi) = match random.below(10) {
+        0..=4 => (to, from + span),
+        5..=6 => (natural.lo, natural.hi),
+        7 => (from, to),
+        8 => (from - span, to + span),
+        _ => (unbounded(random), to),
+    };
+    let within = |t: f64| if t.is_finite() { t.clamp(-1e9, 1e9) } else { t };
+    let near = path(curve, from, to);
+    let (start, end) = (near[0], near[near.len() - 1]);
+    let mut bounds = Aabb { min: start, max: start };
+    near.iter().for_each(|p| bounds.add_point(*p));
+    match random.below(10) {
+        0..=1 => bounds = Aabb { min: near[2], max: near[3] },
+        2..=3 => bounds = Aabb { min: near[4].min(near[12]), max: near[4].max(near[12]) },
+        _ => {}
+    }
+    let (start, end) = if random.percent(30) { (end, start) } else { (start, end) };
+    Plan { lo: within(lo), hi: within(hi), start, end, bounds, path: path(curve, from, from + span) }
+}
+
+/// A new point of the table, or now and then any point that is there.
+fn vertex(random: &mut Random, tables: &mut OwnedTables, p: Vec3) -> u32 {
+    if random.percent(2) {
+        return random.below(tables.lent().point_count()) as u32;
+    }
+    tables.push_point(within_rules(p).to_array())
 }
 
 fn shape(draft: &mut Draft) -> Shape {
@@ -91,8 +197,8 @@ fn range(random: &mut Random, shape: Shape) -> (f64, f64) {
         31 => (shape.hi + span * a, shape.hi + span * (1.0 + b)),
         32 => (shape.lo, f64::from_bits(shape.lo.abs().to_bits() + 1)),
         33 => (random.boundary(), random.boundary()),
-        34 => (-f64::from_bits(1 + random.below(4) as u64), shape.hi),
-        35..=36 => (unbounded(random), unbounded(random)),
+        34..=35 => (-f64::from_bits(1 + random.below(4) as u64), shape.hi),
+        36 => (unbounded(random), unbounded(random)),
         37 => (shape.lo, unbounded(random)),
         38 => (unbounded(random), shape.hi),
         _ => (0.0, random.decade(0, 8)),
@@ -109,11 +215,9 @@ fn unbounded(random: &mut Random) -> f64 {
     }
 }
 
-/// Points of the curve over the edge's range, or over the shape's own where that has no end.
-fn path(curve: &Curve, shape: Shape, edge: &Edge) -> Vec<Vec3> {
+/// Points of the curve over a range.
+fn path(curve: &Curve, lo: f64, hi: f64) -> Vec<Vec3> {
     const STEPS: usize = 16;
-    let bounded = edge.lo.is_finite() && edge.hi.is_finite();
-    let (lo, hi) = if bounded { (edge.lo, edge.hi) } else { (shape.lo, shape.hi) };
     (0..=STEPS)
         .map(|i| within_rules(curve.point_at(lo + (hi - lo) * (i as f64 / STEPS as f64))))
         .collect()
@@ -133,27 +237,16 @@ fn largest_side(path: &[Vec3], size: f64) -> f64 {
     if largest > 0.0 { largest } else { size }
 }
 
-fn vertices(
-    random: &mut Random,
-    tables: &mut OwnedTables,
-    edge: &mut Edge,
-    path: &[Vec3],
-    size: f64,
-) {
+fn vertices(random: &mut Random, path: &[Vec3], size: f64) -> (Vec3, Vec3) {
     let (first, last) = (path[0], path[path.len() - 1]);
-    let (start, end) = match random.below(20) {
+    match random.below(20) {
         0..=9 => (first, last),
         10..=12 => (last, first),
         13 => (first, first),
         14..=15 => (near(random, first, size), near(random, last, size)),
-        16..=17 => (path[random.below(path.len())], path[random.below(path.len())]),
+        16..=17 => (random.pick(path), random.pick(path)),
         18 => (path[7], path[8]),
         _ => (near(random, first, size * 1e3), near(random, last, size * 1e3)),
-    };
-    edge.start = tables.push_point(start.to_array());
-    edge.end = tables.push_point(end.to_array());
-    if random.percent(3) {
-        edge.end = edge.start;
     }
 }
 
@@ -165,32 +258,25 @@ fn near(random: &mut Random, p: Vec3, size: f64) -> Vec3 {
 }
 
 /// The caller's box: round the path, round the vertices alone, too small, empty, or a point.
-fn boxed(
-    random: &mut Random,
-    tables: &mut OwnedTables,
-    edge: &mut Edge,
-    path: &[Vec3],
-    extent: f64,
-) {
-    let ends = [tables.lent().point(edge.start), tables.lent().point(edge.end)];
-    let mut bounds = Aabb::EMPTY;
-    ends.iter().for_each(|p| bounds.add_point(*p));
-    let choice = random.below(20);
-    match choice {
-        0..=10 => path.iter().for_each(|p| bounds.add_point(*p)),
-        11..=15 => {}
-        16 => bounds = Aabb { min: ends[0], max: ends[0] },
-        17 => bounds = Aabb { min: bounds.max, max: bounds.min },
-        18 => bounds = Aabb { min: near(random, ends[0], extent), max: ends[0] },
-        _ => bounds = Aabb { min: path[3], max: near(random, path[3], extent) },
+fn bounds(random: &mut Random, start: Vec3, end: Vec3, path: &[Vec3], extent: f64) -> Aabb {
+    let mut ends = Aabb { min: start, max: start };
+    ends.add_point(end);
+    let mut whole = ends;
+    path.iter().for_each(|p| whole.add_point(*p));
+    match random.below(20) {
+        0..=10 => wider(random, whole, extent),
+        11..=15 => wider(random, ends, extent),
+        16 => Aabb { min: start, max: start },
+        17 => Aabb { min: ends.max, max: ends.min },
+        18 => Aabb { min: near(random, start, extent), max: start },
+        _ => Aabb { min: path[3], max: near(random, path[3], extent) },
     }
-    let margin = extent * random.pick(&[0.0, 1e-3, 0.05, 0.5]);
+}
+
+fn wider(random: &mut Random, bounds: Aabb, extent: f64) -> Aabb {
+    let margin = extent * random.pick(&[0.0, 0.0, 1e-3, 0.05, 0.5]);
     let margin = Vec3::new(margin, margin, margin);
-    if choice <= 15 && random.percent(70) {
-        bounds = Aabb { min: bounds.min - margin, max: bounds.max + margin };
-    }
-    edge.low = tables.push_point(within_rules(bounds.min).to_array());
-    edge.high = tables.push_point(within_rules(bounds.max).to_array());
+    Aabb { min: bounds.min - margin, max: bounds.max + margin }
 }
 
 fn options(random: &mut Random, extent: f64) -> Options {

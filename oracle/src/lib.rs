@@ -2,14 +2,19 @@
 
 pub mod arith;
 pub mod causes;
+pub mod check;
+#[cfg(marked)]
+pub mod coverage;
 pub mod damage;
 pub mod draw;
 pub mod gen_arith;
 pub mod generate;
+pub mod inspect;
 pub mod random;
 pub mod shapes;
 pub mod sheet;
 pub mod tables;
+pub mod timing;
 
 pub use draw::{Drawn, draw, draw_chain};
 pub use road::edge::Way;

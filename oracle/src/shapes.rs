@@ -24,7 +24,7 @@ pub struct Draft<'a> {
     pub origin: [f64; 3],
 }
 
-type Point = [f64; 3];
+pub type Point = [f64; 3];
 
 fn add(a: Point, b: Point) -> Point {
     [a[0] + b[0], a[1] + b[1], a[2] + b[2]]
@@ -78,10 +78,16 @@ impl<'a> Draft<'a> {
         let direction = match self.random.below(12) {
             0 => [0.0; 3],
             1 => [self.random.boundary(), self.random.boundary(), 0.0],
-            2..=5 => [self.random.pick(&[1.0, 2.0, -1.0]), 0.0, 0.0],
+            // So short that the sweep over a line's natural range finds more than one place.
+            2 => scaled(self.direction(), self.random.decade(-9, -3)),
+            3..=5 => [self.random.pick(&[1.0, 2.0, -1.0]), 0.0, 0.0],
             6..=7 => self.direction(),
             _ => self.vector(),
         };
+        self.line_along(direction)
+    }
+
+    pub fn line_along(&mut self, direction: Point) -> Shape {
         let first = self.tables.push_point(self.origin);
         self.tables.push_point(direction);
         let row = self.row(LINE, first, 2, 0.0, 0.0);
@@ -119,17 +125,23 @@ impl<'a> Draft<'a> {
     }
 
     pub fn polyline(&mut self) -> Shape {
+        let known = self.tables.lent().point_count();
+        if known > 0 && self.random.percent(5) {
+            let (first, count) = self.any_run(known); // points that other rows use too
+            return self.polyline_over(first, count);
+        }
         let points = self.polyline_points();
         self.polyline_of(&points)
     }
 
-    fn polyline_of(&mut self, points: &[Point]) -> Shape {
-        let first = (self.tables.points.len() / 3) as u32;
-        for p in points {
-            self.tables.push_point(*p);
-        }
-        let count = points.len() as u32;
-        let row = self.row(POLYLINE, first, count, 0.0, 0.0);
+    pub fn polyline_of(&mut self, points: &[Point]) -> Shape {
+        let first = self.tables.lent().point_count();
+        self.tables.points.extend(points.as_flattened());
+        self.polyline_over(first, points.len())
+    }
+
+    fn polyline_over(&mut self, first: usize, count: usize) -> Shape {
+        let row = self.row(POLYLINE, first as u32, count as u32, 0.0, 0.0);
         Shape { row, lo: 0.0, hi: count.saturating_sub(1) as f64 }
     }
 
@@ -141,6 +153,7 @@ impl<'a> Draft<'a> {
             1..=2 => (base.hi, base.lo),
             3 => (base.lo + span * a, base.lo + span * b),
             4 => (base.lo - span, base.hi + span * 2.0),
+            5 if self.random.percent(50) => (-1e9, 1e9),
             5 => (self.random.boundary(), self.random.boundary()),
             6..=7 => (base.lo + span * a * 0.5, base.hi - span * b * 0.5),
             _ => (base.lo, base.hi),
@@ -151,7 +164,7 @@ impl<'a> Draft<'a> {
 
     /// A composite that `shape` is one of the segments of.
     pub fn composite(&mut self, shape: Shape) -> Shape {
-        let count = match self.random.below(20) {
+        let mut count = match self.random.below(20) {
             0 => 0,
             1 => 40,
             2..=7 => 1,
@@ -162,14 +175,30 @@ impl<'a> Draft<'a> {
         if count > 1 && self.random.percent(70) {
             shapes.push(self.simple());
         }
-        let first = (self.tables.parts.len() / 2) as u32;
-        for _ in 0..count {
-            let chosen = self.random.pick(&shapes);
-            let segment = self.segment(chosen, count);
-            self.tables.push_segment(segment);
+        let mut first = self.tables.lent().segment_count();
+        if first > 0 && self.random.percent(10) {
+            (first, count) = self.any_run(first); // segments that other rows use too
+        } else {
+            for _ in 0..count {
+                let chosen = self.random.pick(&shapes);
+                let segment = self.segment(chosen, count);
+                self.tables.push_segment(segment);
+            }
         }
-        let row = self.row(COMPOSITE, first, count as u32, 0.0, 0.0);
+        let row = self.row(COMPOSITE, first as u32, count as u32, 0.0, 0.0);
         Shape { row, lo: 0.0, hi: count as f64 }
+    }
+
+    /// A segment in no composite's run, its curve in any row.
+    pub fn stray_segment(&mut self) {
+        let curve = self.random.below(self.tables.lent().row_count()) as u32;
+        self.tables.push_segment(Segment { curve, lo: 0.0, hi: 1.0, sense: 1 });
+    }
+
+    /// The first and the count of a run in a table of this size.
+    fn any_run(&mut self, size: usize) -> (usize, usize) {
+        let first = self.random.below(size);
+        (first, self.random.below(size - first + 1).min(40))
     }
 
     /// A segment with its curve's own range, or with one whose ends are breaks of the composite.
@@ -319,7 +348,7 @@ impl<'a> Draft<'a> {
     }
 
     /// Points that differ by a few units in the last place: distances and turns that rounding makes.
-    fn units_in_the_last_place(&mut self) -> Vec<Point> {
+    pub fn units_in_the_last_place(&mut self) -> Vec<Point> {
         let far: f64 = self.random.pick(&[6e8, 1e6, 1.0, 3e8]);
         let unit = f64::from_bits(far.to_bits() + 1) - far;
         let count = 3 + self.random.below(4);

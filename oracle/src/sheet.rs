@@ -5,8 +5,8 @@ use crate::tables::{Edge, KIND_WORDS, Options, OwnedTables, Row, Segment};
 use std::fmt::Write;
 
 const MOST_BYTES: usize = 65_536;
-/// Points that the program's two buffers hold.
-pub const LENT_POINTS: usize = 2_048;
+/// Floats that each of the program's two buffers holds: 2,048 points.
+pub const LENT: usize = 2_048 * WIDTH;
 
 const POINT_NAMES: &str = "x y z";
 const CURVE_NAMES: &str = "kind first count p q";
@@ -106,7 +106,7 @@ fn edge(line: &str) -> Option<Edge> {
     })
 }
 
-fn options(line: &str) -> Option<Options> {
+pub fn options(line: &str) -> Option<Options> {
     let [deflection, angle, relative, segments, depth, scale] = fields(line)?;
     Some(Options {
         deflection: float(deflection)?,
@@ -179,13 +179,12 @@ pub fn hex(floats: &[f64]) -> String {
     digits.join(" ")
 }
 
-/// What the program `chain` prints for a sheet.
-pub fn answer(bytes: &[u8]) -> String {
+/// What the program `chain` prints for a sheet, had it two buffers of these many floats.
+pub fn answer(bytes: &[u8], (first, second): (usize, usize)) -> String {
     let Some(sheet) = read(bytes) else {
         return refusal(10);
     };
-    let mut first = vec![0.0; WIDTH * LENT_POINTS];
-    let mut second = first.clone();
+    let (mut first, mut second) = (vec![0.0; first], vec![0.0; second]);
     let drawn = draw(&sheet.tables.lent(), &sheet.edge, &sheet.options, &mut first, &mut second);
     match drawn {
         Drawn::Refused(number) => refusal(number),
@@ -196,7 +195,7 @@ pub fn answer(bytes: &[u8]) -> String {
     }
 }
 
-fn refusal(number: u32) -> String {
+pub fn refusal(number: u32) -> String {
     format!("refusal\n{number}\n")
 }
 

@@ -1,0 +1,109 @@
+//! Marks in the branches of the road, for the coverage table. Only the marked build has them.
+
+use std::cell::RefCell;
+
+/// Every mark. One that begins with `fact` is expected never to be met.
+pub const ALL: [&str; 82] = [
+    "8: bisected",
+    "8: closed form",
+    "8: segment floor",
+    "arc: least step",
+    "arc: radius within the sag",
+    "arc: step by the angle",
+    "arc: step by the sag",
+    "bisected",
+    "bisection: chord without length",
+    "bisection: depth spent",
+    "bisection: no tangent",
+    "bisection: split for both",
+    "bisection: split for sag alone",
+    "bisection: split for turn alone",
+    "breaks: chord without length",
+    "breaks: dropped",
+    "breaks: equal ones",
+    "breaks: inside the range",
+    "breaks: kept",
+    "breaks: walked backwards",
+    "closed form: accepted",
+    "closed form: failed its sag test",
+    "closed form: last is not hi",
+    "composite: at its very end",
+    "composite: clamped",
+    "composite: no segment",
+    "composite: segment backwards",
+    "ends apart: kept",
+    "ends apart: reversed",
+    "ends together: kept by sense",
+    "ends together: reversed by sense",
+    "fact: probe not finite",
+    "fact: closure of a trim asked",
+    "fact: remainder below zero, t not subnormal",
+    "fact: sag not above zero",
+    "fact: short arc does not reach",
+    "math: no direction",
+    "merge: floor above zero",
+    "merge: last popped",
+    "merge: some dropped",
+    "merge: start and end alone, too close",
+    "options: a quarter of the model or smaller",
+    "options: an eighth of the model's sag",
+    "options: angle lowered to a half turn",
+    "options: angle raised to 1e-4",
+    "options: as large as the model or larger",
+    "options: depth lowered to 24",
+    "options: depth raised to 1",
+    "options: no scale",
+    "options: sag raised",
+    "options: segments raised to 1",
+    "polyline: closed, remainder below zero",
+    "polyline: closed, wrapped",
+    "polyline: no point",
+    "polyline: one point",
+    "polyline: open, clamped",
+    "range: backwards by clamping",
+    "range: clamped above",
+    "range: clamped below",
+    "range: equal",
+    "range: natural and backwards",
+    "range: natural instead",
+    "range: none",
+    "range: not finite",
+    "range: of a period, kept",
+    "range: reversed",
+    "repair: box without size",
+    "repair: complement escapes",
+    "repair: complement without span",
+    "repair: empty box",
+    "repair: escapes",
+    "repair: escapes, no period",
+    "repair: natural range without span",
+    "repair: nearest ends exchanged",
+    "repair: short arc escapes",
+    "repair: short arc without span",
+    "segment floor",
+    "thin: chord without length",
+    "thin: segment floor",
+    "thin: some dropped",
+    "thin: split for distance",
+    "thin: split for turn alone",
+];
+
+thread_local! {
+    static MET: RefCell<Vec<&'static str>> = const { RefCell::new(Vec::new()) };
+}
+
+/// Notes that a branch was met, where `when` holds.
+pub fn mark(name: &'static str, when: bool) {
+    if when {
+        MET.with_borrow_mut(|met| {
+            if !met.contains(&name) {
+                met.push(name);
+            }
+        });
+    }
+}
+
+/// The marks met since this was last asked.
+pub fn take() -> Vec<&'static str> {
+    MET.take()
+}
