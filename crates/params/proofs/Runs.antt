@@ -12,10 +12,10 @@ use Rattle.math.specs.declared.Interval.{Interval}
 use Rattle.math.specs.Math.{at}
 use Rattle.order.proofs.Signed.{number, le-trans, le-refl, number-left}
 use Rattle.order.proofs.Modest.{big, Modest, middle, middle-down, rises, falls}
+use Rattle.lists.specs.Way.{Up, Down}
 use Rattle.lists.specs.Sub.{All, none, more, Pairwise, empty, first}
 use Rattle.lists.proofs.Joined.{all-join, all-one, pair-snoc, Within, within-none, within-join, within-mid, within-ends}
 use Rattle.params.specs.Params.{midpoint, subdivided, Sampler, stepAt, steps, evenly, unlessHi, walked}
-use Rattle.params.proofs.Steady.{Up, Down}
 
 -- a float that sampling can halve: of the format, and at most 2 ^ 60
 pub record Good (x : Float) : Type 0 where

@@ -10,12 +10,13 @@ use Rattle.arith.specs.Notation.{nought}
 use Rattle.math.specs.declared.Interval.{Interval}
 use Rattle.order.proofs.Signed.{lt→le, nlt→le}
 use Rattle.lists.specs.Result.{Result, refused, got}
+use Rattle.lists.specs.Way.{Up, Down}
 use Rattle.lists.specs.Sub.{All, Pairwise, Sub, end, keep, skip}
 use Rattle.lists.proofs.Joined.{all-reverse, pair-reverse}
 use Rattle.lists.proofs.Order.{sub-all, sub-pairwise, sub-same}
 use Rattle.params.specs.Params.{nextOf, thinned, thinBreaks, Sampler, evenly, walked, ordered, bisected, sampleParams}
 use Rattle.params.specs.OneWay.{OneWay}
-use Rattle.params.proofs.Steady.{Up, Down, Steady, rising, falling, steady-one-way, steady-sub}
+use Rattle.params.proofs.Steady.{Steady, rising, falling, steady-one-way, steady-sub}
 use Rattle.params.proofs.Runs.{Good, good-number, up, down, evenly-pairs, walked-pairs}
 use Rattle.params.proofs.Lists.{outcome-got, sampled-outcome}
 
