@@ -3,13 +3,12 @@ use mathlib.Core.Path.{_≡_, sym, subst, _∙_}
 use mathlib.Core.Logic.{_⊎_, inl, inr}
 use mathlib.Core.List.{List, [], _∷_, _++_}
 use native.Mathlib.Nat.{eq-or-lt-of-le}
-use Prim.Native.Nat.{ℕ, zero, suc, _+_, _-_, _≤_, _<_}
+use Prim.Native.Nat.{ℕ, zero, suc, _+_, _≤_, _<_}
 use native.Mathlib.Numerals.{add-one}
 use native.Mathlib.Omega.{arith}
 use lib.ListN.{length, set}
 use lib.Ieee.{Float}
 use Rattle.math.specs.declared.Interval.{Interval}
-use Rattle.params.specs.declared.Listed.{Listed}
 use Rattle.params.specs.declared.Listed.the-variants.{Count, Refused}
 use Rattle.params.specs.Params.{stepAt, steps, evenly}
 use Rattle.params.specs.Held.{Held}
@@ -21,7 +20,8 @@ module _ (range : Interval) (n : ℕ) where
   steps-none out = held-none out
 
   module _ {out after : List Float} (i : ℕ) (h : Held out (steps range n i) (Count i) after) where
-    pub steps-push : (x : Float) → x ≡ stepAt range n i → i < length out → Held out (steps range n (i + 1)) (Count (i + 1)) (set after i x)
+    pub steps-push : (x : Float) → x ≡ stepAt range n i → i < length out
+        → Held out (steps range n (i + 1)) (Count (i + 1)) (set after i x)
     unfolding steps
     steps-push x e l =
         subst (λ (k : ℕ). Held out (steps range n k) (Count (i + 1)) (set after i x)) (sym (add-one i))

@@ -1,22 +1,21 @@
 -- A list that is written into a buffer in parts, and refused as one parameter more than the buffer has room for would join it.
 -- Assumes nothing.
-use mathlib.Core.Path.{_≡_, refl, sym, ap, subst, _∙_}
+use mathlib.Core.Path.{_≡_, refl, sym, ap, _∙_}
 use mathlib.Core.Bool.{Bool, true, false}
-use mathlib.Core.List.{List, [], _∷_, _++_, append-assoc, append-nil}
-use Prim.Native.Nat.{ℕ, zero, suc, _+_, _≤_, _<_}
+use mathlib.Core.List.{List, [], _∷_, _++_}
+use Prim.Native.Nat.{ℕ, suc, _+_, _≤_, _<_}
 use native.Mathlib.Nat.{zero-add, add-zero, add-suc, suc-add}
-use native.Mathlib.Numerals.{add-one}
 use native.Mathlib.Omega.{arith}
 use lib.ListN.{length, set, take, drop, length-append}
 use lib.Seq.{sets, sets-eq, length-sets, set-out, take-append-seam, drop-append-seam}
 use lib.Dec.{leb}
 use lib.Ieee.{Float}
 use borrow.Author.Tests.{le-leb, lt-leb, leb-true, leb-false}
-use Rattle.lists.specs.Result.{Result, refused, got, each}
+use Rattle.lists.specs.Result.{refused, got, each}
 use Rattle.params.specs.declared.Listed.{Listed}
 use Rattle.params.specs.declared.Listed.the-variants.{Count, Refused}
 use Rattle.params.specs.Params.{fitting}
-use Rattle.params.specs.Held.{said, Held}
+use Rattle.params.specs.Held.{Held}
 
 -- ---- stores in parts
 pub sets-append : (l : List Float) (n : ℕ) (a b : List Float) → sets l n (a ++ b) ≡ sets (sets l n a) (n + length a) b
@@ -84,7 +83,8 @@ held-counted {out} {l} {n = n} h = counted (length out) l n (h .answer)
 pub held-length : {out l after : List Float} {r : Listed} → Held out l r after → length after ≡ length out
 held-length {out} {l} h = ap length (h .buffer) ∙ length-sets out 0 l
 
-fits-held : {out l after : List Float} {n : ℕ} → n ≡ length l → length l ≤ length out → after ≡ sets out 0 l → Held out l (Count n) after
+fits-held : {out l after : List Float} {n : ℕ} → n ≡ length l → length l ≤ length out → after ≡ sets out 0 l
+    → Held out l (Count n) after
 fits-held {out} {l} e h b = record { answer = ap got e ∙ sym (ap (each length) (fitting-fits (length out) l h)); buffer = b }
 
 over-held : {out l after : List Float} → length out < length l → after ≡ sets out 0 l → Held out l Refused after
@@ -101,25 +101,30 @@ held-list {out} {l} {after} {n} h =
 pub held-none : (out : List Float) → Held out [] (Count 0) out
 held-none out = fits-held refl (omega arith) refl
 
+-- a full buffer takes nothing more
+full : (out a b : List Float) → length out ≤ length a → sets out 0 (a ++ b) ≡ sets out 0 a
+full out a b h = behind out a b ∙ sets-out (sets out 0 a) (length a) b (rw (length-sets out 0 a) h)
+
 module _ {out a after : List Float} (x : Float) where
-  pub held-push : {n : ℕ} → Held out a (Count n) after → n < length out → Held out (a ++ (x ∷ [])) (Count (n + 1)) (set after n x)
+  pub held-push : {n : ℕ} → Held out a (Count n) after → n < length out
+      → Held out (a ++ (x ∷ [])) (Count (n + 1)) (set after n x)
   held-push {n} h l =
       let c = held-counted h in
       fits-held (simp length-append (omega (arith, c .same))) (simp length-append (omega (arith, c .same)))
-      (ap (λ (i : ℕ). set after i x) (c .same) ∙ ap (λ (k : List Float). set k (length a) x) (h .buffer) ∙ sym (behind out a (x ∷ [])))
+      (ap (λ (i : ℕ). set after i x) (c .same) ∙ ap (λ (k : List Float). set k (length a) x) (h .buffer)
+      ∙ sym (behind out a (x ∷ [])))
 
   pub held-stop : {n : ℕ} (b : List Float) → Held out a (Count n) after → length out ≤ n → Held out (a ++ x ∷ b) Refused after
   held-stop b h l =
       let c = held-counted h in
       over-held (simp length-append (omega (arith, c .same)))
-      (h .buffer ∙ sym (behind out a (x ∷ b) ∙ sets-out (sets out 0 a) (length a) (x ∷ b) (rw (length-sets out 0 a) (omega (arith, c .same)))))
+      (h .buffer ∙ sym (full out a (x ∷ b) (omega (arith, c .same))))
 
 -- a front that is refused, and one behind which more is written
 pub held-full : {out a after : List Float} (b : List Float) → Held out a Refused after → Held out (a ++ b) Refused after
 held-full {out} {a} b h =
     let g = overfull (length out) a (h .answer) in
-    over-held (simp length-append (omega arith))
-    (h .buffer ∙ sym (behind out a b ∙ sets-out (sets out 0 a) (length a) b (rw (length-sets out 0 a) (omega arith))))
+    over-held (simp length-append (omega arith)) (h .buffer ∙ sym (full out a b (omega arith)))
 
 pub held-then : {out a mid after : List Float} {n : ℕ} {r : Listed} (b : List Float) → Held out a (Count n) mid
     → Held mid (take n mid ++ b) r after → Held out (a ++ b) r after

@@ -1,27 +1,27 @@
 -- The parameters that sampling gives stand in one order, so they run one way. Assumes nothing.
 use mathlib.Core.Path.{_≡_, refl}
 use mathlib.Core.Bool.{Bool, true, false, cond}
-use mathlib.Core.List.{List, [], _∷_, _++_, reverse}
-use Prim.Native.Nat.{ℕ, suc, _≤_}
+use mathlib.Core.List.{List, [], _∷_, reverse}
+use Prim.Native.Nat.{ℕ, _≤_}
 use native.Mathlib.Omega.{arith}
 use lib.Dec.{T}
 use lib.Ieee.{Float, binary64, fits, le, lt}
 use Rattle.arith.specs.Notation.{nought}
 use Rattle.math.specs.declared.Interval.{Interval}
 use Rattle.order.proofs.Signed.{lt→le, nlt→le}
-use Rattle.lists.specs.Result.{Result, refused, got}
+use Rattle.lists.specs.Result.{got}
 use Rattle.lists.specs.Way.{Up, Down}
-use Rattle.lists.specs.Sub.{All, Pairwise, Sub, end, keep, skip}
+use Rattle.lists.specs.Sub.{All, Sub, end, keep, skip}
 use Rattle.lists.proofs.Joined.{Within, all-map, all-reverse, pair-reverse}
 use Rattle.lists.proofs.Parts.{all-both}
 use Rattle.lists.proofs.Order.{sub-all, sub-pairwise, sub-same}
 use Rattle.breaks.specs.Breaks.{insideOf}
 use Rattle.breaks.proofs.Kept.{inside-all}
 use Rattle.breaks.proofs.Between.{Between, inside-between}
-use Rattle.params.specs.Params.{nextOf, thinned, thinBreaks, Sampler, evenly, walked, ordered, bisected, sampleParams}
+use Rattle.params.specs.Params.{nextOf, thinned, thinBreaks, Sampler, evenly, ordered, through, bisected, sampleParams}
 use Rattle.params.specs.OneWay.{OneWay}
 use Rattle.params.proofs.Steady.{Steady, rising, falling, steady-one-way, steady-sub}
-use Rattle.params.proofs.Runs.{Good, good-number, good-between, up, down, evenly-pairs, walked-pairs}
+use Rattle.params.proofs.Runs.{Good, good-number, good-between, up, down, evenly-pairs, through-pairs}
 use Rattle.params.proofs.Lists.{outcome-got, sampled-outcome}
 
 -- a range and breaks that can be sampled
@@ -51,20 +51,20 @@ module _ (s : Sampler) (range : Interval) (sound : Sound s range) where
       go false e = rising (evenly-pairs Up up range n (sound .low) (sound .high) (rising-ends e) h)
 
   bisected-steady : Steady (bisected s range)
-  unfolding ordered bisected
+  unfolding ordered
   bisected-steady = go (lt (range .hi) (range .lo)) refl (sound .between)
     where
       go : (t : Bool) → lt (range .hi) (range .lo) ≡ t
           → cond t (Within Up (range .hi) (s .breaks) (range .lo)) (Within Up (range .lo) (s .breaks) (range .hi))
-          → Steady (range .lo ∷ (walked s range (range .lo) (elim t [ true ↦ reverse (s .breaks) | false ↦ s .breaks ] ++ (range .hi ∷ [])) ++ (range .hi ∷ [])))
+          → Steady (through s range (elim t [ true ↦ reverse (s .breaks) | false ↦ s .breaks ]))
       go true e w =
           falling
-          (walked-pairs Down down s range (sound .high) (reverse (s .breaks)) (sound .low)
+          (through-pairs Down down s range (sound .high) (reverse (s .breaks)) (sound .low)
           (all-reverse (s .breaks) (goods (sound .high) (sound .low) (sound .fit) w)) (falling-ends e)
           (all-reverse (s .breaks) (w .to)) (all-reverse (s .breaks) (w .from)) (pair-reverse (s .breaks) (w .pairs)))
       go false e w =
           rising
-          (walked-pairs Up up s range (sound .high) (s .breaks) (sound .low)
+          (through-pairs Up up s range (sound .high) (s .breaks) (sound .low)
           (goods (sound .low) (sound .high) (sound .fit) w) (rising-ends e) (w .from) (w .to) (w .pairs))
 
   -- ---- what a caller cites
@@ -90,7 +90,8 @@ thinned-sub deviation sag hi start (b ∷ bs) =
     go true u v = keep u
     go false u v = skip v
 
-thin-sub : (bs : List Float) (lo hi sag : Float) (deviation : Float → Float → Float) → Sub (thinBreaks bs lo hi sag deviation) bs
+thin-sub : (bs : List Float) (lo hi sag : Float) (deviation : Float → Float → Float)
+    → Sub (thinBreaks bs lo hi sag deviation) bs
 unfolding thinBreaks
 thin-sub bs lo hi sag deviation = go (lt nought sag)
   where
