@@ -1,9 +1,10 @@
 -- How far from 0 an end of a range can lie that is computed from others: what shows that such a range can be sampled.
 -- Assumes nothing.
-use mathlib.Core.Path.{_≡_, refl, _∙_}
+use mathlib.Core.Path.{_≡_}
 use mathlib.Core.Bool.{Bool, true, false, cond}
 use Prim.Native.Nat.{ℕ, suc, _+_, _*_, _^_, _≤_, _<_}
-use native.Mathlib.Nat.{mul-pos, zero-mul, mul-zero, mul-one, one-mul, zero-add, add-zero, mul-le-mul-right, mul-le-mul-left, mul-comm, pow-suc}
+use native.Mathlib.Nat.{zero-mul, mul-zero, mul-one, one-mul, zero-add, add-zero, pow-suc}
+use native.Mathlib.Nat.{mul-pos, mul-le-mul-right, mul-le-mul-left}
 use native.Mathlib.Omega.{arith}
 use lib.Dec.{T, lt→ltb}
 use lib.Pow.{pow-mono, pow-lt}
@@ -123,13 +124,17 @@ module _ (k : ℕ) (small : k ≤ 1023) (d q : Float) (D : Size k d) (Q : Unit q
   at-most-one : plus q ≤ den q
   at-most-one = omega (arith, le→ q oneF (Q .is-finite) tt (Q .to), no-neg, zero-mul (den q), mul-one (plus q))
 
+  -- one side of the product, its sign apart
+  side : (a b : ℕ) → a ≤ 2 ^ k * den d + b → a * plus q ≤ 2 ^ k * (den d * den q) + b * plus q
+  side a b h = part-law (2 ^ k) a b (den d) (plus q) (den q) h at-most-one
+
   pub part-size : Size k (d ⊗ q)
   part-size =
       let pd = size-parts k d D in
       parts-size k (d ⊗ q) (plus d * plus q + neg' d * neg' q) (plus d * neg' q + neg' d * plus q) (den d * den q)
       small (mul-rounds binary64 d q (size-finite k d D) (Q .is-finite)) (mul-pos (den-pos d) (den-pos q))
-      (rw no-neg (simp (mul-zero, zero-add, add-zero) (part-law (2 ^ k) (plus d) (neg' d) (den d) (plus q) (den q) (pd .over) at-most-one)))
-      (rw no-neg (simp (mul-zero, zero-add, add-zero) (part-law (2 ^ k) (neg' d) (plus d) (den d) (plus q) (den q) (pd .below) at-most-one)))
+      (rw no-neg (simp (mul-zero, zero-add, add-zero) (side (plus d) (neg' d) (pd .over))))
+      (rw no-neg (simp (mul-zero, zero-add, add-zero) (side (neg' d) (plus d) (pd .below))))
 
 -- ---- range.at(t) for a t from 0 to 1, of ends within 2 ^ k: within 2 ^ (k + 2)
 pub at-fits : (range : Interval) (t : Float) → T (fits binary64 (at range t))

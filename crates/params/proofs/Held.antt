@@ -3,20 +3,19 @@
 use mathlib.Core.Path.{_≡_, refl, sym, ap, subst, _∙_}
 use mathlib.Core.Bool.{Bool, true, false}
 use mathlib.Core.List.{List, [], _∷_, _++_, append-assoc, append-nil}
-use Prim.Native.Nat.{ℕ, zero, suc, _+_, _≤_, _<_}
+use Prim.Native.Nat.{ℕ, suc, _+_, _≤_, _<_}
 use native.Mathlib.Nat.{zero-add, add-zero, add-suc, suc-add}
-use native.Mathlib.Numerals.{add-one}
 use native.Mathlib.Omega.{arith}
-use lib.ListN.{length, set, take, drop, length-append}
-use lib.Seq.{sets, sets-eq, length-sets, set-out, take-append-seam, drop-append-seam}
+use lib.ListN.{length, set, take, drop, length-append, take-append-drop}
+use lib.Seq.{sets, sets-eq, length-sets, set-out, length-take-le, take-append-seam, drop-append-seam}
 use lib.Dec.{leb}
 use lib.Ieee.{Float}
 use borrow.Author.Tests.{le-leb, lt-leb, leb-true, leb-false}
-use Rattle.lists.specs.Result.{Result, refused, got, each}
+use Rattle.lists.specs.Result.{refused, got, each}
 use Rattle.params.specs.declared.Listed.{Listed}
 use Rattle.params.specs.declared.Listed.the-variants.{Count, Refused}
 use Rattle.params.specs.Params.{fitting}
-use Rattle.params.specs.Held.{said, Held}
+use Rattle.params.specs.Held.{Held, Behind}
 
 -- ---- stores in parts
 pub sets-append : (l : List Float) (n : ℕ) (a b : List Float) → sets l n (a ++ b) ≡ sets (sets l n a) (n + length a) b
@@ -84,7 +83,8 @@ held-counted {out} {l} {n = n} h = counted (length out) l n (h .answer)
 pub held-length : {out l after : List Float} {r : Listed} → Held out l r after → length after ≡ length out
 held-length {out} {l} h = ap length (h .buffer) ∙ length-sets out 0 l
 
-fits-held : {out l after : List Float} {n : ℕ} → n ≡ length l → length l ≤ length out → after ≡ sets out 0 l → Held out l (Count n) after
+fits-held : {out l after : List Float} {n : ℕ} → n ≡ length l → length l ≤ length out → after ≡ sets out 0 l
+    → Held out l (Count n) after
 fits-held {out} {l} e h b = record { answer = ap got e ∙ sym (ap (each length) (fitting-fits (length out) l h)); buffer = b }
 
 over-held : {out l after : List Float} → length out < length l → after ≡ sets out 0 l → Held out l Refused after
@@ -101,31 +101,70 @@ held-list {out} {l} {after} {n} h =
 pub held-none : (out : List Float) → Held out [] (Count 0) out
 held-none out = fits-held refl (omega arith) refl
 
+-- a full buffer takes nothing more
+full : (out a b : List Float) → length out ≤ length a → sets out 0 (a ++ b) ≡ sets out 0 a
+full out a b h = behind out a b ∙ sets-out (sets out 0 a) (length a) b (rw (length-sets out 0 a) h)
+
 module _ {out a after : List Float} (x : Float) where
-  pub held-push : {n : ℕ} → Held out a (Count n) after → n < length out → Held out (a ++ (x ∷ [])) (Count (n + 1)) (set after n x)
+  pub held-push : {n : ℕ} → Held out a (Count n) after → n < length out
+      → Held out (a ++ (x ∷ [])) (Count (n + 1)) (set after n x)
   held-push {n} h l =
       let c = held-counted h in
       fits-held (simp length-append (omega (arith, c .same))) (simp length-append (omega (arith, c .same)))
-      (ap (λ (i : ℕ). set after i x) (c .same) ∙ ap (λ (k : List Float). set k (length a) x) (h .buffer) ∙ sym (behind out a (x ∷ [])))
+      (ap (λ (i : ℕ). set after i x) (c .same) ∙ ap (λ (k : List Float). set k (length a) x) (h .buffer)
+      ∙ sym (behind out a (x ∷ [])))
 
   pub held-stop : {n : ℕ} (b : List Float) → Held out a (Count n) after → length out ≤ n → Held out (a ++ x ∷ b) Refused after
   held-stop b h l =
       let c = held-counted h in
       over-held (simp length-append (omega (arith, c .same)))
-      (h .buffer ∙ sym (behind out a (x ∷ b) ∙ sets-out (sets out 0 a) (length a) (x ∷ b) (rw (length-sets out 0 a) (omega (arith, c .same)))))
+      (h .buffer ∙ sym (full out a (x ∷ b) (omega (arith, c .same))))
 
 -- a front that is refused, and one behind which more is written
 pub held-full : {out a after : List Float} (b : List Float) → Held out a Refused after → Held out (a ++ b) Refused after
 held-full {out} {a} b h =
     let g = overfull (length out) a (h .answer) in
-    over-held (simp length-append (omega arith))
-    (h .buffer ∙ sym (behind out a b ∙ sets-out (sets out 0 a) (length a) b (rw (length-sets out 0 a) (omega arith))))
+    over-held (simp length-append (omega arith)) (h .buffer ∙ sym (full out a b (omega arith)))
 
-pub held-then : {out a mid after : List Float} {n : ℕ} {r : Listed} (b : List Float) → Held out a (Count n) mid
-    → Held mid (take n mid ++ b) r after → Held out (a ++ b) r after
-held-then {out} {a} {mid} {after} {n} {r} b h g =
-    let g' : Held mid (a ++ b) r after = rw (held-list h) at g in
-    record {
-      answer = g' .answer ∙ ap (λ (k : ℕ). each length (fitting k (a ++ b))) (held-length h);
-      buffer = g' .buffer ∙ ap (λ (k : List Float). sets k 0 (a ++ b)) (h .buffer) ∙ again out a b (held-counted h .fits);
-    }
+-- ---- a list behind what a buffer holds already, put together from its parts
+-- a list's own front, stored again
+own : (l : List Float) (n : ℕ) → n ≤ length l → l ≡ sets l 0 (take n l)
+own l n h =
+    let e = length-take-le n l h in
+    sym (start l (take n l) (rw e h) ∙ ap (λ (k : ℕ). take n l ++ drop k l) e ∙ take-append-drop n l)
+
+pub behind-none : (out : List Float) (k : ℕ) → k ≤ length out → Behind out k [] (Count k) out
+behind-none out k h =
+    let e = length-take-le k out h in
+    subst (λ (l : List Float). Held out l (Count k) out) (sym (append-nil (take k out))) (fits-held (sym e) (rw e h) (own out k h))
+
+module _ {out mid : List Float} (k : ℕ) (a : List Float) where
+  pub behind-full : (b : List Float) → Behind out k a Refused mid → Behind out k (a ++ b) Refused mid
+  behind-full b h = rw append-assoc at (held-full b h)
+
+  module _ {n : ℕ} (h : Behind out k a (Count n) mid) where
+    pub behind-then : {r : Listed} {after : List Float} (b : List Float) → Behind mid n b r after → Behind out k (a ++ b) r after
+    behind-then {r} {after} b g = rw append-assoc at go
+      where
+        front : List Float
+        front = take k out ++ a
+
+        g' : Held mid (front ++ b) r after
+        g' = rw (held-list h) at g
+
+        go : Held out (front ++ b) r after
+        go = record {
+          answer = g' .answer ∙ ap (λ (m : ℕ). each length (fitting m (front ++ b))) (held-length h);
+          buffer = g' .buffer ∙ ap (λ (m : List Float). sets m 0 (front ++ b)) (h .buffer) ∙ again out front b (held-counted h .fits);
+        }
+
+    pub behind-push : (x : Float) → n < length out → Behind out k (a ++ (x ∷ [])) (Count (n + 1)) (set mid n x)
+    behind-push x l = rw append-assoc at (held-push x h l)
+
+    pub behind-stop : (x : Float) (b : List Float) → length out ≤ n → Behind out k (a ++ x ∷ b) Refused mid
+    behind-stop x b l = rw append-assoc at (held-stop x b h l)
+
+-- one more, and then a list behind that
+pub behind-both : {out mid after : List Float} {n : ℕ} {r : Listed} (k : ℕ) (a : List Float) (x : Float) (b : List Float)
+    → Behind out k a (Count n) mid → n < length out → Behind (set mid n x) (n + 1) b r after → Behind out k (a ++ x ∷ b) r after
+behind-both k a x b h l g = rw append-assoc at (behind-then k (a ++ (x ∷ [])) (behind-push k a h x l) b g)

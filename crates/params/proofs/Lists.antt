@@ -1,8 +1,8 @@
 -- What holds of even steps and of bisection holds of the parameters that sampling gives; they fit the room, and 8 is the only
 -- refusal. Assumes nothing.
-use mathlib.Core.Path.{_≡_, refl, subst, _∙_}
+use mathlib.Core.Path.{_≡_, refl, subst}
 use mathlib.Core.Bool.{Bool, true, false}
-use mathlib.Core.List.{List, [], _∷_, _++_}
+use mathlib.Core.List.{List, []}
 use Prim.Native.Nat.{ℕ, zero, suc, _-_, _≤_}
 use native.Mathlib.Omega.{arith}
 use native.Mathlib.Numerals.{add-one}
@@ -41,7 +41,8 @@ outcome-bind f eight g = eight
 
 -- ---- of a P that holds of even steps and of bisection, where they fit the room
 module _ (P : List Float → Type 0) (room : ℕ) (s : Sampler) (range : Interval)
-    (even : (n : ℕ) → suc n ≤ room → P (evenly range n)) (halves : length (bisected s range) ≤ room → P (bisected s range)) where
+    (even : (n : ℕ) → suc n ≤ room → P (evenly range n))
+    (halves : length (bisected s range) ≤ room → P (bisected s range)) where
   fitting-outcome : (l : List Float) → (length l ≤ room → P l) → Outcome P (fitting room l)
   unfolding fitting
   fitting-outcome l h = go (leb (length l) room) refl

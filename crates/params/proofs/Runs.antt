@@ -12,10 +12,10 @@ use Rattle.math.specs.declared.Interval.{Interval}
 use Rattle.math.specs.Math.{at}
 use Rattle.order.proofs.Signed.{number, le-trans, le-refl, number-left}
 use Rattle.order.proofs.Modest.{big, Modest, middle, middle-down, rises, falls}
+use Rattle.lists.specs.Way.{Up, Down}
 use Rattle.lists.specs.Sub.{All, none, more, Pairwise, empty, first}
 use Rattle.lists.proofs.Joined.{all-join, all-one, pair-snoc, Within, within-none, within-join, within-mid, within-ends}
-use Rattle.params.specs.Params.{midpoint, subdivided, Sampler, stepAt, steps, evenly, unlessHi, walked}
-use Rattle.params.proofs.Steady.{Up, Down}
+use Rattle.params.specs.Params.{midpoint, subdivided, Sampler, stepAt, steps, evenly, unlessHi, walked, through}
 
 -- a float that sampling can halve: of the format, and at most 2 ^ 60
 pub record Good (x : Float) : Type 0 where
@@ -111,10 +111,10 @@ module _ (R : Float → Float → Type 0) (o : Order R) where
     walked-within left (b ∷ bs) L (more B G) h (more p P) (more q Q) (first r rs) =
         span-within left b L B p q (walked-within b bs B G q r Q rs)
 
-    pub walked-pairs : (bs : List Float) → Good (range .lo) → All Good bs → R (range .lo) (range .hi)
-        → All (R (range .lo)) bs → All (λ b. R b (range .hi)) bs → Pairwise R bs
-        → Pairwise R (range .lo ∷ (walked s range (range .lo) (bs ++ (range .hi ∷ [])) ++ (range .hi ∷ [])))
-    walked-pairs bs L G h p q r =
+    pub through-pairs : (bs : List Float) → Good (range .lo) → All Good bs → R (range .lo) (range .hi)
+        → All (R (range .lo)) bs → All (λ b. R b (range .hi)) bs → Pairwise R bs → Pairwise R (through s range bs)
+    unfolding through
+    through-pairs bs L G h p q r =
         within-ends R (o .trans) (range .lo) (range .hi) (o .same (range .lo) L) h (o .same (range .hi) H)
         (walked-within (range .lo) bs L G h p q r)
 

@@ -1,40 +1,40 @@
 -- The parameters that sampling gives stand in one order, so they run one way. Assumes nothing.
 use mathlib.Core.Path.{_≡_, refl}
 use mathlib.Core.Bool.{Bool, true, false, cond}
-use mathlib.Core.List.{List, [], _∷_, _++_, reverse}
-use Prim.Native.Nat.{ℕ, suc, _≤_}
+use mathlib.Core.List.{List, [], _∷_, reverse}
+use Prim.Native.Nat.{ℕ, _≤_}
 use native.Mathlib.Omega.{arith}
 use lib.Dec.{T}
-use lib.Ieee.{Float, le, lt}
+use lib.Ieee.{Float, binary64, fits, le, lt}
 use Rattle.arith.specs.Notation.{nought}
 use Rattle.math.specs.declared.Interval.{Interval}
 use Rattle.order.proofs.Signed.{lt→le, nlt→le}
-use Rattle.lists.specs.Result.{Result, refused, got}
-use Rattle.lists.specs.Sub.{All, Pairwise, Sub, end, keep, skip}
-use Rattle.lists.proofs.Joined.{all-reverse, pair-reverse}
+use Rattle.lists.specs.Result.{got}
+use Rattle.lists.specs.Way.{Up, Down}
+use Rattle.lists.specs.Sub.{All, Sub, end, keep, skip}
+use Rattle.lists.proofs.Joined.{Within, all-map, all-reverse, pair-reverse}
+use Rattle.lists.proofs.Parts.{all-both}
 use Rattle.lists.proofs.Order.{sub-all, sub-pairwise, sub-same}
-use Rattle.params.specs.Params.{nextOf, thinned, thinBreaks, Sampler, evenly, walked, ordered, bisected, sampleParams}
+use Rattle.breaks.specs.Breaks.{insideOf}
+use Rattle.breaks.proofs.Kept.{inside-all}
+use Rattle.breaks.proofs.Between.{Between, inside-between}
+use Rattle.params.specs.Params.{nextOf, thinned, thinBreaks, Sampler, evenly, ordered, through, bisected, sampleParams}
 use Rattle.params.specs.OneWay.{OneWay}
-use Rattle.params.proofs.Steady.{Up, Down, Steady, rising, falling, steady-one-way, steady-sub}
-use Rattle.params.proofs.Runs.{Good, good-number, up, down, evenly-pairs, walked-pairs}
+use Rattle.params.proofs.Steady.{Steady, rising, falling, steady-one-way, steady-sub}
+use Rattle.params.proofs.Runs.{Good, good-number, good-between, up, down, evenly-pairs, through-pairs}
 use Rattle.params.proofs.Lists.{outcome-got, sampled-outcome}
-
--- breaks from low to high, ascending
-pub record Ascends (low high : Float) (bs : List Float) : Type 0 where
-  pub good : All Good bs
-  pub above : All (Up low) bs
-  pub under : All (λ b. Up b high) bs
-  pub pairs : Pairwise Up bs
-
--- breaks of a range that may run backwards: ascending from its smaller to its larger end
-abbrev pub Between : Interval → List Float → Type 0
-Between range bs = cond (lt (range .hi) (range .lo)) (Ascends (range .hi) (range .lo) bs) (Ascends (range .lo) (range .hi) bs)
 
 -- a range and breaks that can be sampled
 pub record Sound (s : Sampler) (range : Interval) : Type 0 where
   pub low : Good (range .lo)
   pub high : Good (range .hi)
-  pub between : Between range (s .breaks)
+  pub fit : All (λ b. T (fits binary64 b)) (s .breaks)
+  pub between : Between (range .lo) (range .hi) (s .breaks)
+
+-- floats of the format that run from one good float up to another are good
+goods : {a b : Float} {l : List Float} → Good a → Good b → All (λ x. T (fits binary64 x)) l → Within Up a l b → All Good l
+goods {a} {b} A B F w =
+    all-map (λ x p. good-between a x b A B (p .0) (p .1 .0) (p .1 .1)) (all-both F (all-both (w .from) (w .to)))
 
 module _ (s : Sampler) (range : Interval) (sound : Sound s range) where
   rising-ends : lt (range .hi) (range .lo) ≡ false → T (le (range .lo) (range .hi))
@@ -51,21 +51,21 @@ module _ (s : Sampler) (range : Interval) (sound : Sound s range) where
       go false e = rising (evenly-pairs Up up range n (sound .low) (sound .high) (rising-ends e) h)
 
   bisected-steady : Steady (bisected s range)
-  unfolding ordered bisected
+  unfolding ordered
   bisected-steady = go (lt (range .hi) (range .lo)) refl (sound .between)
     where
       go : (t : Bool) → lt (range .hi) (range .lo) ≡ t
-          → cond t (Ascends (range .hi) (range .lo) (s .breaks)) (Ascends (range .lo) (range .hi) (s .breaks))
-          → Steady (range .lo ∷ (walked s range (range .lo) (elim t [ true ↦ reverse (s .breaks) | false ↦ s .breaks ] ++ (range .hi ∷ [])) ++ (range .hi ∷ [])))
-      go true e a =
+          → cond t (Within Up (range .hi) (s .breaks) (range .lo)) (Within Up (range .lo) (s .breaks) (range .hi))
+          → Steady (through s range (elim t [ true ↦ reverse (s .breaks) | false ↦ s .breaks ]))
+      go true e w =
           falling
-          (walked-pairs Down down s range (sound .high) (reverse (s .breaks)) (sound .low) (all-reverse (s .breaks) (a .good))
-          (falling-ends e) (all-reverse (s .breaks) (a .under)) (all-reverse (s .breaks) (a .above))
-          (pair-reverse (s .breaks) (a .pairs)))
-      go false e a =
+          (through-pairs Down down s range (sound .high) (reverse (s .breaks)) (sound .low)
+          (all-reverse (s .breaks) (goods (sound .high) (sound .low) (sound .fit) w)) (falling-ends e)
+          (all-reverse (s .breaks) (w .to)) (all-reverse (s .breaks) (w .from)) (pair-reverse (s .breaks) (w .pairs)))
+      go false e w =
           rising
-          (walked-pairs Up up s range (sound .high) (s .breaks) (sound .low) (a .good) (rising-ends e) (a .above) (a .under)
-          (a .pairs))
+          (through-pairs Up up s range (sound .high) (s .breaks) (sound .low)
+          (goods (sound .low) (sound .high) (sound .fit) w) (rising-ends e) (w .from) (w .to) (w .pairs))
 
   -- ---- what a caller cites
   module _ (room : ℕ) (small : room ≤ 16384) (l : List Float) (e : sampleParams room s range ≡ got l) where
@@ -90,7 +90,8 @@ thinned-sub deviation sag hi start (b ∷ bs) =
     go true u v = keep u
     go false u v = skip v
 
-pub thin-sub : (bs : List Float) (lo hi sag : Float) (deviation : Float → Float → Float) → Sub (thinBreaks bs lo hi sag deviation) bs
+thin-sub : (bs : List Float) (lo hi sag : Float) (deviation : Float → Float → Float)
+    → Sub (thinBreaks bs lo hi sag deviation) bs
 unfolding thinBreaks
 thin-sub bs lo hi sag deviation = go (lt nought sag)
   where
@@ -98,18 +99,27 @@ thin-sub bs lo hi sag deviation = go (lt nought sag)
     go true = thinned-sub deviation sag hi lo bs
     go false = sub-same bs
 
-ascends-sub : (low high : Float) {k l : List Float} → Sub k l → Ascends low high l → Ascends low high k
-ascends-sub low high s a = record {
-  good = sub-all s (a .good);
-  above = sub-all s (a .above);
-  under = sub-all s (a .under);
-  pairs = sub-pairwise s (a .pairs);
-}
+within-sub : {a b : Float} {k l : List Float} → Sub k l → Within Up a l b → Within Up a k b
+within-sub s w = record { from = sub-all s (w .from); to = sub-all s (w .to); pairs = sub-pairwise s (w .pairs) }
 
-pub between-sub : (range : Interval) {k l : List Float} → Sub k l → Between range l → Between range k
-between-sub range {k} {l} s = go (lt (range .hi) (range .lo))
+between-sub : (lo hi : Float) {k l : List Float} → Sub k l → Between lo hi l → Between lo hi k
+between-sub lo hi {k} {l} s = go (lt hi lo)
   where
-    go : (t : Bool) → cond t (Ascends (range .hi) (range .lo) l) (Ascends (range .lo) (range .hi) l)
-        → cond t (Ascends (range .hi) (range .lo) k) (Ascends (range .lo) (range .hi) k)
-    go true a = ascends-sub (range .hi) (range .lo) s a
-    go false a = ascends-sub (range .lo) (range .hi) s a
+    go : (t : Bool) → cond t (Within Up hi l lo) (Within Up lo l hi) → cond t (Within Up hi k lo) (Within Up lo k hi)
+    go true w = within-sub s w
+    go false w = within-sub s w
+
+-- ---- what a caller shows of its range: the breaks are what thin_breaks leaves of those that `inside` finds among the knots
+module _ (s : Sampler) (range : Interval) (knots : List Float) (sag : Float) (deviation : Float → Float → Float)
+    (e : s .breaks ≡ thinBreaks (insideOf knots (range .lo) (range .hi)) (range .lo) (range .hi) sag deviation) where
+  leaves : Sub (s .breaks) (insideOf knots (range .lo) (range .hi))
+  leaves = rw e (thin-sub (insideOf knots (range .lo) (range .hi)) (range .lo) (range .hi) sag deviation)
+
+  pub thin-sound : All (λ k. T (fits binary64 k)) knots → Good (range .lo) → Good (range .hi) → Sound s range
+  thin-sound F L H = record {
+    low = L;
+    high = H;
+    fit = sub-all leaves (inside-all knots F (range .lo) (range .hi));
+    between = between-sub (range .lo) (range .hi) leaves
+        (inside-between knots (range .lo) (range .hi) (L .fits64) (H .fits64) (L .modest) (H .modest));
+  }

@@ -3,19 +3,13 @@
 use mathlib.Core.List.{List, [], _∷_, reverse}
 use mathlib.Core.Logic.{⊎-elim}
 use lib.Dec.{T}
-use lib.Ieee.{Float, le, lt}
+use lib.Ieee.{Float}
 use Rattle.order.proofs.Signed.{number, total, lt→le, lt→nle}
-use Rattle.lists.specs.Sub.{All, none, more, Pairwise, empty, first, Sub}
+use Rattle.lists.specs.Way.{Up, Down}
+use Rattle.lists.specs.Sub.{none, more, Pairwise, empty, first, Sub}
 use Rattle.lists.proofs.Order.{sub-pairwise}
 use Rattle.lists.proofs.Joined.{all-one, pair-reverse}
 use Rattle.params.specs.OneWay.{Rises, rise, later, Falls, fall, after, OneWay}
-
--- the two orders
-abbrev pub Up : Float → Float → Type 0
-Up a b = T (le a b)
-
-abbrev pub Down : Float → Float → Type 0
-Down a b = T (le b a)
 
 pub data Steady : List Float → Type 0 where
   rising : {l : List Float} → Pairwise Up l → Steady l

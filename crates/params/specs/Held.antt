@@ -1,8 +1,8 @@
 -- A list of parameters in a buffer, whose length is the room: what the code that writes it answers. Definitions only.
 use mathlib.Core.Path.{_≡_}
-use mathlib.Core.List.{List}
+use mathlib.Core.List.{List, _++_}
 use Prim.Native.Nat.{ℕ}
-use lib.ListN.{length}
+use lib.ListN.{length, take}
 use lib.Seq.{sets}
 use lib.Ieee.{Float}
 use Rattle.lists.specs.Result.{Result, refused, got, each}
@@ -20,3 +20,7 @@ said Refused = refused 8
 pub record Held (out l : List Float) (r : Listed) (after : List Float) : Type 0 where
   pub answer : said r ≡ each length (fitting (length out) l)
   pub buffer : after ≡ sets out 0 l
+
+-- l written behind the first k floats of out, which are kept
+abbrev pub Behind : List Float → ℕ → List Float → Listed → List Float → Type 0
+Behind out k l r after = Held out (take k out ++ l) r after

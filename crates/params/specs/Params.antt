@@ -108,9 +108,13 @@ unfoldable pub walked : Sampler → Interval → Float → List Float → List F
 walked s range left [] = []
 walked s range left (b ∷ bs) = subdivided (s .within) (s .depth) left b ++ (unlessHi range b ++ walked s range b bs)
 
--- bisection between the breaks: range.lo, the loop, range.hi
-unfoldable pub bisected : Sampler → Interval → List Float
-bisected s range = range .lo ∷ (walked s range (range .lo) (ordered s range ++ (range .hi ∷ [])) ++ (range .hi ∷ []))
+-- range.lo, what the loop pushes, range.hi
+unfoldable pub through : Sampler → Interval → List Float → List Float
+through s range breaks = range .lo ∷ (walked s range (range .lo) (breaks ++ (range .hi ∷ [])) ++ (range .hi ∷ []))
+
+-- bisection between the breaks
+abbrev pub bisected : Sampler → Interval → List Float
+bisected s range = through s range (ordered s range)
 
 -- the segment floor: even steps where a list has fewer segments
 unfoldable pub floored : ℕ → Sampler → Interval → List Float → Result (List Float)
