@@ -1,0 +1,165 @@
+// Times root against f64::sqrt, and sin_cos against the same steps in Rust, in one run.
+//
+// Latency: a chain of calls in which each argument waits for the answer before. Throughput: calls
+// that do not wait for each other. Each figure is the least of many short rounds, in which the
+// functions take turns, so a figure is not the noise of a busy machine. The chain's own work, timed
+// with a function that gives its argument back, is taken off the latencies.
+use std::hint::black_box;
+use std::time::Instant;
+
+extern "C" {
+    fn cs_root(x: f64) -> f64;
+    fn cs_sin_cos(t: f64, sin: &mut f64, cos: &mut f64);
+}
+
+const COUNT: usize = 4096;
+const ROUNDS: usize = 400;
+
+#[derive(Clone, Copy)]
+struct Case {
+    name: &'static str,
+    call: fn(f64) -> f64,
+}
+
+#[inline(never)]
+fn nothing(x: f64) -> f64 {
+    x
+}
+
+#[inline(never)]
+fn root(x: f64) -> f64 {
+    unsafe { cs_root(x) }
+}
+
+#[inline(never)]
+fn rust_sqrt(x: f64) -> f64 {
+    x.sqrt()
+}
+
+#[inline(never)]
+fn sin_cos(t: f64) -> f64 {
+    let (mut s, mut c) = (0.0, 0.0);
+    unsafe { cs_sin_cos(t, &mut s, &mut c) };
+    s + c
+}
+
+#[inline(never)]
+fn rust_sin_cos(t: f64) -> f64 {
+    let (s, c) = fixed_steps(t);
+    s + c
+}
+
+// The steps of sin and cos: the quarter turns k, what is left r, the two kernels, and k mod 4.
+fn fixed_steps(t: f64) -> (f64, f64) {
+    let k = (t * f64::from_bits(0x3FE45F306DC9C883) + 0.5).floor();
+    let r = (t - k * f64::from_bits(0x3FF921FB54400000)) - k * f64::from_bits(0x3DD0B4611A626331);
+    let z = r * r;
+    let mut w = 1.0;
+    for d in [272.0, 210.0, 156.0, 110.0, 72.0, 42.0, 20.0, 6.0] {
+        w = 1.0 - (z / d) * w;
+    }
+    let s = r * w;
+    let mut c = 1.0;
+    for d in [240.0, 182.0, 132.0, 90.0, 56.0, 30.0, 12.0, 2.0] {
+        c = 1.0 - (z / d) * c;
+    }
+    match k.rem_euclid(4.0) as u64 {
+        0 => (s, c),
+        1 => (c, -s),
+        2 => (-s, -c),
+        _ => (-c, s),
+    }
+}
+
+// xorshift64: the same numbers in every run
+struct Random(u64);
+
+impl Random {
+    fn next(&mut self) -> u64 {
+        self.0 ^= self.0 << 13;
+        self.0 ^= self.0 >> 7;
+        self.0 ^= self.0 << 17;
+        self.0
+    }
+
+    // 52 random digits, and an exponent from -16 to 15
+    fn float(&mut self) -> f64 {
+        let digits = self.next() >> 12;
+        let field = 1007 + (self.next() >> 59);
+        f64::from_bits(field << 52 | digits)
+    }
+}
+
+// nanoseconds a call: the least over the rounds, for each case
+fn least(cases: &[Case], round: impl Fn(Case) -> f64) -> Vec<f64> {
+    let mut best = vec![f64::INFINITY; cases.len()];
+    for _ in 0..ROUNDS {
+        for (b, case) in best.iter_mut().zip(cases) {
+            let start = Instant::now();
+            black_box(round(*case));
+            *b = b.min(start.elapsed().as_nanos() as f64 / COUNT as f64);
+        }
+    }
+    best
+}
+
+// a + answer * 1e-300 is a, but has to wait for the answer
+fn chained(case: Case, args: &[f64]) -> f64 {
+    let mut x = 1.0;
+    for a in args {
+        x = a + (case.call)(x) * 1e-300;
+    }
+    x
+}
+
+fn apart(case: Case, args: &[f64]) -> f64 {
+    let mut answers = [0.0; COUNT];
+    for (r, a) in answers.iter_mut().zip(args) {
+        *r = (case.call)(*a);
+    }
+    black_box(&answers)[COUNT - 1]
+}
+
+fn compare(ours: Case, theirs: Case, args: &[f64]) {
+    let cases = [Case { name: "", call: nothing }, ours, theirs];
+    let latency = least(&cases, |case| chained(case, args));
+    let throughput = least(&cases, |case| apart(case, args));
+    let (a, b) = (latency[1] - latency[0], latency[2] - latency[0]);
+    println!("{:<10} latency    {a:6.2} ns   {:<22} {b:6.2} ns   ratio {:.2}", ours.name, theirs.name, a / b);
+    let (a, b) = (throughput[1], throughput[2]);
+    println!("{:<10} throughput {a:6.2} ns   {:<22} {b:6.2} ns   ratio {:.2}", ours.name, theirs.name, a / b);
+}
+
+fn same(a: f64, b: f64) -> bool {
+    a.to_bits() == b.to_bits() || a.is_nan() && b.is_nan()
+}
+
+// the answers are the same bits: on special values, then on random patterns and random angles
+fn agree(random: &mut Random) -> usize {
+    let special = [0.0, -0.0, 1.0, -1.0, 2.0, f64::INFINITY, f64::NEG_INFINITY, f64::NAN, f64::MAX, f64::MIN_POSITIVE, 5e-324];
+    let pattern = (0..1_000_000).map(|_| f64::from_bits(random.next())).collect::<Vec<_>>();
+    let near_one = (0..2000).map(|i| f64::from_bits(0x3FEFFFFFFFFFFC18 + i));
+    let squares = (1..100_000u64).map(|i| (i * i) as f64);
+    let mut tried = 0;
+    for x in special.into_iter().chain(pattern.iter().copied()).chain(near_one).chain(squares) {
+        assert!(same(root(x), x.sqrt()), "root of {x:e}");
+        tried += 1;
+    }
+    for x in special.into_iter().chain(pattern.iter().copied()).chain((0..1_000_000).map(|i| (i as f64 - 5e5) * 1e-3)) {
+        let (mut s, mut c) = (0.0, 0.0);
+        unsafe { cs_sin_cos(x, &mut s, &mut c) };
+        let (rs, rc) = fixed_steps(x);
+        assert!(same(s, rs) && same(c, rc), "sin_cos of {x:e}");
+        tried += 1;
+    }
+    tried
+}
+
+fn main() {
+    let mut random = Random(0x9E3779B97F4A7C15);
+    println!("{} answers the same, bit for bit", agree(&mut random));
+    let args: Vec<f64> = (0..COUNT).map(|_| random.float()).collect();
+    let angles: Vec<f64> = (0..COUNT).map(|_| random.float() % 6.5).collect();
+    compare(Case { name: "root", call: root }, Case { name: "f64::sqrt", call: rust_sqrt }, &args);
+    compare(Case { name: "sin_cos", call: sin_cos }, Case { name: "the same steps in Rust", call: rust_sin_cos }, &angles);
+}
