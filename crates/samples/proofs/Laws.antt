@@ -10,7 +10,7 @@ use lib.Seq.{getD-at, getD-append-add, set-comm, set-set, set-getD, sets, sets-e
 use lib.Ieee.{Float, nan}
 use Rattle.lists.specs.Room.{filled}
 use Rattle.samples.specs.declared.Sample.{Sample}
-use Rattle.samples.specs.Chain.{width, row, flat, pointAt, sampleAt, samplesFrom, samples}
+use Rattle.samples.specs.Chain.{width, row, flat, sampleAt, samplesFrom, samples}
 
 -- ---- stores of a run of floats
 pub sets-append : (l : List Float) (n : ℕ) (a b : List Float) → sets l n (a ++ b) ≡ sets (sets l n a) (n + length a) b
@@ -71,7 +71,7 @@ replace c kept s t =
 
 -- ---- a buffer's samples
 pub sampleAt-behind : (c : List Float) (kept : List Sample) (i : ℕ) → length kept ≤ i → sampleAt (sets c 0 (flat kept)) i ≡ sampleAt c i
-unfolding pointAt
+unfolding sampleAt
 sampleAt-behind c kept i h =
     let e = length-flat kept in
     let g : (j : ℕ) → width * i ≤ j → getD (sets c 0 (flat kept)) j nan ≡ getD c j nan =
@@ -112,7 +112,7 @@ pub add-three : (n : ℕ) → n + 3 ≡ suc (suc (suc n))
 add-three n = omega arith
 
 pub row-own : (c : List Float) (i : ℕ) → sets c (width * i) (row (sampleAt c i)) ≡ c
-unfolding pointAt
+unfolding sampleAt
 row-own c i = rw (add-one, add-two, add-three) (own-run c c (width * i) width refl)
 
 pub samples-own : (c : List Float) (i n : ℕ) → sets c (width * i) (flat (samplesFrom c i n)) ≡ c
@@ -137,7 +137,7 @@ rest-cleared c l h = rw (length-sets c 0 (flat l), lead c l h)
 
 -- a buffer that holds a chain, read again
 row-read : (p r : List Float) (s : Sample) (i : ℕ) → length p ≡ width * i → sampleAt (p ++ (row s ++ r)) i ≡ s
-unfolding pointAt
+unfolding sampleAt
 row-read p r s i e =
     let g : (k : ℕ) → getD (p ++ (row s ++ r)) (width * i + k) nan ≡ getD (row s ++ r) k nan =
     λ k. ap (λ (j : ℕ). getD (p ++ (row s ++ r)) (j + k) nan) (sym e) ∙ getD-append-add p (row s ++ r) k nan in

@@ -25,12 +25,15 @@ unfoldable pub flat : List Sample → List Float
 flat [] = []
 flat (s ∷ l) = row s ++ flat l
 
--- the point and the sample of a buffer's record i
-unfoldable pub pointAt : List Float → ℕ → Vec3
-pointAt c i = vec (getD c (width * i) nan) (getD c (width * i + 1) nan) (getD c (width * i + 2) nan)
+-- the sample of a buffer's record i, and its point
+unfoldable pub sampleAt : List Float → ℕ → Sample
+sampleAt c i = record {
+  point = vec (getD c (width * i) nan) (getD c (width * i + 1) nan) (getD c (width * i + 2) nan);
+  param = getD c (width * i + 3) nan;
+}
 
-abbrev pub sampleAt : List Float → ℕ → Sample
-sampleAt c i = record { point = pointAt c i; param = getD c (width * i + 3) nan }
+abbrev pub pointAt : List Float → ℕ → Vec3
+pointAt c i = sampleAt c i .point
 
 -- n samples from record i on
 unfoldable pub samplesFrom : List Float → ℕ → ℕ → List Sample

@@ -1,6 +1,6 @@
 -- `point_at` meets its contract: the three floats that it reads are those of `pointAt`. Assumes nothing.
 use mathlib.Core.Path.{refl}
-use Rattle.samples.specs.Chain.{pointAt}
+use Rattle.samples.specs.Chain.{sampleAt}
 use borrow.Author.Needs.{needs}
 use Rattle.samples.proofs.point_at.Statement.{statement}
 use Rattle.samples.proofs.point_at.Tie as tie
@@ -33,7 +33,7 @@ shared-slice-read-t14 : tie.Need-shared-slice-read-t14
 shared-slice-read-t14 c = search needs
 
 returns : tie.Need-returns
-unfolding pointAt
+unfolding sampleAt
 returns c = refl
 
 pub point-at-spec : {M : Type 1} → statement M

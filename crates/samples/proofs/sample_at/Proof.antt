@@ -1,5 +1,6 @@
 -- `sample_at` meets its contract: the point is that of `point_at`, with the parameter behind it. Assumes nothing.
 use borrow.Author.Needs.{needs}
+use Rattle.samples.specs.Chain.{sampleAt}
 use Rattle.samples.proofs.sample_at.Statement.{statement}
 use Rattle.samples.proofs.sample_at.Tie as tie
 
@@ -19,6 +20,7 @@ shared-slice-read-t8 : tie.Need-shared-slice-read-t8
 shared-slice-read-t8 c = search needs
 
 returns : tie.Need-returns
+unfolding sampleAt
 returns c = rw (c .before .point-at .ensures)
 
 pub sample-at-spec : {M : Type 1} → statement M

@@ -1,0 +1,3 @@
+pub mod Loop
+pub mod Laws
+pub mod Examples

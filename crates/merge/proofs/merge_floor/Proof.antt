@@ -1,0 +1,18 @@
+-- `merge_floor` meets its contract: the larger and the smaller are those of `mergeFloor`. Assumes nothing.
+use borrow.Author.Needs.{needs}
+use Rattle.merge.specs.Merge.{mergeFloor}
+use Rattle.merge.proofs.merge_floor.Statement.{statement}
+use Rattle.merge.proofs.merge_floor.Tie as tie
+
+max-requires : tie.Need-max-requires
+max-requires c κs = search needs
+
+min-requires : tie.Need-min-requires
+min-requires c κs = search needs
+
+returns : tie.Need-returns
+unfolding mergeFloor
+returns c = cc
+
+pub merge-floor-spec : {M : Type 1} → statement M
+merge-floor-spec = tie.close (tie.spec max-requires min-requires returns)

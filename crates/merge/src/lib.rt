@@ -1,0 +1,48 @@
+// The merge block of `discretise`: points of a chain that lie too near the one before them go.
+ghost use mathlib.Core.Path.{_≡_};
+ghost use Prim.Native.Nat.{_*_, _≤_};
+ghost use lib.ListN.{length};
+ghost use Rattle.samples.specs.Chain.{width, samples, Stored};
+ghost use Rattle.merge.specs.Merge.{mergeFloor, merged};
+
+// How far apart two points of a chain may be and still count as one: in the edge's tolerance, and in the sag.
+const MERGE_TOLERANCES: f64 = 4.0;
+
+const MERGE_SAG: f64 = 0.5;
+
+// The tighter of the two bounds.
+pub fn merge_floor(tolerance: f64, sag: f64) -> f64
+    ensures { λ r. ⌜ r ≡ mergeFloor tolerance sag ⌝ }
+{
+    arith::min(
+        arith::max(tolerance, 0.0) * MERGE_TOLERANCES,
+        sag * MERGE_SAG,
+    )
+}
+
+// Merges the first n records in place. What is kept is moved to the buffer's start; answers how many there are.
+pub fn merge(chain: &mut [f64], n: usize, floor: f64) -> usize
+    requires { ⌜ width * n ≤ length (now chain) ⌝ }
+    ensures { λ r. ⌜ Stored (now (chain .entry)) (now (chain .exit)) r (merged floor (samples n (now (chain .entry)))) ⌝ }
+{
+    if floor > 0.0 && n > 2 {
+        let mut last = samples::point_at(chain, 0);
+        let mut k = 1usize;
+        for i in 1..n - 1 {
+            let p = samples::sample_at(chain, i);
+            if math::distance(p.point, last) > floor {
+                samples::put(chain, k, p);
+                last = p.point;
+                k += 1;
+            }
+        }
+        let end = samples::sample_at(chain, n - 1);
+        // Where the end is too close to the last one kept, that one goes, and not the end, which is the edge's vertex.
+        if math::distance(end.point, last) <= floor && k > 1 {
+            k -= 1;
+        }
+        samples::put(chain, k, end);
+        return k + 1;
+    }
+    n
+}
