@@ -118,7 +118,7 @@ below-parts (inf s) n h = absurd h
 below-parts (fin false m e) n h = never (sym (h .0))
 below-parts (fin true m e) n h = (tt, refl, sym (mul-one (m * up e)) ∙ h .1)
 
-abbrev Shifted : Float → ℕ → ℕ → Type 0
+abbrev pub Shifted : Float → ℕ → ℕ → Type 0
 Shifted x S B = T (finite x) × (plus x + B * den x ≡ S * den x + neg' x)
 
 pub shifted : (S B : ℕ) → S ≤ 2 ^ 53 → B ≤ 2 ^ 53 → Shifted (ofInt binary64 (minus S B)) S B
@@ -287,10 +287,10 @@ module _ (x : Float) (a : le floor52 (add binary64 x baseF) ≡ true) (b : lt (a
       sub-value (add binary64 x baseF) oneF S 1 (sum-is .value) (refl, refl) ∙ ap (ofInt binary64) (rw (is-true (leb 1 S) (le→leb 1 S l))) in
       ap (λ (z : Float). sub binary64 z baseF) e ∙ sub-value (ofInt binary64 (pos (S - 1))) baseF (S - 1) base (int-value (S - 1) h) (refl, refl)
 
-  is-near : Near x (sum-is .number)
+  pub is-near : Near x (sum-is .number)
   is-near = near x (sum-is .number) (le-trans (lit≤ tt) (sum-is .low)) (sum-is .high) (sum-is .is)
 
-  off-parts : Shifted (sub binary64 (add binary64 x baseF) baseF) (sum-is .number) base
+  pub off-parts : Shifted (sub binary64 (add binary64 x baseF) baseF) (sum-is .number) base
   off-parts = subst (λ (z : Float). Shifted z (sum-is .number) base) (sym off) (shifted (sum-is .number) base (le-of-lt (sum-is .high)) (lit≤ tt))
 
   pub floor-below : lt x (sub binary64 (add binary64 x baseF) baseF) ≡ true → sub binary64 (sub binary64 (add binary64 x baseF) oneF) baseF ≡ floorOf x
