@@ -58,7 +58,7 @@ cut-of (fin false m e) h k =
     record { isFinite = tt; noMinus = refl; cut = c; small = omega arith }
 
 -- ---- whether x is whole, by how its cut number compares with it
-part : (a d u : ℕ) → u ≡ a / d → u * d < a → eqb (a % d) 0 ≡ false
+pub part : (a d u : ℕ) → u ≡ a / d → u * d < a → eqb (a % d) 0 ≡ false
 part a d u e h = ne-eqb (a % d) 0 (λ (z : a % d ≡ 0). bad z)
   where
     bad : a % d ≡ 0 → ⊥
@@ -100,11 +100,11 @@ at-least x c h =
     shape pf nf df px nx dx u a b c l = omega (arith, mul-right-comm u dx df, rw (a, b, c) at l, zero-mul df, zero-mul dx)
 
 -- ---- what `floorOf` picks
-picked : (s : Bool) (m : ℕ) (e : ℤ) → eqb (m * up e % down e) 0 ≡ false → floorOf (fin s m e) ≡ ofInt binary64 (cond s (negsuc (m * up e / down e)) (pos (m * up e / down e)))
+pub picked : (s : Bool) (m : ℕ) (e : ℤ) → eqb (m * up e % down e) 0 ≡ false → floorOf (fin s m e) ≡ ofInt binary64 (cond s (negsuc (m * up e / down e)) (pos (m * up e / down e)))
 unfolding floorOf
 picked s m e p = ap (λ (o : Bool). cond o (fin s m e) (ofInt binary64 (cond s (negsuc (m * up e / down e)) (pos (m * up e / down e))))) p
 
-kept : (s : Bool) (m : ℕ) (e : ℤ) → eqb (m * up e % down e) 0 ≡ true → fin s m e ≡ floorOf (fin s m e)
+pub kept : (s : Bool) (m : ℕ) (e : ℤ) → eqb (m * up e % down e) 0 ≡ true → fin s m e ≡ floorOf (fin s m e)
 unfolding floorOf
 kept s m e p = sym (ap (λ (o : Bool). cond o (fin s m e) (ofInt binary64 (cond s (negsuc (m * up e / down e)) (pos (m * up e / down e))))) p)
 
@@ -192,14 +192,14 @@ down-whole x a b t =
     go (m, e, h) = subst (λ (y : Float). Cut (neg y) → T (le (neg y) (cutFloat (neg y))) → y ≡ floorOf y) (sym h) (down-whole-at m e)
 
 -- ---- from 2 ^ 52 on every float is whole
-whole-big : (m : ℕ) (e : ℤ) → m < 2 ^ 53 → 2 ^ 52 * down e ≤ m * up e → eqb (m * up e % down e) 0 ≡ true
+pub whole-big : (m : ℕ) (e : ℤ) → m < 2 ^ 53 → 2 ^ 52 * down e ≤ m * up e → eqb (m * up e % down e) 0 ≡ true
 whole-big m (pos k) h l = eq-eqb (m * 2 ^ k % 1) 0 (omega arith)
 whole-big m (negsuc k) h l = absurd (bad (2 ^ k) (pow-pos k) (subst (λ (x : ℕ). 2 ^ 52 * x ≤ m * 1) (pow-suc 2 k) l))
   where
     bad : (w : ℕ) → 0 < w → 2 ^ 52 * (w * 2) ≤ m * 1 → ⊥
     bad w p q = omega arith
 
-refused : (x y : Float) → T (number x) → T (number y) → lt x y ≡ false → T (le y x)
+pub refused : (x y : Float) → T (number x) → T (number y) → lt x y ≡ false → T (le y x)
 refused x y a b h = nlt→le x y a b (subst (λ (o : Bool). T (not o)) (sym h) tt)
 
 pub up-big : (x : Float) → T (fits binary64 x) → le zeroF x ≡ true → lt x high ≡ false → x ≡ floorOf x

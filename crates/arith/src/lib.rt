@@ -71,6 +71,27 @@ pub fn clamp(x: f64, lower: f64, upper: f64) -> f64
 pub fn floor(x: f64) -> f64
     ensures { λ r. ⌜ r ≡ floorOf x ⌝ }
 {
+    // From 2^52 to 2^53 the floats are the whole numbers: there the sum is whole and less than 1 off.
+    let s = x + 6755399441055744.0;
+    if 4503599627370496.0 <= s {
+        if s < 9007199254740992.0 {
+            let n = s - 6755399441055744.0;
+            if x < n {
+                return (s - 1.0) - 6755399441055744.0;
+            }
+            if n < x {
+                return n;
+            }
+            return x;
+        }
+    }
+    floor_far(x)
+}
+
+// The same for every x, more slowly.
+fn floor_far(x: f64) -> f64
+    ensures { λ r. ⌜ r ≡ floorOf x ⌝ }
+{
     if 0.0 <= x {
         if x < 4503599627370496.0 {
             let k = std::num::truncating_f64_to_u64(x);

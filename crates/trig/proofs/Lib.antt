@@ -1,3 +1,4 @@
 pub mod Modulo
 pub mod Cases
 pub mod Examples
+pub mod LastBits

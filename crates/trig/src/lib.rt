@@ -14,8 +14,24 @@ struct Reduced {
     rest: f64,
 }
 
-// k mod 4 of a whole k, from 0 to 3. From 2^64 on every float is a multiple of 4.
+// k mod 4 of a whole k, from 0 to 3.
 fn quarter(k: f64) -> u64
+    ensures { λ r. ⌜ r ≡ quarter k ⌝ }
+{
+    // From 2^52 to 2^53 a float's last bits are those of its number; and 4 divides 1.5 * 2^52.
+    let s = k + 6755399441055744.0;
+    if 4503599627370496.0 <= s {
+        if s < 9007199254740992.0 {
+            if s - 6755399441055744.0 == k {
+                return f64::to_bits(s) % 4;
+            }
+        }
+    }
+    quarter_far(k)
+}
+
+// The same for every k, more slowly. From 2^64 on every float is a multiple of 4.
+fn quarter_far(k: f64) -> u64
     ensures { λ r. ⌜ r ≡ quarter k ⌝ }
 {
     let size = arith::abs(k);

@@ -1,0 +1,46 @@
+-- `trig::quarter_far` meets its contract, by what the size cut to a whole number says of k. Assumes nothing.
+use mathlib.Core.Path.{sym}
+use lib.Ieee.{ofBits}
+use Rattle.trig.proofs.Modulo.{can-cut, of-below, of-other, of-large}
+use borrow.Author.Needs.{needs}
+use Rattle.trig.proofs.quarter_far.Statement.{statement}
+use Rattle.trig.proofs.quarter_far.Tie as tie
+use Rattle.trig.proofs.quarter_far.Reads as reads
+use Rattle.trig.proofs.quarter_far.Lts as lts
+use Rattle.arith.proofs.abs.Reads as abs-reads
+use Rattle.std.proofs.num.truncating_f64_to_u64.Reads as truncating-f64-to-u64-reads
+
+abs-requires : tie.Need-abs-requires
+abs-requires c κs = search needs
+
+truncating-f64-to-u64-requires : tie.Need-truncating-f64-to-u64-requires
+unfolding ofBits
+truncating-f64-to-u64-requires c κs =
+    let e = c .before .abs .ensures in
+    rw e (can-cut (c .before .before .args .k) (rw e at (c .if1 .taken)))
+
+sub-result : tie.Need-sub-result
+sub-result c = search needs
+
+returns : tie.Need-returns
+unfolding ofBits
+returns c =
+    let d = c .before .before .before in
+    let e = d .abs .ensures in
+    rw (c .before .truncating-f64-to-u64 .ensures, e) (of-below (d .before .args .k) (rw e at (c .before .before .if1 .taken)) (c .if2 .taken))
+
+returns-2 : tie.Need-returns-2
+unfolding ofBits
+returns-2 c =
+    let d = c .before .before .before in
+    let e = d .abs .ensures in
+    rw (c .before .truncating-f64-to-u64 .ensures, e) (of-other (d .before .args .k) (rw e at (c .before .before .if1 .taken)) (c .if2 .left))
+
+returns-3 : tie.Need-returns-3
+unfolding ofBits
+returns-3 c = of-large (c .before .before .args .k) (search needs) (rw (c .before .abs .ensures) at (c .if1 .left))
+
+pub quarter-far-spec : {M : Type 1} → statement M
+quarter-far-spec =
+    tie.close
+    (tie.spec abs-requires truncating-f64-to-u64-requires sub-result returns returns-2 returns-3)
