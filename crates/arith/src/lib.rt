@@ -1,6 +1,7 @@
 // Functions on f64 that Rattle has no primitive for.
 ghost use mathlib.Core.Path.{_≡_};
 ghost use mathlib.Core.Bool.{false};
+ghost use lib.Ieee.Scale.{finite};
 ghost use lib.Ieee.{toUnsigned, nan, inf};
 ghost use Rattle.arith.specs.Pick.{absOf, minOf, maxOf, clampOf};
 ghost use Rattle.arith.specs.Floor.{floorOf, ceilOf};
@@ -138,4 +139,12 @@ pub fn to_usize(x: f64) -> usize
     ensures { λ r. ⌜ r ≡ toUnsigned 64 x ⌝ }
 {
     to_u64(x) as usize
+}
+
+// Neither a NaN nor an infinity.
+pub fn is_finite(x: f64) -> bool
+    ensures { λ r. ⌜ r ≡ finite x ⌝ }
+{
+    let most = infinity();
+    -most < x && x < most
 }

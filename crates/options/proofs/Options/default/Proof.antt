@@ -1,0 +1,16 @@
+-- `options::Options::default` meets its contract. Assumes nothing.
+use borrow.Author.Needs.{needs}
+use Rattle.options.proofs.Options.default.Statement.{statement}
+use Rattle.options.proofs.Options.default.Tie as tie
+
+degrees-requires : tie.Need-degrees-requires
+degrees-requires c κs = search needs
+
+preset-requires : tie.Need-preset-requires
+preset-requires c κs = search needs
+
+returns : tie.Need-returns
+returns c = cc
+
+pub default-spec : {M : Type 1} → statement M
+default-spec = tie.close (tie.spec degrees-requires preset-requires returns)

@@ -1,0 +1,120 @@
+-- Options and Resolved of options.rs, each operation rounded once, in the Rust's order. Definitions only.
+use mathlib.Core.Bool.{Bool, true, false, cond, not, _&&_, _||_}
+use Prim.Native.Nat.{ℕ, min, max}
+use lib.Dec.{eqb}
+use lib.Ieee.{Float, lt, neg, toUnsigned}
+use lib.Ieee.Scale.{finite}
+use Rattle.arith.specs.Notation.{_⊖_, _⊗_, _⊘_, bits, nought, half, one, two}
+use Rattle.arith.specs.Pick.{absOf, minOf, maxOf, clampOf}
+use Rattle.arith.specs.Floor.{ceilOf}
+use Rattle.trig.specs.Trig.{acosOf, pi}
+use Rattle.options.specs.declared.Radians.{Radians}
+use Rattle.options.specs.declared.Options.{Options}
+use Rattle.options.specs.declared.Resolved.{Resolved}
+
+-- an angle in radians
+abbrev pub radians : Float → Radians
+radians x = record { 0 = x }
+
+-- an angle in degrees, by f64::to_radians: times π / 180
+abbrev pub degrees : Float → Radians
+degrees x = radians (x ⊗ bits 0x3F91DF46A2529D39)
+
+-- the least and the largest angle that `resolve` lets pass: 1e-4 and π
+abbrev pub leastAngle : Float
+leastAngle = bits 0x3F1A36E2EB1C432D
+
+abbrev pub largestAngle : Float
+largestAngle = pi
+
+-- whether `resolve` changes the angle
+unfoldable pub isClamped : Radians → Bool
+isClamped a = lt (a .0) leastAngle || lt largestAngle (a .0)
+
+-- a relative deflection and an angle, with at least 1 segment, depth 12 and no scale
+abbrev pub preset : Float → Radians → Options
+preset d a = record { deflection = d; angle = a; relative = 1; segments = 1; depth = 12; scale = nought }
+
+-- Options::default: 0.0004 and 8 degrees
+abbrev pub defaultOptions : Options
+defaultOptions = preset (bits 0x3F3A36E2EB1C432D) (degrees (bits 0x4020000000000000))
+
+-- Options::draft: 0.01 and 35 degrees
+abbrev pub draftOptions : Options
+draftOptions = preset (bits 0x3F847AE147AE147B) (degrees (bits 0x4041800000000000))
+
+-- Options::fine: 0.0001 and 4 degrees
+abbrev pub fineOptions : Options
+fineOptions = preset (bits 0x3F1A36E2EB1C432D) (degrees (bits 0x4010000000000000))
+
+-- relative is true
+abbrev pub isRelative : Options → Bool
+isRelative o = not (eqb (o .relative) 0)
+
+-- scale.is_finite() && scale > 0.0; a scale that is not so means no scale
+abbrev pub hasScale : Options → Bool
+hasScale o = finite (o .scale) && lt nought (o .scale)
+
+-- f64::MIN_POSITIVE
+abbrev pub leastPositive : Float
+leastPositive = bits 0x0010000000000000
+
+-- the sag of the whole model
+unfoldable pub resolvedSag : Options → Float
+resolvedSag o = maxOf (cond (isRelative o && hasScale o) (o .deflection ⊗ o .scale) (o .deflection)) leastPositive
+
+-- the scale, or 0 for none
+unfoldable pub resolvedModel : Options → Float
+resolvedModel o = cond (hasScale o) (o .scale) nought
+
+-- twice the deflection, or 0 where it is absolute
+unfoldable pub resolvedRelative : Options → Float
+resolvedRelative o = cond (isRelative o) (o .deflection ⊗ two) nought
+
+-- Options::resolve
+unfoldable pub resolve : Options → Resolved
+resolve o = record {
+  sag = resolvedSag o;
+  model = resolvedModel o;
+  relative = resolvedRelative o;
+  angle = clampOf (o .angle .0) leastAngle largestAngle;
+  segments = max (o .segments) 1;
+  depth = min (max (o .depth) 1) 24;
+}
+
+-- relative, and extent a size to be relative to
+abbrev pub isRelativeTo : Resolved → Float → Bool
+isRelativeTo r extent = lt nought (r .relative) && (lt nought (r .model) && (lt nought extent && finite extent))
+
+-- Resolved::sag_for: the tolerance of a feature of this extent
+unfoldable pub sagFor : Resolved → Float → Float
+sagFor r extent =
+    cond (isRelativeTo r extent)
+    (maxOf (clampOf (r .model ⊘ (two ⊗ extent)) half two ⊗ extent ⊗ r .relative) (r .sag ⊘ bits 0x4020000000000000))
+    (r .sag)
+
+-- Resolved::for_extent: the sag alone changes
+unfoldable pub forExtent : Resolved → Float → Resolved
+forExtent r extent = record {
+  sag = sagFor r extent;
+  model = r .model;
+  relative = r .relative;
+  angle = r .angle;
+  segments = r .segments;
+  depth = r .depth;
+}
+
+-- the step that keeps the arc of a radius above the sag within it
+abbrev pub stepBySag : Float → Float → Float
+stepBySag sag radius = two ⊗ acosOf (clampOf (one ⊖ sag ⊘ radius) (neg one) one)
+
+-- Resolved::angle_step_for_radius: at least 1e-3
+unfoldable pub angleStep : Resolved → Float → Float
+angleStep r radius =
+    maxOf (minOf (cond (lt (r .sag) (absOf radius)) (stepBySag (r .sag) (absOf radius)) (r .angle)) (r .angle))
+    (bits 0x3F50624DD2F1A9FC)
+
+-- Resolved::segments_for_arc: segments that sweep `total` radians on a radius
+unfoldable pub segmentsForArc : Resolved → Float → Float → ℕ
+segmentsForArc r radius total =
+    max (max (toUnsigned 64 (ceilOf (absOf total ⊘ angleStep r radius))) (r .segments)) 1

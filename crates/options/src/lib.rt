@@ -1,0 +1,218 @@
+// Tessellation tolerances: options.rs.
+ghost use mathlib.Core.Path.{_≡_};
+ghost use Prim.Native.Nat.{min, max};
+ghost use Rattle.options.specs.Options.{preset, hasScale, resolvedSag, resolvedModel, resolvedRelative, isRelativeTo, stepBySag, radians, degrees, isClamped, defaultOptions, draftOptions, fineOptions, resolve, sagFor, forExtent, angleStep, segmentsForArc};
+
+const MIN_POSITIVE: f64 = 2.2250738585072014e-308;
+
+const LEAST_ANGLE: f64 = 1e-4;
+
+const LARGEST_ANGLE: f64 = 3.141592653589793;
+
+const LEAST_STEP: f64 = 1e-3;
+
+// An angle in radians. The type keeps a number of degrees from being taken for one of radians.
+pub struct Radians(pub f64);
+
+impl Radians {
+    pub fn of(x: f64) -> Radians
+        ensures { λ r. ⌜ r ≡ radians x ⌝ }
+    {
+        Radians(x)
+    }
+
+    pub fn degrees(x: f64) -> Radians
+        ensures { λ r. ⌜ r ≡ degrees x ⌝ }
+    {
+        Radians(x * 0.017453292519943295)
+    }
+
+    // Whether resolving changes the angle, as it does with 8 that was meant as degrees: a caller can warn.
+    pub fn is_clamped(self) -> bool
+        ensures { λ r. ⌜ r ≡ isClamped self ⌝ }
+    {
+        self.0 < LEAST_ANGLE || LARGEST_ANGLE < self.0
+    }
+}
+
+// How finely to draw.
+pub struct Options {
+    // The largest distance between chord and curve, or that as a fraction of the scale where relative is 1.
+    pub deflection: f64,
+    pub angle: Radians,
+    pub relative: u32,
+    pub segments: u64,
+    pub depth: u32,
+    pub scale: f64,
+}
+
+// The options resolved against the model's scale.
+pub struct Resolved {
+    pub sag: f64,
+    pub model: f64,
+    pub relative: f64,
+    pub angle: f64,
+    pub segments: u64,
+    pub depth: u32,
+}
+
+impl Options {
+    fn preset(deflection: f64, angle: Radians) -> Options
+        ensures { λ r. ⌜ r ≡ preset deflection angle ⌝ }
+    {
+        Options {
+            deflection,
+            angle,
+            relative: 1,
+            segments: 1,
+            depth: 12,
+            scale: 0.0,
+        }
+    }
+
+    pub fn default() -> Options
+        ensures { λ r. ⌜ r ≡ defaultOptions ⌝ }
+    {
+        Options::preset(0.0004, Radians::degrees(8.0))
+    }
+
+    // For a quick preview.
+    pub fn draft() -> Options
+        ensures { λ r. ⌜ r ≡ draftOptions ⌝ }
+    {
+        Options::preset(0.01, Radians::degrees(35.0))
+    }
+
+    // For close inspection.
+    pub fn fine() -> Options
+        ensures { λ r. ⌜ r ≡ fineOptions ⌝ }
+    {
+        Options::preset(0.0001, Radians::degrees(4.0))
+    }
+
+    // A scale that is finite and above zero.
+    fn has_scale(self) -> bool
+        ensures { λ r. ⌜ r ≡ hasScale self ⌝ }
+    {
+        arith::is_finite(self.scale) && 0.0 < self.scale
+    }
+
+    fn resolved_sag(self) -> f64
+        ensures { λ r. ⌜ r ≡ resolvedSag self ⌝ }
+    {
+        if self.relative == 0 {
+            return arith::max(self.deflection, MIN_POSITIVE);
+        }
+        if self.has_scale() {
+            return arith::max(self.deflection * self.scale, MIN_POSITIVE);
+        }
+        arith::max(self.deflection, MIN_POSITIVE)
+    }
+
+    fn resolved_model(self) -> f64
+        ensures { λ r. ⌜ r ≡ resolvedModel self ⌝ }
+    {
+        if self.has_scale() { self.scale } else { 0.0 }
+    }
+
+    // Doubled, because `sag_for` halves it again for a feature of the model's size.
+    fn resolved_relative(self) -> f64
+        ensures { λ r. ⌜ r ≡ resolvedRelative self ⌝ }
+    {
+        if self.relative == 0 {
+            0.0
+        } else {
+            self.deflection * 2.0
+        }
+    }
+
+    // Without a scale the deflection stands as it is.
+    pub fn resolve(self) -> Resolved
+        ensures { λ r. ⌜ r ≡ resolve self ⌝ }
+    {
+        Resolved {
+            sag: self.resolved_sag(),
+            model: self.resolved_model(),
+            relative: self.resolved_relative(),
+            angle: arith::clamp(self.angle.0, LEAST_ANGLE, LARGEST_ANGLE),
+            segments: larger(self.segments, 1),
+            depth: clamp_depth(self.depth),
+        }
+    }
+}
+
+fn larger(a: u64, b: u64) -> u64
+    ensures { λ r. ⌜ r ≡ max a b ⌝ }
+{
+    if a < b { b } else { a }
+}
+
+fn clamp_depth(d: u32) -> u32
+    ensures { λ r. ⌜ r ≡ min (max d 1) 24 ⌝ }
+{
+    if d < 1 {
+        1
+    } else if 24 < d {
+        24
+    } else {
+        d
+    }
+}
+
+impl Resolved {
+    // Whether a feature of this extent is judged against its own size.
+    fn is_relative_to(self, extent: f64) -> bool
+        ensures { λ r. ⌜ r ≡ isRelativeTo self extent ⌝ }
+    {
+        0.0 < self.relative && (0.0 < self.model && (0.0 < extent && arith::is_finite(extent)))
+    }
+
+    pub fn sag_for(self, extent: f64) -> f64
+        ensures { λ r. ⌜ r ≡ sagFor self extent ⌝ }
+    {
+        if self.is_relative_to(extent) {
+            let proportion = arith::clamp(self.model / (2.0 * extent), 0.5, 2.0);
+            return arith::max(proportion * extent * self.relative, self.sag / 8.0);
+        }
+        self.sag
+    }
+
+    pub fn for_extent(self, extent: f64) -> Resolved
+        ensures { λ r. ⌜ r ≡ forExtent self extent ⌝ }
+    {
+        Resolved {
+            sag: self.sag_for(extent),
+            model: self.model,
+            relative: self.relative,
+            angle: self.angle,
+            segments: self.segments,
+            depth: self.depth,
+        }
+    }
+
+    // The step that keeps the arc of a radius above the sag within it.
+    fn step_by_sag(self, radius: f64) -> f64
+        ensures { λ r. ⌜ r ≡ stepBySag (self .sag) radius ⌝ }
+    {
+        2.0 * trig::acos(arith::clamp(1.0 - self.sag / radius, -1.0, 1.0))
+    }
+
+    pub fn angle_step_for_radius(self, radius: f64) -> f64
+        ensures { λ r. ⌜ r ≡ angleStep self radius ⌝ }
+    {
+        let r = arith::abs(radius);
+        if self.sag < r {
+            return arith::max(arith::min(self.step_by_sag(r), self.angle), LEAST_STEP);
+        }
+        // The whole feature is within the sag: only the angle is left to respect.
+        arith::max(arith::min(self.angle, self.angle), LEAST_STEP)
+    }
+
+    pub fn segments_for_arc(self, radius: f64, total: f64) -> u64
+        ensures { λ r. ⌜ r ≡ segmentsForArc self radius total ⌝ }
+    {
+        let step = self.angle_step_for_radius(radius);
+        let n = arith::to_u64(arith::ceil(arith::abs(total) / step));
+        larger(larger(n, self.segments), 1)
+    }
+}
