@@ -51,16 +51,11 @@ fn above_size(tables: &Tables) -> bool {
 fn float_out_of_bounds(tables: &Tables, edge: &Edge, options: &Options) -> bool {
     let within = |x: f64| x.abs() <= MOST_MAGNITUDE;
     let within_if_finite = |x: f64| !x.is_finite() || within(x);
-    let tables_within = [tables.points, tables.reals, tables.ranges]
-        .into_iter()
-        .flatten()
-        .all(|&x| within(x));
-    let numbers_within = [edge.tolerance, options.deflection, options.angle]
-        .into_iter()
-        .all(within);
-    let exceptions_within = [edge.lo, edge.hi, options.scale]
-        .into_iter()
-        .all(within_if_finite);
+    let tables_within =
+        [tables.points, tables.reals, tables.ranges].into_iter().flatten().all(|&x| within(x));
+    let numbers_within =
+        [edge.tolerance, options.deflection, options.angle].into_iter().all(within);
+    let exceptions_within = [edge.lo, edge.hi, options.scale].into_iter().all(within_if_finite);
     !(tables_within && numbers_within && exceptions_within)
 }
 
@@ -68,18 +63,16 @@ fn float_out_of_bounds(tables: &Tables, edge: &Edge, options: &Options) -> bool 
 fn malformed(tables: &Tables, edge: &Edge, options: &Options) -> bool {
     !whole_rows(tables)
         || tables.rows().any(|row| malformed_row(tables, row))
-        || tables
-            .segments()
-            .any(|s| s.sense > 1 || s.curve as usize >= tables.row_count())
+        || tables.segments().any(|s| s.sense > 1 || s.curve as usize >= tables.row_count())
         || edge.sense > 1
         || options.relative > 1
 }
 
 fn whole_rows(tables: &Tables) -> bool {
-    tables.points.len() % 3 == 0
-        && tables.curves.len() % 3 == 0
+    tables.points.len().is_multiple_of(3)
+        && tables.curves.len().is_multiple_of(3)
         && tables.reals.len() == 2 * tables.row_count()
-        && tables.parts.len() % 2 == 0
+        && tables.parts.len().is_multiple_of(2)
         && tables.ranges.len() == 2 * tables.segment_count()
 }
 
@@ -100,10 +93,7 @@ fn malformed_row(tables: &Tables, row: Row) -> bool {
 
 /// 4: a trim's base, or the curve of a composite's segment, not in a lower row than its own.
 fn refers_upwards(tables: &Tables) -> bool {
-    tables
-        .rows()
-        .enumerate()
-        .any(|(i, row)| children(tables, row).any(|child| child as usize >= i))
+    tables.rows().enumerate().any(|(i, row)| children(tables, row).any(|child| child as usize >= i))
 }
 
 /// The rows that a row refers to.
@@ -113,8 +103,7 @@ fn children(tables: &Tables, row: Row) -> impl Iterator<Item = u32> {
         COMPOSITE => row.first as usize..row.first as usize + row.count as usize,
         _ => 0..0,
     };
-    base.into_iter()
-        .chain(run.map(move |i| tables.segment(i).curve))
+    base.into_iter().chain(run.map(move |i| tables.segment(i).curve))
 }
 
 /// The nesting of every row. Each row refers to lower rows alone.

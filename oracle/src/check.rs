@@ -40,7 +40,7 @@ pub fn report(seed: u64, count: u64) -> String {
     let Found { draws, chains, longest, not_finite, violations, report } = found;
     format!(
         "{report}seed {seed}: {count} sheets, {accepted} accepted in some buffers, {draws} draws, \
-         {chains} chains, longest {longest} points, {not_finite} with a point not finite, \
+         {chains} chains, longest {longest} points, {not_finite} with a float not finite that is no copy of lo or hi, \
          {violations} violations\n"
     )
 }
@@ -98,20 +98,21 @@ fn check_draw(
             (wrong, Some(chain.to_vec()))
         }
     };
-    note(found, &wrong, chain.as_deref(), &format!("buffers {m} {n}\n{}", write(sheet)));
+    note_chain(found, sheet, chain.as_deref());
+    for what in wrong {
+        found.violations += 1;
+        writeln!(found.report, "{what}, buffers {m} {n}:\n{}", write(sheet)).unwrap();
+    }
     chain
 }
 
-fn note(found: &mut Found, wrong: &[&str], chain: Option<&[f64]>, sheet: &str) {
-    if let Some(chain) = chain {
-        found.chains += 1;
-        found.longest = found.longest.max(chain.len() / WIDTH);
-        found.not_finite += u64::from(records(chain).iter().any(|(p, _)| !p.is_finite()));
-    }
-    for what in wrong {
-        found.violations += 1;
-        writeln!(found.report, "{what}: {sheet}").unwrap();
-    }
+fn note_chain(found: &mut Found, sheet: &Sheet, chain: Option<&[f64]>) {
+    let Some(chain) = chain else { return };
+    found.chains += 1;
+    found.longest = found.longest.max(chain.len() / WIDTH);
+    let copied = |t: f64| [sheet.edge.lo, sheet.edge.hi].map(f64::to_bits).contains(&t.to_bits());
+    let made = |(p, t): (Vec3, f64)| !p.is_finite() || !(t.is_finite() || copied(t));
+    found.not_finite += u64::from(records(chain).into_iter().any(made));
 }
 
 /// Causes 1 to 7 leave the buffers as they were, 8 and 9 leave them all +0.0.
@@ -129,10 +130,7 @@ fn same_bits(a: &[f64], b: &[f64]) -> bool {
 }
 
 fn records(chain: &[f64]) -> Vec<(Vec3, f64)> {
-    chain
-        .chunks_exact(WIDTH)
-        .map(|record| (Vec3::from_slice(record), record[3]))
-        .collect()
+    chain.chunks_exact(WIDTH).map(|record| (Vec3::from_slice(record), record[3])).collect()
 }
 
 /// The clauses of demand 3 that a chain breaks.
@@ -180,5 +178,6 @@ fn merge_floor(tolerance: f64, sag: f64) -> f64 {
 /// No two neighbours, the last pair excepted, at or under the floor, where that is above zero.
 fn apart(chain: &[(Vec3, f64)], floor: f64) -> bool {
     let but_the_last = &chain[..chain.len() - 1];
-    !(floor > 0.0) || !but_the_last.windows(2).any(|w| (w[1].0 - w[0].0).length() <= floor)
+    let close = but_the_last.windows(2).any(|w| (w[1].0 - w[0].0).length() <= floor);
+    !(floor > 0.0 && close)
 }

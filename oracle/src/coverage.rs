@@ -10,13 +10,8 @@ use road::marks;
 use std::collections::BTreeMap;
 use std::fmt::Write;
 
-const WAYS: [Way; 5] = [
-    Way::AsDrawn,
-    Way::ChordForWantOfARange,
-    Way::Complement,
-    Way::ShortArc,
-    Way::RunawayChord,
-];
+const WAYS: [Way; 5] =
+    [Way::AsDrawn, Way::ChordForWantOfARange, Way::Complement, Way::ShortArc, Way::RunawayChord];
 
 /// Counts by name, each name met at most once a sheet.
 struct Counts(BTreeMap<String, u64>);
@@ -42,7 +37,8 @@ fn names() -> BTreeMap<String, u64> {
     let others = ["refusal 8 in repair", "refusal 9 in repair", "a chain that fills its room"];
     let others = others.map(|name| format!("answer: {name}"));
     let ways = WAYS.map(|way| format!("answer: {way:?}"));
-    let by_kind = WAYS.iter().flat_map(|way| KIND_WORDS.map(|kind| format!("way: {way:?} of {kind}")));
+    let by_kind =
+        WAYS.iter().flat_map(|way| KIND_WORDS.map(|kind| format!("way: {way:?} of {kind}")));
     let kinds = KIND_WORDS.map(|word| format!("kind: {word}"));
     let nestings = (0..=9).map(|nesting| format!("nesting: {nesting}"));
     let marks = marks::ALL.map(|name| format!("branch: {name}"));
@@ -108,10 +104,7 @@ fn tally_answer(counts: &mut Counts, sheet: &Sheet, drawn: Drawn, escaped: bool)
 /// The kind and the nesting of the edge's curve, where the tables pass causes 2 to 4.
 fn tally_curve(counts: &mut Counts, sheet: &Sheet) {
     let tables = sheet.tables.lent();
-    let passes = !matches!(
-        cause(&tables, &sheet.edge, &sheet.options, 8, 8),
-        Some(2 | 3 | 4)
-    );
+    let passes = !matches!(cause(&tables, &sheet.edge, &sheet.options, 8, 8), Some(2 | 3 | 4));
     if passes && (sheet.edge.curve as usize) < tables.row_count() {
         let row = sheet.edge.curve as usize;
         let kind = tables.row(row).kind as usize;

@@ -37,9 +37,8 @@ fn set_used_real(random: &mut Random, sheet: &mut Sheet, value: f64) {
         _ => (false, false),
     };
     let zero = if random.percent(50) { -0.0 } else { 0.0 };
-    let at = 2 * row + random.below(2);
-    let used = if at % 2 == 0 { uses_p } else { uses_q };
-    sheet.tables.reals[at] = if used { value } else { zero };
+    let (place, used) = random.pick(&[(0, uses_p), (1, uses_q)]);
+    sheet.tables.reals[2 * row + place] = if used { value } else { zero };
 }
 
 /// Breaks a rule of causes 2 to 6 in some sheets, seldom two.
@@ -61,7 +60,7 @@ pub fn contents(random: &mut Random, sheet: &mut Sheet) {
 /// Cause 2, or an exception to it.
 fn break_float(random: &mut Random, sheet: &mut Sheet) {
     let above = f64::from_bits(1e9f64.to_bits() + 1);
-    let payload = f64::from_bits(0xfff0000000000001 | random.next());
+    let payload = f64::from_bits(0xfff0000000000001 | random.bits());
     let value = random.pick(&[above, -above, f64::MAX, f64::INFINITY, f64::NEG_INFINITY, payload]);
     let tables = &mut sheet.tables;
     match random.below(10) {

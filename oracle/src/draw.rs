@@ -39,9 +39,8 @@ pub fn draw(
         Err(number) => Drawn::Refused(number),
         Ok(chain) => {
             let buffer = if in_first(chain.way) { first } else { second };
-            for (record, (p, &t)) in buffer
-                .chunks_exact_mut(WIDTH)
-                .zip(chain.points.iter().zip(&chain.params))
+            for (record, (p, &t)) in
+                buffer.chunks_exact_mut(WIDTH).zip(chain.points.iter().zip(&chain.params))
             {
                 record.copy_from_slice(&[p.x, p.y, p.z, t]);
             }
@@ -92,10 +91,7 @@ pub fn solid(tables: &Tables, edge: &Edge) -> Solid {
 
 /// The caller's box, as it is.
 pub fn reference(tables: &Tables, edge: &Edge) -> Aabb {
-    Aabb {
-        min: tables.point(edge.low),
-        max: tables.point(edge.high),
-    }
+    Aabb { min: tables.point(edge.low), max: tables.point(edge.high) }
 }
 
 pub fn resolved(options: &Options) -> Resolved {

@@ -73,8 +73,8 @@ fn operands(random: &mut Random, name: &str) -> Vec<f64> {
     let mut operands = boundaries(random);
     // Every fourth exponent, from a random one of the first four.
     for exponent in (random.below(4) as u64..2048).step_by(4) {
-        let fraction = random.next() >> 12;
-        let sign = random.next() >> 63;
+        let fraction = random.bits() >> 12;
+        let sign = random.bits() >> 63;
         operands.push(f64::from_bits(sign << 63 | exponent << 52 | fraction));
     }
     operands.extend((0..200).map(|_| bend(random, name)));
@@ -84,7 +84,7 @@ fn operands(random: &mut Random, name: &str) -> Vec<f64> {
 fn boundaries(random: &mut Random) -> Vec<f64> {
     let sign = 1u64 << 63;
     let neighbours = |bits: u64| [bits.wrapping_sub(1) & !sign, bits, bits + 1];
-    let payload = 0x7ff0000000000001 | random.next();
+    let payload = 0x7ff0000000000001 | random.bits();
     SPECIAL
         .into_iter()
         .flat_map(neighbours)
@@ -101,14 +101,14 @@ fn bend(random: &mut Random, name: &str) -> f64 {
     let whole = random.below(4000) as f64 - 2000.0;
     match name {
         "root" => {
-            let near = random.next() >> 11;
+            let near = random.bits() >> 11;
             (near as f64 * near as f64) + nudge
         }
         "sin" | "cos" if random.percent(30) => random.between(-2e9, 2e9),
         "sin" | "cos" => whole * 0.5 * quarter + nudge,
         "acos" if random.percent(20) => random.pick(&[0.0, -1.0, 1.0]) + nudge,
         "acos" => random.between(-1.0, 1.0),
-        _ if random.percent(30) => (random.next() >> 10) as f64 * 0.25,
+        _ if random.percent(30) => (random.bits() >> 10) as f64 * 0.25,
         _ => whole + random.pick(&[0.0, 0.5, nudge, -0.5]),
     }
 }

@@ -157,7 +157,14 @@ fn runaway(random: &mut Random, curve: &Curve) -> Plan {
         _ => {}
     }
     let (start, end) = if random.percent(30) { (end, start) } else { (start, end) };
-    Plan { lo: within(lo), hi: within(hi), start, end, bounds, path: path(curve, from, from + span) }
+    Plan {
+        lo: within(lo),
+        hi: within(hi),
+        start,
+        end,
+        bounds,
+        path: path(curve, from, from + span),
+    }
 }
 
 /// A new point of the table, or now and then any point that is there.
@@ -211,7 +218,7 @@ fn unbounded(random: &mut Random) -> f64 {
         0 => f64::INFINITY,
         1 => f64::NEG_INFINITY,
         2 => f64::NAN,
-        _ => f64::from_bits(0x7ff0000000000001 | random.next()),
+        _ => f64::from_bits(0x7ff0000000000001 | random.bits()),
     }
 }
 
@@ -307,7 +314,7 @@ fn options(random: &mut Random, extent: f64) -> Options {
     };
     let segments = match random.below(40) {
         0 => 0,
-        1 => random.next() >> random.below(64),
+        1 => random.bits() >> random.below(64),
         2 => random.pick(&[2046, 2047, 2048, 16383, 16384, u64::MAX]),
         3 => 100,
         4..=12 => 2 + random.below(8) as u64,
@@ -315,7 +322,14 @@ fn options(random: &mut Random, extent: f64) -> Options {
     };
     let depth = random.pick(&[0, 1, 1, 2, 3, 5, 8, 12, 12, 12, 24, 25, u32::MAX]);
     let within = |x: f64| if x.is_finite() { x.clamp(-1e9, 1e9) } else { x };
-    Options { deflection: within(deflection), angle, relative, segments, depth, scale: within(scale) }
+    Options {
+        deflection: within(deflection),
+        angle,
+        relative,
+        segments,
+        depth,
+        scale: within(scale),
+    }
 }
 
 fn tolerance(random: &mut Random, extent: f64, deflection: f64) -> f64 {

@@ -14,6 +14,8 @@ pub mod random;
 pub mod shapes;
 pub mod sheet;
 pub mod tables;
+#[cfg(test)]
+mod tests;
 pub mod timing;
 
 pub use draw::{Drawn, draw, draw_chain};

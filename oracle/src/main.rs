@@ -1,7 +1,7 @@
 //! The commands of the oracle. README.md says what each reads and prints.
 
 use oracle::{arith, check, gen_arith, generate, inspect, sheet, timing};
-use std::io::{Read, Write};
+use std::io::{BufWriter, Read, Result, Write};
 use std::process::ExitCode;
 
 /// What parts the sheets of a batch, and their answers. No sheet holds an equals sign.
@@ -14,76 +14,46 @@ const USAGE: &str = "usage: oracle chain [FIRST SECOND] | batch [FIRST SECOND] |
 fn main() -> ExitCode {
     let arguments: Vec<String> = std::env::args().skip(1).collect();
     let words: Vec<&str> = arguments.iter().map(String::as_str).collect();
-    let Some(output) = run(&words) else {
-        eprintln!("{USAGE}");
-        return ExitCode::from(2);
-    };
-    match std::io::stdout().lock().write_all(&output) {
-        Ok(()) => ExitCode::SUCCESS,
-        Err(_) => ExitCode::FAILURE,
+    let mut out = BufWriter::new(std::io::stdout().lock());
+    match run(&words, &mut out).map(|done| done.and_then(|()| out.flush())) {
+        Some(Ok(())) => ExitCode::SUCCESS,
+        Some(Err(error)) => {
+            eprintln!("oracle: {error}");
+            ExitCode::FAILURE
+        }
+        None => {
+            eprintln!("{USAGE}");
+            ExitCode::from(2)
+        }
     }
 }
 
-/// What a command prints; none where there is no such command.
-fn run(words: &[&str]) -> Option<Vec<u8>> {
+/// Does what the words ask for; none where they ask for nothing known.
+fn run(words: &[&str], out: &mut impl Write) -> Option<Result<()>> {
     match words {
-        ["chain", lengths @ ..] => {
-            let lengths = buffers(lengths)?;
-            Some(sheet::answer(&input(), lengths).into_bytes())
+        ["chain", lengths @ ..] => Some(chain(out, buffers(lengths)?)),
+        ["batch", lengths @ ..] => Some(batch(out, buffers(lengths)?)),
+        ["gen", seed, count] => Some(sheets(out, number(seed)?, number(count)?, 0)),
+        ["gen", seed, count, start] => {
+            Some(sheets(out, number(seed)?, number(count)?, number(start)?))
         }
-        ["batch", lengths @ ..] => {
-            let lengths = buffers(lengths)?;
-            Some(batch(&input(), lengths))
+        ["coverage", seed, count] => Some(coverage(out, number(seed)?, number(count)?)),
+        ["check", seed, count] => {
+            Some(write!(out, "{}", check::report(number(seed)?, number(count)?)))
         }
-        ["gen", seed, count] => Some(sheets(number(seed)?, 0, number(count)?)),
-        ["gen", seed, count, first] => Some(sheets(number(seed)?, number(first)?, number(count)?)),
-        ["arith"] => Some(lines(&input(), arith::answer)),
-        ["genarith", seed] => Some((gen_arith::lines(number(seed)?).join("\n") + "\n").into_bytes()),
-        ["coverage", seed, count] => Some(coverage(number(seed)?, number(count)?)),
-        ["check", seed, count] => Some(check::report(number(seed)?, number(count)?).into_bytes()),
-        ["time", file] => Some(times(&std::fs::read(file).ok()?)),
-        ["eval"] => Some(eval(&input())),
-        ["resolve"] => Some(inspect::resolve(&String::from_utf8_lossy(&input())).into_bytes()),
+        ["time", file] => Some(times(out, file)),
+        ["arith"] => Some(arithmetic(out)),
+        ["genarith", seed] => Some(
+            gen_arith::lines(number(seed)?).iter().try_for_each(|line| writeln!(out, "{line}")),
+        ),
+        ["eval"] => Some(eval(out)),
+        ["resolve"] => Some(resolve(out)),
         _ => None,
     }
 }
 
-#[cfg(marked)]
-fn coverage(seed: u64, count: u64) -> Vec<u8> {
-    oracle::coverage::table(seed, count).into_bytes()
-}
-
-/// The build beside this one has the marks.
-#[cfg(not(marked))]
-fn coverage(seed: u64, count: u64) -> Vec<u8> {
-    let own = std::env::current_exe().expect("this program has a path");
-    let marked = std::process::Command::new(own.with_file_name("oracle-marked"))
-        .args(["coverage", &seed.to_string(), &count.to_string()])
-        .output();
-    marked.expect("oracle-marked is built beside this program").stdout
-}
-
-fn times(bytes: &[u8]) -> Vec<u8> {
-    let lines = split(bytes).enumerate().map(|(number, one)| timing::line(number, one));
-    lines.collect::<String>().into_bytes()
-}
-
-/// A sheet, the separator, then a line for each parameter.
-fn eval(bytes: &[u8]) -> Vec<u8> {
-    let mut parts = split(bytes);
-    let sheet = parts.next().unwrap_or_default();
-    let parameters = String::from_utf8_lossy(parts.next().unwrap_or_default());
-    inspect::eval(sheet, &parameters).into_bytes()
-}
-
 fn number(word: &str) -> Option<u64> {
     word.parse().ok()
-}
-
-fn input() -> Vec<u8> {
-    let mut bytes = Vec::new();
-    std::io::stdin().lock().read_to_end(&mut bytes).expect("standard input can be read");
-    bytes
 }
 
 /// The floats in the two chain buffers: as given, or as the program lends them.
@@ -95,13 +65,13 @@ fn buffers(words: &[&str]) -> Option<(usize, usize)> {
     }
 }
 
-fn batch(bytes: &[u8], lengths: (usize, usize)) -> Vec<u8> {
-    let answers: Vec<Vec<u8>> =
-        split(bytes).map(|one| sheet::answer(one, lengths).into_bytes()).collect();
-    answers.join(SEPARATOR)
+fn input() -> Result<Vec<u8>> {
+    let mut bytes = Vec::new();
+    std::io::stdin().lock().read_to_end(&mut bytes)?;
+    Ok(bytes)
 }
 
-/// The sheets of a batch, each ended by the next separator or the batch's end.
+/// The parts of a batch, each ended by the next separator or the batch's end.
 fn split(bytes: &[u8]) -> impl Iterator<Item = &[u8]> {
     let mut rest = Some(bytes);
     std::iter::from_fn(move || {
@@ -112,15 +82,65 @@ fn split(bytes: &[u8]) -> impl Iterator<Item = &[u8]> {
     })
 }
 
-fn sheets(seed: u64, first: u64, count: u64) -> Vec<u8> {
-    let sheets: Vec<Vec<u8>> =
-        (first..first + count).map(|index| generate::bytes(seed, index)).collect();
-    sheets.join(SEPARATOR)
+/// The parts of a batch, one after another.
+fn joined(out: &mut impl Write, parts: impl Iterator<Item = Vec<u8>>) -> Result<()> {
+    for (number, part) in parts.enumerate() {
+        if number > 0 {
+            out.write_all(SEPARATOR)?;
+        }
+        out.write_all(&part)?;
+    }
+    Ok(())
 }
 
-/// A line of answer to each line of input.
-fn lines(bytes: &[u8], answer: fn(&str) -> String) -> Vec<u8> {
-    let text = String::from_utf8_lossy(bytes);
-    let lines = text.strip_suffix('\n').unwrap_or(&text).split('\n');
-    lines.map(|line| answer(line) + "\n").collect::<String>().into_bytes()
+fn chain(out: &mut impl Write, lengths: (usize, usize)) -> Result<()> {
+    write!(out, "{}", sheet::answer(&input()?, lengths))
+}
+
+fn batch(out: &mut impl Write, lengths: (usize, usize)) -> Result<()> {
+    let bytes = input()?;
+    joined(out, split(&bytes).map(|one| sheet::answer(one, lengths).into_bytes()))
+}
+
+fn sheets(out: &mut impl Write, seed: u64, count: u64, start: u64) -> Result<()> {
+    joined(out, (start..start + count).map(|index| generate::bytes(seed, index)))
+}
+
+#[cfg(marked)]
+fn coverage(out: &mut impl Write, seed: u64, count: u64) -> Result<()> {
+    write!(out, "{}", oracle::coverage::table(seed, count))
+}
+
+/// The build beside this one has the marks.
+#[cfg(not(marked))]
+fn coverage(out: &mut impl Write, seed: u64, count: u64) -> Result<()> {
+    let marked = std::env::current_exe()?.with_file_name("oracle-marked");
+    let words = ["coverage".to_string(), seed.to_string(), count.to_string()];
+    out.write_all(&std::process::Command::new(marked).args(words).output()?.stdout)
+}
+
+fn times(out: &mut impl Write, file: &str) -> Result<()> {
+    let bytes = std::fs::read(file)?;
+    let mut parts = split(&bytes).enumerate();
+    parts.try_for_each(|(number, one)| write!(out, "{}", timing::line(number, one)))
+}
+
+fn arithmetic(out: &mut impl Write) -> Result<()> {
+    let bytes = input()?;
+    let text = String::from_utf8_lossy(&bytes);
+    let mut lines = text.strip_suffix('\n').unwrap_or(&text).split('\n');
+    lines.try_for_each(|line| writeln!(out, "{}", arith::answer(line)))
+}
+
+/// A sheet, the separator, then a line for each parameter.
+fn eval(out: &mut impl Write) -> Result<()> {
+    let bytes = input()?;
+    let mut parts = split(&bytes);
+    let sheet = parts.next().unwrap_or_default();
+    let parameters = String::from_utf8_lossy(parts.next().unwrap_or_default());
+    write!(out, "{}", inspect::eval(sheet, &parameters))
+}
+
+fn resolve(out: &mut impl Write) -> Result<()> {
+    write!(out, "{}", inspect::resolve(&String::from_utf8_lossy(&input()?)))
 }

@@ -7,11 +7,11 @@ impl Random {
     /// The source of item `index` of a run: each item can be made alone.
     pub fn new(seed: u64, index: u64) -> Random {
         let mut random = Random(seed);
-        let start = random.next() ^ index.wrapping_mul(0xd1342543de82ef95);
+        let start = random.bits() ^ index.wrapping_mul(0xd1342543de82ef95);
         Random(start)
     }
 
-    pub fn next(&mut self) -> u64 {
+    pub fn bits(&mut self) -> u64 {
         self.0 = self.0.wrapping_add(0x9e3779b97f4a7c15);
         let mut z = self.0;
         z = (z ^ (z >> 30)).wrapping_mul(0xbf58476d1ce4e5b9);
@@ -21,7 +21,7 @@ impl Random {
 
     /// A whole number below `n`, which is above 0.
     pub fn below(&mut self, n: usize) -> usize {
-        (self.next() % n as u64) as usize
+        (self.bits() % n as u64) as usize
     }
 
     pub fn percent(&mut self, chance: usize) -> bool {
@@ -34,7 +34,7 @@ impl Random {
 
     /// From 0 up to, not at, 1.
     pub fn unit(&mut self) -> f64 {
-        (self.next() >> 11) as f64 / (1u64 << 53) as f64
+        (self.bits() >> 11) as f64 / (1u64 << 53) as f64
     }
 
     pub fn between(&mut self, lo: f64, hi: f64) -> f64 {
@@ -51,7 +51,7 @@ impl Random {
 
     /// Any 64 bits, or bits with every exponent as likely as the next.
     pub fn any_float(&mut self) -> f64 {
-        f64::from_bits(self.next())
+        f64::from_bits(self.bits())
     }
 
     /// A float at a boundary of the rules: all finite and at most 1e9 in magnitude.

@@ -65,11 +65,8 @@ impl<'a> Draft<'a> {
     pub fn nested(&mut self, depth: usize) -> Shape {
         let mut shape = self.simple();
         for _ in 0..depth {
-            shape = if self.random.percent(55) {
-                self.trimmed(shape)
-            } else {
-                self.composite(shape)
-            };
+            shape =
+                if self.random.percent(55) { self.trimmed(shape) } else { self.composite(shape) };
         }
         shape
     }

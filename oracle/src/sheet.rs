@@ -160,12 +160,8 @@ pub fn write(sheet: &Sheet) -> String {
     let e = &sheet.edge;
     let floats = hex(&[e.lo, e.hi, e.tolerance]);
     writeln!(text, "\n{EDGE_NAMES}").unwrap();
-    writeln!(
-        text,
-        "{} {} {} {} {floats} {} {}",
-        e.curve, e.start, e.end, e.sense, e.low, e.high
-    )
-    .unwrap();
+    writeln!(text, "{} {} {} {} {floats} {} {}", e.curve, e.start, e.end, e.sense, e.low, e.high)
+        .unwrap();
     let o = &sheet.options;
     let (floats, scale) = (hex(&[o.deflection, o.angle]), hex(&[o.scale]));
     writeln!(text, "\n{OPTION_NAMES}").unwrap();

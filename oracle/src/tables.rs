@@ -13,9 +13,8 @@ pub const TRIMMED: u32 = 6;
 pub const COMPOSITE: u32 = 7;
 
 /// The kinds' words, kind 1 first.
-pub const KIND_WORDS: [&str; 7] = [
-    "line", "circle", "ellipse", "parabola", "polyline", "trimmed", "composite",
-];
+pub const KIND_WORDS: [&str; 7] =
+    ["line", "circle", "ellipse", "parabola", "polyline", "trimmed", "composite"];
 
 /// Points, curve rows and segments as five lent slices.
 #[derive(Debug, Clone, Copy)]
@@ -177,24 +176,16 @@ impl<'a> Tables<'a> {
     fn curve_of(&self, row: u32, known: &mut [Option<Arc<Curve>>]) -> Curve {
         let Row { kind, first, count, p, q } = self.row(row as usize);
         match kind {
-            LINE => Curve::Line {
-                origin: self.point(first),
-                direction: self.point(first + 1),
-            },
+            LINE => Curve::Line { origin: self.point(first), direction: self.point(first + 1) },
             CIRCLE => Curve::Circle { frame: self.frame(first), radius: p },
-            ELLIPSE => Curve::Ellipse {
-                frame: self.frame(first),
-                semi_major: p,
-                semi_minor: q,
-            },
+            ELLIPSE => Curve::Ellipse { frame: self.frame(first), semi_major: p, semi_minor: q },
             PARABOLA => Curve::Parabola { frame: self.frame(first), focal_dist: p },
-            POLYLINE => Curve::Polyline {
-                points: (first..first + count).map(|i| self.point(i)).collect(),
-            },
-            TRIMMED => Curve::Trimmed {
-                base: self.shared(first, known),
-                range: Interval::new(p, q),
-            },
+            POLYLINE => {
+                Curve::Polyline { points: (first..first + count).map(|i| self.point(i)).collect() }
+            }
+            TRIMMED => {
+                Curve::Trimmed { base: self.shared(first, known), range: Interval::new(p, q) }
+            }
             _ => Curve::Composite {
                 segments: (first..first + count)
                     .map(|i| self.composite_segment(i as usize, known))

@@ -17,7 +17,8 @@ pub fn line(number: usize, bytes: &[u8]) -> String {
     let mut first = vec![0.0; LENT];
     let mut second = first.clone();
     let tables = sheet.tables.lent();
-    let mut draws = || draw(black_box(&tables), &sheet.edge, &sheet.options, &mut first, &mut second);
+    let mut draws =
+        || draw(black_box(&tables), &sheet.edge, &sheet.options, &mut first, &mut second);
     let answer = match draws() {
         Drawn::Refused(number) => format!("refusal {number}"),
         Drawn::Chain(way, count) => format!("{way:?} {count}"),
@@ -38,9 +39,10 @@ fn road_ns(sheet: &Sheet) -> f64 {
     nanoseconds(|| discretise_all(black_box(&solid), &resolved, &reference, room))
 }
 
-/// The least mean of five runs, each of at least 10 ms.
+/// The least mean of many short runs: another program's turn on the machine spoils few of them.
 fn nanoseconds<T>(mut work: impl FnMut() -> T) -> f64 {
-    const RUN: Duration = Duration::from_millis(10);
+    const RUN: Duration = Duration::from_millis(2);
+    const RUNS: usize = 25;
     let mut run = |times: u32| {
         let start = Instant::now();
         (0..times).for_each(|_| {
@@ -52,6 +54,6 @@ fn nanoseconds<T>(mut work: impl FnMut() -> T) -> f64 {
     while run(times) < RUN {
         times *= 2;
     }
-    let least = (0..5).map(|_| run(times)).min().expect("five runs");
+    let least = (0..RUNS).map(|_| run(times)).min().expect("more runs than none");
     least.as_nanos() as f64 / times as f64
 }

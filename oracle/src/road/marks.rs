@@ -3,7 +3,7 @@
 use std::cell::RefCell;
 
 /// Every mark. One that begins with `fact` is expected never to be met.
-pub const ALL: [&str; 82] = [
+pub const ALL: [&str; 85] = [
     "8: bisected",
     "8: closed form",
     "8: segment floor",
@@ -35,11 +35,13 @@ pub const ALL: [&str; 82] = [
     "ends apart: reversed",
     "ends together: kept by sense",
     "ends together: reversed by sense",
-    "fact: probe not finite",
     "fact: closure of a trim asked",
+    "fact: probe not finite",
     "fact: remainder below zero, t not subnormal",
     "fact: sag not above zero",
+    "fact: sag under 2^-1025",
     "fact: short arc does not reach",
+    "fact: tolerance of thin not above zero",
     "math: no direction",
     "merge: floor above zero",
     "merge: last popped",
@@ -82,6 +84,7 @@ pub const ALL: [&str; 82] = [
     "repair: short arc without span",
     "segment floor",
     "thin: chord without length",
+    "thin: fewer than three points",
     "thin: segment floor",
     "thin: some dropped",
     "thin: split for distance",

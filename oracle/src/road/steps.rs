@@ -67,20 +67,15 @@ pub fn acos(a: f64) -> f64 {
     }
     // The tangent of half the angle.
     let y = ((1.0 - a) / (1.0 + a)).sqrt();
-    if y > 1.0 {
-        PI - arc(1.0 / y)
-    } else {
-        arc(y)
-    }
+    if y > 1.0 { PI - arc(1.0 / y) } else { arc(y) }
 }
 
 /// Twice the arc tangent of `y`, its angle halved three times before the series.
 fn arc(y: f64) -> f64 {
     let y = halved(halved(halved(y)));
     let z = y * y;
-    let v = [13.0, 11.0, 9.0, 7.0, 5.0, 3.0, 1.0]
-        .into_iter()
-        .fold(1.0 / 15.0, |v, d| 1.0 / d - z * v);
+    let v =
+        [13.0, 11.0, 9.0, 7.0, 5.0, 3.0, 1.0].into_iter().fold(1.0 / 15.0, |v, d| 1.0 / d - z * v);
     16.0 * (y * v)
 }
 
