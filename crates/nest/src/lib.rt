@@ -59,7 +59,7 @@ fn deepest_at(
 }
 
 // The nesting of row, at most 9, where nests holds that of each lower row.
-pub fn nest_of(
+fn nest_of(
     points: &[f64],
     curves: &[u32],
     reals: &[f64],
