@@ -56,9 +56,11 @@ fn check_sheet(found: &mut Found, sheet: &Sheet, random: &mut Random) {
             check_draw(found, sheet, exact, known.as_deref());
             check_draw(found, sheet, (exact.1, exact.0 - 1), known.as_deref());
         }
-        None => {
+        // With the most room, for some: what was refused for room may take long to draw.
+        None if random.percent(25) => {
             check_draw(found, sheet, (MOST + random.below(3), MOST), None);
         }
+        None => {}
     }
 }
 
