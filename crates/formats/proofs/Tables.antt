@@ -8,7 +8,7 @@ use lib.Dec.{eqb}
 use borrow.Author.Tests.{eqb-true, eqb-false, ne-eqb}
 use Rattle.lists.specs.Sub.{All, none as all-none, more}
 use Rattle.formats.specs.Format.{Parsed, bad, got, Format, when, andThen, orElse, expect, digitOf, hex16, plain, oneOf, readDigits, readPlain, readWord, _ending_, _before_, _and_, none, lines}
-use Rattle.formats.specs.Table.{Field, float, whole, word, Column, fields, behind, names, entry, line, table, single}
+use Rattle.formats.specs.Table.{Field, float, whole, word, Column, fields, behind, names, cell, line, table, single}
 use Rattle.formats.proofs.Laws.{Lawful, ending-law, before-law, and-law, none-law}
 use Rattle.formats.proofs.Digits.{hex16-law, plain-law}
 use Rattle.formats.proofs.Words.{differ, differAll, apart, oneOf-law, and-left, and-right, no-truth}
@@ -25,16 +25,16 @@ unfolding behind digitOf
 behind-no-digit [] = omega arith
 behind-no-digit (a ∷ l) = omega arith
 
-pub entry-law : (f : Field) → Good f → (end : ℕ) → 10 ≤ digitOf end → Lawful (entry f end)
-unfolding entry
-entry-law float g end h = ending-law hex16 (end ∷ []) hex16-law
-entry-law (whole most) g end h = plain-law most end h (g .0) (g .1)
-entry-law (word ws) g end h = ending-law (oneOf ws) (end ∷ []) (oneOf-law ws (and-right (differAll (10 ∷ []) ws) (apart ws) g))
+pub cell-law : (f : Field) → Good f → (end : ℕ) → 10 ≤ digitOf end → Lawful (cell f end)
+unfolding cell
+cell-law float g end h = ending-law hex16 (end ∷ []) hex16-law
+cell-law (whole most) g end h = plain-law most end h (g .0) (g .1)
+cell-law (word ws) g end h = ending-law (oneOf ws) (end ∷ []) (oneOf-law ws (and-right (differAll (10 ∷ []) ws) (apart ws) g))
 
 pub line-law : (fs : List Field) → All Good fs → Lawful (line fs)
 unfolding line
 line-law [] all-none = none-law
-line-law (f ∷ fs) (more g gs) = and-law (entry f (behind fs)) (line fs) (entry-law f g (behind fs) (behind-no-digit fs)) (line-law fs gs)
+line-law (f ∷ fs) (more g gs) = and-law (cell f (behind fs)) (line fs) (cell-law f g (behind fs) (behind-no-digit fs)) (line-law fs gs)
 
 -- ---- the newline begins none of them
 no-word : (w : List ℕ) (n : ℕ) (bs : List ℕ) → differ (10 ∷ []) w ≡ true → expect w n (10 ∷ bs) ≡ bad
@@ -53,15 +53,15 @@ no-words (w ∷ ws) n bs e =
     rw (no-word w n bs (and-left (differ (10 ∷ []) w) (differAll (10 ∷ []) ws) e))
     (no-words ws (suc n) bs (and-right (differ (10 ∷ []) w) (differAll (10 ∷ []) ws) e))
 
-no-entry : (f : Field) → Good f → (end : ℕ) → NoLine (entry f end)
-unfolding entry _ending_ andThen readDigits readPlain digitOf when
-no-entry float g end bs = refl
-no-entry (whole most) g end bs = refl
-no-entry (word ws) g end bs = rw (no-words ws 1 bs (and-left (differAll (10 ∷ []) ws) (apart ws) g))
+no-cell : (f : Field) → Good f → (end : ℕ) → NoLine (cell f end)
+unfolding cell _ending_ andThen readDigits readPlain digitOf when
+no-cell float g end bs = refl
+no-cell (whole most) g end bs = refl
+no-cell (word ws) g end bs = rw (no-words ws 1 bs (and-left (differAll (10 ∷ []) ws) (apart ws) g))
 
 pub no-line : (f : Field) (fs : List Field) → Good f → NoLine (line (f ∷ fs))
 unfolding line _and_ andThen
-no-line f fs g bs = rw (no-entry f g (behind fs) bs)
+no-line f fs g bs = rw (no-cell f g (behind fs) bs)
 
 -- ---- tables
 pub table-law : (cs : List Column) → All Good (fields cs) → NoLine (line (fields cs)) → Lawful (table cs)

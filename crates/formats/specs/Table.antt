@@ -31,16 +31,16 @@ unfoldable pub names : List Column → List ℕ
 names [] = []
 names (n of f ∷ cs) = bytes n ++ behind cs ∷ names cs
 
--- a value and the byte behind it
-unfoldable pub entry : Field → ℕ → Format ℕ
-entry float end = hex16 ending (end ∷ [])
-entry (whole most) end = plain most end
-entry (word ws) end = oneOf ws ending (end ∷ [])
+-- a cell: a value and the byte behind it
+unfoldable pub cell : Field → ℕ → Format ℕ
+cell float end = hex16 ending (end ∷ [])
+cell (whole most) end = plain most end
+cell (word ws) end = oneOf ws ending (end ∷ [])
 
--- a line of values
+-- a line: its cells
 unfoldable pub line : List Field → Format (List ℕ)
 line [] = none
-line (f ∷ fs) = entry f (behind fs) and line fs
+line (f ∷ fs) = cell f (behind fs) and line fs
 
 -- the names, and any number of lines up to an empty one
 abbrev pub table : List Column → Format (List (List ℕ))

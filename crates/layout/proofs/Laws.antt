@@ -10,9 +10,10 @@ use borrow.Author.Tests.{le-leb, leb-true}
 use Rattle.lists.specs.Sub.{All, none, more}
 use Rattle.lists.specs.Result.{Result, refused, got}
 use Rattle.formats.specs.Bytes.{bytes}
-use Rattle.formats.specs.Format.{Format, _ending_, _then_, whole as whole-text}
+use Rattle.formats.specs.Format.{Format, oneOf, _ending_, _then_, whole as whole-text}
 use Rattle.formats.specs.Table.{Field, Column, fields, line, table, single}
 use Rattle.formats.proofs.Laws.{Lawful, Is, ending-law, then-law, as-law, whole-back, whole-was}
+use Rattle.formats.proofs.Words.{oneOf-law}
 use Rattle.formats.proofs.Lines.{NoLine}
 use Rattle.formats.proofs.Tables.{Good, line-law, no-line, table-law, single-law}
 use Rattle.layout.specs.Layout.{kinds, u32, u64, kind, pointColumns, curveColumns, segmentColumns, edgeColumns, optionColumns, RawSheet, tables, ends, sheet, layout, Valid, size, readSheet}
@@ -27,6 +28,10 @@ u64-good = (omega arith, omega arith)
 kind-good : Good kind
 unfolding kinds bytes
 kind-good = refl
+
+pub kinds-law : Lawful (oneOf kinds)
+unfolding kinds bytes
+kinds-law = oneOf-law kinds refl
 
 pub points-good : All Good (fields pointColumns)
 unfolding fields

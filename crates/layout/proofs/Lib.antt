@@ -1,2 +1,4 @@
 pub mod Laws
 pub mod Examples
+pub mod Words
+pub mod Cells

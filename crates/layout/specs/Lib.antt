@@ -1,2 +1,2 @@
 pub mod Layout
-pub mod Columns
+pub mod Letters

@@ -1,0 +1,92 @@
+-- `layout::cell` meets its contract. Assumes nothing.
+use mathlib.Core.Path.{_≡_, refl, sym, ap, _∙_}
+use mathlib.Core.List.{[], _∷_}
+use lib.ListN.{drop}
+use Rattle.formats.specs.Bytes.{bytes}
+use Rattle.formats.specs.Format.{oneOf}
+use Rattle.formats.proofs.Laws.{Lawful}
+use Rattle.text.specs.Told.{told}
+use Rattle.text.proofs.Place.{Read, told-bad, read-at, read-bad, ending-is, ending-bad}
+use Rattle.layout.specs.Layout.{kinds}
+use Rattle.layout.proofs.Laws.{kinds-law}
+use Rattle.layout.proofs.Cells.{cell-f, cell-w, cell-l, cell-k}
+use borrow.Author.Needs.{needs}
+use Rattle.layout.proofs.cell.Statement.{statement}
+use Rattle.layout.proofs.cell.Tie as tie
+
+-- the kind that was read
+kind-read : (c : tie.After-known-told)
+    → Read (c .before .before .before .before .before .before .before .before .args .s .now) (oneOf kinds .read (drop (c .before .before .before .before .before .before .before .before .args .at) (c .before .before .before .before .before .before .before .before .args .s .now))) (c .before .k .given .0 .0) (c .before .k .given .0 .1 .0)
+kind-read c =
+    let a = c .before .before .before .before .before .before .before .before .args in
+    let k = c .before .k .given in
+    read-at (a .s .now) (oneOf kinds) kinds-law (a .at) (k .0 .0) (k .0 .1 .0) (c .before .before .before .before .before .before .before .before .pre) (sym (k .1) ∙ c .before .before .before .kind .ensures)
+
+hex-then-requires : tie.Need-hex-then-requires
+hex-then-requires c κs = search needs
+
+returns : tie.Need-returns
+returns c =
+    let a = c .before .before .before .args in
+    c .hex-then .ensures ∙ ap (told (a .s .now)) (cell-f (a .letter) (a .end) (drop (a .at) (a .s .now)) (c .before .if1 .taken))
+
+decimal-requires : tie.Need-decimal-requires
+decimal-requires c κs = search needs
+
+returns-2 : tie.Need-returns-2
+returns-2 c =
+    let a = c .before .before .before .before .args in
+    c .decimal .ensures ∙ ap (told (a .s .now)) (cell-w (a .letter) (a .end) (drop (a .at) (a .s .now)) (c .before .before .if1 .left) (c .before .if2 .taken))
+
+decimal-requires-2 : tie.Need-decimal-requires-2
+decimal-requires-2 c κs = search needs
+
+returns-3 : tie.Need-returns-3
+returns-3 c =
+    let a = c .before .before .before .before .before .args in
+    c .decimal2 .ensures
+    ∙ ap (told (a .s .now)) (cell-l (a .letter) (a .end) (drop (a .at) (a .s .now)) (c .before .before .before .if1 .left) (c .before .before .if2 .left) (c .before .if3 .taken))
+
+kind-requires : tie.Need-kind-requires
+kind-requires c κs = search needs
+
+enum-known-k : tie.Need-enum-known-k
+enum-known-k c = search needs
+
+byte-requires : tie.Need-byte-requires
+byte-requires c κs = kind-read c .within
+
+enum-told : tie.Need-enum-told
+enum-told c = search needs
+
+returns-4 : tie.Need-returns-4
+returns-4 c =
+    let a = c .before .before .before .before .before .before .before .before .before .args in
+    let k = c .before .before .k .given in
+    let is = ending-is (a .s .now) (oneOf kinds) (a .end ∷ []) (a .at) (k .0 .0) (k .0 .1 .0) (kind-read (c .before)) in
+    let at-k = cell-k (a .letter) (a .end) (drop (a .at) (a .s .now)) (c .before .before .before .before .before .before .before .if1 .left) (c .before .before .before .before .before .before .if2 .left) (c .before .before .before .before .before .if3 .left) in
+    c .byte .ensures ∙ ap (told (a .s .now)) (sym is ∙ at-k)
+
+returns-5 : tie.Need-returns-5
+returns-5 c =
+    let a = c .before .before .before .before .before .before .before .args in
+    let none = read-bad (a .s .now) _ (sym (c .enum-told .given .1) ∙ c .before .before .kind .ensures) in
+    let at-k = cell-k (a .letter) (a .end) (drop (a .at) (a .s .now)) (c .before .before .before .before .before .if1 .left) (c .before .before .before .before .if2 .left) (c .before .before .before .if3 .left) in
+    told-bad (a .s .now) _ (sym at-k ∙ ending-bad (a .s .now) (oneOf kinds) (a .end ∷ []) (a .at) none)
+
+pub cell-spec : {M : Type 1} → statement M
+cell-spec =
+    tie.close
+    (tie.spec
+    hex-then-requires
+    returns
+    decimal-requires
+    returns-2
+    decimal-requires-2
+    returns-3
+    kind-requires
+    enum-known-k
+    byte-requires
+    enum-told
+    returns-4
+    returns-5)

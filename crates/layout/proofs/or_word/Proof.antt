@@ -1,0 +1,35 @@
+-- `layout::or_word` meets its contract. Assumes nothing.
+use mathlib.Core.Path.{_≡_, refl, sym, ap, _∙_}
+use lib.ListN.{drop}
+use Rattle.formats.specs.Format.{expect}
+use Rattle.text.specs.Told.{told}
+use Rattle.layout.specs.Letters.{orTold}
+use borrow.Author.Needs.{needs}
+use Rattle.layout.proofs.or_word.Statement.{statement}
+use Rattle.layout.proofs.or_word.Tie as tie
+
+enum-known-first : tie.Need-enum-known-first
+enum-known-first c = search needs
+
+enum-told : tie.Need-enum-told
+enum-told c = search needs
+
+word-requires : tie.Need-word-requires
+word-requires c κs = search needs
+
+returns : tie.Need-returns
+unfolding orTold
+returns c =
+    let a = c .before .before .before .before .before .args in
+    let other = told (a .s .now) (expect (a .w .now) (a .n) (drop (a .at) (a .s .now))) in
+    sym (ap (λ f. orTold f other) (c .before .first .given .1))
+
+returns-2 : tie.Need-returns-2
+unfolding orTold
+returns-2 c =
+    let a = c .before .before .before .before .before .args in
+    let other = told (a .s .now) (expect (a .w .now) (a .n) (drop (a .at) (a .s .now))) in
+    c .word .ensures ∙ sym (ap (λ f. orTold f other) (c .before .enum-told .given .1))
+
+pub or-word-spec : {M : Type 1} → statement M
+or-word-spec = tie.close (tie.spec enum-known-first enum-told word-requires returns returns-2)

@@ -1,0 +1,20 @@
+-- `rows::float_of` meets its contract. Assumes nothing.
+use mathlib.Core.Path.{_≡_, refl, sym, ap, _∙_}
+use lib.Ieee.{div, ofBits}
+use Rattle.rows.proofs.Patterns.{nan-pattern, other-pattern}
+use borrow.Author.Needs.{needs}
+use Rattle.rows.proofs.float_of.Statement.{statement}
+use Rattle.rows.proofs.float_of.Tie as tie
+
+float-from-bits-result : tie.Need-float-from-bits-result
+float-from-bits-result c = other-pattern (c .before .args .pattern) (c .if1 .left)
+
+returns : tie.Need-returns
+unfolding div ofBits
+returns c = nan-pattern (c .before .args .pattern) (c .if1 .taken)
+
+returns-2 : tie.Need-returns-2
+returns-2 c = search needs
+
+pub float-of-spec : {M : Type 1} → statement M
+float-of-spec = tie.close (tie.spec float-from-bits-result returns returns-2)
