@@ -93,14 +93,11 @@ pub fn sin(t: f64) -> f64
     let m = reduce(t);
     let q = m.quarter;
     let r = m.rest;
-    if q == 0 {
-        sin_kernel(r)
-    } else if q == 1 {
-        cos_kernel(r)
-    } else if q == 2 {
-        -sin_kernel(r)
-    } else {
-        -cos_kernel(r)
+    match q {
+        0 => sin_kernel(r),
+        1 => cos_kernel(r),
+        2 => -sin_kernel(r),
+        _ => -cos_kernel(r),
     }
 }
 
@@ -110,14 +107,11 @@ pub fn cos(t: f64) -> f64
     let m = reduce(t);
     let q = m.quarter;
     let r = m.rest;
-    if q == 0 {
-        cos_kernel(r)
-    } else if q == 1 {
-        -sin_kernel(r)
-    } else if q == 2 {
-        -cos_kernel(r)
-    } else {
-        sin_kernel(r)
+    match q {
+        0 => cos_kernel(r),
+        1 => -sin_kernel(r),
+        2 => -cos_kernel(r),
+        _ => sin_kernel(r),
     }
 }
 
@@ -130,14 +124,11 @@ pub fn sin_cos(t: f64) -> SinCos
     let r = m.rest;
     let s = sin_kernel(r);
     let c = cos_kernel(r);
-    if q == 0 {
-        SinCos { sin: s, cos: c }
-    } else if q == 1 {
-        SinCos { sin: c, cos: -s }
-    } else if q == 2 {
-        SinCos { sin: -s, cos: -c }
-    } else {
-        SinCos { sin: -c, cos: s }
+    match q {
+        0 => SinCos { sin: s, cos: c },
+        1 => SinCos { sin: c, cos: -s },
+        2 => SinCos { sin: -s, cos: -c },
+        _ => SinCos { sin: -c, cos: s },
     }
 }
 

@@ -4,15 +4,10 @@ use lib.Ieee.{neg}
 use borrow.Author.Needs.{needs}
 use Rattle.arith.proofs.ceil.Statement.{statement}
 use Rattle.arith.proofs.ceil.Tie as tie
-use Rattle.arith.proofs.ceil.Reads as reads
-use Rattle.arith.proofs.ceil.Lts as lts
-use Rattle.arith.proofs.floor.Reads as floor-reads
 
--- src/lib.rt:83:6
 floor-requires : tie.Need-floor-requires
 floor-requires c κs = search needs
 
--- src/lib.rt:80:1
 returns : tie.Need-returns
 returns c = ap neg (c .floor .ensures)
 

@@ -6,25 +6,18 @@ use Rattle.arith.proofs.Casts.{low-end, high-end}
 use borrow.Author.Needs.{needs}
 use Rattle.arith.proofs.to_u64.Statement.{statement}
 use Rattle.arith.proofs.to_u64.Tie as tie
-use Rattle.arith.proofs.to_u64.Reads as reads
-use Rattle.arith.proofs.to_u64.Lts as lts
-use Rattle.std.proofs.num.truncating_f64_to_u64.Reads as truncating-f64-to-u64-reads
 
--- src/lib.rt:93:13
 truncating-f64-to-u64-requires : tie.Need-truncating-f64-to-u64-requires
 unfolding ofBits neg
 truncating-f64-to-u64-requires c κs = (subst T (sym (c .before .if1 .taken)) tt, subst T (sym (c .if2 .taken)) tt)
 
--- src/lib.rt:93:13
 returns : tie.Need-returns
 returns c = search needs
 
--- src/lib.rt:95:9
 returns-2 : tie.Need-returns-2
 unfolding ofBits neg
 returns-2 c = high-end (c .before .before .args .x) (c .before .if1 .taken) (c .if2 .left)
 
--- src/lib.rt:88:1
 returns-3 : tie.Need-returns-3
 unfolding ofBits neg
 returns-3 c = low-end (c .before .args .x) (c .if1 .left)

@@ -4,10 +4,6 @@ use Rattle.trig.specs.Trig.{acosOf, acosBy}
 use borrow.Author.Needs.{needs}
 use Rattle.trig.proofs.acos.Statement.{statement}
 use Rattle.trig.proofs.acos.Tie as tie
-use Rattle.trig.proofs.acos.Reads as reads
-use Rattle.trig.proofs.acos.Lts as lts
-use Rattle.roots.proofs.root.Reads as root-reads
-use Rattle.trig.proofs.acos_by.Reads as acos-by-reads
 
 root-requires : tie.Need-root-requires
 root-requires c κs = search needs

@@ -5,9 +5,6 @@ use Rattle.trig.specs.Trig.{acosBy, pi}
 use borrow.Author.Needs.{needs}
 use Rattle.trig.proofs.acos_by.Statement.{statement}
 use Rattle.trig.proofs.acos_by.Tie as tie
-use Rattle.trig.proofs.acos_by.Reads as reads
-use Rattle.trig.proofs.acos_by.Lts as lts
-use Rattle.trig.proofs.angle.Reads as angle-reads
 
 angle-requires : tie.Need-angle-requires
 angle-requires c κs = search needs

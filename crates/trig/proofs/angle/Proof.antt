@@ -3,10 +3,6 @@ use Rattle.trig.specs.Trig.{angleOf}
 use borrow.Author.Needs.{needs}
 use Rattle.trig.proofs.angle.Statement.{statement}
 use Rattle.trig.proofs.angle.Tie as tie
-use Rattle.trig.proofs.angle.Reads as reads
-use Rattle.trig.proofs.angle.Lts as lts
-use Rattle.trig.proofs.arc.Reads as arc-reads
-use Rattle.trig.proofs.halved.Reads as halved-reads
 
 halved-requires : tie.Need-halved-requires
 halved-requires c κs = search needs

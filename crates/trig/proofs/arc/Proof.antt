@@ -4,8 +4,6 @@ use lib.Ieee.{ofBits, ofInt}
 use Rattle.trig.specs.Trig.{arcOf, summed}
 use Rattle.trig.proofs.arc.Statement.{statement}
 use Rattle.trig.proofs.arc.Tie as tie
-use Rattle.trig.proofs.arc.Reads as reads
-use Rattle.trig.proofs.arc.Lts as lts
 
 returns : tie.Need-returns
 unfolding arcOf summed ofBits ofInt

@@ -3,9 +3,6 @@ use Rattle.trig.specs.Trig.{halved}
 use borrow.Author.Needs.{needs}
 use Rattle.trig.proofs.halved.Statement.{statement}
 use Rattle.trig.proofs.halved.Tie as tie
-use Rattle.trig.proofs.halved.Reads as reads
-use Rattle.trig.proofs.halved.Lts as lts
-use Rattle.roots.proofs.root.Reads as root-reads
 
 root-requires : tie.Need-root-requires
 root-requires c κs = search needs

@@ -5,10 +5,6 @@ use Rattle.trig.proofs.Modulo.{can-cut, of-below, of-other, of-large}
 use borrow.Author.Needs.{needs}
 use Rattle.trig.proofs.quarter_far.Statement.{statement}
 use Rattle.trig.proofs.quarter_far.Tie as tie
-use Rattle.trig.proofs.quarter_far.Reads as reads
-use Rattle.trig.proofs.quarter_far.Lts as lts
-use Rattle.arith.proofs.abs.Reads as abs-reads
-use Rattle.std.proofs.num.truncating_f64_to_u64.Reads as truncating-f64-to-u64-reads
 
 abs-requires : tie.Need-abs-requires
 abs-requires c κs = search needs

@@ -5,10 +5,6 @@ use lib.Ieee.{Float}
 use Rattle.trig.specs.Trig.{quarter, reduced}
 use Rattle.trig.proofs.reduce.Statement.{statement}
 use Rattle.trig.proofs.reduce.Tie as tie
-use Rattle.trig.proofs.reduce.Reads as reads
-use Rattle.trig.proofs.reduce.Lts as lts
-use Rattle.arith.proofs.floor.Reads as floor-reads
-use Rattle.trig.proofs.quarter.Reads as quarter-reads
 
 floor-requires : tie.Need-floor-requires
 floor-requires c κs = search needs

@@ -8,11 +8,6 @@ use Rattle.trig.proofs.Cases.{by-case}
 use Rattle.trig.proofs.Modulo.{below-four}
 use Rattle.trig.proofs.sin.Statement.{statement}
 use Rattle.trig.proofs.sin.Tie as tie
-use Rattle.trig.proofs.sin.Reads as reads
-use Rattle.trig.proofs.sin.Lts as lts
-use Rattle.trig.proofs.cos_kernel.Reads as cos-kernel-reads
-use Rattle.trig.proofs.reduce.Reads as reduce-reads
-use Rattle.trig.proofs.sin_kernel.Reads as sin-kernel-reads
 
 reduce-requires : tie.Need-reduce-requires
 reduce-requires c κs = search needs
@@ -33,27 +28,30 @@ returns : tie.Need-returns
 unfolding sinOf sinBy
 returns c =
     let d = c .before .before in
-    c .sin-kernel .ensures ∙ by-case sinBy (d .before .args .t) (d .reduce .result .rest) (d .reduce .result .quarter) 0 (d .reduce .ensures) (c .before .if1 .taken)
+    let m = d .reduce in
+    c .sin-kernel .ensures ∙ by-case sinBy (d .before .args .t) (m .result .rest) (m .result .quarter) 0 (m .ensures) (c .before .match .keys1)
 
 returns-2 : tie.Need-returns-2
 unfolding sinOf sinBy
 returns-2 c =
-    let d = c .before .before .before in
-    c .cos-kernel .ensures ∙ by-case sinBy (d .before .args .t) (d .reduce .result .rest) (d .reduce .result .quarter) 1 (d .reduce .ensures) (c .before .if2 .taken)
+    let d = c .before .before in
+    let m = d .reduce in
+    c .cos-kernel .ensures ∙ by-case sinBy (d .before .args .t) (m .result .rest) (m .result .quarter) 1 (m .ensures) (c .before .match .keys2)
 
 returns-3 : tie.Need-returns-3
 unfolding sinOf sinBy
 returns-3 c =
-    let d = c .before .before .before .before in
-    ap neg (c .sin-kernel2 .ensures) ∙ by-case sinBy (d .before .args .t) (d .reduce .result .rest) (d .reduce .result .quarter) 2 (d .reduce .ensures) (c .before .if3 .taken)
+    let d = c .before .before in
+    let m = d .reduce in
+    ap neg (c .sin-kernel2 .ensures) ∙ by-case sinBy (d .before .args .t) (m .result .rest) (m .result .quarter) 2 (m .ensures) (c .before .match .keys3)
 
 returns-4 : tie.Need-returns-4
 unfolding sinOf sinBy
 returns-4 c =
-    let d = c .before .before .before .before in
-    let q = d .reduce .result .quarter in
-    let e : q ≡ 3 = omega (arith, below-four (turns (d .before .args .t))) in
-    ap neg (c .cos-kernel2 .ensures) ∙ by-case sinBy (d .before .args .t) (d .reduce .result .rest) q 3 (d .reduce .ensures) e
+    let d = c .before .before in
+    let m = d .reduce in
+    let e : m .result .quarter ≡ 3 = omega (arith, below-four (turns (d .before .args .t))) in
+    ap neg (c .cos-kernel2 .ensures) ∙ by-case sinBy (d .before .args .t) (m .result .rest) (m .result .quarter) 3 (m .ensures) e
 
 pub sin-spec : {M : Type 1} → statement M
 sin-spec =

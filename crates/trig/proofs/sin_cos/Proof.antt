@@ -10,11 +10,6 @@ use Rattle.trig.proofs.Cases.{by-case}
 use Rattle.trig.proofs.Modulo.{below-four}
 use Rattle.trig.proofs.sin_cos.Statement.{statement}
 use Rattle.trig.proofs.sin_cos.Tie as tie
-use Rattle.trig.proofs.sin_cos.Reads as reads
-use Rattle.trig.proofs.sin_cos.Lts as lts
-use Rattle.trig.proofs.cos_kernel.Reads as cos-kernel-reads
-use Rattle.trig.proofs.reduce.Reads as reduce-reads
-use Rattle.trig.proofs.sin_kernel.Reads as sin-kernel-reads
 
 reduce-requires : tie.Need-reduce-requires
 reduce-requires c κs = search needs
@@ -32,31 +27,38 @@ returns : tie.Need-returns
 unfolding sinCosOf sinOf cosOf sinBy cosBy
 returns c =
     let d = c .before in
-    let m = d .before .before .reduce in
-    rw (d .before .sin-kernel .ensures, d .cos-kernel .ensures) (by-case both (d .before .before .before .args .t) (m .result .rest) (m .result .quarter) 0 (m .ensures) (c .if1 .taken))
+    let a = d .before .before in
+    let m = a .reduce in
+    rw (d .before .sin-kernel .ensures, d .cos-kernel .ensures)
+    (by-case both (a .before .args .t) (m .result .rest) (m .result .quarter) 0 (m .ensures) (c .match .keys1))
 
 returns-2 : tie.Need-returns-2
 unfolding sinCosOf sinOf cosOf sinBy cosBy
 returns-2 c =
-    let d = c .before .before in
-    let m = d .before .before .reduce in
-    rw (d .before .sin-kernel .ensures, d .cos-kernel .ensures) (by-case both (d .before .before .before .args .t) (m .result .rest) (m .result .quarter) 1 (m .ensures) (c .if2 .taken))
+    let d = c .before in
+    let a = d .before .before in
+    let m = a .reduce in
+    rw (d .before .sin-kernel .ensures, d .cos-kernel .ensures)
+    (by-case both (a .before .args .t) (m .result .rest) (m .result .quarter) 1 (m .ensures) (c .match .keys2))
 
 returns-3 : tie.Need-returns-3
 unfolding sinCosOf sinOf cosOf sinBy cosBy
 returns-3 c =
-    let d = c .before .before .before in
-    let m = d .before .before .reduce in
-    rw (d .before .sin-kernel .ensures, d .cos-kernel .ensures) (by-case both (d .before .before .before .args .t) (m .result .rest) (m .result .quarter) 2 (m .ensures) (c .if3 .taken))
+    let d = c .before in
+    let a = d .before .before in
+    let m = a .reduce in
+    rw (d .before .sin-kernel .ensures, d .cos-kernel .ensures)
+    (by-case both (a .before .args .t) (m .result .rest) (m .result .quarter) 2 (m .ensures) (c .match .keys3))
 
 returns-4 : tie.Need-returns-4
 unfolding sinCosOf sinOf cosOf sinBy cosBy
 returns-4 c =
-    let d = c .before .before .before in
-    let m = d .before .before .reduce in
-    let t = d .before .before .before .args .t in
-    let e : m .result .quarter ≡ 3 = omega (arith, below-four (turns t)) in
-    rw (d .before .sin-kernel .ensures, d .cos-kernel .ensures) (by-case both t (m .result .rest) (m .result .quarter) 3 (m .ensures) e)
+    let d = c .before in
+    let a = d .before .before in
+    let m = a .reduce in
+    let e : m .result .quarter ≡ 3 = omega (arith, below-four (turns (a .before .args .t))) in
+    rw (d .before .sin-kernel .ensures, d .cos-kernel .ensures)
+    (by-case both (a .before .args .t) (m .result .rest) (m .result .quarter) 3 (m .ensures) e)
 
 pub sin-cos-spec : {M : Type 1} → statement M
 sin-cos-spec =
