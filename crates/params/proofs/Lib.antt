@@ -4,4 +4,3 @@ pub mod Runs
 pub mod Lists
 pub mod Sampled
 pub mod Ends
-pub mod Held

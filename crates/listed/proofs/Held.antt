@@ -12,10 +12,10 @@ use lib.Dec.{leb}
 use lib.Ieee.{Float}
 use borrow.Author.Tests.{le-leb, lt-leb, leb-true, leb-false}
 use Rattle.lists.specs.Result.{refused, got, each}
-use Rattle.params.specs.declared.Listed.{Listed}
-use Rattle.params.specs.declared.Listed.the-variants.{Count, Refused}
+use Rattle.listed.specs.declared.Listed.{Listed}
+use Rattle.listed.specs.declared.Listed.the-variants.{Count, Refused}
 use Rattle.params.specs.Params.{fitting}
-use Rattle.params.specs.Held.{Held, Behind}
+use Rattle.listed.specs.Held.{Held, Behind}
 
 -- ---- stores in parts
 pub sets-append : (l : List Float) (n : ℕ) (a b : List Float) → sets l n (a ++ b) ≡ sets (sets l n a) (n + length a) b
@@ -138,33 +138,42 @@ behind-none out k h =
     let e = length-take-le k out h in
     subst (λ (l : List Float). Held out l (Count k) out) (sym (append-nil (take k out))) (fits-held (sym e) (rw e h) (own out k h))
 
-module _ {out mid : List Float} (k : ℕ) (a : List Float) where
-  pub behind-full : (b : List Float) → Behind out k a Refused mid → Behind out k (a ++ b) Refused mid
-  behind-full b h = rw append-assoc at (held-full b h)
+-- one more, for which there is room or not
+pub behind-one : (out : List Float) (k : ℕ) (x : Float) → k < length out → Behind out k (x ∷ []) (Count (k + 1)) (set out k x)
+behind-one out k x h = rw append-assoc at (held-push x (behind-none out k (omega arith)) h)
 
-  module _ {n : ℕ} (h : Behind out k a (Count n) mid) where
-    pub behind-then : {r : Listed} {after : List Float} (b : List Float) → Behind mid n b r after → Behind out k (a ++ b) r after
-    behind-then {r} {after} b g = rw append-assoc at go
-      where
-        front : List Float
-        front = take k out ++ a
+pub behind-over : (out : List Float) (k : ℕ) (x : Float) → k ≤ length out → length out ≤ k → Behind out k (x ∷ []) Refused out
+behind-over out k x h l = rw append-assoc at (held-stop x [] (behind-none out k h) l)
 
-        g' : Held mid (front ++ b) r after
-        g' = rw (held-list h) at g
+-- a front that is refused, and one behind which more is written
+module _ (out : List Float) (k : ℕ) (a : List Float) {r : Listed} (mid : List Float) (h : Behind out k a r mid) where
+  counts : (n : ℕ) → r ≡ Count n → Behind out k a (Count n) mid
+  counts n e = subst (λ (q : Listed). Behind out k a q mid) e h
 
-        go : Held out (front ++ b) r after
-        go = record {
-          answer = g' .answer ∙ ap (λ (m : ℕ). each length (fitting m (front ++ b))) (held-length h);
-          buffer = g' .buffer ∙ ap (λ (m : List Float). sets m 0 (front ++ b)) (h .buffer) ∙ again out front b (held-counted h .fits);
-        }
+  pub behind-refused : r ≡ Refused → (b : List Float) → Behind out k (a ++ b) Refused mid
+  behind-refused e b = rw append-assoc at (held-full b (subst (λ (q : Listed). Behind out k a q mid) e h))
 
-    pub behind-push : (x : Float) → n < length out → Behind out k (a ++ (x ∷ [])) (Count (n + 1)) (set mid n x)
-    behind-push x l = rw append-assoc at (held-push x h l)
+  pub behind-room : (n : ℕ) → r ≡ Count n → n ≤ length mid
+  behind-room n e =
+      let g = counts n e in
+      omega (arith, held-length g, held-counted g .same, held-counted g .fits)
 
-    pub behind-stop : (x : Float) (b : List Float) → length out ≤ n → Behind out k (a ++ x ∷ b) Refused mid
-    behind-stop x b l = rw append-assoc at (held-stop x b h l)
+  pub behind-then : (n : ℕ) → r ≡ Count n → (b : List Float) {q : Listed} {after : List Float} → Behind mid n b q after
+      → Behind out k (a ++ b) q after
+  behind-then n e b {q} {after} f = rw append-assoc at go
+    where
+      front : List Float
+      front = take k out ++ a
 
--- one more, and then a list behind that
-pub behind-both : {out mid after : List Float} {n : ℕ} {r : Listed} (k : ℕ) (a : List Float) (x : Float) (b : List Float)
-    → Behind out k a (Count n) mid → n < length out → Behind (set mid n x) (n + 1) b r after → Behind out k (a ++ x ∷ b) r after
-behind-both k a x b h l g = rw append-assoc at (behind-then k (a ++ (x ∷ [])) (behind-push k a h x l) b g)
+      g : Held out front (Count n) mid
+      g = counts n e
+
+      f' : Held mid (front ++ b) q after
+      f' = rw (held-list g) at f
+
+      go : Held out (front ++ b) q after
+      go = record {
+        answer = f' .answer ∙ ap (λ (m : ℕ). each length (fitting m (front ++ b))) (held-length g);
+        buffer =
+            f' .buffer ∙ ap (λ (m : List Float). sets m 0 (front ++ b)) (g .buffer) ∙ again out front b (held-counted g .fits);
+      }
