@@ -1,0 +1,21 @@
+-- `angle_between` meets its contract: the product of the two, clamped, and its arc cosine. Assumes nothing.
+use borrow.Author.Needs.{needs}
+use Rattle.span.specs.Span.{angleBetween}
+use Rattle.span.proofs.angle_between.Statement.{statement}
+use Rattle.span.proofs.angle_between.Tie as tie
+
+dot-requires : tie.Need-dot-requires
+dot-requires c κs = search needs
+
+clamp-requires : tie.Need-clamp-requires
+clamp-requires c κs = search needs
+
+acos-requires : tie.Need-acos-requires
+acos-requires c κs = search needs
+
+returns : tie.Need-returns
+unfolding angleBetween
+returns c = cc
+
+pub angle-between-spec : {M : Type 1} → statement M
+angle-between-spec = tie.close (tie.spec dot-requires clamp-requires acos-requires returns)

@@ -1,0 +1,101 @@
+-- `turn` meets its contract: 0.0 at the first direction that is missing, else the sum of the two angles. Assumes nothing.
+use borrow.Author.Needs.{needs}
+use mathlib.Core.Path.{_≡_, sym, _∙_}
+use Rattle.math.specs.declared.Direction.the-variants.{Unit}
+use Rattle.math.specs.Math.{vSub, tryNormalized}
+use Rattle.samples.specs.Chain.{pointAt}
+use Rattle.span.proofs.Laws.{no-chord, no-first, no-last, turn-is}
+use Rattle.span.proofs.turn.Statement.{statement}
+use Rattle.span.proofs.turn.Tie as tie
+
+point-at-requires : tie.Need-point-at-requires
+point-at-requires c κs = search needs
+
+point-at-requires-2 : tie.Need-point-at-requires-2
+point-at-requires-2 c κs = search needs
+
+sub-requires : tie.Need-sub-requires
+sub-requires c κs = search needs
+
+try-normalized-requires : tie.Need-try-normalized-requires
+try-normalized-requires c κs = search needs
+
+enum-known-axis : tie.Need-enum-known-axis
+enum-known-axis c = search needs
+
+enum-told : tie.Need-enum-told
+enum-told c = search needs
+
+returns : tie.Need-returns
+returns c =
+    let a = c .before .before .before .before .before .before .before .args in
+    no-chord (pointAt (a .chain .now)) (a .a) (a .b) (c .before .before .try-normalized .result) (cc) (c .enum-told .given .1)
+
+first-direction-requires : tie.Need-first-direction-requires
+first-direction-requires c κs = search needs
+
+enum-known-first : tie.Need-enum-known-first
+enum-known-first c = search needs
+
+enum-told-2 : tie.Need-enum-told-2
+enum-told-2 c = search needs
+
+returns-2 : tie.Need-returns-2
+returns-2 c =
+    let a = c .before .before .before .before .before .before .before .before .before .before .before .args in
+    let d = c .before .before .first-direction in
+    no-first (pointAt (a .chain .now)) (a .a) (a .b) (d .result) (d .ensures) (c .enum-told2 .given .1)
+
+last-direction-requires : tie.Need-last-direction-requires
+last-direction-requires c κs = search needs
+
+enum-known-last : tie.Need-enum-known-last
+enum-known-last c = search needs
+
+enum-told-3 : tie.Need-enum-told-3
+enum-told-3 c = search needs
+
+returns-3 : tie.Need-returns-3
+returns-3 c =
+    let a = c .before .before .before .before .before .before .before .before .before .before .before .before .before .before .before .args in
+    let d = c .before .before .last-direction in
+    no-last (pointAt (a .chain .now)) (a .a) (a .b) (d .result) (d .ensures) (c .enum-told3 .given .1)
+
+angle-between-requires : tie.Need-angle-between-requires
+angle-between-requires c κs = search needs
+
+angle-between-requires-2 : tie.Need-angle-between-requires-2
+angle-between-requires-2 c κs = search needs
+
+returns-4 : tie.Need-returns-4
+returns-4 c =
+    let a = c .before .before .before .before .before .before .before .before .before .before .before .before .before .before .before .before .before .before .args in
+    let p = pointAt (a .chain .now) in
+    let f = c .before .before .before .before .before .before .before .first .given in
+    let l = c .before .before .before .last .given in
+    let k = c .before .before .before .before .before .before .before .before .before .before .before .axis .given in
+    let x : Unit (k .0 .0) ≡ tryNormalized (vSub (p (a .b)) (p (a .a))) = cc in
+    rw (c .before .angle-between .ensures, c .angle-between2 .ensures) (turn-is p (a .a) (a .b) (f .0 .0) (l .0 .0) (k .0 .0) (sym (f .1) ∙ c .before .before .before .before .before .before .before .before .before .first-direction .ensures) (sym (l .1) ∙ c .before .before .before .before .before .last-direction .ensures) x)
+
+pub turn-spec : {M : Type 1} → statement M
+turn-spec =
+    tie.close
+    (tie.spec
+    point-at-requires
+    point-at-requires-2
+    sub-requires
+    try-normalized-requires
+    enum-known-axis
+    enum-told
+    returns
+    first-direction-requires
+    enum-known-first
+    enum-told-2
+    returns-2
+    last-direction-requires
+    enum-known-last
+    enum-told-3
+    returns-3
+    angle-between-requires
+    angle-between-requires-2
+    returns-4)
