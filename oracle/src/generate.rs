@@ -1,6 +1,7 @@
 //! Seeded sheets, valid and damaged. Each is made alone from the run's seed and its own number.
 
 use crate::damage;
+use crate::exact;
 use crate::random::Random;
 use crate::shapes::{Draft, Point, Shape};
 use crate::sheet::{Sheet, write};
@@ -22,7 +23,11 @@ pub fn contents(seed: u64, index: u64) -> Sheet {
 }
 
 fn drafted(random: &mut Random) -> Sheet {
-    let mut sheet = if random.percent(1) { redrawn(random) } else { sound(random) };
+    let mut sheet = match random.below(100) {
+        0 => redrawn(random),
+        1..=13 => exact::sheet(random),
+        _ => sound(random),
+    };
     damage::tweak(random, &mut sheet);
     damage::contents(random, &mut sheet);
     sheet

@@ -7,6 +7,7 @@ pub mod check;
 pub mod coverage;
 pub mod damage;
 pub mod draw;
+pub mod exact;
 pub mod gen_arith;
 pub mod generate;
 pub mod inspect;

@@ -15,6 +15,9 @@ pub struct Shape {
     pub hi: f64,
 }
 
+/// Ranges of trims about the span of 1e9 from which on a natural range is none to draw.
+const WIDE: [(f64, f64); 4] = [(-1e9, 1e9), (0.0, 1e9), (1e9, 0.0), (0.0, 999999999.9999999)];
+
 /// Tables that grow row by row.
 pub struct Draft<'a> {
     pub random: &'a mut Random,
@@ -39,6 +42,8 @@ impl<'a> Draft<'a> {
         let size = match random.below(10) {
             0 => 1.0,
             1 => random.decade(-12, -5),
+            // So small that squares lose bits, and lengths come near the least with a direction.
+            2 if random.percent(40) => random.decade(-158, -150),
             2 => random.decade(5, 8),
             _ => random.decade(-2, 4),
         };
@@ -150,7 +155,7 @@ impl<'a> Draft<'a> {
             1..=2 => (base.hi, base.lo),
             3 => (base.lo + span * a, base.lo + span * b),
             4 => (base.lo - span, base.hi + span * 2.0),
-            5 if self.random.percent(50) => (-1e9, 1e9),
+            5 if self.random.percent(50) => self.random.pick(&WIDE),
             5 => (self.random.boundary(), self.random.boundary()),
             6..=7 => (base.lo + span * a * 0.5, base.hi - span * b * 0.5),
             _ => (base.lo, base.hi),
@@ -161,7 +166,7 @@ impl<'a> Draft<'a> {
 
     /// A composite that `shape` is one of the segments of.
     pub fn composite(&mut self, shape: Shape) -> Shape {
-        let mut count = match self.random.below(20) {
+        let count = match self.random.below(20) {
             0 => 0,
             1 => 40,
             2..=7 => 1,
@@ -172,16 +177,27 @@ impl<'a> Draft<'a> {
         if count > 1 && self.random.percent(70) {
             shapes.push(self.simple());
         }
-        let mut first = self.tables.lent().segment_count();
-        if first > 0 && self.random.percent(10) {
-            (first, count) = self.any_run(first); // segments that other rows use too
-        } else {
-            for _ in 0..count {
-                let chosen = self.random.pick(&shapes);
-                let segment = self.segment(chosen, count);
-                self.tables.push_segment(segment);
-            }
+        let known = self.tables.lent().segment_count();
+        if known > 0 && self.random.percent(10) {
+            let (first, count) = self.any_run(known); // segments that other rows use too
+            return self.composite_over(first, count);
         }
+        let segments: Vec<Segment> = (0..count)
+            .map(|_| {
+                let chosen = self.random.pick(&shapes);
+                self.segment(chosen, count)
+            })
+            .collect();
+        self.composite_of(&segments)
+    }
+
+    pub fn composite_of(&mut self, segments: &[Segment]) -> Shape {
+        let first = self.tables.lent().segment_count();
+        segments.iter().for_each(|segment| self.tables.push_segment(*segment));
+        self.composite_over(first, segments.len())
+    }
+
+    fn composite_over(&mut self, first: usize, count: usize) -> Shape {
         let row = self.row(COMPOSITE, first as u32, count as u32, 0.0, 0.0);
         Shape { row, lo: 0.0, hi: count as f64 }
     }

@@ -3,7 +3,7 @@
 use std::cell::RefCell;
 
 /// Every mark. One that begins with `fact` is expected never to be met.
-pub const ALL: [&str; 85] = [
+pub const ALL: [&str; 99] = [
     "8: bisected",
     "8: closed form",
     "8: segment floor",
@@ -35,6 +35,19 @@ pub const ALL: [&str; 85] = [
     "ends apart: reversed",
     "ends together: kept by sense",
     "ends together: reversed by sense",
+    "equal: break's deviation and sag",
+    "equal: closed form's gap and sag",
+    "equal: deviation and sag",
+    "equal: distance and limit",
+    "equal: largest distances",
+    "equal: last gap and floor",
+    "equal: merge distance and floor",
+    "equal: nearest places",
+    "equal: start as far from first as from last",
+    "equal: thinning's distance and tolerance",
+    "equal: thinning's turn and angle",
+    "equal: turn and angle",
+    "equal: vertices as far apart as the tolerance",
     "fact: closure of a trim asked",
     "fact: probe not finite",
     "fact: remainder below zero, t not subnormal",
@@ -43,6 +56,7 @@ pub const ALL: [&str; 85] = [
     "fact: short arc does not reach",
     "fact: tolerance of thin not above zero",
     "math: no direction",
+    "math: no direction, though a length",
     "merge: floor above zero",
     "merge: last popped",
     "merge: some dropped",
