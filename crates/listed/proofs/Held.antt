@@ -177,3 +177,22 @@ module _ (out : List Float) (k : ℕ) (a : List Float) {r : Listed} (mid : List 
         buffer =
             f' .buffer ∙ ap (λ (m : List Float). sets m 0 (front ++ b)) (g .buffer) ∙ again out front b (held-counted g .fits);
       }
+
+-- a list, one more, and another list: the ways in which code that writes the three one after the other comes out
+module _ (out : List Float) (k : ℕ) (front : List Float) (x : Float) (back whole : List Float) (e : front ++ x ∷ back ≡ whole)
+    {r₁ : Listed} (out₁ : List Float) (h : Behind out k front r₁ out₁) where
+  pub front-refused : r₁ ≡ Refused → Behind out k whole Refused out₁
+  front-refused z =
+      subst (λ (l : List Float). Behind out k l Refused out₁) e (behind-refused out k front out₁ h z (x ∷ back))
+
+  module _ (n : ℕ) (N : r₁ ≡ Count n) {r₂ : Listed} (out₂ : List Float) (g : Behind out₁ n (x ∷ []) r₂ out₂) where
+    pub one-refused : r₂ ≡ Refused → Behind out k whole Refused out₂
+    one-refused z =
+        subst (λ (l : List Float). Behind out k l Refused out₂) e
+        (behind-then out k front out₁ h n N (x ∷ back) (behind-refused out₁ n (x ∷ []) out₂ g z back))
+
+    pub all-three : (m : ℕ) → r₂ ≡ Count m → {r₃ : Listed} {out₃ : List Float} → Behind out₂ m back r₃ out₃
+        → Behind out k whole r₃ out₃
+    all-three m M {r₃} {out₃} f =
+        subst (λ (l : List Float). Behind out k l r₃ out₃) e
+        (behind-then out k front out₁ h n N (x ∷ back) (behind-then out₁ n (x ∷ []) out₂ g m M back f))

@@ -17,7 +17,7 @@ pub fn push(out: &mut [f64], k: usize, x: f64) -> Listed
     requires { ⌜ k ≤ length (now out) ⌝ }
     ensures { λ r. ⌜ Behind (now (out .entry)) k (x ∷ []) r (now (out .exit)) ⌝ }
 {
-    if out.len() <= k {
+    if k >= out.len() {
         return Listed::Refused;
     }
     out[k] = x;
