@@ -42,7 +42,7 @@ at-unit f s m e t j small E h =
     let v : m * 2 ^ j * down e < 2 ^ (low f + suc (emax f)) * down e = rw (pow-add 2 (low f) (suc (emax f)), ← q) (lt-of-lt-of-le u (le-of-eq (simp (mul-assoc, mul-comm, mul-left-comm)))) in
     round-exact f s (m * up e * 2 ^ t) (down e) m j (down-pos e) small (lt-of-mul-lt-mul-right (down e) v) q
 
-shallow : (k l : ℕ) → 2 ^ k ≤ 2 ^ l → k ≤ l
+pub shallow : (k l : ℕ) → 2 ^ k ≤ 2 ^ l → k ≤ l
 shallow k l h = go (leb k l) (leb→le k l) (nleb→lt k l)
   where
     go : (o : Bool) → (T o → k ≤ l) → (T (not o) → l < k) → k ≤ l

@@ -34,7 +34,7 @@ fn digit(root: u64, rest: u64, next: u64) -> Digits
 
 // The whole number nearest to the root of n * 2^52, by its 53 binary digits.
 fn by_digits(n: u64) -> u64
-    requires { ⌜ n < 2 ^ 54 ⌝ }
+    requires { ⌜ (0 < n) × (n < 2 ^ 54) ⌝ }
     ensures { λ r. ⌜ r ≡ nearRoot (n * 2 ^ 52) ⌝ }
 {
     let mut root: u64 = 0;
@@ -84,42 +84,47 @@ fn estimate(t: f64) -> f64 {
     // so t - d * d is exact. With w = (t - d * d) / 4t the root is d / √(1 - 4w)
     let w = (t - d * d) * (0.25 / t);
     let ww = w * w;
-    let series = 1.0 + 3.0 * w + 35.0 * ww * (w + 0.2857142857142857) + ww * ww * (126.0 + 462.0 * w);
+    let series = 1.0
+        + 3.0 * w
+        + 35.0 * ww * (w + 0.2857142857142857)
+        + ww * ww * (126.0 + 462.0 * w);
     d + d * (w + w) * series
 }
 
-// The pattern of the root, from m, of 53 digits, and z, how many digits the number has in units of
-// the smallest value.
-fn finish(m: u64, z: u64) -> u64
-    requires { ⌜ (2 ^ 52 ≤ m) × (m < 2 ^ 53) × (z ≤ 2100) ⌝ }
-    ensures { λ r. ⌜ r ≡ ((z + 1) / 2 + 484) * 2 ^ 52 + nearRoot (m * (2 - z % 2) * 2 ^ 52) ⌝ }
+// The digits of the root of the float with the pattern b, which is not subnormal: those of the
+// estimate where they pass the check.
+fn near_root(b: u64) -> u64
+    ensures { λ r. ⌜ r ≡ nearRoot ((b % 2 ^ 52 + 2 ^ 52) * (2 - b / 2 ^ 52 % 2) * 2 ^ 52) ⌝ }
 {
-    let n = m * (2 - z % 2);
-    let place = ((z + 1) / 2 + 484) * 4503599627370496;
-    // m + one is the pattern of a t from 1/2 to 2, and q + one that of its root
-    let one = (1021 + z % 2) * 4503599627370496;
-    let s = estimate(f64::from_bits(m + one));
+    let m = b % 4503599627370496 + 4503599627370496;
+    let n = m * (2 - (b >> 52) % 2);
+    // the pattern of the float times an even power of two, from 1/2 to 2
+    let t = b % 9007199254740992 + 1022 * 4503599627370496;
+    let s = estimate(f64::from_bits(t));
     if s == s {
-        let q = std::num::wrapping_sub_u64(f64::to_bits(s), one);
+        // m and q, the digits of t and of its root, have the same place
+        let q = std::num::wrapping_sub_u64(f64::to_bits(s), t - m);
         if is_nearest(n, q) {
-            return place + q;
+            return q;
         }
     }
-    place + by_digits(n)
+    by_digits(n)
 }
 
-// The pattern of the root of the float whose pattern is b, above 0 and below the infinity's.
+// The pattern of the root of the float with the pattern b, above 0 and below the infinity's.
 fn positive(b: u64) -> u64
     requires { ⌜ (0 < b) × (b < 2047 * 2 ^ 52) ⌝ }
     ensures { λ r. ⌜ ofBits binary64 r ≡ rootOf (ofBits binary64 b) ⌝ }
 {
     let field = b >> 52;
-    let digits = b % 4503599627370496;
     if field == 0 {
-        let zeros = u64::leading_zeros(digits) as u64;
-        finish(digits << (zeros - 11), 64 - zeros)
+        // the digits, moved up to 53, and how many they are
+        let zeros = u64::leading_zeros(b) as u64;
+        let m = b << (zeros - 11);
+        let z = 64 - zeros;
+        ((z + 1) / 2 + 484) * 4503599627370496 + by_digits(m * (2 - z % 2))
     } else {
-        finish(digits + 4503599627370496, field + 52)
+        ((field + 53) / 2 + 484) * 4503599627370496 + near_root(b)
     }
 }
 

@@ -1,15 +1,13 @@
 -- `roots::by_digits` meets its contract. After i digits w is n * 2 ^ (2 * i + 10), root and rest are those of w / 2 ^ 64, and left is w % 2 ^ 64.
 -- The measure is how many digits are left. Assumes nothing.
 use borrow.Author.Needs.{needs}
-use borrow.Author.Tests.{lt-ltb, le-ltb}
 use mathlib.Core.Path.{_≡_, sym, ap, _∙_}
 use Prim.Native.Nat.{ℕ, _+_, _-_, _*_, _/_, _%_, _^_, _≤_, _<_}
 use native.Mathlib.Nat.{lt-of-le-of-lt, mul-assoc, mul-le-mul, mul-div-cancel, div-lt-iff-lt-mul, le-of-lt}
 use native.Mathlib.Omega.{arith}
 use lib.Dec.{lit<}
 use lib.Pow.{pow-add, pow-mono, pow-pos}
-use Rattle.roots.specs.Root.{nearRoot}
-use Rattle.roots.proofs.Whole.{sq-lt, near-is}
+use Rattle.roots.proofs.Whole.{sq-lt, is-r, is-next}
 use Rattle.roots.proofs.by_digits.Statement.{statement}
 use Rattle.roots.proofs.by_digits.Tie as tie
 
@@ -47,7 +45,7 @@ digit-requires : tie.Need-digit-requires Inv-loop μ-loop
 digit-requires c κs =
     let l = c .before .loop in
     let s = c .before .before in
-    (l .inv .2, low (l .root) (l .rest) (w (s .args .n) (l .i) / 2 ^ 64) (l .inv .1) (in-loop (s .args .n) (l .i) (s .pre) (c .loop-test .taken)), omega arith)
+    (l .inv .2, low (l .root) (l .rest) (w (s .args .n) (l .i) / 2 ^ 64) (l .inv .1) (in-loop (s .args .n) (l .i) (s .pre .1) (c .loop-test .taken)), omega arith)
 
 add-i : tie.Need-add-i Inv-loop μ-loop
 add-i c = search needs
@@ -59,11 +57,12 @@ loop-again : tie.Need-loop-again Inv-loop μ-loop
 loop-again c =
     let l = c .before .before .loop in
     let n = c .before .before .before .args .n in
-    let e = next n (l .i) in
-    ( omega arith
-    , c .digit .ensures .0 ∙ sums (l .root * l .root + l .rest) (l .left) (w n (l .i)) (l .inv .1) (l .inv .3) ∙ ap (λ (x : ℕ). x / 2 ^ 64) e
-    , c .digit .ensures .1
-    , lefts (l .left) (w n (l .i)) (l .inv .3) ∙ ap (λ (x : ℕ). x % 2 ^ 64) e)
+    let e = next n (l .i) in (
+      omega arith,
+      c .digit .ensures .0 ∙ sums (l .root * l .root + l .rest) (l .left) (w n (l .i)) (l .inv .1) (l .inv .3) ∙ ap (λ (x : ℕ). x / 2 ^ 64) e,
+      c .digit .ensures .1,
+      lefts (l .left) (w n (l .i)) (l .inv .3) ∙ ap (λ (x : ℕ). x % 2 ^ 64) e,
+    )
 
 -- after the last digit
 all : (n i a : ℕ) → i ≤ 53 → 53 ≤ i → a ≡ w n i / 2 ^ 64 → a ≡ n * 2 ^ 52
@@ -74,11 +73,14 @@ all n i a h k e =
 wide : (n : ℕ) → n < 2 ^ 54 → n * 2 ^ 52 < 2 ^ 106
 wide n h = omega arith
 
+some : (n : ℕ) → 0 < n → 0 < n * 2 ^ 52
+some n h = omega arith
+
 add-result : tie.Need-add-result Inv-loop μ-loop
 add-result c =
     let l = c .before .before .loop in
     let s = c .before .before .before in
-    record { fits = more (l .root) (low (l .root) (l .rest) (s .args .n * 2 ^ 52) (all (s .args .n) (l .i) (l .root * l .root + l .rest) (l .inv .0) (c .before .loop-test .left) (l .inv .1)) (wide (s .args .n) (s .pre))) }
+    record { fits = more (l .root) (low (l .root) (l .rest) (s .args .n * 2 ^ 52) (all (s .args .n) (l .i) (l .root * l .root + l .rest) (l .inv .0) (c .before .loop-test .left) (l .inv .1)) (wide (s .args .n) (s .pre .1))) }
   where
     more : (r : ℕ) → r < 2 ^ 53 → r + 1 < 2 ^ 64
     more r h = omega arith
@@ -86,18 +88,16 @@ add-result c =
 returns : tie.Need-returns Inv-loop μ-loop
 returns c =
     let l = c .before .before .loop in
-    let n = c .before .before .before .args .n in
-    sym
-    (near-is (l .root) (l .rest) (n * 2 ^ 52) (wide n (c .before .before .before .pre)) (all n (l .i) (l .root * l .root + l .rest) (l .inv .0) (c .before .loop-test .left) (l .inv .1)) (l .inv .2)
-    ∙ rw (lt-ltb _ _ (c .if1 .taken)))
+    let s = c .before .before .before in
+    let n = s .args .n in
+    is-next (l .root) (l .rest) (n * 2 ^ 52) (all n (l .i) (l .root * l .root + l .rest) (l .inv .0) (c .before .loop-test .left) (l .inv .1)) (wide n (s .pre .1)) (c .if1 .taken) (omega (arith, l .inv .2))
 
 returns-2 : tie.Need-returns-2 Inv-loop μ-loop
 returns-2 c =
     let l = c .before .before .loop in
-    let n = c .before .before .before .args .n in
-    sym
-    (near-is (l .root) (l .rest) (n * 2 ^ 52) (wide n (c .before .before .before .pre)) (all n (l .i) (l .root * l .root + l .rest) (l .inv .0) (c .before .loop-test .left) (l .inv .1)) (l .inv .2)
-    ∙ rw (le-ltb _ _ (c .if1 .left)))
+    let s = c .before .before .before in
+    let n = s .args .n in
+    is-r (l .root) (l .rest) (n * 2 ^ 52) (all n (l .i) (l .root * l .root + l .rest) (l .inv .0) (c .before .loop-test .left) (l .inv .1)) (some n (s .pre .0)) (wide n (s .pre .1)) (c .if1 .left)
 
 pub by-digits-spec : {M : Type 1} → statement M
 by-digits-spec =
