@@ -11,116 +11,120 @@ use lib.Ieee.{Float, binary64, ofBits}
 use borrow.Author.Tests.{leb-true, leb-false, le-leb, lt-leb}
 use Rattle.lists.specs.Room.{filled}
 use Rattle.brep.specs.Rows.{tables}
-use Rattle.brep.specs.Tree.{tree}
+use Rattle.brep.specs.Tree.{CurveTree, tree}
 use Rattle.breaks.specs.Breaks.{insideOf}
 use Rattle.knots.specs.declared.Run.{Run}
 use Rattle.knots.specs.declared.Knots.{Knots}
 use Rattle.knots.specs.declared.Knots.the-variants.{Count, TooMany}
-use Rattle.knots.specs.Knots.{curveKnots}
+use Rattle.knots.specs.Knots.{curveKnots, curveBreaks}
 use Rattle.knots.specs.Gathered.{knotsAnswer, knotsLeft, breaksAnswer, breaksLeft, runKnots, RunOf}
 use Rattle.knots.proofs.Laws.{run-length}
 
 -- ---- curve_knots
-module _ (buffer knots : List Float) where
-  fitting : length knots ≤ length buffer → (Count (length knots) ≡ knotsAnswer (length buffer) knots) × (sets buffer 0 knots ≡ knotsLeft buffer knots)
+module _ (buffer : List Float) (curve : CurveTree) where
+  fitting : length (curveKnots curve) ≤ length buffer → (Count (length (curveKnots curve)) ≡ knotsAnswer (length buffer) curve) × (sets buffer 0 (curveKnots curve) ≡ knotsLeft buffer curve)
   unfolding knotsAnswer knotsLeft
-  fitting h = let e = le-leb (length knots) (length buffer) h in (rw e, rw e)
+  fitting h = let e = le-leb (length (curveKnots curve)) (length buffer) h in (rw e, rw e)
 
-  exceeding : length buffer < length knots → (TooMany ≡ knotsAnswer (length buffer) knots) × (buffer ≡ knotsLeft buffer knots)
+  exceeding : length buffer < length (curveKnots curve) → (TooMany ≡ knotsAnswer (length buffer) curve) × (buffer ≡ knotsLeft buffer curve)
   unfolding knotsAnswer knotsLeft
-  exceeding h = let e = lt-leb (length knots) (length buffer) h in (rw e, rw e)
+  exceeding h = let e = lt-leb (length (curveKnots curve)) (length buffer) h in (rw e, rw e)
 
 module _ (points : List Float) (curves : List ℕ) (reals : List Float) (parts : List ℕ) (ranges : List Float) (row : ℕ) (run : Run) (is : RunOf points curves reals row run) (buffer : List Float) where
-  all : List Float
-  all = curveKnots (tree (tables points curves reals parts ranges) row)
+  all : CurveTree
+  all = tree (tables points curves reals parts ranges) row
 
-  all-length : length all ≡ 2 * run .count
+  all-length : length (curveKnots all) ≡ 2 * run .count
   unfolding all
   all-length = ap length (sym (is parts ranges)) ∙ run-length parts ranges (run .first) (run .count)
 
   pub gathered : 2 * run .count ≤ length buffer → (out : List Float) → out ≡ sets buffer 0 (runKnots parts ranges (run .first) (run .count))
-      → (Count (2 * run .count) ≡ knotsAnswer (length buffer) (curveKnots (tree (tables points curves reals parts ranges) row)))
-      × (out ≡ knotsLeft buffer (curveKnots (tree (tables points curves reals parts ranges) row)))
+      → (Count (2 * run .count) ≡ knotsAnswer (length buffer) (tree (tables points curves reals parts ranges) row))
+      × (out ≡ knotsLeft buffer (tree (tables points curves reals parts ranges) row))
   unfolding all
   gathered h out e = let f = fitting buffer all (omega (arith, all-length)) in (ap Count (sym all-length) ∙ f .0, e ∙ ap (sets buffer 0) (is parts ranges) ∙ f .1)
 
   pub not-gathered : length buffer < 2 * run .count
-      → (TooMany ≡ knotsAnswer (length buffer) (curveKnots (tree (tables points curves reals parts ranges) row)))
-      × (buffer ≡ knotsLeft buffer (curveKnots (tree (tables points curves reals parts ranges) row)))
+      → (TooMany ≡ knotsAnswer (length buffer) (tree (tables points curves reals parts ranges) row))
+      × (buffer ≡ knotsLeft buffer (tree (tables points curves reals parts ranges) row))
   unfolding all
   not-gathered h = exceeding buffer all (omega (arith, all-length))
 
--- ---- curve_breaks: out is the buffer after curve_knots
-module _ (buffer knots : List Float) (lo hi : Float) where
-  counted : (n : ℕ) → knotsAnswer (length buffer) knots ≡ Count n → (n ≡ length knots) × (length knots ≤ length buffer)
+-- ---- curve_breaks
+module _ (buffer : List Float) (curve : CurveTree) where
+  counted : (n : ℕ) → knotsAnswer (length buffer) curve ≡ Count n → (n ≡ length (curveKnots curve)) × (length (curveKnots curve) ≤ length buffer)
   unfolding knotsAnswer
-  counted n e = go (leb (length knots) (length buffer)) refl e
+  counted n e = go (leb (length (curveKnots curve)) (length buffer)) refl e
     where
-      go : (b : Bool) → leb (length knots) (length buffer) ≡ b → cond b (Count (length knots)) TooMany ≡ Count n → (n ≡ length knots) × (length knots ≤ length buffer)
-      go true p q = (cc, leb-true (length knots) (length buffer) p)
+      go : (b : Bool) → leb (length (curveKnots curve)) (length buffer) ≡ b → cond b (Count (length (curveKnots curve))) TooMany ≡ Count n → (n ≡ length (curveKnots curve)) × (length (curveKnots curve) ≤ length buffer)
+      go true p q = (cc, leb-true (length (curveKnots curve)) (length buffer) p)
       go false p q = absurd (let o : _≡_ {A = ℕ} 0 1 = cc in omega arith)
 
-  exceeded : knotsAnswer (length buffer) knots ≡ TooMany → length buffer < length knots
+  exceeded : knotsAnswer (length buffer) curve ≡ TooMany → length buffer < length (curveKnots curve)
   unfolding knotsAnswer
-  exceeded e = go (leb (length knots) (length buffer)) refl e
+  exceeded e = go (leb (length (curveKnots curve)) (length buffer)) refl e
     where
-      go : (b : Bool) → leb (length knots) (length buffer) ≡ b → cond b (Count (length knots)) TooMany ≡ TooMany → length buffer < length knots
+      go : (b : Bool) → leb (length (curveKnots curve)) (length buffer) ≡ b → cond b (Count (length (curveKnots curve))) TooMany ≡ TooMany → length buffer < length (curveKnots curve)
       go true p q = absurd (let o : _≡_ {A = ℕ} 0 1 = cc in omega arith)
-      go false p q = leb-false (length knots) (length buffer) p
+      go false p q = leb-false (length (curveKnots curve)) (length buffer) p
 
-  breaks-fitting : length knots ≤ length buffer
-      → (Count (length (insideOf knots lo hi)) ≡ breaksAnswer (length buffer) knots lo hi) × (filled (length buffer) (insideOf knots lo hi) ≡ breaksLeft buffer knots lo hi)
-  unfolding breaksAnswer breaksLeft
-  breaks-fitting h = let e = le-leb (length knots) (length buffer) h in (rw e, rw e)
+  -- out is the buffer after curve_knots, which counted n
+  pub record Stored (out : List Float) (n : ℕ) : Type 0 where
+    pub count : n ≡ length (curveKnots curve)
+    pub fits : length (curveKnots curve) ≤ length buffer
+    pub floats : out ≡ sets buffer 0 (curveKnots curve)
 
-  breaks-exceeding : length buffer < length knots → (TooMany ≡ breaksAnswer (length buffer) knots lo hi) × (buffer ≡ breaksLeft buffer knots lo hi)
-  unfolding breaksAnswer breaksLeft
-  breaks-exceeding h = let e = lt-leb (length knots) (length buffer) h in (rw e, rw e)
+  module _ (found : Knots) (out : List Float) (answered : found ≡ knotsAnswer (length buffer) curve) (left : out ≡ knotsLeft buffer curve) where
+    pub stored : (n : ℕ) → found ≡ Count n → Stored out n
+    stored n is = let k = counted n (sym answered ∙ is) in record { count = k .0; fits = k .1; floats = left ∙ sym (fitting buffer curve (k .1) .1) }
 
-  module _ (found : Knots) (out : List Float) (answered : found ≡ knotsAnswer (length buffer) knots) (left : out ≡ knotsLeft buffer knots) where
-    pub no-breaks : found ≡ TooMany → (TooMany ≡ breaksAnswer (length buffer) knots lo hi) × (out ≡ breaksLeft buffer knots lo hi)
-    no-breaks is = let h = exceeded (sym answered ∙ is) in let b = breaks-exceeding h in (b .0, left ∙ sym (exceeding buffer knots h .1) ∙ b .1)
+    pub no-breaks : (lo hi : Float) → found ≡ TooMany → (TooMany ≡ breaksAnswer (length buffer) curve lo hi) × (out ≡ breaksLeft buffer curve lo hi)
+    unfolding breaksAnswer breaksLeft
+    no-breaks lo hi is =
+        let h = exceeded (sym answered ∙ is) in
+        let e = lt-leb (length (curveKnots curve)) (length buffer) h in
+        (rw e, left ∙ sym (exceeding buffer curve h .1) ∙ rw e)
 
-    module _ (n : ℕ) (is : found ≡ Count n) where
-      known : (n ≡ length knots) × (length knots ≤ length buffer)
-      known = counted n (sym answered ∙ is)
+module _ {buffer : List Float} {curve : CurveTree} {out : List Float} {n : ℕ} (s : Stored buffer curve out n) where
+  same-length : length out ≡ length buffer
+  same-length = ap length (s .floats) ∙ length-sets buffer 0 (curveKnots curve)
 
-      stored : out ≡ knots ++ drop (0 + length knots) buffer
-      stored = left ∙ sym (fitting buffer knots (known .1) .1) ∙ sets-eq knots buffer 0 (omega (arith, known .1))
+  pub part-room : n ≤ length out
+  part-room = omega (arith, s .count, s .fits, same-length)
 
-      same-length : length out ≡ length buffer
-      same-length = ap length (left ∙ sym (fitting buffer knots (known .1) .1)) ∙ length-sets buffer 0 knots
+  pub part-length : length (take n out) ≡ n
+  part-length = length-take-le n out part-room
 
-      pub part-room : n ≤ length out
-      part-room = omega (arith, known .0, known .1, same-length)
+  part : take n out ≡ curveKnots curve
+  part =
+      ap (take n) (s .floats ∙ sets-eq (curveKnots curve) buffer 0 (omega (arith, s .fits)))
+      ∙ take-at (curveKnots curve) (drop (0 + length (curveKnots curve)) buffer) n (sym (s .count))
 
-      pub part-length : length (take n out) ≡ n
-      part-length = length-take-le n out part-room
+  -- last: the part after `inside`, which answered m
+  module _ (lo hi : Float) (m : ℕ) (last : List Float) (as-long : length last ≡ length (take n out)) (count : m ≡ length (insideOf (take n out) lo hi))
+      (floats : last ≡ filled (length (take n out)) (insideOf (take n out) lo hi)) where
+    few : m ≤ length last
+    few = omega (arith, count, ap length floats, length-append (insideOf (take n out) lo hi) (replicate (length (take n out) - length (insideOf (take n out) lo hi)) (ofBits binary64 0)))
 
-      part : take n out ≡ knots
-      part = ap (take n) stored ∙ take-at knots (drop (0 + length knots) buffer) n (sym (known .0))
+    pub clear-room : m ≤ length (last ++ drop n out)
+    clear-room = omega (arith, few, length-append last (drop n out))
 
-      -- last: the part after `inside`, which answered m
-      module _ (m : ℕ) (last : List Float) (as-long : length last ≡ length (take n out)) (count : m ≡ length (insideOf (take n out) lo hi))
-          (floats : last ≡ filled (length (take n out)) (insideOf (take n out) lo hi)) where
-        few : m ≤ length last
-        few = omega (arith, count, ap length floats, length-append (insideOf (take n out) lo hi) (replicate (length (take n out) - length (insideOf (take n out) lo hi)) (ofBits binary64 0)))
+    whole-length : length (last ++ drop n out) ≡ length buffer
+    whole-length = length-append last (drop n out) ∙ omega (arith, as-long, part-length, length-drop n out, part-room, same-length)
 
-        pub clear-room : m ≤ length (last ++ drop n out)
-        clear-room = omega (arith, few, length-append last (drop n out))
+    front : take m (last ++ drop n out) ≡ curveBreaks curve lo hi
+    unfolding curveBreaks
+    front =
+        take-append-le m last (drop n out) few ∙ ap (take m) floats
+        ∙ take-at (insideOf (take n out) lo hi) (replicate (length (take n out) - length (insideOf (take n out) lo hi)) (ofBits binary64 0)) m (sym count)
+        ∙ ap (λ (l : List Float). insideOf l lo hi) part
 
-        whole-length : length (last ++ drop n out) ≡ length buffer
-        whole-length = length-append last (drop n out) ∙ omega (arith, as-long, part-length, length-drop n out, part-room, same-length)
-
-        front : take m (last ++ drop n out) ≡ insideOf knots lo hi
-        front =
-            take-append-le m last (drop n out) few ∙ ap (take m) floats
-            ∙ take-at (insideOf (take n out) lo hi) (replicate (length (take n out) - length (insideOf (take n out) lo hi)) (ofBits binary64 0)) m (sym count)
-            ∙ ap (λ (l : List Float). insideOf l lo hi) part
-
-        -- cleared: the buffer in the end
-        pub some-breaks : (cleared : List Float) → cleared ≡ filled (length (last ++ drop n out)) (take m (last ++ drop n out))
-            → (Count m ≡ breaksAnswer (length buffer) knots lo hi) × (cleared ≡ breaksLeft buffer knots lo hi)
-        some-breaks cleared e =
-            let b = breaks-fitting (known .1) in
-            (ap Count (count ∙ ap (λ (l : List Float). length (insideOf l lo hi)) part) ∙ b .0, e ∙ ap (λ (k : ℕ). filled k (take m (last ++ drop n out))) whole-length ∙ ap (filled (length buffer)) front ∙ b .1)
+    -- cleared: the buffer in the end
+    pub some-breaks : (cleared : List Float) → cleared ≡ filled (length (last ++ drop n out)) (take m (last ++ drop n out))
+        → (Count m ≡ breaksAnswer (length buffer) curve lo hi) × (cleared ≡ breaksLeft buffer curve lo hi)
+    unfolding curveBreaks breaksAnswer breaksLeft
+    some-breaks cleared e =
+        let b = le-leb (length (curveKnots curve)) (length buffer) (s .fits) in (
+          ap Count (count ∙ ap (λ (l : List Float). length (insideOf l lo hi)) part) ∙ rw b,
+          e ∙ ap (λ (k : ℕ). filled k (take m (last ++ drop n out))) whole-length ∙ ap (filled (length buffer)) front ∙ rw b,
+        )

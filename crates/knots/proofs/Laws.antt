@@ -1,14 +1,16 @@
 -- What callers use: how many knots a run has, that a composite's knots are its run's, and that they fit where every composite is short enough.
 -- Assumes nothing.
-use mathlib.Core.Path.{_≡_, refl, sym, ap, _∙_}
-use mathlib.Core.List.{List, [], _∷_}
-use Prim.Native.Nat.{ℕ, zero, suc, _+_, _*_, _≤_, _<_}
+use mathlib.Core.Path.{_≡_, refl, ap}
+use mathlib.Core.Bool.{Bool, true, false}
+use mathlib.Core.List.{List, _∷_}
+use Prim.Native.Nat.{ℕ, zero, suc, _*_, _≤_}
 use native.Mathlib.Omega.{arith}
 use lib.ListN.{length}
+use lib.Dec.{eqb}
 use lib.Ieee.{Float}
 use Rattle.brep.specs.declared.Curve.{Curve}
 use Rattle.brep.specs.declared.Curve.the-variants.{Line, Circle, Ellipse, Parabola, Polyline, Trimmed, Composite}
-use Rattle.brep.specs.Rows.{Tables, tables}
+use Rattle.brep.specs.Rows.{Tables}
 use Rattle.brep.specs.Tree.{CurveTree, segments, grown, below, segmentIn, rowIn, tree}
 use Rattle.knots.specs.Knots.{segmentKnots, curveKnots}
 use Rattle.knots.specs.Gathered.{runKnots}
@@ -22,3 +24,31 @@ pub run-knots : (T : Tables) (f : ℕ → CurveTree) (first n : ℕ) → segment
 unfolding segmentKnots segments runKnots
 run-knots T f first zero = refl
 run-knots T f first (suc n) = ap (λ (l : List Float). segmentIn T first .range .lo ∷ segmentIn T first .range .hi ∷ l) (run-knots T f (suc first) n)
+
+-- ---- where no composite has more than n segments, no curve has more than 2 n knots
+module _ (T : Tables) (n : ℕ) (short : (i first count : ℕ) → rowIn T i ≡ Composite first count → count ≤ n) where
+  few-grown : (f : ℕ → CurveTree) → ((i : ℕ) → length (curveKnots (f i)) ≤ 2 * n) → (row : ℕ) → length (curveKnots (grown T f (rowIn T row))) ≤ 2 * n
+  unfolding curveKnots grown
+  few-grown f h row = go (rowIn T row) refl
+    where
+      go : (c : Curve) → rowIn T row ≡ c → length (curveKnots (grown T f c)) ≤ 2 * n
+      go (Line o d) e = omega arith
+      go (Circle g r) e = omega arith
+      go (Ellipse g a b) e = omega arith
+      go (Parabola g d) e = omega arith
+      go (Polyline first count) e = omega arith
+      go (Trimmed base range) e = h base
+      go (Composite first count) e = omega (arith, short row first count e, ap length (run-knots T f first count), run-length (T .parts) (T .ranges) first count)
+
+  few-below : (k i : ℕ) → length (curveKnots (below T k i)) ≤ 2 * n
+  unfolding curveKnots below
+  few-below zero i = omega arith
+  few-below (suc k) i = go (eqb i k) (grown T (below T k) (rowIn T k)) (below T k i) (few-grown (below T k) (few-below k) k) (few-below k i)
+    where
+      go : (b : Bool) (c d : CurveTree) → length (curveKnots c) ≤ 2 * n → length (curveKnots d) ≤ 2 * n → length (curveKnots (elim b [ true ↦ c | false ↦ d ])) ≤ 2 * n
+      go true c d h g = h
+      go false c d h g = g
+
+  pub knots-few : (row : ℕ) → length (curveKnots (tree T row)) ≤ 2 * n
+  unfolding tree
+  knots-few row = few-grown (below T row) (few-below row) row

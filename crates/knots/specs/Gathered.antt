@@ -9,30 +9,29 @@ use lib.Dec.{leb}
 use lib.Ieee.{Float}
 use Rattle.lists.specs.Room.{filled}
 use Rattle.brep.specs.Rows.{tables, segmentOf}
-use Rattle.brep.specs.Tree.{tree}
-use Rattle.breaks.specs.Breaks.{insideOf}
-use Rattle.knots.specs.Knots.{curveKnots}
+use Rattle.brep.specs.Tree.{CurveTree, tree}
+use Rattle.knots.specs.Knots.{curveKnots, curveBreaks}
 use Rattle.knots.specs.declared.Run.{Run}
 use Rattle.knots.specs.declared.Knots.{Knots}
 use Rattle.knots.specs.declared.Knots.the-variants.{Count, TooMany}
 
 -- curve_knots: how many, where they fit a buffer of so many floats
-unfoldable pub knotsAnswer : ℕ → List Float → Knots
-knotsAnswer room knots = cond (leb (length knots) room) (Count (length knots)) TooMany
+unfoldable pub knotsAnswer : ℕ → CurveTree → Knots
+knotsAnswer room curve = cond (leb (length (curveKnots curve)) room) (Count (length (curveKnots curve))) TooMany
 
 -- they stand at the buffer's start; where they do not fit it, it is as before
-unfoldable pub knotsLeft : List Float → List Float → List Float
-knotsLeft buffer knots = cond (leb (length knots) (length buffer)) (sets buffer 0 knots) buffer
+unfoldable pub knotsLeft : List Float → CurveTree → List Float
+knotsLeft buffer curve = cond (leb (length (curveKnots curve)) (length buffer)) (sets buffer 0 (curveKnots curve)) buffer
 
 -- curve_breaks: how many, where the knots fit the buffer
-unfoldable pub breaksAnswer : ℕ → List Float → Float → Float → Knots
-breaksAnswer room knots lo hi =
-    cond (leb (length knots) room) (Count (length (insideOf knots lo hi))) TooMany
+unfoldable pub breaksAnswer : ℕ → CurveTree → Float → Float → Knots
+breaksAnswer room curve lo hi =
+    cond (leb (length (curveKnots curve)) room) (Count (length (curveBreaks curve lo hi))) TooMany
 
 -- they stand at the buffer's start, +0.0 after them; where the knots do not fit it, it is as before
-unfoldable pub breaksLeft : List Float → List Float → Float → Float → List Float
-breaksLeft buffer knots lo hi =
-    cond (leb (length knots) (length buffer)) (filled (length buffer) (insideOf knots lo hi)) buffer
+unfoldable pub breaksLeft : List Float → CurveTree → Float → Float → List Float
+breaksLeft buffer curve lo hi =
+    cond (leb (length (curveKnots curve)) (length buffer)) (filled (length buffer) (curveBreaks curve lo hi)) buffer
 
 -- lo and hi of n segments from number first on
 unfoldable pub runKnots : List ℕ → List Float → ℕ → ℕ → List Float
