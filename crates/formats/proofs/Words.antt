@@ -43,7 +43,7 @@ expect-not (a ∷ w) (b ∷ v) n rest e = go (eqb b a) e (λ f. expect-not w v n
     go true f r = r f
     go false f r = refl
 
-differ-at : (w : List ℕ) (ws : List (List ℕ)) (i : ℕ) → differAll w ws ≡ true → i < length ws → differ w (getD ws i []) ≡ true
+pub differ-at : (w : List ℕ) (ws : List (List ℕ)) (i : ℕ) → differAll w ws ≡ true → i < length ws → differ w (getD ws i []) ≡ true
 differ-at w [] i e h = absurd (omega arith)
 differ-at w (v ∷ vs) zero e h = and-left (differ w v) (differAll w vs) e
 differ-at w (v ∷ vs) (suc i) e h = differ-at w vs i (and-right (differ w v) (differAll w vs) e) (omega arith)

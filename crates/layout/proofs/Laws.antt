@@ -19,13 +19,13 @@ use Rattle.formats.proofs.Tables.{Good, line-law, no-line, table-law, single-la
 use Rattle.layout.specs.Layout.{kinds, u32, u64, kind, pointColumns, curveColumns, segmentColumns, edgeColumns, optionColumns, RawSheet, tables, ends, sheet, layout, Valid, size, readSheet}
 
 -- ---- what the columns hold
-u32-good : Good u32
+pub u32-good : Good u32
 u32-good = (omega arith, omega arith)
 
-u64-good : Good u64
+pub u64-good : Good u64
 u64-good = (omega arith, omega arith)
 
-kind-good : Good kind
+pub kind-good : Good kind
 unfolding kinds bytes
 kind-good = refl
 

@@ -1,0 +1,5 @@
+pub mod Onto
+pub mod Columns
+pub mod Stores
+pub mod Valid
+pub mod Turns
