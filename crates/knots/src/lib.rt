@@ -85,10 +85,8 @@ pub fn curve_knots(
     row: u32,
     out: &mut [f64],
 ) -> Knots
-    ensures {
-        λ r. ⌜ (r ≡ knotsAnswer (length (now (out .entry))) (curveKnots (tree (lent (points .entry) (curves .entry) (reals .entry) (parts .entry) (ranges .entry)) row)))
-            × (now (out .exit) ≡ knotsLeft (now (out .entry)) (curveKnots (tree (lent (points .entry) (curves .entry) (reals .entry) (parts .entry) (ranges .entry)) row))) ⌝
-    }
+    ensures { λ r. ⌜ (r ≡ knotsAnswer (length (now (out .entry))) (curveKnots (tree (lent (points .entry) (curves .entry) (reals .entry) (parts .entry) (ranges .entry)) row)))
+        × (now (out .exit) ≡ knotsLeft (now (out .entry)) (curveKnots (tree (lent (points .entry) (curves .entry) (reals .entry) (parts .entry) (ranges .entry)) row))) ⌝ }
 {
     let run = run_of(points, curves, reals, row);
     let n = 2 * run.count as usize;
@@ -112,10 +110,8 @@ pub fn curve_breaks(
     out: &mut [f64],
 ) -> Knots
     requires { ⌜ length (now out) ≤ 8192 ⌝ }
-    ensures {
-        λ r. ⌜ (r ≡ breaksAnswer (length (now (out .entry))) (curveKnots (tree (lent (points .entry) (curves .entry) (reals .entry) (parts .entry) (ranges .entry)) row)) lo hi)
-            × (now (out .exit) ≡ breaksLeft (now (out .entry)) (curveKnots (tree (lent (points .entry) (curves .entry) (reals .entry) (parts .entry) (ranges .entry)) row)) lo hi) ⌝
-    }
+    ensures { λ r. ⌜ (r ≡ breaksAnswer (length (now (out .entry))) (curveKnots (tree (lent (points .entry) (curves .entry) (reals .entry) (parts .entry) (ranges .entry)) row)) lo hi)
+        × (now (out .exit) ≡ breaksLeft (now (out .entry)) (curveKnots (tree (lent (points .entry) (curves .entry) (reals .entry) (parts .entry) (ranges .entry)) row)) lo hi) ⌝ }
 {
     let found = curve_knots(points, curves, reals, parts, ranges, row, out);
     match found {
