@@ -1,16 +1,16 @@
 -- Two floats of a format that are equal as numbers are the same float, but for zeros of two signs. Assumes nothing.
-use mathlib.Core.Path.{_≡_, refl, sym, ap, _∙_, subst}
+use mathlib.Core.Path.{_≡_, refl, sym, ap, _∙_}
 use mathlib.Core.Logic.{_⊎_, inl, inr}
-use Prim.Native.Nat.{ℕ, _+_, _-_, _*_, _/_, _^_, _<_, _≤_}
-use native.Mathlib.Nat.{mul-assoc, mul-comm, mul-left-comm, mul-right-comm}
-use mathlib.Core.Bool.{Bool, true, false, _&&_, _||_, Bool·beq, cond}
+use Prim.Native.Nat.{ℕ, _+_, _-_, _*_, _/_, _^_}
+use native.Mathlib.Nat.{mul-right-comm}
+use mathlib.Core.Bool.{Bool, true, false, cond}
 use lib.IntN.{ℤ}
 use lib.Dec.{T, eqb, eqb→eq}
 use lib.Ieee.{Float, nan, inf, fin, Format, prec, low, up, down, size, hid, top, eq, le, fits, toBits}
 use lib.Ieee.Bits.{ofBits-toBits}
 use lib.Ieee.Fits.{and-l, and-r, down-pos}
 use lib.Ieee.Nearest.{div-same}
-use Rattle.order.proofs.Signed.{antisym, or-cases}
+use Rattle.order.proofs.Signed.{antisym}
 
 same-bits : (f : Format) (s : Bool) (m : ℕ) (e : ℤ) (n : ℕ) (d : ℤ) → m * up e * down d ≡ n * up d * down e → toBits f (fin s m e) ≡ toBits f (fin s n d)
 unfolding toBits

@@ -1,22 +1,22 @@
 -- lo + (hi - lo) * (i / n), each operation rounded, goes one way as i grows. Assumes nothing.
-use mathlib.Core.Path.{_≡_, refl, sym, ap, _∙_, subst}
-use Prim.Native.Nat.{ℕ, zero, suc, _+_, _-_, _*_, _^_, _≤_, _<_}
-use native.Mathlib.Nat.{add-zero, zero-add, zero-mul, mul-zero, one-mul, mul-one, le-of-eq, le-trans, lt-of-lt-of-le, lt-irrefl, zero-lt-suc, mul-le-mul-right, mul-le-mul-left, mul-le-mul, le-of-mul-le-mul-right, mul-pos, mul-assoc, mul-comm, mul-left-comm, add-mul, mul-add, eq-zero-or-pos}
-use mathlib.Core.Logic.{_⊎_, inl, inr}
+use mathlib.Core.Path.{_≡_, refl, sym, _∙_, subst}
+use Prim.Native.Nat.{ℕ, zero, suc, _+_, _*_, _^_, _≤_, _<_}
+use native.Mathlib.Nat.{add-zero, zero-add, zero-mul, mul-zero, one-mul, mul-one, le-trans, zero-lt-suc, mul-le-mul-right, mul-le-mul-left, mul-pos, mul-comm}
 use native.Mathlib.Omega.{arith}
-use mathlib.Core.Bool.{Bool, true, false, not, Bool·beq}
-use lib.IntN.{ℤ, pos, negsuc}
+use mathlib.Core.Bool.{Bool, true, false}
+use lib.IntN.{pos}
 use lib.Dec.{T}
-use lib.Ieee.{Float, nan, inf, fin, Format, prec, emax, low, binary32, binary64, up, down, unlike, round, add, sub, mul, div, le, fits, ofInt}
-use lib.Ieee.Fits.{sub-fits, up-pos, down-pos}
+use lib.Ieee.{Float, nan, inf, fin, Format, prec, binary32, binary64, up, down, unlike, round, add, sub, mul, div, le, fits, ofInt}
+use lib.Ieee.Fits.{sub-fits}
 use lib.Ieee.Exact.{HasValue}
 use lib.Ieee.Back.{round-whole}
 use lib.Ieee.Order.{round-mono}
 use lib.Ieee.Scale.{finite}
 use lib.Ieee.Positive.{den, den-pos}
-use Rattle.order.proofs.Signed.{P, N, plus, neg', Below, le→, le←, ring}
-use Rattle.order.proofs.Rounds.{Rounds, add-rounds, sub-rounds, mul-rounds, div-rounds}
-use Rattle.order.proofs.Mono.{add-mono-right, mul-mono-by, mul-turns-by, div-mono-by}
+use Rattle.order.proofs.Signed.{P, N, plus, neg', le→, ring}
+pub use Rattle.order.proofs.Signed.{zeroF, oneF}
+use Rattle.order.proofs.Rounds.{mul-rounds, div-rounds}
+use Rattle.order.proofs.Mono.{add-mono-right, mul-mono, mul-turns, div-mono-by}
 use Rattle.order.proofs.Middle.{above, under, between}
 
 -- ---- a whole number up to 2 ^ prec, as a float
@@ -29,22 +29,19 @@ whole-parts (inf s) n h = absurd h
 whole-parts (fin false m e) n h = (tt, sym (mul-one (m * up e)) ∙ h .1, refl)
 whole-parts (fin true m e) n h = absurd (subst T (h .0) tt)
 
+-- it is finite, and the number
 pub whole : (f : Format) (n : ℕ) → n ≤ 2 ^ prec f → Whole (ofInt f (pos n)) n
 unfolding ofInt
 whole f n h = whole-parts (round f false n 1) n (round-whole f false n h)
 
+-- their order is that of the numbers
 pub whole-le : (f : Format) (i j : ℕ) → i ≤ j → T (le (ofInt f (pos i)) (ofInt f (pos j)))
 unfolding ofInt
 whole-le f i j h = round-mono f i 1 j 1 (zero-lt-suc 0) (zero-lt-suc 0) (mul-le-mul-right 1 h)
 
 -- ---- i / n for i ≤ n is from 0 to 1
-abbrev pub zeroF : Float
-zeroF = fin false 0 (pos 0)
-
-abbrev pub oneF : Float
-oneF = fin false 1 (pos 0)
-
-zero-fits : (f : Format) → T (fits f zeroF)
+-- every format holds 0.0
+pub zero-fits : (f : Format) → T (fits f zeroF)
 unfolding fits
 zero-fits f = tt
 
@@ -77,7 +74,7 @@ module _ (f : Format) (n : ℕ) (np : 0 < n) (nb : n ≤ 2 ^ prec f) where
       (rw (w .2, w .1, whole f n nb .1) (small (den x) (den y)))
     where
       small : (a b : ℕ) → i * a * b * 1 + 0 * (n * b * a) ≤ 1 * (n * b * a) + 0 * b * 1
-      small a b = let k = mul-le-mul-right (a * b) h in simp (ring, zero-mul, mul-zero, add-zero, zero-add, one-mul) k
+      small a b = let k = mul-le-mul-right (a * b) h in simp (ring, zero-mul, mul-zero, add-zero, one-mul) k
 
   pub quot-finite : (i : ℕ) → i ≤ n → T (finite (div f (ofInt f (pos i)) (ofInt f (pos n))))
   quot-finite i h = between zeroF (div f (ofInt f (pos i)) (ofInt f (pos n))) oneF tt tt (quot-low i h) (quot-high i h)
@@ -113,11 +110,7 @@ sized f s (inf t) h = h
 sized f s (fin t zero e) h = h
 sized f s (fin t (suc m) e) h = h
 
-sized-finite : (s : Bool) (d : Float) → T (finite d) → T (finite (with-sign s d))
-sized-finite s nan h = h
-sized-finite s (inf t) h = h
-sized-finite s (fin t m e) h = h
-
+-- what is not negative has no minus part
 pub no-minus : (q : Float) → neg' q ≤ plus q → neg' q ≡ 0
 no-minus nan h = refl
 no-minus (inf s) h = refl
@@ -141,12 +134,12 @@ part-finite f (fin s m e) q F D Q l h =
     (under f (fin false m e) (mul f d q) (plus d * plus q + neg' d * neg' q) (plus d * neg' q + neg' d * plus q) (den d * den q) (sized f false d F) tt R (mul-pos (den-pos d) (den-pos q)) (rw z (upper s (m * up e) k)))
   where
     lower : (s : Bool) (a : ℕ) → plus q ≤ den q → 0 * (down e * den q) + (P s a * 0 + N s a * plus q) * down e ≤ (P s a * plus q + N s a * 0) * down e + a * (down e * den q)
-    lower true a k = simp (zero-mul, mul-zero, zero-add, add-zero) (under-law a (plus q) (down e) (den q) k)
+    lower true a k = simp (zero-mul, mul-zero, zero-add) (under-law a (plus q) (down e) (den q) k)
     lower false a k = simp (zero-mul, mul-zero, zero-add, add-zero) (omega arith)
 
     upper : (s : Bool) (a : ℕ) → plus q ≤ den q → (P s a * plus q + N s a * 0) * down e + 0 * (down e * den q) ≤ a * (down e * den q) + (P s a * 0 + N s a * plus q) * down e
-    upper true a k = simp (zero-mul, mul-zero, zero-add, add-zero) (omega arith)
-    upper false a k = simp (zero-mul, mul-zero, zero-add, add-zero) (under-law a (plus q) (down e) (den q) k)
+    upper true a k = simp (zero-mul, mul-zero, zero-add) (omega arith)
+    upper false a k = simp (zero-mul, mul-zero, add-zero) (under-law a (plus q) (down e) (den q) k)
 
 -- ---- lo + (hi - lo) * (i / n)
 abbrev pub lerp : Format → Float → Float → ℕ → ℕ → Float
@@ -164,7 +157,7 @@ module _ (f : Format) (lo hi : Float) (n i j : ℕ) (L : T (finite lo)) (D : T (
       let X = quot-finite f n np nb i (le-trans h k) in
       let Y = quot-finite f n np nb j k in
       add-mono-right f (mul f d x) (mul f d y) lo (part i (le-trans h k)) (part j k) L
-      (rw (mul-swap f d x D X, mul-swap f d y D Y) (mul-mono-by f x y d X Y D (omega (arith, le→ zeroF d tt D p, zero-mul (den d))) (quot-mono f n np nb i j h k)))
+      (rw (mul-swap f d x D X, mul-swap f d y D Y) (mul-mono f x y d X Y D p (quot-mono f n np nb i j h k)))
 
   pub lerp-falls : T (le (sub f hi lo) zeroF) → T (le (lerp f lo hi j n) (lerp f lo hi i n))
   lerp-falls p =
@@ -174,4 +167,4 @@ module _ (f : Format) (lo hi : Float) (n i j : ℕ) (L : T (finite lo)) (D : T (
       let X = quot-finite f n np nb i (le-trans h k) in
       let Y = quot-finite f n np nb j k in
       add-mono-right f (mul f d y) (mul f d x) lo (part j k) (part i (le-trans h k)) L
-      (rw (mul-swap f d x D X, mul-swap f d y D Y) (mul-turns-by f x y d X Y D (omega (arith, le→ d zeroF D tt p, zero-mul (den d))) (quot-mono f n np nb i j h k)))
+      (rw (mul-swap f d x D X, mul-swap f d y D Y) (mul-turns f x y d X Y D p (quot-mono f n np nb i j h k)))

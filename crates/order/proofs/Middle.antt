@@ -1,19 +1,19 @@
 -- A float of the format is not moved by rounding, nor is its double; and 0.5 * (a + b) lies between a and b. Assumes nothing.
-use mathlib.Core.Path.{_≡_, refl, sym, ap, _∙_, subst}
+use mathlib.Core.Path.{_≡_, refl, sym, ap, _∙_}
 use Prim.Native.Nat.{ℕ, zero, suc, _+_, _-_, _*_, _%_, _^_, _≤_, _<_}
-use native.Mathlib.Nat.{add-zero, zero-mul, mul-zero, one-mul, mul-one, le-of-eq, lt-of-lt-of-le, lt-of-le-of-lt, lt-irrefl, zero-lt-suc, mul-le-mul-right, mul-lt-mul-of-pos-right, lt-of-mul-lt-mul-right, le-of-mul-le-mul-right, mul-pos, le-mul-of-pos-right, mul-assoc, mul-comm, mul-left-comm, mul-right-comm, add-mul, mul-add, sub-add-cancel, pow-suc}
+use native.Mathlib.Nat.{add-zero, zero-mul, one-mul, mul-one, le-of-eq, lt-of-lt-of-le, lt-irrefl, zero-lt-suc, mul-le-mul-right, mul-lt-mul-of-pos-right, lt-of-mul-lt-mul-right, le-of-mul-le-mul-right, mul-pos, le-mul-of-pos-right, mul-assoc, mul-comm, mul-left-comm, sub-add-cancel}
 use native.Mathlib.Omega.{arith}
-use mathlib.Core.Bool.{Bool, true, false, not, _&&_, _||_}
+use mathlib.Core.Bool.{Bool, true, false, true≢false, not, _&&_}
 use lib.IntN.{ℤ, pos, negsuc}
 use lib.Dec.{T, leb, ltb, eqb, leb→le, ltb→lt, eqb→eq, nleb→lt}
 use lib.Pow.{pow-add, pow-pos, pow-lt}
-use lib.Ieee.{Float, nan, inf, fin, Format, prec, emax, low, up, down, round, neg, add, sub, mul, div, le, fits}
+use lib.Ieee.{Float, nan, inf, fin, Format, prec, emax, low, up, down, round, add, mul, le, fits}
 use lib.Ieee.Fits.{and-l, and-r, up-pos, down-pos}
 use lib.Ieee.Exact.{HasValue, round-exact}
 use lib.Ieee.Scale.{finite}
 use lib.Ieee.Positive.{den, den-pos}
-use Rattle.order.proofs.Signed.{P, N, P-mul, N-mul, plus, neg', Below, le→, le←, le-trans, ring}
-use Rattle.order.proofs.Rounds.{Rounds, rounds-le, add-rounds, sub-rounds, mul-rounds, div-rounds}
+use Rattle.order.proofs.Signed.{P, N, P-mul, N-mul, plus, neg', le→, le←, le-trans, ring}
+use Rattle.order.proofs.Rounds.{Rounds, rounds-le, add-rounds, mul-rounds}
 
 -- ---- what `fits` says of fin s m e
 abbrev pub Parts : Format → ℕ → ℤ → Type 0
@@ -59,9 +59,6 @@ scaled f s m (negsuc k) t a b h =
     at-unit f s m (negsuc k) t (t + (l - suc k)) a E h
 
 -- ---- a value, by its two parts
-never : {A : Type 0} → true ≡ false → A
-never p = absurd (subst T p tt)
-
 abbrev Is : Float → ℕ → ℕ → ℕ → Type 0
 Is R p n c = T (finite R) × (plus R * c ≡ p * den R) × (neg' R * c ≡ n * den R)
 
@@ -70,8 +67,8 @@ value-parts nan s a c h = absurd h
 value-parts (inf t) s a c h = absurd h
 value-parts (fin true m e) true a c h = (tt, zero-mul c ∙ sym (zero-mul (down e)), h .1)
 value-parts (fin false m e) false a c h = (tt, h .1, zero-mul c ∙ sym (zero-mul (down e)))
-value-parts (fin true m e) false a c h = never (h .0)
-value-parts (fin false m e) true a c h = never (sym (h .0))
+value-parts (fin true m e) false a c h = absurd (true≢false (h .0))
+value-parts (fin false m e) true a c h = absurd (true≢false (sym (h .0)))
 
 -- a * 2 ^ t is a float of the format too, and rounding gives it
 pub record Exact (f : Format) (a : Float) (t : ℕ) : Type 0 where

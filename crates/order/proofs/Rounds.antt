@@ -1,19 +1,19 @@
 -- Rounding keeps the order, for both signs, overflow and subnormal results included; and what each operation on finite floats rounds. Assumes nothing.
 use mathlib.Core.Path.{_≡_, refl, sym, ap, _∙_, subst}
-use mathlib.Core.Logic.{_⊎_, inl, inr}
+use mathlib.Core.Logic.{inl, inr}
 use Prim.Native.Nat.{ℕ, zero, suc, _+_, _-_, _*_, _^_, _≤_, _<_}
-use native.Mathlib.Nat.{zero-mul, eq-zero-or-pos, le-of-lt, le-of-eq, lt-irrefl, lt-of-lt-of-le, mul-le-mul-right, mul-pos, mul-assoc, mul-comm, mul-left-comm, add-mul, mul-add, add-comm, zero-lt-suc}
+use native.Mathlib.Nat.{zero-mul, eq-zero-or-pos, le-of-eq, lt-irrefl, lt-of-lt-of-le, mul-pos, mul-comm, add-mul, add-comm}
 use native.Mathlib.Omega.{arith}
-use mathlib.Core.Bool.{Bool, true, false, not, _&&_, _||_, Bool·beq, cond}
-use lib.Dec.{T, ltb, eqb, ltb→lt, nltb→le, lit<, eqb·suc-zero}
+use mathlib.Core.Bool.{Bool, true, false, true≢false, not, cond}
+use lib.Dec.{T, ltb, ltb→lt, nltb→le, eqb·suc-zero}
 use lib.Pow.{pow-pos}
 use lib.Ieee.{Float, nan, inf, fin, Format, prec, emax, low, up, down, unlike, odd, units, round, neg, sum, add, sub, mul, div, le}
 use lib.Ieee.Fits.{round-is}
 use lib.Ieee.Exact.{HasValue, round-exact}
 use lib.Ieee.Order.{round-mono, kept, drop}
 use lib.Ieee.Scale.{finite}
-use lib.Ieee.Positive.{den, den-pos}
-use Rattle.order.proofs.Signed.{P, N, P-mul, N-mul, plus, neg', le←, le→, neg-le, ring, neg-plus, neg-minus}
+use lib.Ieee.Positive.{den}
+use Rattle.order.proofs.Signed.{P, N, P-mul, N-mul, plus, neg', le←, neg-le, neg-plus, neg-minus}
 
 -- ---- `round` with the sign set is the negation of `round` without
 odd-neg : (d q k l : ℕ) → odd d true q k l ≡ neg (odd d false q k l)
@@ -55,22 +55,19 @@ units-plain f q k = cond-plain (ltb (q * 2 ^ k) (2 ^ (low f + suc (emax f)))) (o
 round-plain : (f : Format) (a c : ℕ) → Plain (round f false a c)
 round-plain f a c = subst Plain (sym (round-is f false a c)) (units-plain f (kept (prec f) (a * 2 ^ low f) c) (drop (prec f) (a * 2 ^ low f) c))
 
-never : {A : Type 0} → true ≡ false → A
-never p = absurd (subst T p tt)
-
 across : (x y : Float) → Plain x → Plain y → T (le (neg x) y)
 unfolding neg le
 across nan y p q = absurd p
-across (inf true) y p q = never p
+across (inf true) y p q = absurd (true≢false p)
 across (inf false) nan p q = absurd q
-across (inf false) (inf true) p q = never q
+across (inf false) (inf true) p q = absurd (true≢false q)
 across (inf false) (inf false) p q = tt
 across (inf false) (fin t n d) p q = tt
 across (fin s m e) nan p q = absurd q
-across (fin s m e) (inf true) p q = never q
+across (fin s m e) (inf true) p q = absurd (true≢false q)
 across (fin s m e) (inf false) p q = tt
-across (fin true m e) (fin t n d) p q = never p
-across (fin false m e) (fin true n d) p q = never q
+across (fin true m e) (fin t n d) p q = absurd (true≢false p)
+across (fin false m e) (fin true n d) p q = absurd (true≢false q)
 across (fin false m e) (fin false n d) p q = le← (fin true m e) (fin false n d) tt tt (omega (arith, zero-mul (down d), zero-mul (down e)))
 
 -- ---- zero, whatever its sign
@@ -82,8 +79,8 @@ at-zero nan y c c' C C' p q = absurd p
 at-zero (inf s) y c c' C C' p q = absurd p
 at-zero (fin s m e) nan c c' C C' p q = absurd q
 at-zero (fin s m e) (inf t) c c' C C' p q = absurd q
-at-zero (fin true m e) (fin t n d) c c' C C' p q = never (p .0)
-at-zero (fin false m e) (fin false n d) c c' C C' p q = never (sym (q .0))
+at-zero (fin true m e) (fin t n d) c c' C C' p q = absurd (true≢false (p .0))
+at-zero (fin false m e) (fin false n d) c c' C C' p q = absurd (true≢false (sym (q .0)))
 at-zero (fin false m e) (fin true n d) c c' C C' p q =
     let a : m * up e ≡ 0 = none (m * up e) c (down e) C (p .1) in
     let b : n * up d ≡ 0 = none (n * up d) c' (down d) C' (q .1) in
@@ -101,7 +98,7 @@ is-zero w k r K h = elim (eq-zero-or-pos w) [ inl z ↦ z | inr g ↦ absurd (ba
 
 pub round-le : (f : Format) (s : Bool) (a c : ℕ) (t : Bool) (b d : ℕ) → 0 < c → 0 < d → P s a * d + N t b * c ≤ P t b * c + N s a * d → T (le (round f s a c) (round f t b d))
 round-le f false a c false b d C D h = round-mono f a c b d C D (omega (arith, zero-mul c, zero-mul d))
-round-le f true a c true b d C D h = rw (round-neg, round-neg) (neg-le (round f false b d) (round f false a c) (round-mono f b d a c D C (omega (arith, zero-mul c, zero-mul d))))
+round-le f true a c true b d C D h = rw (round-neg f a c, round-neg f b d) (neg-le (round f false b d) (round f false a c) (round-mono f b d a c D C (omega (arith, zero-mul c, zero-mul d))))
 round-le f true a c false b d C D h = subst (λ (z : Float). T (le z (round f false b d))) (sym (round-neg f a c)) (across (round f false a c) (round f false b d) (round-plain f a c) (round-plain f b d))
 round-le f false a c true b d C D h =
     let u : a ≡ 0 = is-zero a d (b * c) D (omega (arith, zero-mul c, zero-mul d)) in
@@ -112,6 +109,7 @@ round-le f false a c true b d C D h =
 abbrev pub Rounds : Format → Float → ℕ → ℕ → ℕ → Type 0
 Rounds f z p n c = (s : Bool) × (a : ℕ) × (z ≡ round f s a c) × (P s a + n ≡ p + N s a)
 
+-- so p / c - n / c ≤ p' / c' - n' / c' gives z ≤ w
 pub rounds-le : (f : Format) (z w : Float) (p n c p' n' c' : ℕ) → Rounds f z p n c → Rounds f w p' n' c' → 0 < c → 0 < c' → p * c' + n' * c ≤ p' * c + n * c' → T (le z w)
 rounds-le f z w p n c p' n' c' (s, a, e, v) (t, b, e', v') C C' h =
     let x = ap (λ (y : ℕ). y * c') v in
@@ -136,6 +134,7 @@ sum-rounds f true a false b c = go (ltb a b) (ltb b a) (ltb→lt a b) (nltb→le
     go false true h k j = (true, a - b, refl, let l = k tt in omega arith)
     go false false h k j = (false, a - b, refl, let l = k tt in let r = j tt in omega arith)
 
+-- a sum
 pub add-rounds : (f : Format) (x y : Float) → T (finite x) → T (finite y) → Rounds f (add f x y) (plus x * den y + plus y * den x) (neg' x * den y + neg' y * den x) (den x * den y)
 unfolding add
 add-rounds f nan y p q = absurd p
@@ -149,6 +148,7 @@ add-rounds f (fin s m e) (fin t n d) p q =
     (ap (λ (w : ℕ). w + N t (n * up d * down e)) (N-mul s (m * up e) (down d)) ∙ ap (λ (w : ℕ). N s (m * up e) * down d + w) (N-mul t (n * up d) (down e)))
     (sum-rounds f s (m * up e * down d) t (n * up d * down e) (down e * down d)))
 
+-- the negation of a finite float is finite
 pub neg-finite : (x : Float) → T (finite x) → T (finite (neg x))
 unfolding neg
 neg-finite nan h = h
@@ -161,6 +161,7 @@ neg-den nan = refl
 neg-den (inf s) = refl
 neg-den (fin s m e) = refl
 
+-- a difference
 pub sub-rounds : (f : Format) (x y : Float) → T (finite x) → T (finite y) → Rounds f (sub f x y) (plus x * den y + neg' y * den x) (neg' x * den y + plus y * den x) (den x * den y)
 unfolding sub
 sub-rounds f x y p q = rw (neg-plus y, neg-minus y, neg-den y) at (add-rounds f x (neg y) p (neg-finite y q))
@@ -171,6 +172,7 @@ mul-signs false true a b = omega (arith, zero-mul b, mul-comm a 0, zero-mul a)
 mul-signs true false a b = omega (arith, zero-mul b, mul-comm a 0, zero-mul a)
 mul-signs true true a b = omega (arith, zero-mul b, mul-comm a 0, zero-mul a)
 
+-- a product
 pub mul-rounds : (f : Format) (x y : Float) → T (finite x) → T (finite y) → Rounds f (mul f x y) (plus x * plus y + neg' x * neg' y) (plus x * neg' y + neg' x * plus y) (den x * den y)
 unfolding mul
 mul-rounds f nan y p q = absurd p

@@ -2,7 +2,7 @@
 use Prim.Native.Nat.{ℕ, _/_, _%_, _+_, _*_, _^_, _≤_, _<_}
 use native.Mathlib.Nat.{lt-of-lt-of-le, lt-irrefl}
 use native.Mathlib.Omega.{arith}
-use lib.Dec.{T, ltb, ltb→lt, leb→le, lit≤}
+use lib.Dec.{ltb→lt, leb→le, lit≤}
 use Rattle.roots.proofs.Whole.{product, accepted}
 use borrow.Author.Needs.{needs}
 use Rattle.roots.proofs.is_nearest.Statement.{statement}
