@@ -84,7 +84,10 @@ fn estimate(t: f64) -> f64 {
     // so t - d * d is exact. With w = (t - d * d) / 4t the root is d / √(1 - 4w)
     let w = (t - d * d) * (0.25 / t);
     let ww = w * w;
-    let series = 1.0 + 3.0 * w + 35.0 * ww * (w + 0.2857142857142857) + ww * ww * (126.0 + 462.0 * w);
+    let series = 1.0
+        + 3.0 * w
+        + 35.0 * ww * (w + 0.2857142857142857)
+        + ww * ww * (126.0 + 462.0 * w);
     d + d * (w + w) * series
 }
 

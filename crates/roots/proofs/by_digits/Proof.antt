@@ -59,11 +59,12 @@ loop-again : tie.Need-loop-again Inv-loop μ-loop
 loop-again c =
     let l = c .before .before .loop in
     let n = c .before .before .before .args .n in
-    let e = next n (l .i) in
-    ( omega arith
-    , c .digit .ensures .0 ∙ sums (l .root * l .root + l .rest) (l .left) (w n (l .i)) (l .inv .1) (l .inv .3) ∙ ap (λ (x : ℕ). x / 2 ^ 64) e
-    , c .digit .ensures .1
-    , lefts (l .left) (w n (l .i)) (l .inv .3) ∙ ap (λ (x : ℕ). x % 2 ^ 64) e)
+    let e = next n (l .i) in (
+      omega arith,
+      c .digit .ensures .0 ∙ sums (l .root * l .root + l .rest) (l .left) (w n (l .i)) (l .inv .1) (l .inv .3) ∙ ap (λ (x : ℕ). x / 2 ^ 64) e,
+      c .digit .ensures .1,
+      lefts (l .left) (w n (l .i)) (l .inv .3) ∙ ap (λ (x : ℕ). x % 2 ^ 64) e,
+    )
 
 -- after the last digit
 all : (n i a : ℕ) → i ≤ 53 → 53 ≤ i → a ≡ w n i / 2 ^ 64 → a ≡ n * 2 ^ 52
