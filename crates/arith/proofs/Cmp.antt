@@ -1,46 +1,81 @@
--- Tests of one float, and what they tell. Assumes nothing.
+-- Tests of floats, and what they tell. Assumes nothing.
 use mathlib.Core.Path.{_≡_, refl, sym, ap, _∙_, subst}
 use mathlib.Core.Logic.{inl, inr}
-use Prim.Native.Nat.{ℕ, zero, suc, _+_, _*_, _^_, _<_}
-use native.Mathlib.Nat.{zero-lt-suc, mul-pos, mul-one, one-mul, lt-irrefl, eq-zero-or-pos, pow-suc}
+use Prim.Native.Nat.{ℕ, zero, suc, _+_, _*_, _^_, _≤_, _<_}
+use native.Mathlib.Nat.{zero-lt-suc, mul-pos, mul-one, one-mul, pow-suc}
 use native.Mathlib.Omega.{arith}
-use mathlib.Core.Bool.{Bool, true, false, not, _&&_, _||_, Bool·beq, cond}
+use mathlib.Core.Bool.{Bool, true, false, not, _||_, Bool·beq, cond}
 use lib.IntN.{ℤ, pos, negsuc}
-use lib.Dec.{T, ltb, eqb, eqb-refl, eqb→eq, ltb→lt, lt→ltb}
-use lib.Ieee.{Float, nan, inf, fin, Format, up, down, ne, eq, lt, neg, isNan, fits}
+use lib.Dec.{T, ltb, eqb, eqb-refl, eqb→eq, ltb→lt, nltb→le}
+use lib.Ieee.{Float, nan, inf, fin, Format, up, down, ne, eq, lt, le, neg, isNan, fits}
 use lib.Ieee.Bits.{is-true}
 use lib.Ieee.Fits.{up-pos, and-l}
+use lib.Ieee.Scale.{finite}
+use Rattle.order.proofs.Signed.{number, nlt→le}
 use Rattle.arith.specs.Pick.{absOf}
 
--- `x != x` is the test for a NaN
+abbrev pub zeroF : Float
+zeroF = fin false 0 (pos 0)
+
+pub never : {A : Type 0} → true ≡ false → A
+never p = absurd (subst T p tt)
+
+-- a test as a branch has it, and as the laws do
+pub holds : {b : Bool} → b ≡ true → T b
+holds p = subst T (sym p) tt
+
+pub fails : {b : Bool} → b ≡ false → T (not b)
+fails p = subst (λ (b : Bool). T (not b)) (sym p) tt
+
+pub not-below : (a b : ℕ) → ltb a b ≡ false → b ≤ a
+not-below a b h = nltb→le a b (fails h)
+
+-- a float that is not below another is at least it, where both are numbers
+pub refused : (x y : Float) → T (number x) → T (number y) → lt x y ≡ false → T (le y x)
+refused x y a b h = nlt→le x y a b (fails h)
+
+pub finite-number : (x : Float) → T (finite x) → T (number x)
+finite-number nan h = h
+finite-number (inf s) h = tt
+finite-number (fin s m e) h = tt
+
+-- ---- `x != x` is the test for a NaN
 pub ne-self : (x : Float) → ne x x ≡ isNan x
 unfolding ne isNan
 ne-self nan = refl
 ne-self (inf true) = refl
 ne-self (inf false) = refl
-ne-self (fin true m e) = rw (is-true (eqb (m * up e * down e) (m * up e * down e)) (eqb-refl (m * up e * down e)))
-ne-self (fin false m e) = rw (is-true (eqb (m * up e * down e) (m * up e * down e)) (eqb-refl (m * up e * down e)))
+ne-self (fin true m e) = let a = m * up e * down e in rw (is-true (eqb a a) (eqb-refl a))
+ne-self (fin false m e) = let a = m * up e * down e in rw (is-true (eqb a a) (eqb-refl a))
 
--- ---- x < 0.0, x == 0.0, and neither
-abbrev zeroF : Float
-zeroF = fin false 0 (pos 0)
+-- ---- min and max: b where the test t says so or a is a NaN, and else a
+module _ (t : Bool) (a b : Float) where
+  pub by-test : t ≡ true → b ≡ cond (t || isNan a) b a
+  by-test h = rw h
 
-never : {A : Type 0} → true ≡ false → A
-never p = absurd (subst T p tt)
+  pub by-nan : t ≡ false → ne a a ≡ true → b ≡ cond (t || isNan a) b a
+  by-nan h k = rw (h, ← ne-self, k)
 
+  pub by-neither : t ≡ false → ne a a ≡ false → a ≡ cond (t || isNan a) b a
+  by-neither h k = rw (h, ← ne-self, k)
+
+-- ---- `x < 0.0` tells the sign of an x that is not 0
+pub not-minus : (m : ℕ) (e : ℤ) → lt (fin false m e) zeroF ≡ true → ⊥
+unfolding lt
+not-minus m e h = let l = ltb→lt (m * up e * 1) (0 * 1 * down e) (holds h) in omega arith
+
+pub minus-zero : (m : ℕ) (e : ℤ) → lt (fin true m e) zeroF ≡ false → m * up e ≡ 0
+unfolding lt
+minus-zero m e h = let l = not-below 0 (m * up e * 1 + 0 * 1 * down e) h in omega arith
+
+-- ---- abs: x < 0.0, x == 0.0, and neither
 pub abs-below : (x : Float) → lt x zeroF ≡ true → neg x ≡ absOf x
 unfolding lt neg
 abs-below nan h = refl
 abs-below (inf true) h = refl
 abs-below (inf false) h = never (sym h)
 abs-below (fin true m e) h = refl
-abs-below (fin false m e) h = absurd (none (m * up e * 1) (ltb→lt (m * up e * 1) (0 * up (pos 0) * down e) (subst T (sym h) tt)))
-  where
-    none : (a : ℕ) → a < 0 * 1 * down e → ⊥
-    none a p = omega (arith, p)
-
-all-zero : (a b : ℕ) → ltb 0 (a + b) ≡ false → (a ≡ 0) × (b ≡ 0)
-all-zero a b h = elim (eq-zero-or-pos (a + b)) [ inl z ↦ omega arith | inr p ↦ never (sym (is-true (ltb 0 (a + b)) (lt→ltb 0 (a + b) p)) ∙ h) ]
+abs-below (fin false m e) h = absurd (not-minus m e h)
 
 pub abs-else : (x : Float) → lt x zeroF ≡ false → eq x zeroF ≡ false → x ≡ absOf x
 unfolding lt eq
@@ -49,8 +84,9 @@ abs-else (inf true) h k = never h
 abs-else (inf false) h k = refl
 abs-else (fin false m e) h k = refl
 abs-else (fin true m e) h k =
-    let z = all-zero (m * up e * 1) (0 * 1 * down e) h in
-    never (sym (rw (z .0, z .1)) ∙ k)
+    let z : m * up e * 1 ≡ 0 = omega (arith, minus-zero m e h) in
+    let w : 0 * 1 * down e ≡ 0 = omega arith in
+    never (sym (rw (z, w)) ∙ k)
 
 -- what is equal to 0.0 is 0.0 or -0.0
 even-one : (a : ℕ) → a * 2 ≡ 1 → ⊥
@@ -70,5 +106,22 @@ abs-zero f nan t h = never (sym h)
 abs-zero f (inf s) t h = never (sym h)
 abs-zero f (fin s zero e) t h = ap (λ (x : ℤ). fin false 0 x) (sym (exponent-zero e (eqb→eq (up e * down e) 1 t)))
 abs-zero f (fin s (suc m) e) t h =
+    let a = suc m * up e * 1 in
+    let z = 0 * 1 * down e in
     absurd (pos-not-zero (suc m * up e) (down e) (mul-pos (zero-lt-suc m) (up-pos e))
-    (eqb→eq (suc m * up e * 1) (0 * 1 * down e) (and-l (eqb (suc m * up e * 1) (0 * 1 * down e)) (Bool·beq s false || eqb (suc m * up e * 1) 0) (subst T (sym h) tt))))
+    (eqb→eq a z (and-l (eqb a z) (Bool·beq s false || eqb a 0) (holds h))))
+
+-- ---- is_finite: above -infinity, and then below infinity
+pub finite-above : (x : Float) → lt (neg (inf false)) x ≡ true → lt x (inf false) ≡ finite x
+unfolding lt neg
+finite-above nan h = refl
+finite-above (inf true) h = never (sym h)
+finite-above (inf false) h = refl
+finite-above (fin s m e) h = refl
+
+pub not-finite : (x : Float) → lt (neg (inf false)) x ≡ false → lt (neg (inf false)) x ≡ finite x
+unfolding lt neg
+not-finite nan h = refl
+not-finite (inf true) h = refl
+not-finite (inf false) h = never h
+not-finite (fin s m e) h = refl

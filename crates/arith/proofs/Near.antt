@@ -21,7 +21,8 @@ use Rattle.order.proofs.Rounds.{Rounds, add-rounds}
 use Rattle.order.proofs.Lerp.{whole}
 use Rattle.order.proofs.Middle.{parts, above, under}
 use Rattle.arith.specs.Floor.{floorOf}
-use Rattle.arith.proofs.Floors.{whole-big, part, picked, kept, refused, finite-number}
+use Rattle.arith.proofs.Cmp.{never, holds, refused, finite-number}
+use Rattle.arith.proofs.Floors.{whole-big, part, picked, kept, int-value}
 
 -- 1.5 * 2 ^ 52, as a number and as a float
 abbrev pub base : ℕ
@@ -36,9 +37,6 @@ floor52 = fin false 1 (pos 52)
 abbrev pub top53 : Float
 top53 = fin false 1 (pos 53)
 
-never : {A : Type 0} → true ≡ false → A
-never p = absurd (subst T p tt)
-
 not-ltb : (a b : ℕ) → b ≤ a → ltb a b ≡ false
 not-ltb a b h = is-false (ltb a b) (not-T (ltb a b) (λ (t : T (ltb a b)). lt-irrefl a (lt-of-lt-of-le (ltb→lt a b t) h)))
 
@@ -50,10 +48,6 @@ pub record Between (s : Float) : Type 0 where
   pub low : 2 ^ 52 ≤ number
   pub high : number < 2 ^ 53
 
-int-value : (n : ℕ) → n ≤ 2 ^ 53 → HasValue (ofInt binary64 (pos n)) false n 1
-unfolding ofInt
-int-value n h = round-whole binary64 false n h
-
 exactly : (a d : ℕ) → a % d ≡ 0 → a * 1 ≡ a / d * d
 exactly a d h = let q = div-add-mod' a d in omega arith
 
@@ -61,13 +55,13 @@ pub between : (s : Float) → T (fits binary64 s) → le floor52 s ≡ true → 
 between nan F a b = unfold lt in never (sym b)
 between (inf true) F a b = unfold le in never (sym a)
 between (inf false) F a b = unfold lt in never (sym b)
-between (fin true m e) F a b = absurd (none (m * up e) (down e) (down-pos e) (le→ floor52 (fin true m e) tt tt (subst T (sym a) tt)))
+between (fin true m e) F a b = absurd (none (m * up e) (down e) (down-pos e) (le→ floor52 (fin true m e) tt tt (holds a)))
   where
     none : (a d : ℕ) → 0 < d → 1 * 2 ^ 52 * d + a * 1 ≤ 0 * 1 + 0 * d → ⊥
     none a d D h = omega (arith, zero-mul d)
 between (fin false m e) F a b =
-    let l : 2 ^ 52 * down e ≤ m * up e = omega (arith, le→ floor52 (fin false m e) tt tt (subst T (sym a) tt), zero-mul (down e)) in
-    let g : m * up e < 2 ^ 53 * down e = omega (arith, lt→ (fin false m e) top53 tt tt (subst T (sym b) tt), zero-mul (down e)) in
+    let l : 2 ^ 52 * down e ≤ m * up e = omega (arith, le→ floor52 (fin false m e) tt tt (holds a), zero-mul (down e)) in
+    let g : m * up e < 2 ^ 53 * down e = omega (arith, lt→ (fin false m e) top53 tt tt (holds b), zero-mul (down e)) in
     let q = m * up e / down e in
     let h : q < 2 ^ 53 = div-lt-iff-lt-mul (down-pos e) .1 g in
     let r : m * up e % down e ≡ 0 = eqb→eq (m * up e % down e) 0 (subst T (sym (whole-big m e (parts binary64 false m e F .0) l)) tt) in
@@ -248,7 +242,7 @@ between-two (fin false m e) K f l h =
     let g : base < K + 1 = lt-of-mul-lt-mul-right d (omega (arith, add-mul K 1 d)) in
     let s : K * d ≡ k * d + base * d = ap (λ (z : ℕ). z * d) (omega arith) ∙ add-mul k base d in
     let q : a / d ≡ k = quotient a d k (omega arith) (omega arith) in
-    ap (ofInt binary64) (minus-up K (omega arith) ∙ ap pos (sym q)) ∙ sym (picked false m e (part a d k (sym q) (omega arith)))
+    ap (ofInt binary64) (minus-up K (omega arith) ∙ ap pos (sym q)) ∙ sym (picked false m e (part a d k q (omega arith)))
 between-two (fin true m e) K f l h =
     let a = m * up e in
     let d = down e in
@@ -256,7 +250,7 @@ between-two (fin true m e) K f l h =
     let g : K < base = lt-of-mul-lt-mul-right d (omega arith) in
     let s : base * d ≡ K * d + k * d + d = ap (λ (z : ℕ). z * d) (omega arith) ∙ add-mul (K + k) 1 d ∙ ap (λ (z : ℕ). z + 1 * d) (add-mul K k d) ∙ omega arith in
     let q : a / d ≡ k = quotient a d k (omega arith) (omega arith) in
-    ap (ofInt binary64) (minus-down K g ∙ ap negsuc (sym q)) ∙ sym (picked true m e (part a d k (sym q) (omega arith)))
+    ap (ofInt binary64) (minus-down K g ∙ ap negsuc (sym q)) ∙ sym (picked true m e (part a d k q (omega arith)))
 
 multiple : (a d k : ℕ) → 0 < d → a ≡ k * d → eqb (a % d) 0 ≡ true
 multiple a d k D h = eq-eqb (a % d) 0 (ap (λ (z : ℕ). z % d) h ∙ mul-mod-left k d)
@@ -299,7 +293,7 @@ module _ (x : Float) (a : le floor52 (add binary64 x baseF) ≡ true) (b : lt (a
       let k = S - 1 in
       let s1 : S ≡ k + 1 = omega (arith, sum-is .low) in
       let e : S * den x ≡ k * den x + den x = ap (λ (z : ℕ). z * den x) s1 ∙ add-mul k 1 (den x) ∙ omega arith in
-      let g = below-it x (sub binary64 (add binary64 x baseF) baseF) S (is-near .isFinite) off-parts (subst T (sym h) tt) in
+      let g = below-it x (sub binary64 (add binary64 x baseF) baseF) S (is-near .isFinite) off-parts (holds h) in
       let o = is-near .over in
       one-less ∙ between-two x k (is-near .isFinite) (omega arith) (omega arith)
 
@@ -307,7 +301,7 @@ module _ (x : Float) (a : le floor52 (add binary64 x baseF) ≡ true) (b : lt (a
   floor-above h =
       off
       ∙ between-two x (sum-is .number) (is-near .isFinite)
-      (above-it x (sub binary64 (add binary64 x baseF) baseF) (sum-is .number) (is-near .isFinite) off-parts (subst T (sym h) tt))
+      (above-it x (sub binary64 (add binary64 x baseF) baseF) (sum-is .number) (is-near .isFinite) off-parts (holds h))
       (is-near .below)
 
   pub floor-at : lt x (sub binary64 (add binary64 x baseF) baseF) ≡ false → lt (sub binary64 (add binary64 x baseF) baseF) x ≡ false → x ≡ floorOf x

@@ -89,29 +89,24 @@ pub fn floor(x: f64) -> f64
     floor_far(x)
 }
 
-// The same for every x, more slowly.
+// The same for every x, more slowly: |x| without its fraction. From 2^52 on every float is whole.
 fn floor_far(x: f64) -> f64
     ensures { λ r. ⌜ r ≡ floorOf x ⌝ }
 {
-    if 0.0 <= x {
-        if x < 4503599627370496.0 {
-            let k = std::num::truncating_f64_to_u64(x);
-            let f = k as f64;
-            if f < x {
-                return f;
-            }
+    let size = abs(x);
+    if size < 4503599627370496.0 {
+        let n = std::num::truncating_f64_to_u64(size);
+        let f = n as f64;
+        if f == size {
+            x
+        } else if x < 0.0 {
+            -((n + 1) as f64)
+        } else {
+            f
         }
-        return x;
+    } else {
+        x
     }
-    if -4503599627370496.0 < x {
-        let y = -x;
-        let k = std::num::truncating_f64_to_u64(y);
-        let f = k as f64;
-        if f < y {
-            return -((k + 1) as f64);
-        }
-    }
-    x
 }
 
 // The least whole number at least x.

@@ -1,17 +1,17 @@
--- `arith::max` meets its contract. Each arm returns what `cond` picks where the tests are as the arm found them. Assumes nothing.
-use mathlib.Core.Path.{sym, _∙_}
-use Rattle.arith.proofs.Cmp.{ne-self}
+-- `arith::max` meets its contract: each arm returns what `cond` picks where the tests are as the arm found them. Assumes nothing.
+use lib.Ieee.{lt}
+use Rattle.arith.proofs.Cmp.{by-test, by-nan, by-neither}
 use Rattle.arith.proofs.max.Statement.{statement}
 use Rattle.arith.proofs.max.Tie as tie
 
 returns : tie.Need-returns
-returns c = rw (c .if1 .taken)
+returns c = let k = c .before .args in by-test (lt (k .a) (k .b)) (k .a) (k .b) (c .if1 .taken)
 
 returns-2 : tie.Need-returns-2
-returns-2 c = rw (c .before .if1 .left, ← ne-self, c .if2 .taken)
+returns-2 c = let k = c .before .before .args in by-nan (lt (k .a) (k .b)) (k .a) (k .b) (c .before .if1 .left) (c .if2 .taken)
 
 returns-3 : tie.Need-returns-3
-returns-3 c = rw (c .before .if1 .left, ← ne-self, c .if2 .left)
+returns-3 c = let k = c .before .before .args in by-neither (lt (k .a) (k .b)) (k .a) (k .b) (c .before .if1 .left) (c .if2 .left)
 
 pub max-spec : {M : Type 1} → statement M
 max-spec = tie.close (tie.spec returns returns-2 returns-3)

@@ -1,7 +1,9 @@
 -- `trig::quarter_far` meets its contract, by what the size cut to a whole number says of k. Assumes nothing.
 use mathlib.Core.Path.{sym}
 use lib.Ieee.{ofBits}
-use Rattle.trig.proofs.Modulo.{can-cut, of-below, of-other, of-large}
+use lib.Dec.{lit≤}
+use Rattle.arith.proofs.Casts.{can-cut}
+use Rattle.trig.proofs.Modulo.{of-below, of-other, of-large}
 use borrow.Author.Needs.{needs}
 use Rattle.trig.proofs.quarter_far.Statement.{statement}
 use Rattle.trig.proofs.quarter_far.Tie as tie
@@ -13,7 +15,7 @@ truncating-f64-to-u64-requires : tie.Need-truncating-f64-to-u64-requires
 unfolding ofBits
 truncating-f64-to-u64-requires c κs =
     let e = c .before .abs .ensures in
-    rw e (can-cut (c .before .before .args .k) (rw e at (c .if1 .taken)))
+    rw e (can-cut 64 (lit≤ tt) (c .before .before .args .k) (rw e at (c .if1 .taken)))
 
 sub-result : tie.Need-sub-result
 sub-result c = search needs
