@@ -2,7 +2,7 @@
 -- refusal. Assumes nothing.
 use mathlib.Core.Path.{_≡_, refl, subst}
 use mathlib.Core.Bool.{Bool, true, false}
-use mathlib.Core.List.{List, []}
+use mathlib.Core.List.{List, [], _∷_, _++_}
 use Prim.Native.Nat.{ℕ, zero, suc, _-_, _≤_}
 use native.Mathlib.Omega.{arith}
 use native.Mathlib.Numerals.{add-one}
@@ -14,12 +14,36 @@ use Rattle.lists.specs.Result.{Result, refused, got, bind}
 use Rattle.math.specs.declared.Interval.{Interval}
 use Rattle.params.specs.declared.Closed.{Closed}
 use Rattle.params.specs.declared.Closed.the-variants.{Unknown, Segments}
-use Rattle.params.specs.Params.{Sampler, steps, evenly, fitting, bisected, floored, refined, sampleParams}
+use Rattle.params.specs.Params.{midpoint, subdivided, Sampler, steps, evenly, fitting, bisected, floored, refined, sampleParams}
 
 pub steps-length : (range : Interval) (n k : ℕ) → length (steps range n k) ≡ k
 unfolding steps
 steps-length range n zero = refl
 steps-length range n (suc k) = simp length-append (rw (steps-length range n k, add-one k))
+
+-- ---- what subdivide pushes, by the tests that it makes
+module _ (within : Float → Float → Bool) (depth : ℕ) (a b : Float) where
+  pub subdivided-zero : depth ≡ 0 → subdivided within depth a b ≡ []
+  unfolding subdivided
+  subdivided-zero h = rw h
+
+  -- of a depth that is not 0
+  deeper : (depth ≡ 0 → ⊥) → (l : List Float) → subdivided within (suc (depth - 1)) a b ≡ l → subdivided within depth a b ≡ l
+  deeper h l e =
+      let d : suc (depth - 1) ≡ depth = omega arith in
+      subst (λ (n : ℕ). subdivided within n a b ≡ l) d e
+
+  pub subdivided-within : (depth ≡ 0 → ⊥) → within a b ≡ true → subdivided within depth a b ≡ []
+  unfolding subdivided
+  subdivided-within h e = deeper h [] (rw (e, subdivided))
+
+  pub subdivided-split : (depth ≡ 0 → ⊥) → within a b ≡ false
+      → subdivided within depth a b
+      ≡ subdivided within (depth - 1) a (midpoint a b) ++ midpoint a b ∷ subdivided within (depth - 1) (midpoint a b) b
+  unfolding subdivided
+  subdivided-split h e =
+      deeper h (subdivided within (depth - 1) a (midpoint a b) ++ midpoint a b ∷ subdivided within (depth - 1) (midpoint a b) b)
+      (rw (e, subdivided))
 
 -- ---- `Outcome P r`: r is a list that holds P, or refusal 8
 pub data Outcome (P : List Float → Type 0) : Result (List Float) → Type 0 where

@@ -1,5 +1,5 @@
 -- Parameters that do not rise in one place and fall in another. Definitions only.
-use mathlib.Core.List.{List, [], _∷_}
+use mathlib.Core.List.{List, _∷_}
 use lib.Dec.{T}
 use lib.Ieee.{Float, lt}
 
