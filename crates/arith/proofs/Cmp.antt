@@ -1,6 +1,5 @@
 -- Tests of floats, and what they tell. Assumes nothing.
 use mathlib.Core.Path.{_≡_, refl, sym, ap, _∙_, subst}
-use mathlib.Core.Logic.{inl, inr}
 use Prim.Native.Nat.{ℕ, zero, suc, _+_, _*_, _^_, _≤_, _<_}
 use native.Mathlib.Nat.{zero-lt-suc, mul-pos, mul-one, one-mul, pow-suc}
 use native.Mathlib.Omega.{arith}

@@ -1,12 +1,12 @@
 -- The floor of a float, from its size without its fraction. Assumes nothing.
 use mathlib.Core.Path.{_≡_, refl, sym, ap, _∙_, subst}
 use Prim.Native.Nat.{ℕ, suc, _+_, _*_, _/_, _%_, _^_, _≤_, _<_}
-use native.Mathlib.Nat.{le-of-lt, le-trans, lt-irrefl, mul-one, zero-mul, mul-assoc, mul-comm, mul-right-comm, pow-suc, div-add-mod', zero-mod, eq-of-mul-eq-mul-right}
+use native.Mathlib.Nat.{le-of-lt, le-trans, lt-irrefl, mul-one, mul-right-comm, pow-suc, div-add-mod', zero-mod, eq-of-mul-eq-mul-right}
 use native.Mathlib.Omega.{arith}
 use native.Mathlib.Numerals.{add-one}
-use mathlib.Core.Bool.{Bool, true, false, _&&_, cond}
+use mathlib.Core.Bool.{Bool, true, false, cond}
 use lib.IntN.{ℤ, pos, negsuc}
-use lib.Dec.{T, eqb, eqb→eq, eqb-refl, le→leb, lit≤}
+use lib.Dec.{T, eqb, eqb→eq, le→leb, lit≤}
 use lib.Pow.{pow-pos}
 use lib.Ieee.{Float, nan, inf, fin, binary64, up, down, round, neg, lt, eq, fits, ofInt, toUnsigned, inFloat}
 use lib.Ieee.Fits.{down-pos, and-l}

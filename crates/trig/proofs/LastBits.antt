@@ -1,32 +1,39 @@
 -- A whole number from 2 ^ 52 to 2 ^ 53, as a float: its number and its bit pattern are equal modulo 4. Assumes nothing.
-use mathlib.Core.Path.{_≡_, refl, sym, ap, _∙_, subst}
-use Prim.Native.Nat.{ℕ, zero, suc, _+_, _-_, _*_, _/_, _%_, _^_, _≤_, _<_}
-use native.Mathlib.Nat.{le-antisymm, lt-of-not-le, lt-of-lt-of-le, lt-irrefl, not-le-of-lt, le-trans, le-of-eq, mul-one, zero-mul, mul-right-comm, mul-comm, mul-div-cancel, mul-le-mul-right, mul-lt-mul-of-pos-right, div-eq-of-eq-mul-left, le-of-mul-le-mul-right, add-mul}
+use mathlib.Core.Path.{_≡_, sym, ap, _∙_}
+use Prim.Native.Nat.{ℕ, _+_, _-_, _*_, _/_, _%_, _^_, _≤_, _<_}
+use native.Mathlib.Nat.{lt-of-not-le, lt-of-lt-of-le, not-le-of-lt, mul-one, zero-mul, mul-right-comm, mul-div-cancel}
+use native.Mathlib.Nat.{mul-le-mul-right, mul-lt-mul-of-pos-right, div-eq-of-eq-mul-left, le-of-mul-le-mul-right, add-mul}
 use native.Mathlib.Omega.{arith}
-use mathlib.Core.Bool.{Bool, true, false, not, _&&_, _||_, Bool·beq, cond}
-use lib.IntN.{ℤ, pos, negsuc}
-use lib.Dec.{T, eqb, eqb→eq, lit<, lit≤}
+use mathlib.Core.Bool.{Bool, true, false, not, _||_, Bool·beq}
+use lib.Dec.{T, eqb, eqb→eq}
 use lib.Pow.{pow-add, pow-pos, pow-mono}
-use lib.Ieee.{Float, nan, inf, fin, binary64, up, down, size, add, sub, eq, lt, le, isNan, toBits}
+use lib.Ieee.{Float, nan, inf, fin, binary64, up, down, size, eq, lt, le, isNan, toBits}
 use lib.Ieee.Digits.{size-lt, size-le}
 use lib.Ieee.Fits.{down-pos, and-l, and-r}
 use lib.Ieee.Exact.{HasValue}
 use lib.Ieee.Scale.{finite}
 use lib.Ieee.Positive.{den}
 use Rattle.order.proofs.Signed.{P, N, plus, neg', le←}
-use Rattle.arith.proofs.Near.{base, baseF, floor52, top53, sum-is, is-near, off-parts, at-it}
+use Rattle.arith.specs.Notation.{_⊕_, _⊖_}
+use Rattle.arith.proofs.Cmp.{never, holds}
+use Rattle.arith.proofs.Whole.{bottom, top}
+use Rattle.arith.proofs.Near.{base, baseF, sum-is, is-near, off-parts, at-it}
 use Rattle.trig.specs.Trig.{quarter}
 
 -- ---- the pattern
 -- S * w of S's 53 digits, where w is 2 ^ l
 size-is : (S l : ℕ) → 2 ^ 52 ≤ S → S < 2 ^ 53 → size (S * 2 ^ l) ≡ 53 + l
 size-is S l a b =
-    let h : size (S * 2 ^ l) ≤ 53 + l = size-le (S * 2 ^ l) (53 + l) (subst (λ (z : ℕ). S * 2 ^ l < z) (sym (pow-add 2 53 l)) (mul-lt-mul-of-pos-right b (pow-pos l))) in
+    let w : S * 2 ^ l < 2 ^ (53 + l) = rw (pow-add 2 53 l) (mul-lt-mul-of-pos-right b (pow-pos l)) in
+    let h : size (S * 2 ^ l) ≤ 53 + l = size-le (S * 2 ^ l) (53 + l) w in
     let g : 52 + l < size (S * 2 ^ l) = lt-of-not-le few in
     omega arith
   where
+    v : 2 ^ (52 + l) ≤ S * 2 ^ l
+    v = rw (pow-add 2 52 l) (mul-le-mul-right (2 ^ l) a)
+
     few : size (S * 2 ^ l) ≤ 52 + l → ⊥
-    few g = not-le-of-lt (lt-of-lt-of-le (size-lt (S * 2 ^ l)) (pow-mono g)) (subst (λ (z : ℕ). z ≤ S * 2 ^ l) (sym (pow-add 2 52 l)) (mul-le-mul-right (2 ^ l) a))
+    few g = not-le-of-lt (lt-of-lt-of-le (size-lt (S * 2 ^ l)) (pow-mono g)) v
 
 abbrev pattern : ℕ → ℕ → ℕ
 pattern n k = 0 + (k - 53) * 2 ^ 52 + n / 2 ^ (k - 53)
@@ -50,7 +57,7 @@ pub last-bits : (s : Float) (S : ℕ) → HasValue s false S 1 → 2 ^ 52 ≤ S 
 unfolding toBits
 last-bits nan S v a b = absurd v
 last-bits (inf s) S v a b = absurd v
-last-bits (fin true m e) S v a b = absurd (subst T (v .0) tt)
+last-bits (fin true m e) S v a b = never (v .0)
 last-bits (fin false m e) S v a b =
     last S 1074 (toBits binary64 (fin false m e))
     (ap (λ (n : ℕ). pattern n (size n)) (in-units (m * up e) (down e) S 1074 (down-pos e) (v .1)) ∙ pattern-is S 1074 a b)
@@ -97,16 +104,16 @@ has-number (inf s) S v = absurd v
 has-number (fin s m e) S v = tt
 
 -- ---- as the function has it
-module _ (k : Float) (a : le floor52 (add binary64 k baseF) ≡ true) (b : lt (add binary64 k baseF) top53 ≡ true) where
-  pub no-nan : T (not (isNan (add binary64 k baseF)))
-  no-nan = let w = sum-is k a b in has-number (add binary64 k baseF) (w .number) (w .value)
+module _ (k : Float) (a : le bottom (k ⊕ baseF) ≡ true) (b : lt (k ⊕ baseF) top ≡ true) where
+  pub no-nan : T (not (isNan (k ⊕ baseF)))
+  no-nan = let w = sum-is k a b in has-number (k ⊕ baseF) (w .number) (w .value)
 
-  pub quarter-near : eq (sub binary64 (add binary64 k baseF) baseF) k ≡ true → toBits binary64 (add binary64 k baseF) % 4 ≡ quarter k
+  pub quarter-near : eq (k ⊕ baseF ⊖ baseF) k ≡ true → toBits binary64 (k ⊕ baseF) % 4 ≡ quarter k
   quarter-near h =
-      let n = sub binary64 (add binary64 k baseF) baseF in
+      let n = k ⊕ baseF ⊖ baseF in
       let w = sum-is k a b in
       let g = off-parts k a b in
       let f = is-near k a b .isFinite in
-      let q = at-number n k (g .0) f (subst T (sym h) tt) in
-      last-bits (add binary64 k baseF) (w .number) (w .value) (w .low) (w .high)
-      ∙ quarter-at k (w .number) f (at-it k n (w .number) f g (le← k n f (g .0) (omega arith)) (le← n k (g .0) f (omega arith)))
+      let q = at-number n k (g .0) f (holds h) in
+      let e = at-it k n (w .number) f g (le← k n f (g .0) (omega arith)) (le← n k (g .0) f (omega arith)) in
+      last-bits (k ⊕ baseF) (w .number) (w .value) (w .low) (w .high) ∙ quarter-at k (w .number) f e

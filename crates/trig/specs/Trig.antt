@@ -2,7 +2,7 @@
 -- Where t is NaN or an infinity, so is k, r is NaN, and so are sin and cos. The steps are the same for every other t. Measured, not proved: up to
 -- 6e6 in magnitude they give the sine and the cosine to about one rounding; at 1e9 to within 6e-8; beyond about 1e15 what is left of t is no
 -- longer small, and what they give is neither, but still one fixed float.
-use mathlib.Core.Bool.{Bool, true, false, cond}
+use mathlib.Core.Bool.{true, false, cond}
 use mathlib.Core.List.{List, [], _∷_}
 use Prim.Native.Nat.{ℕ, zero, suc, _-_, _*_, _/_, _%_}
 use lib.Ieee.{Float, nan, inf, fin, up, down, eq, lt, neg}

@@ -7,16 +7,21 @@ use Rattle.arith.proofs.floor.Tie as tie
 
 returns : tie.Need-returns
 unfolding ofBits
-returns c = floor-below (c .before .before .before .args .x) (c .before .before .if1 .taken) (c .before .if2 .taken) (c .if3 .taken)
+returns c =
+    let d = c .before in
+    floor-below (d .before .before .args .x) (d .before .if1 .taken) (d .if2 .taken) (c .if3 .taken)
 
 returns-2 : tie.Need-returns-2
 unfolding ofBits
-returns-2 c = floor-above (c .before .before .before .before .args .x) (c .before .before .before .if1 .taken) (c .before .before .if2 .taken) (c .if4 .taken)
+returns-2 c =
+    let d = c .before .before in
+    floor-above (d .before .before .args .x) (d .before .if1 .taken) (d .if2 .taken) (c .if4 .taken)
 
 returns-3 : tie.Need-returns-3
 unfolding ofBits
 returns-3 c =
-    floor-at (c .before .before .before .before .args .x) (c .before .before .before .if1 .taken) (c .before .before .if2 .taken) (c .before .if3 .left) (c .if4 .left)
+    let d = c .before .before in
+    floor-at (d .before .before .args .x) (d .before .if1 .taken) (d .if2 .taken) (c .before .if3 .left) (c .if4 .left)
 
 floor-far-requires : tie.Need-floor-far-requires
 floor-far-requires c κs = search needs

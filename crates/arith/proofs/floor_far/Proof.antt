@@ -63,7 +63,8 @@ returns-2 c =
     let n = d .truncating-f64-to-u64 in
     let b = d .before in
     let a = b .before .abs in
-    far-below (b .before .before .args .x) (a .result) (n .result) (a .ensures) (n .ensures) (b .if1 .taken) (c .before .before .if2 .left) (c .before .if3 .taken)
+    far-below (b .before .before .args .x) (a .result) (n .result) (a .ensures) (n .ensures) (b .if1 .taken)
+    (c .before .before .if2 .left) (c .before .if3 .taken)
 
 returns-3 : tie.Need-returns-3
 unfolding ofBits

@@ -1,5 +1,4 @@
 -- `trig::quarter_far` meets its contract, by what the size cut to a whole number says of k. Assumes nothing.
-use mathlib.Core.Path.{sym}
 use lib.Ieee.{ofBits}
 use lib.Dec.{lit≤}
 use Rattle.arith.proofs.Casts.{can-cut}
