@@ -1,6 +1,5 @@
 // Vectors, frames, boxes and intervals: the part of math.rs that the road from an edge to its chain uses.
 ghost use mathlib.Core.Path.{_≡_};
-ghost use lib.Ieee.Scale.{finite};
 ghost use Rattle.math.specs.Math.{vAdd, vSub, vScale, vNeg, vDot, vCross, vLengthSquared, vLength, distance};
 ghost use Rattle.math.specs.Math.{tryNormalized, vLerp, vMin, vMax, vFinite, yDir, polar};
 ghost use Rattle.math.specs.Math.{emptyBox, isEmpty, addPoint, boxSize, centre, diagonal, spanOf, at, contains};
@@ -38,14 +37,6 @@ pub struct Interval {
 
 // 2^-511, the root of the least normal number: what is not longer has no direction.
 const SHORTEST: f64 = 1.4916681462400413e-154;
-
-// Neither a NaN nor an infinity.
-fn finite(x: f64) -> bool
-    ensures { λ r. ⌜ r ≡ finite x ⌝ }
-{
-    let most = arith::infinity();
-    -most < x && x < most
-}
 
 impl Vec3 {
     pub const ZERO: Vec3 = Vec3 {
@@ -86,7 +77,7 @@ impl Vec3 {
         ensures { λ r. ⌜ r ≡ tryNormalized self ⌝ }
     {
         let n = self.length();
-        if finite(n) {
+        if arith::is_finite(n) {
             if SHORTEST < n {
                 return Direction::Unit(self.scale(1.0 / n));
             }
@@ -123,7 +114,7 @@ impl Vec3 {
     pub fn is_finite(self) -> bool
         ensures { λ r. ⌜ r ≡ vFinite self ⌝ }
     {
-        finite(self.x) && (finite(self.y) && finite(self.z))
+        arith::is_finite(self.x) && (arith::is_finite(self.y) && arith::is_finite(self.z))
     }
 
     pub fn add(self, o: Vec3) -> Vec3

@@ -7,28 +7,28 @@ use borrow.Author.Needs.{needs}
 use Rattle.math.proofs.Vec3.is_finite.Statement.{statement}
 use Rattle.math.proofs.Vec3.is_finite.Tie as tie
 
-finite-requires : tie.Need-finite-requires
-finite-requires c κs = search needs
+is-finite-requires : tie.Need-is-finite-requires
+is-finite-requires c κs = search needs
 
-finite-requires-2 : tie.Need-finite-requires-2
-finite-requires-2 c κs = search needs
+is-finite-requires-2 : tie.Need-is-finite-requires-2
+is-finite-requires-2 c κs = search needs
 
-finite-requires-3 : tie.Need-finite-requires-3
-finite-requires-3 c κs = search needs
+is-finite-requires-3 : tie.Need-is-finite-requires-3
+is-finite-requires-3 c κs = search needs
 
 returns : tie.Need-returns
 unfolding vFinite
-returns c = c .finite3 .ensures ∙ and-second _ _ (sym (c .before .before .finite2 .ensures) ∙ c .before .if2 .taken) ∙ and-second _ _ (sym (c .before .before .before .before .finite .ensures) ∙ c .before .before .before .if1 .taken)
+returns c = c .is-finite3 .ensures ∙ and-second _ _ (sym (c .before .before .is-finite2 .ensures) ∙ c .before .if2 .taken) ∙ and-second _ _ (sym (c .before .before .before .before .is-finite .ensures) ∙ c .before .before .before .if1 .taken)
 
 returns-2 : tie.Need-returns-2
 unfolding vFinite
-returns-2 c = c .before .finite2 .ensures ∙ and-first _ _ (sym (c .before .finite2 .ensures) ∙ c .if2 .left) ∙ and-second _ _ (sym (c .before .before .before .finite .ensures) ∙ c .before .before .if1 .taken)
+returns-2 c = c .before .is-finite2 .ensures ∙ and-first _ _ (sym (c .before .is-finite2 .ensures) ∙ c .if2 .left) ∙ and-second _ _ (sym (c .before .before .before .is-finite .ensures) ∙ c .before .before .if1 .taken)
 
 returns-3 : tie.Need-returns-3
 unfolding vFinite
-returns-3 c = c .before .finite .ensures ∙ and-first _ _ (sym (c .before .finite .ensures) ∙ c .if1 .left)
+returns-3 c = c .before .is-finite .ensures ∙ and-first _ _ (sym (c .before .is-finite .ensures) ∙ c .if1 .left)
 
 pub is-finite-spec : {M : Type 1} → statement M
 is-finite-spec =
     tie.close
-    (tie.spec finite-requires finite-requires-2 finite-requires-3 returns returns-2 returns-3)
+    (tie.spec is-finite-requires is-finite-requires-2 is-finite-requires-3 returns returns-2 returns-3)

@@ -7,24 +7,24 @@ use Rattle.math.proofs.Vec3.try_normalized.Tie as tie
 length-requires : tie.Need-length-requires
 length-requires c κs = search needs
 
-finite-requires : tie.Need-finite-requires
-finite-requires c κs = search needs
+is-finite-requires : tie.Need-is-finite-requires
+is-finite-requires c κs = search needs
 
 scale-requires : tie.Need-scale-requires
 scale-requires c κs = search needs
 
 returns : tie.Need-returns
 unfolding tryNormalized
-returns c = rw (← c .before .before .before .before .length .ensures, ← c .before .before .before .finite .ensures, c .before .before .if1 .taken, c .before .if2 .taken, c .scale .ensures)
+returns c = rw (← c .before .before .before .before .length .ensures, ← c .before .before .before .is-finite .ensures, c .before .before .if1 .taken, c .before .if2 .taken, c .scale .ensures)
 
 returns-2 : tie.Need-returns-2
 unfolding tryNormalized
-returns-2 c = rw (← c .before .before .before .length .ensures, ← c .before .before .finite .ensures, c .before .if1 .taken, c .if2 .left)
+returns-2 c = rw (← c .before .before .before .length .ensures, ← c .before .before .is-finite .ensures, c .before .if1 .taken, c .if2 .left)
 
 returns-3 : tie.Need-returns-3
 unfolding tryNormalized
-returns-3 c = rw (← c .before .before .length .ensures, ← c .before .finite .ensures, c .if1 .left)
+returns-3 c = rw (← c .before .before .length .ensures, ← c .before .is-finite .ensures, c .if1 .left)
 
 pub try-normalized-spec : {M : Type 1} → statement M
 try-normalized-spec =
-    tie.close (tie.spec length-requires finite-requires scale-requires returns returns-2 returns-3)
+    tie.close (tie.spec length-requires is-finite-requires scale-requires returns returns-2 returns-3)
