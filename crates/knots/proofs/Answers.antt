@@ -2,7 +2,7 @@
 use mathlib.Core.Path.{_≡_, refl, sym, ap, _∙_}
 use mathlib.Core.Bool.{Bool, true, false, cond}
 use mathlib.Core.List.{List, _++_}
-use Prim.Native.Nat.{ℕ, _+_, _-_, _*_, _≤_, _<_}
+use Prim.Native.Nat.{ℕ, _+_, _-_, _≤_, _<_}
 use native.Mathlib.Omega.{arith}
 use lib.ListN.{length, take, drop, replicate, length-append, length-drop}
 use lib.Seq.{sets, sets-eq, length-sets, length-take-le, take-at, take-append-le}
@@ -10,15 +10,12 @@ use lib.Dec.{leb}
 use lib.Ieee.{Float, binary64, ofBits}
 use borrow.Author.Tests.{leb-true, leb-false, le-leb, lt-leb}
 use Rattle.lists.specs.Room.{filled}
-use Rattle.brep.specs.Rows.{tables}
-use Rattle.brep.specs.Tree.{CurveTree, tree}
+use Rattle.brep.specs.Tree.{CurveTree}
 use Rattle.breaks.specs.Breaks.{insideOf}
-use Rattle.knots.specs.declared.Run.{Run}
 use Rattle.knots.specs.declared.Knots.{Knots}
 use Rattle.knots.specs.declared.Knots.the-variants.{Count, TooMany}
 use Rattle.knots.specs.Knots.{curveKnots, curveBreaks}
-use Rattle.knots.specs.Gathered.{knotsAnswer, knotsLeft, breaksAnswer, breaksLeft, runKnots, RunOf}
-use Rattle.knots.proofs.Laws.{run-length}
+use Rattle.knots.specs.Gathered.{knotsAnswer, knotsLeft, breaksAnswer, breaksLeft}
 
 -- ---- curve_knots
 module _ (buffer : List Float) (curve : CurveTree) where
@@ -30,25 +27,17 @@ module _ (buffer : List Float) (curve : CurveTree) where
   unfolding knotsAnswer knotsLeft
   exceeding h = let e = lt-leb (length (curveKnots curve)) (length buffer) h in (rw e, rw e)
 
-module _ (points : List Float) (curves : List ℕ) (reals : List Float) (parts : List ℕ) (ranges : List Float) (row : ℕ) (run : Run) (is : RunOf points curves reals row run) (buffer : List Float) where
-  all : CurveTree
-  all = tree (tables points curves reals parts ranges) row
+-- l: the knots as they are read from a run of segments
+module _ (curve : CurveTree) (l : List Float) (is : l ≡ curveKnots curve) (n : ℕ) (long : length l ≡ n) where
+  pub all-counted : n ≡ length (curveKnots curve)
+  all-counted = sym long ∙ ap length is
 
-  all-length : length (curveKnots all) ≡ 2 * run .count
-  unfolding all
-  all-length = ap length (sym (is parts ranges)) ∙ run-length parts ranges (run .first) (run .count)
+  pub gathered : (buffer : List Float) → n ≤ length buffer → (out : List Float) → out ≡ sets buffer 0 l
+      → (Count n ≡ knotsAnswer (length buffer) curve) × (out ≡ knotsLeft buffer curve)
+  gathered buffer h out e = let f = fitting buffer curve (omega (arith, all-counted)) in (ap Count all-counted ∙ f .0, e ∙ ap (sets buffer 0) is ∙ f .1)
 
-  pub gathered : 2 * run .count ≤ length buffer → (out : List Float) → out ≡ sets buffer 0 (runKnots parts ranges (run .first) (run .count))
-      → (Count (2 * run .count) ≡ knotsAnswer (length buffer) (tree (tables points curves reals parts ranges) row))
-      × (out ≡ knotsLeft buffer (tree (tables points curves reals parts ranges) row))
-  unfolding all
-  gathered h out e = let f = fitting buffer all (omega (arith, all-length)) in (ap Count (sym all-length) ∙ f .0, e ∙ ap (sets buffer 0) (is parts ranges) ∙ f .1)
-
-  pub not-gathered : length buffer < 2 * run .count
-      → (TooMany ≡ knotsAnswer (length buffer) (tree (tables points curves reals parts ranges) row))
-      × (buffer ≡ knotsLeft buffer (tree (tables points curves reals parts ranges) row))
-  unfolding all
-  not-gathered h = exceeding buffer all (omega (arith, all-length))
+  pub not-gathered : (buffer : List Float) → length buffer < n → (TooMany ≡ knotsAnswer (length buffer) curve) × (buffer ≡ knotsLeft buffer curve)
+  not-gathered buffer h = exceeding buffer curve (omega (arith, all-counted))
 
 -- ---- curve_breaks
 module _ (buffer : List Float) (curve : CurveTree) where

@@ -7,7 +7,7 @@ ghost use lib.ListN.{length};
 ghost use lib.Seq.{sets};
 ghost use Rattle.brep.specs.Rows.{lent};
 ghost use Rattle.brep.specs.Tree.{tree};
-ghost use Rattle.knots.specs.Knots.{worstOf};
+ghost use Rattle.knots.specs.Knots.{curveKnots, worstOf};
 ghost use Rattle.knots.specs.Gathered.{knotsAnswer, knotsLeft, breaksAnswer, breaksLeft, runKnots, RunOf};
 
 // How many knots or breaks stand at the start of a buffer, or that a curve has more knots than fit it.
@@ -73,6 +73,20 @@ fn gather(parts: &[u32], ranges: &[f64], first: u32, count: u32, out: &mut [f64]
         out[at + 1] = s.range.hi;
         i += 1;
     }
+}
+
+// How many knots the curve of a row has.
+pub fn knot_count(
+    points: &[f64],
+    curves: &[u32],
+    reals: &[f64],
+    parts: &[u32],
+    ranges: &[f64],
+    row: u32,
+) -> usize
+    ensures { λ r. ⌜ r ≡ length (curveKnots (tree (lent (points .entry) (curves .entry) (reals .entry) (parts .entry) (ranges .entry)) row)) ⌝ }
+{
+    2 * run_of(points, curves, reals, row).count as usize
 }
 
 // The knots of the curve of a row, in order, from the start of out.

@@ -48,7 +48,7 @@ loop-again : tie.Need-loop-again Inv-loop μ-loop
 loop-again c =
     let l = c .before .before .before .before .before .loop in
     let a = c .before .before .before .before .before .before .before .before .args in
-    dedup-skip (a .epsilon) (a .a .now) (l .a) (l .k) (l .i) (l .inv) (c .before .before .before .before .loop-test .taken) (sym (c .before .near .ensures) ∙ c .if2 .taken)
+    dedup-skip (a .epsilon) (l .inv) (c .before .before .before .before .loop-test .taken) (sym (c .before .near .ensures) ∙ c .if2 .taken)
 
 mul-a : tie.Need-mul-a Inv-loop μ-loop
 mul-a c = search needs
@@ -69,7 +69,7 @@ loop-again-2 : tie.Need-loop-again-2 Inv-loop μ-loop
 loop-again-2 c =
     let l = c .before .before .before .before .before .loop in
     let a = c .before .before .before .before .before .before .before .before .args in
-    dedup-keep (a .epsilon) (a .a .now) (l .a) (l .k) (l .i) (l .inv) (c .before .before .before .before .loop-test .taken) (sym (c .before .near .ensures) ∙ c .if2 .left)
+    dedup-keep (a .epsilon) (l .inv) (c .before .before .before .before .loop-test .taken) (sym (c .before .near .ensures) ∙ c .if2 .left)
 
 same-length : tie.Need-same-length Inv-loop μ-loop
 same-length c = search needs
@@ -78,7 +78,7 @@ returns-2 : tie.Need-returns-2 Inv-loop μ-loop
 returns-2 c =
     let l = c .before .loop in
     let a = c .before .before .before .before .args in
-    dedup-done (a .epsilon) (a .a .now) (l .a) (l .k) (l .i) (l .inv) (c .loop-test .left)
+    dedup-done (a .epsilon) (l .inv) (c .loop-test .left)
 
 pub dedup-spec : {M : Type 1} → statement M
 dedup-spec =

@@ -44,7 +44,7 @@ loop-again : tie.Need-loop-again Inv-loop μ-loop
 loop-again c =
     let l = c .before .before .before .before .loop in
     let a = c .before .before .before .before .before .before .args in
-    retain-keep (a .above) (a .below) (a .a .now) (l .a) (l .k) (l .i) (l .inv) (c .before .before .before .loop-test .taken) (sym (c .before .strict .ensures) ∙ c .if1 .taken)
+    retain-keep (a .above) (a .below) (l .inv) (c .before .before .before .loop-test .taken) (sym (c .before .strict .ensures) ∙ c .if1 .taken)
 
 add-i-2 : tie.Need-add-i-2 Inv-loop μ-loop
 add-i-2 c = search needs
@@ -56,7 +56,7 @@ loop-again-2 : tie.Need-loop-again-2 Inv-loop μ-loop
 loop-again-2 c =
     let l = c .before .before .before .before .loop in
     let a = c .before .before .before .before .before .before .args in
-    retain-skip (a .above) (a .below) (a .a .now) (l .a) (l .k) (l .i) (l .inv) (c .before .before .before .loop-test .taken) (sym (c .before .strict .ensures) ∙ c .if1 .left)
+    retain-skip (a .above) (a .below) (l .inv) (c .before .before .before .loop-test .taken) (sym (c .before .strict .ensures) ∙ c .if1 .left)
 
 same-length : tie.Need-same-length Inv-loop μ-loop
 same-length c = search needs
@@ -65,7 +65,7 @@ returns : tie.Need-returns Inv-loop μ-loop
 returns c =
     let l = c .before .loop in
     let a = c .before .before .before .args in
-    retain-done (a .above) (a .below) (a .a .now) (l .a) (l .k) (l .i) (l .inv) (c .loop-test .left)
+    retain-done (a .above) (a .below) (l .inv) (c .loop-test .left)
 
 pub retain-spec : {M : Type 1} → statement M
 retain-spec =
