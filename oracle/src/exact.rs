@@ -10,6 +10,9 @@ use road::math::{Interval, Vec3};
 use road::steps::acos;
 
 pub fn sheet(random: &mut Random) -> Sheet {
+    if random.percent(15) {
+        return thinned(random);
+    }
     let mut draft = Draft::new(random);
     (draft.size, draft.origin) = (1.0, [0.0; 3]);
     let round = draft.random.percent(15);
@@ -26,16 +29,47 @@ pub fn sheet(random: &mut Random) -> Sheet {
         sense: random.pick(&[0, 1]),
         lo: shape.lo,
         hi: shape.hi,
-        tolerance: random.pick(&[0.0, 0.0625, 0.125, 0.25, 0.5, 0.1, 0.2, 0.3]),
+        tolerance: random.pick(&[0.0, 0.0625, 0.125, 0.25, 0.25, 0.5, 0.1, 0.2]),
         low: tables.push_point(low),
         high: tables.push_point(high),
     };
+    let depth = random.pick(&[1, 2, 4, 12]);
+    let angle = match random.below(4) {
+        _ if round => 8.0,
+        0 => own_turn(&curve, shape, depth).unwrap_or(0.14),
+        _ => grid_angle(random),
+    };
+    let segments = random.pick(&[1, 1, 2, 3, 3, 4, 8]);
+    let options = Options { deflection, angle, relative: 0, segments, depth, scale: 0.0 };
+    Sheet { tables, edge, options }
+}
+
+/// A bump halved once and no more, whose middle thinning drops for a distance or a turn that equals
+/// what is allowed.
+fn thinned(random: &mut Random) -> Sheet {
+    let mut draft = Draft::new(random);
+    let (slope, width) = draft.random.pick(&BUMPS);
+    let step = draft.random.pick(&[0.25, 0.5, 1.0, 2.0]);
+    let shape = draft.polyline_of(&bump(step, slope, width));
+    let mut tables = draft.tables;
+    let turn = own_turn(&tables.lent().curve(shape.row), shape, 1);
+    let edge = Edge {
+        curve: shape.row,
+        start: 0,
+        end: 3,
+        sense: 1,
+        lo: shape.lo,
+        hi: shape.hi,
+        tolerance: 0.0,
+        low: tables.push_point([-1e8; 3]),
+        high: tables.push_point([1e8; 3]),
+    };
     let options = Options {
-        deflection,
-        angle: if round { 8.0 } else { grid_angle(random) },
+        deflection: step * random.pick(&[100.0, 400.0]),
+        angle: random.pick(&[turn.unwrap_or(0.14), 1.5]),
         relative: 0,
-        segments: random.pick(&[1, 2, 3, 3, 4, 8]),
-        depth: random.pick(&[1, 2, 4, 12]),
+        segments: 1,
+        depth: 1,
         scale: 0.0,
     };
     Sheet { tables, edge, options }
@@ -69,9 +103,8 @@ fn halves(draft: &mut Draft, shape: Shape) -> Shape {
 fn grid_points(random: &mut Random) -> Vec<Point> {
     let step = random.pick(&[0.25, 0.5, 1.0, 2.0]);
     if random.percent(35) {
-        // A bump: its corners are exactly one step from the chord.
-        let width = random.pick(&[1.0, 2.0, 4.0]);
-        return vec![[0.0; 3], [0.0, step, 0.0], [width, step, 0.0], [width, 0.0, 0.0]];
+        let (slope, width) = random.pick(&BUMPS);
+        return bump(step, slope, width).to_vec();
     }
     let mut at = [0.0; 3];
     let mut points = vec![at];
@@ -86,6 +119,14 @@ fn grid_points(random: &mut Random) -> Vec<Point> {
         _ => {}
     }
     points
+}
+
+/// The slope and the width of a bump.
+const BUMPS: [(f64, f64); 4] = [(0.0, 1.0), (0.0, 4.0), (1.0, 4.0), (2.0, 8.0)];
+
+/// A bump: its corners are exactly its height from the chord.
+fn bump(height: f64, slope: f64, width: f64) -> [Point; 4] {
+    [[0.0; 3], [slope, height, 0.0], [width - slope, height, 0.0], [width, 0.0, 0.0]]
 }
 
 /// A deviation that a corner on the grid has, or a hundred times one: thinning takes a hundredth.
@@ -109,7 +150,18 @@ fn own_sag(random: &mut Random, curve: &Curve, shape: Shape) -> f64 {
 fn grid_angle(random: &mut Random) -> f64 {
     let chord = Vec3::new(1.0, 1.0, 0.0).normalized_or(Vec3::X);
     let half = acos(chord.dot(Vec3::X));
-    random.pick(&[acos(0.0), half + half, half, acos(-1.0), 0.14, 0.14])
+    random.pick(&[acos(0.0), half + half, half, acos(-1.0), acos(-1.0), 0.14])
+}
+
+/// The turn that thinning sees over the whole curve, where bisection spent its depth everywhere.
+fn own_turn(curve: &Curve, shape: Shape, depth: u32) -> Option<f64> {
+    let last = 1 << depth.min(6);
+    let range = Interval::new(shape.lo, shape.hi);
+    let point = |i: i32| curve.point_at(range.at(i as f64 / last as f64));
+    let direction = |a: i32, b: i32| (point(b) - point(a)).try_normalized();
+    let chord = direction(0, last)?;
+    let turn = |v: Vec3| acos(v.dot(chord).clamp(-1.0, 1.0));
+    Some(turn(direction(0, 1)?) + turn(direction(last - 1, last)?))
 }
 
 /// The curve's ends, exchanged, or a start as far from the one as from the other.

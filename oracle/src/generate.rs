@@ -7,7 +7,7 @@ use crate::shapes::{Draft, Point, Shape};
 use crate::sheet::{Sheet, write};
 use crate::tables::{Edge, Options, OwnedTables};
 use road::brep::Curve;
-use road::math::{Aabb, Vec3};
+use road::math::{Aabb, TAU, Vec3};
 
 /// The bytes of sheet `index` of a run.
 pub fn bytes(seed: u64, index: u64) -> Vec<u8> {
@@ -24,8 +24,8 @@ pub fn contents(seed: u64, index: u64) -> Sheet {
 
 fn drafted(random: &mut Random) -> Sheet {
     let mut sheet = match random.below(100) {
-        0 => redrawn(random),
-        1..=13 => exact::sheet(random),
+        0..=1 => redrawn(random),
+        2..=14 => exact::sheet(random),
         _ => sound(random),
     };
     damage::tweak(random, &mut sheet);
@@ -72,8 +72,11 @@ fn sound(random: &mut Random) -> Sheet {
 /// An edge that escapes its box and is drawn again between its vertices, where a random one seldom is.
 fn redrawn(random: &mut Random) -> Sheet {
     let mut draft = Draft::new(random);
-    let (shape, start, end) =
-        if draft.random.percent(70) { far_polyline(&mut draft) } else { swept_line(&mut draft) };
+    let (shape, start, end) = match draft.random.below(4) {
+        0..=1 => far_polyline(&mut draft),
+        2 => swept_line(&mut draft),
+        _ => whole_turn(&mut draft),
+    };
     let mut tables = draft.tables;
     let quarter = |k: f64| [0, 1, 2].map(|i| start[i] + (end[i] - start[i]) * 0.25 * k);
     let edge = Edge {
@@ -116,6 +119,17 @@ fn swept_line(draft: &mut Draft) -> (Shape, Point, Point) {
     (Shape { lo: -1e9, hi: 0.0, ..shape }, [0.0; 3], [end, 0.0, 0.0])
 }
 
+/// A short trim of a circle, over a whole turn: no complement is left.
+fn whole_turn(draft: &mut Draft) -> (Shape, Point, Point) {
+    draft.origin = [0.0; 3];
+    let circle = draft.circle();
+    let trim = draft.trimmed_to(Shape { lo: 0.0, hi: 0.1, ..circle });
+    let curve = draft.tables.lent().curve(trim.row);
+    let ends = [0.025, 0.075].map(|t| within_rules(curve.point_at(t)).to_array());
+    let lo = draft.random.pick(&[0.0, 1.0, -0.5]);
+    (Shape { lo, hi: lo + TAU, ..trim }, ends[0], ends[1])
+}
+
 /// Where an edge runs, before its points are put into the table.
 struct Plan {
     lo: f64,
@@ -148,6 +162,7 @@ fn runaway(random: &mut Random, curve: &Curve) -> Plan {
         0..=4 => (to, from + span),
         5..=6 => (natural.lo, natural.hi),
         7 => (from, to),
+        8 if random.percent(50) => (from, from + span),
         8 => (from - span, to + span),
         _ => (unbounded(random), to),
     };

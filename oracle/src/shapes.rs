@@ -160,8 +160,13 @@ impl<'a> Draft<'a> {
             6..=7 => (base.lo + span * a * 0.5, base.hi - span * b * 0.5),
             _ => (base.lo, base.hi),
         };
-        let row = self.row(TRIMMED, base.row, 1, p, q);
-        Shape { row, lo: p, hi: q }
+        self.trimmed_to(Shape { lo: p, hi: q, ..base })
+    }
+
+    /// The trim to the very range of a shape.
+    pub fn trimmed_to(&mut self, base: Shape) -> Shape {
+        let row = self.row(TRIMMED, base.row, 1, base.lo, base.hi);
+        Shape { row, ..base }
     }
 
     /// A composite that `shape` is one of the segments of.
@@ -217,10 +222,13 @@ impl<'a> Draft<'a> {
     /// A segment with its curve's own range, or with one whose ends are breaks of the composite.
     fn segment(&mut self, shape: Shape, count: usize) -> Segment {
         let breaks = |draft: &mut Self| draft.random.below(4 * count + 3) as f64 * 0.25;
-        let (lo, hi) = match self.random.below(10) {
-            0..=3 => (shape.lo, shape.hi),
-            4..=7 => (breaks(self), breaks(self)),
-            8 => (breaks(self), breaks(self) + self.random.decade(-12, -6)),
+        // What breaks must be away from the range's ends by, where the edge runs over the whole.
+        let least = count as f64 * 1e-9;
+        let (lo, hi) = match self.random.below(20) {
+            0..=7 => (shape.lo, shape.hi),
+            8..=15 => (breaks(self), breaks(self)),
+            16..=17 => (breaks(self), breaks(self) + self.random.decade(-12, -6)),
+            18 => (least, count as f64 - least),
             _ => (shape.hi, shape.lo),
         };
         Segment { curve: shape.row, lo, hi, sense: self.random.pick(&[1, 1, 0]) }

@@ -1,0 +1,142 @@
+"""How well the generated sheets tell a wrong road from the right one.
+
+Each mutant is the patched road with one operand or comparison changed. It is built like the oracle, and its
+answers to the same sheets are compared with the oracle's. Usage: mutants.py SEED N [NUMBER..]
+"""
+
+import pathlib
+import shutil
+import subprocess
+import sys
+
+HERE = pathlib.Path(__file__).resolve().parent
+TARGET = HERE / "target"
+SEPARATOR = b"====\n"
+
+# file, old text (it occurs once), new text
+MUTANTS = [
+    ("edge.rs", "!(reference.diagonal() > 0.0)", "!(reference.diagonal() >= 0.0)"),
+    ("edge.rs", "options.sag * 16.0", "options.sag * 15.0"),
+    ("edge.rs", "(*p - centre).length() > limit", "(*p - centre).length() >= limit"),
+    ("edge.rs", "Interval::new(edge.range.hi, edge.range.lo + period)", "Interval::new(edge.range.hi, edge.range.hi + period)"),
+    ("edge.rs", "if complement.span() > 0.0", "if complement.span() >= 0.0"),
+    ("edge.rs", "if !escapes(&alternative)", "if escapes(&alternative)"),
+    ("edge.rs", "let steps = 512;", "let steps = 511;"),
+    ("edge.rs", "(0..=steps)\n", "(0..=steps).rev()\n"),
+    ("edge.rs", "let short = if a <= b", "let short = if a > b"),
+    ("edge.rs", "if short.span() > 0.0", "if short.span() >= 0.0"),
+    ("edge.rs", "if !escapes(&arc) &&", "if"),
+    ("edge.rs", "params: vec![edge.range.lo, edge.range.lo]", "params: vec![edge.range.lo, edge.range.hi]"),
+    ("edge.rs", "const PROBES: usize = 8;", "const PROBES: usize = 7;"),
+    ("edge.rs", "length_squared() <= (edge.tolerance * 10.0).powi(2)", "length_squared() < (edge.tolerance * 10.0).powi(2)"),
+    ("edge.rs", "if head_last < head_first", "if head_last <= head_first"),
+    ("edge.rs", "} else if !edge.same_sense {", "} else if edge.same_sense {"),
+    ("edge.rs", "options.sag * 0.01,", "options.sag * 0.02,"),
+    ("edge.rs", "options.min_edge_segments + 1,", "options.min_edge_segments,"),
+    ("edge.rs", "const MERGE_TOLERANCES: f64 = 4.0;", "const MERGE_TOLERANCES: f64 = 3.0;"),
+    ("edge.rs", "const MERGE_SAG: f64 = 0.5;", "const MERGE_SAG: f64 = 0.25;"),
+    ("edge.rs", "if (points[i] - last).length() > floor", "if (points[i] - last).length() >= floor"),
+    ("edge.rs", "if (end - last).length() <= floor &&", "if (end - last).length() < floor &&"),
+    ("edge.rs", "&& kept_points.len() > 1", "&& kept_points.len() > 2"),
+    ("edge.rs", "Curve::Trimmed { base, .. } => is_sampled(base)", "Curve::Trimmed { .. } => false"),
+    ("edge.rs", "if d > worst.0", "if d >= worst.0"),
+    ("edge.rs", "if worst.0 > tolerance || turn > angle", "if worst.0 >= tolerance || turn > angle"),
+    ("edge.rs", "if worst.0 > tolerance || turn > angle", "if worst.0 > tolerance || turn >= angle"),
+    ("edge.rs", "((*p - pa).dot(axis) / len2).clamp(0.0, 1.0)", "((*p - pa).dot(axis) / len2).clamp(0.0, 2.0)"),
+    ("edge.rs", "let last = ends.last();", "let last = ends.clone().next();"),
+    ("edge.rs", "if kept < floor.min(points.len())", "if kept + 1 < floor.min(points.len())"),
+    ("edge.rs", "(want - 1).max(1)", "want.max(1)"),
+    ("edge.rs", "|| range.span() <= 0.0", "|| range.span() < 0.0"),
+    ("edge.rs", "natural.span().abs() < 1e9", "natural.span().abs() <= 1e9"),
+    ("edge.rs", "natural.span().abs() < 1e9", "natural.span() < 1e9"),
+    ("edge.rs", "let slack = natural.span().abs() * 1e-9;", "let slack = 0.0;"),
+    ("edge.rs", "let m = curve.point_at(0.5 * (w[0] + w[1]));\n                (m - (a + b) * 0.5)", "let m = curve.point_at(w[0]);\n                (m - (a + b) * 0.5)"),
+    ("edge.rs", "if worst <= options.sag", "if worst < options.sag"),
+    ("edge.rs", "if range.hi < range.lo {", "if false {"),
+    ("edge.rs", "if out.len() - 1 < options.min_edge_segments", "if out.len() < options.min_edge_segments"),
+    ("edge.rs", "if a > 0.0 { b * b / a }", "if a > 0.0 { b / a }"),
+    ("edge.rs", "max(tightest, b), range.span()", "tightest, range.span()"),
+    ("edge.rs", "if deviation <= options.sag && turn <= options.angle", "if deviation < options.sag && turn <= options.angle"),
+    ("edge.rs", "if deviation <= options.sag && turn <= options.angle", "if deviation <= options.sag && turn < options.angle"),
+    ("edge.rs", "((pm - pa).dot(chord) / (len * len)).clamp(0.0, 1.0)", "((pm - pa).dot(chord) / (len * len)).clamp(0.0, 2.0)"),
+    ("edge.rs", "if list.len() >= room", "if list.len() > room"),
+    ("knots.rs", "*k > lo + epsilon", "*k >= lo + epsilon"),
+    ("knots.rs", "let epsilon = width * 1e-9;", "let epsilon = width * 1e-7;"),
+    ("knots.rs", "(*a - *b).abs() <= epsilon);\n    knots", "*a == *b);\n    knots"),
+    ("knots.rs", "if deviation(at, start, next) > sag", "if deviation(at, start, next) >= sag"),
+    ("knots.rs", "unwrap_or(hi)", "unwrap_or(lo)"),
+    ("knots.rs", "start = breaks[i];", ""),
+    ("knots.rs", "for k in 1..4", "for k in 1..3"),
+    ("options.rs", ".clamp(0.5, 2.0)", ".clamp(0.5, 1.9)"),
+    ("options.rs", ".clamp(0.5, 2.0)", ".clamp(0.6, 2.0)"),
+    ("options.rs", "self.sag / 8.0", "self.sag / 9.0"),
+    ("options.rs", "if r > self.sag", "if r >= self.sag"),
+    ("options.rs", "self.angle), 1e-3)", "self.angle), 1e-4)"),
+    ("options.rs", ".clamp(1e-4, std::f64::consts::PI)", ".clamp(1e-3, std::f64::consts::PI)"),
+    ("options.rs", ".clamp(1e-4, std::f64::consts::PI)", ".clamp(1e-4, 7.0)"),
+    ("options.rs", "self.max_depth.clamp(1, 24)", "self.max_depth.clamp(1, 23)"),
+    ("options.rs", "self.max_depth.clamp(1, 24)", "self.max_depth.clamp(2, 24)"),
+    ("options.rs", "(total.abs() / step)", "(total / step)"),
+    ("eval/curve.rs", "Curve::Parabola { .. } | Curve::Hyperbola { .. } => Interval::new(-1e6, 1e6)", "Curve::Parabola { .. } | Curve::Hyperbola { .. } => Interval::new(0.0, 1e6)"),
+    ("eval/curve.rs", "Curve::Trimmed { base, .. } => base.period()", "Curve::Trimmed { .. } => None"),
+    ("eval/curve.rs", "let closed = points.len() > 2 &&", "let closed = points.len() > 3 &&"),
+    ("eval/curve.rs", "points.len() > 2\n                    &&", "points.len() > 3\n                    &&"),
+    ("eval/curve.rs", "t - (t / span).floor() * span", "t % span"),
+    ("eval/curve.rs", "let t = t.clamp(0.0, segments.len() as f64);", "let t = t.clamp(0.0, last as f64);"),
+    ("eval/curve.rs", "seg.range.at(1.0 - local), -1.0", "seg.range.at(local), -1.0"),
+    ("eval/curve.rs", "seg.range.at(1.0 - local), -1.0", "seg.range.at(1.0 - local), 1.0"),
+    ("eval/curve.rs", "(sign * seg.range.span())", "sign"),
+    ("eval/curve.rs", "frame.ref_dir * (2.0 * *focal_dist * t) +", "frame.ref_dir * (*focal_dist * t) +"),
+    ("math.rs", "n > f64::MIN_POSITIVE.sqrt()", "n > 0.0"),
+    ("math.rs", "self.lo + (self.hi - self.lo) * t", "self.lo * (1.0 - t) + self.hi * t"),
+    ("math.rs", "self.min.x > self.max.x ||", "self.min.x >= self.max.x ||"),
+    ("steps.rs", "b < a { b } else { a }", "b <= a { b } else { a }"),
+    ("steps.rs", "b > a { b } else { a }", "b >= a { b } else { a }"),
+]
+
+
+def compiled(work, crate, kind, source, *extern):
+    command = ["rustc", "--edition", "2024", "-C", "opt-level=1", "-A", "warnings", "--out-dir", work, "-L", work]
+    for name in extern:
+        command += ["--extern", name]
+    subprocess.run([*command, "--crate-type", kind, "--crate-name", crate, source], check=True)
+
+
+def answers(program, sheets):
+    """The answers of a program; one that panics or runs on answers nothing."""
+    try:
+        run = subprocess.run([program, "batch"], input=sheets, capture_output=True, timeout=600)
+    except subprocess.TimeoutExpired:
+        return []
+    return run.stdout.split(SEPARATOR) if run.returncode == 0 else []
+
+
+def mutant_answers(mutant, sheets):
+    file, old, new = mutant
+    work = TARGET / "mutant"
+    shutil.rmtree(work, ignore_errors=True)
+    shutil.copytree(TARGET / "oracle.d" / "road", work / "road")
+    path = work / "road" / file
+    text = path.read_text()
+    assert text.count(old) == 1, f"{file}: {text.count(old)} times: {old}"
+    path.write_text(text.replace(old, new))
+    compiled(work, "road", "rlib", work / "road" / "road.rs")
+    compiled(work, "oracle", "rlib", HERE / "src" / "lib.rs", "road")
+    compiled(work, "main", "bin", HERE / "src" / "main.rs", "oracle")
+    return answers(work / "main", sheets)
+
+
+def main():
+    seed, count = sys.argv[1:3]
+    numbers = [int(word) for word in sys.argv[3:]] or range(len(MUTANTS))
+    oracle = TARGET / "oracle"
+    sheets = subprocess.run([oracle, "gen", seed, count], capture_output=True, check=True).stdout
+    right = answers(oracle, sheets)
+    for number in numbers:
+        file, old, new = MUTANTS[number]
+        got = mutant_answers(MUTANTS[number], sheets)
+        told = sum(a != b for a, b in zip(right, got)) if got else "all"
+        print(f"{number:3} told by {told} of {len(right)}: {file}: {old!r} -> {new!r}", flush=True)
+
+
+main()
