@@ -15,8 +15,8 @@ use Rattle.math.specs.declared.Frame.{Frame}
 use Rattle.math.specs.declared.Interval.{Interval}
 use Rattle.math.specs.Math.{vZero, vAdd, vSub, vScale, vLerp, vLengthSquared, yDir, polar, interval, spanOf, at}
 use Rattle.brep.specs.Tree.{CurveTree, line, circle, ellipse, parabola, polyline, trimmed, composite, Segments, none, segment}
-use Rattle.curve.specs.declared.Period.{Period}
-use Rattle.curve.specs.declared.Period.the-variants.{Every, Nothing}
+use Rattle.curve.specs.declared.Repeats.{Repeats}
+use Rattle.curve.specs.declared.Repeats.the-variants.{Every, Never}
 
 -- 2π, a full turn
 abbrev pub tau : Float
@@ -55,18 +55,18 @@ isClosed (trimmed base range) =
 isClosed (composite ss) = false
 
 -- a span that is above zero and finite
-unfoldable pub everySpan : Float → Period
-everySpan span = cond (lt nought span && finite span) (Every span) Nothing
+unfoldable pub everySpan : Float → Repeats
+everySpan span = cond (lt nought span && finite span) (Every span) Never
 
 -- Curve::period
-unfoldable pub period : CurveTree → Period
-period (line o d) = Nothing
+unfoldable pub period : CurveTree → Repeats
+period (line o d) = Never
 period (circle f r) = Every tau
 period (ellipse f a b) = Every tau
-period (parabola f d) = Nothing
-period (polyline ps) = cond (closes ps) (everySpan (spanOf (naturalRange (polyline ps)))) Nothing
+period (parabola f d) = Never
+period (polyline ps) = cond (closes ps) (everySpan (spanOf (naturalRange (polyline ps)))) Never
 period (trimmed base range) = period base
-period (composite ss) = Nothing
+period (composite ss) = Never
 
 -- polyline_parameter: a closed polyline wraps t, an open one clamps it
 unfoldable pub polylineParameter : List Vec3 → Float → Float

@@ -14,8 +14,8 @@ use Rattle.math.specs.declared.Direction.the-variants.{Unit, Nothing}
 use Rattle.math.specs.declared.Interval.{Interval}
 use Rattle.math.specs.Math.{vAdd, vSub, vScale, vDot, vLength, interval, spanOf}
 use Rattle.brep.specs.Tree.{CurveTree, line, circle, ellipse, parabola, polyline, trimmed, composite}
-use Rattle.curve.specs.declared.Period.{Period}
-use Rattle.curve.specs.declared.Period.the-variants as period-variants
+use Rattle.curve.specs.declared.Repeats.{Repeats}
+use Rattle.curve.specs.declared.Repeats.the-variants.{Every, Never}
 use Rattle.curve.specs.Eval.{naturalRange, period, pointAt}
 use Rattle.tangent.specs.Derivative.{tangentAt}
 use Rattle.options.specs.declared.Resolved.{Resolved}
@@ -41,9 +41,9 @@ heldTo natural range =
     interval (maxOf (range .lo) (natural .lo ⊖ slack)) (minOf (range .hi) (natural .hi ⊕ slack))
 
 -- a periodic curve may run past its own range
-unfoldable pub withinDomain : Period → Interval → Interval → Interval
-withinDomain (period-variants.Every p) natural range = range
-withinDomain period-variants.Nothing natural range = heldTo natural range
+unfoldable pub withinDomain : Repeats → Interval → Interval → Interval
+withinDomain (Every p) natural range = range
+withinDomain Never natural range = heldTo natural range
 
 -- an edge's range is no range where it is not finite, empty or reversed
 abbrev pub isNoRange : Interval → Bool

@@ -1,0 +1,142 @@
+-- `curve::is_closed` meets its contract. Assumes nothing.
+use Rattle.curve.proofs.Laws.{closed-trim, open-trim, high-trim}
+use Rattle.curve.specs.Eval.{isClosed}
+use Rattle.brep.proofs.Laws.{at-row, at-lower, at-high}
+use Rattle.brep.specs.Tree.{grown}
+use mathlib.Core.Path.{_≡_, refl, sym, ap, _∙_}
+use borrow.Author.Needs.{needs}
+use Prim.Native.Nat.{ℕ, _<_}
+use borrow.Fn.Kinds.{In}
+use borrow.Fn.PlainCycle.{Measures, is, falls, and}
+use Rattle.curve.proofs.is_closed.Reads as is-closed
+use Rattle.curve.proofs.is_closed.Kinds as is-closed-kinds
+use Rattle.curve.proofs.+is_closed.Lts-is_closed as is-closed-lts
+use Rattle.arith.proofs.abs.Reads as abs-reads
+use Rattle.brep.proofs.row_at.Reads as row-at-reads
+use Rattle.curve.proofs.closes_at.Reads as closes-at-reads
+use Rattle.curve.proofs.natural_range.Reads as natural-range-reads
+use Rattle.math.proofs.Interval.span.Reads as span-reads
+use Rattle.curve.proofs.+is_closed.{statement}
+use Rattle.curve.proofs.+is_closed.Tie.{close}
+
+abbrev μ-is-closed : Measures 5 is-closed-kinds.ps ℕ
+μ-is-closed κs a = a .1 .1 .1 .1 .1 .0
+
+abbrev is-closed-at : ℕ → In 5 is-closed-kinds.ps
+is-closed-at t = and 5 is-closed-kinds.ps (is 5 is-closed-kinds.ps μ-is-closed t) is-closed.Pre
+
+abbrev is-closed-below : ℕ → In 5 is-closed-kinds.ps
+is-closed-below t =
+    and 5 is-closed-kinds.ps (falls 5 is-closed-kinds.ps _<_ μ-is-closed t) is-closed.Pre
+
+-- what each member is handed of its callees
+abbrev is-closed-claims : ℕ → is-closed-lts.Claims
+is-closed-claims t = (row-at-reads.Asked, row-at-reads.Learnt, closes-at-reads.Asked, closes-at-reads.Learnt, is-closed-below t, is-closed.Post, natural-range-reads.Asked, natural-range-reads.Learnt, span-reads.Asked, span-reads.Learnt, abs-reads.Asked, abs-reads.Learnt)
+
+is-closed-row-at-requires : (t : ℕ) → is-closed-lts.Need-row-at-requires (is-closed-claims t) (is-closed-at t) is-closed.Post
+is-closed-row-at-requires t c κs = search needs
+
+is-closed-enum-told : (t : ℕ) → is-closed-lts.Need-enum-told (is-closed-claims t) (is-closed-at t) is-closed.Post
+is-closed-enum-told t c = search needs
+
+is-closed-enum-told-2 : (t : ℕ) → is-closed-lts.Need-enum-told-2 (is-closed-claims t) (is-closed-at t) is-closed.Post
+is-closed-enum-told-2 t c = search needs
+
+is-closed-enum-told-3 : (t : ℕ) → is-closed-lts.Need-enum-told-3 (is-closed-claims t) (is-closed-at t) is-closed.Post
+is-closed-enum-told-3 t c = search needs
+
+is-closed-enum-told-4 : (t : ℕ) → is-closed-lts.Need-enum-told-4 (is-closed-claims t) (is-closed-at t) is-closed.Post
+is-closed-enum-told-4 t c = search needs
+
+is-closed-enum-known-c : (t : ℕ) → is-closed-lts.Need-enum-known-c (is-closed-claims t) (is-closed-at t) is-closed.Post
+is-closed-enum-known-c t c = search needs
+
+is-closed-closes-at-requires : (t : ℕ) → is-closed-lts.Need-closes-at-requires (is-closed-claims t) (is-closed-at t) is-closed.Post
+is-closed-closes-at-requires t c κs = search needs
+
+is-closed-enum-known-c-2 : (t : ℕ) → is-closed-lts.Need-enum-known-c-2 (is-closed-claims t) (is-closed-at t) is-closed.Post
+is-closed-enum-known-c-2 t c = search needs
+
+is-closed-is-closed-requires : (t : ℕ) → is-closed-lts.Need-is-closed-requires (is-closed-claims t) (is-closed-at t) is-closed.Post
+is-closed-is-closed-requires t c κs = search needs
+
+is-closed-natural-range-requires : (t : ℕ) → is-closed-lts.Need-natural-range-requires (is-closed-claims t) (is-closed-at t) is-closed.Post
+is-closed-natural-range-requires t c κs = search needs
+
+is-closed-span-requires : (t : ℕ) → is-closed-lts.Need-span-requires (is-closed-claims t) (is-closed-at t) is-closed.Post
+is-closed-span-requires t c κs = search needs
+
+is-closed-abs-requires : (t : ℕ) → is-closed-lts.Need-abs-requires (is-closed-claims t) (is-closed-at t) is-closed.Post
+is-closed-abs-requires t c κs = search needs
+
+is-closed-span-requires-2 : (t : ℕ) → is-closed-lts.Need-span-requires-2 (is-closed-claims t) (is-closed-at t) is-closed.Post
+is-closed-span-requires-2 t c κs = search needs
+
+is-closed-abs-requires-2 : (t : ℕ) → is-closed-lts.Need-abs-requires-2 (is-closed-claims t) (is-closed-at t) is-closed.Post
+is-closed-abs-requires-2 t c κs = search needs
+
+is-closed-returns : (t : ℕ) → is-closed-lts.Need-returns (is-closed-claims t) (is-closed-at t) is-closed.Post
+unfolding isClosed grown
+is-closed-returns t c = closed-trim _ _ _ _ (c .before .before .before .before .before .before .before .if1 .taken) (sym (c .before .before .before .before .before .before .is-closed .ensures) ∙ c .before .before .before .before .before .if2 .taken) _ (c .before .before .before .before .natural-range .ensures) _ (cc) ∙ at-row isClosed _ _ (c .before .before .before .before .before .before .before .before .before .c2 .given .1) (c .before .before .before .before .before .before .before .before .before .before .before .row-at .ensures)
+
+is-closed-enum-told-5 : (t : ℕ) → is-closed-lts.Need-enum-told-5 (is-closed-claims t) (is-closed-at t) is-closed.Post
+is-closed-enum-told-5 t c = search needs
+
+is-closed-returns-2 : (t : ℕ) → is-closed-lts.Need-returns-2 (is-closed-claims t) (is-closed-at t) is-closed.Post
+unfolding isClosed grown
+is-closed-returns-2 t c = at-row isClosed _ _ (c .enum-told .given .1) (c .before .before .row-at .ensures)
+
+is-closed-returns-3 : (t : ℕ) → is-closed-lts.Need-returns-3 (is-closed-claims t) (is-closed-at t) is-closed.Post
+unfolding isClosed grown
+is-closed-returns-3 t c = at-row isClosed _ _ (c .enum-told2 .given .1) (c .before .before .row-at .ensures)
+
+is-closed-returns-4 : (t : ℕ) → is-closed-lts.Need-returns-4 (is-closed-claims t) (is-closed-at t) is-closed.Post
+unfolding isClosed grown
+is-closed-returns-4 t c = at-row isClosed _ _ (c .enum-told3 .given .1) (c .before .before .row-at .ensures)
+
+is-closed-returns-5 : (t : ℕ) → is-closed-lts.Need-returns-5 (is-closed-claims t) (is-closed-at t) is-closed.Post
+unfolding isClosed grown
+is-closed-returns-5 t c = at-row isClosed _ _ (c .enum-told4 .given .1) (c .before .before .row-at .ensures)
+
+is-closed-returns-6 : (t : ℕ) → is-closed-lts.Need-returns-6 (is-closed-claims t) (is-closed-at t) is-closed.Post
+unfolding isClosed grown
+is-closed-returns-6 t c = c .closes-at .ensures ∙ at-row isClosed _ _ (c .before .before .c .given .1) (c .before .before .before .before .row-at .ensures)
+
+is-closed-returns-7 : (t : ℕ) → is-closed-lts.Need-returns-7 (is-closed-claims t) (is-closed-at t) is-closed.Post
+unfolding isClosed grown
+is-closed-returns-7 t c = open-trim _ _ _ _ (c .before .before .if1 .taken) (sym (c .before .is-closed .ensures) ∙ c .if2 .left) ∙ at-row isClosed _ _ (c .before .before .before .before .c2 .given .1) (c .before .before .before .before .before .before .row-at .ensures)
+
+is-closed-returns-8 : (t : ℕ) → is-closed-lts.Need-returns-8 (is-closed-claims t) (is-closed-at t) is-closed.Post
+unfolding isClosed grown
+is-closed-returns-8 t c = high-trim _ _ _ _ (c .if1 .left) ∙ at-row isClosed _ _ (c .before .before .c2 .given .1) (c .before .before .before .before .row-at .ensures)
+
+is-closed-returns-9 : (t : ℕ) → is-closed-lts.Need-returns-9 (is-closed-claims t) (is-closed-at t) is-closed.Post
+unfolding isClosed grown
+is-closed-returns-9 t c = at-row isClosed _ _ (c .enum-told5 .given .1) (c .before .before .row-at .ensures)
+
+pub +is-closed-spec : {M : Type 1} → statement M
++is-closed-spec = close μ-is-closed λ t. is-closed-lts.spec (is-closed-claims t) (is-closed-at t) is-closed.Post
+    (is-closed-row-at-requires t)
+    (is-closed-enum-told t)
+    (is-closed-enum-told-2 t)
+    (is-closed-enum-told-3 t)
+    (is-closed-enum-told-4 t)
+    (is-closed-enum-known-c t)
+    (is-closed-closes-at-requires t)
+    (is-closed-enum-known-c-2 t)
+    (is-closed-is-closed-requires t)
+    (is-closed-natural-range-requires t)
+    (is-closed-span-requires t)
+    (is-closed-abs-requires t)
+    (is-closed-span-requires-2 t)
+    (is-closed-abs-requires-2 t)
+    (is-closed-returns t)
+    (is-closed-enum-told-5 t)
+    (is-closed-returns-2 t)
+    (is-closed-returns-3 t)
+    (is-closed-returns-4 t)
+    (is-closed-returns-5 t)
+    (is-closed-returns-6 t)
+    (is-closed-returns-7 t)
+    (is-closed-returns-8 t)
+    (is-closed-returns-9 t)
