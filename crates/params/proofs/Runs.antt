@@ -2,7 +2,7 @@
 -- bisection, the walk over the breaks. Assumes nothing.
 use mathlib.Core.Bool.{Bool, true, false}
 use mathlib.Core.List.{List, [], _∷_, _++_}
-use Prim.Native.Nat.{ℕ, zero, suc, _≤_, _<_}
+use Prim.Native.Nat.{ℕ, zero, suc, _^_, _≤_, _<_}
 use native.Mathlib.Omega.{arith}
 use lib.Dec.{T}
 use lib.Ieee.{Float, binary64, ofBits, le, ne, fits}
@@ -10,8 +10,8 @@ use lib.Ieee.Fits.{mul-fits}
 use Rattle.arith.specs.Notation.{_⊕_, half}
 use Rattle.math.specs.declared.Interval.{Interval}
 use Rattle.math.specs.Math.{at}
-use Rattle.order.proofs.Signed.{number, le-trans, le-refl, number-left}
-use Rattle.order.proofs.Modest.{big, Modest, middle, middle-down, rises, falls}
+use Rattle.order.proofs.Laws.{number, number-left, le-trans, le-refl, Modest, middle, middle-down, rises, falls}
+use Rattle.order.proofs.Modest.{big}
 use Rattle.lists.specs.Way.{Up, Down}
 use Rattle.lists.specs.Sub.{All, none, more, Pairwise, empty, first}
 use Rattle.lists.proofs.Joined.{all-join, all-one, pair-snoc, Within, within-none, within-join, within-mid, within-ends}
@@ -41,13 +41,13 @@ pub record Order (R : Float → Float → Type 0) : Type 0 where
   pub same : (a : Float) → Good a → R a a
   pub trans : (x y z : Float) → R x y → R y z → R x z
   pub middle-of : (a b : Float) → Good a → Good b → R a b → Middle R a b
-  pub step-on : (range : Interval) (n i j : ℕ) → Good (range .lo) → Good (range .hi) → 0 < n → n ≤ 16384
+  pub step-on : (range : Interval) (n i j : ℕ) → Good (range .lo) → Good (range .hi) → 0 < n → n ≤ 2 ^ 53
       → i ≤ j → j ≤ n → R (range .lo) (range .hi) → R (stepAt range n i) (stepAt range n j)
 
 module _ (R : Float → Float → Type 0) (o : Order R) where
   -- ---- even steps
   module _ (range : Interval) (n : ℕ) (L : Good (range .lo)) (H : Good (range .hi)) (h : R (range .lo) (range .hi))
-      (np : 0 < n) (nb : n ≤ 16384) where
+      (np : 0 < n) (nb : n ≤ 2 ^ 53) where
     steps-before : (k j : ℕ) → k ≤ suc j → j ≤ n → All (λ x. R x (stepAt range n j)) (steps range n k)
     unfolding steps
     steps-before zero j p q = none
@@ -61,7 +61,7 @@ module _ (R : Float → Float → Type 0) (o : Order R) where
         pair-snoc (steps-pairs k (omega arith)) (steps-before k k (omega arith) (omega arith))
 
   pub evenly-pairs : (range : Interval) (n : ℕ) → Good (range .lo) → Good (range .hi) → R (range .lo) (range .hi)
-      → n ≤ 16384 → Pairwise R (evenly range n)
+      → n ≤ 2 ^ 53 → Pairwise R (evenly range n)
   unfolding steps
   evenly-pairs range zero L H h nb = first none empty
   evenly-pairs range (suc n) L H h nb = steps-pairs range (suc n) L H h (omega arith) nb (suc (suc n)) (omega arith)

@@ -2,13 +2,13 @@
 use mathlib.Core.Path.{_≡_, refl}
 use mathlib.Core.Bool.{Bool, true, false, cond}
 use mathlib.Core.List.{List, [], _∷_, reverse}
-use Prim.Native.Nat.{ℕ, _≤_}
+use Prim.Native.Nat.{ℕ, _^_, _≤_}
 use native.Mathlib.Omega.{arith}
 use lib.Dec.{T}
 use lib.Ieee.{Float, binary64, fits, le, lt}
 use Rattle.arith.specs.Notation.{nought}
 use Rattle.math.specs.declared.Interval.{Interval}
-use Rattle.order.proofs.Signed.{lt→le, nlt→le}
+use Rattle.order.proofs.Laws.{lt→le, nlt→le}
 use Rattle.lists.specs.Result.{got}
 use Rattle.lists.specs.Way.{Up, Down}
 use Rattle.lists.specs.Sub.{All, Sub, end, keep, skip}
@@ -43,7 +43,7 @@ module _ (s : Sampler) (range : Interval) (sound : Sound s range) where
   falling-ends : lt (range .hi) (range .lo) ≡ true → T (le (range .hi) (range .lo))
   falling-ends e = lt→le (range .hi) (range .lo) (rw e tt)
 
-  evenly-steady : (n : ℕ) → n ≤ 16384 → Steady (evenly range n)
+  evenly-steady : (n : ℕ) → n ≤ 2 ^ 53 → Steady (evenly range n)
   evenly-steady n h = go (lt (range .hi) (range .lo)) refl
     where
       go : (t : Bool) → lt (range .hi) (range .lo) ≡ t → Steady (evenly range n)
@@ -68,7 +68,7 @@ module _ (s : Sampler) (range : Interval) (sound : Sound s range) where
           (goods (sound .low) (sound .high) (sound .fit) w) (rising-ends e) (w .from) (w .to) (w .pairs))
 
   -- ---- what a caller cites
-  module _ (room : ℕ) (small : room ≤ 16384) (l : List Float) (e : sampleParams room s range ≡ got l) where
+  module _ (room : ℕ) (small : room ≤ 2 ^ 53) (l : List Float) (e : sampleParams room s range ≡ got l) where
     pub sampled-steady : Steady l
     sampled-steady =
         outcome-got l

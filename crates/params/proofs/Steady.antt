@@ -4,7 +4,7 @@ use mathlib.Core.List.{List, [], _∷_, reverse}
 use mathlib.Core.Logic.{⊎-elim}
 use lib.Dec.{T}
 use lib.Ieee.{Float}
-use Rattle.order.proofs.Signed.{number, total, lt→le, lt→nle}
+use Rattle.order.proofs.Laws.{number, le-total, lt→le, lt→nle}
 use Rattle.lists.specs.Way.{Up, Down}
 use Rattle.lists.specs.Sub.{none, more, Pairwise, empty, first, Sub}
 use Rattle.lists.proofs.Order.{sub-pairwise}
@@ -57,4 +57,4 @@ two-one-way a b (rise p) (after f) = one-no-fall b f
 pub two-steady : (a b : Float) → T (number a) → T (number b) → Steady (a ∷ b ∷ [])
 two-steady a b A B =
     ⊎-elim (λ h. rising (first (all-one h) (first none empty))) (λ h. falling (first (all-one h) (first none empty)))
-    (total a b A B)
+    (le-total a b A B)
