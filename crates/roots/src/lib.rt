@@ -102,8 +102,8 @@ fn estimate(t: f64) -> f64 {
     d + d * (w + w) * series
 }
 
-// The 53 digits of the root of the float with the pattern b, which is not subnormal: those of the
-// estimate where they pass the check.
+// The 53 digits of the root of a float with the digits of the pattern b, which is not subnormal, and
+// an exponent odd or even as b's: those of the estimate, if they pass the check.
 fn near_root(b: u64) -> u64
     ensures { λ r. ⌜ r ≡ nearRoot ((b % 2 ^ 52 + 2 ^ 52) * (2 - b / 2 ^ 52 % 2) * 2 ^ 52) ⌝ }
 {
@@ -130,11 +130,11 @@ fn positive(b: u64) -> u64
 {
     let field = b >> 52;
     if field == 0 {
-        // its digits, moved up to 53 of them, and how many they are
+        // its z digits, moved up to 53 of them, in a pattern that is not subnormal
         let zeros = u64::leading_zeros(b) as u64;
         let m = b << (zeros - 11);
         let z = 64 - zeros;
-        ((z + 1) / 2 + 484) * TWO_52 + by_digits(m * (2 - z % 2))
+        ((z + 1) / 2 + 484) * TWO_52 + near_root(z % 2 * TWO_52 + m % TWO_52)
     } else {
         ((field + 53) / 2 + 484) * TWO_52 + near_root(b)
     }
