@@ -15,11 +15,8 @@ extern "C" {
 const COUNT: usize = 4096;
 const ROUNDS: usize = 400;
 
-#[derive(Clone, Copy)]
-struct Case {
-    name: &'static str,
-    call: fn(f64) -> f64,
-}
+// a name and what it calls
+type Case = (&'static str, fn(f64) -> f64);
 
 #[inline(never)]
 fn nothing(x: f64) -> f64 {
@@ -91,12 +88,12 @@ impl Random {
 }
 
 // nanoseconds a call: the least over the rounds, for each case
-fn least(cases: &[Case], round: impl Fn(Case) -> f64) -> Vec<f64> {
-    let mut best = vec![f64::INFINITY; cases.len()];
+fn least(cases: [Case; 3], round: impl Fn(fn(f64) -> f64) -> f64) -> [f64; 3] {
+    let mut best = [f64::INFINITY; 3];
     for _ in 0..ROUNDS {
-        for (b, case) in best.iter_mut().zip(cases) {
+        for (b, (_, call)) in best.iter_mut().zip(cases) {
             let start = Instant::now();
-            black_box(round(*case));
+            black_box(round(call));
             *b = b.min(start.elapsed().as_nanos() as f64 / COUNT as f64);
         }
     }
@@ -104,62 +101,70 @@ fn least(cases: &[Case], round: impl Fn(Case) -> f64) -> Vec<f64> {
 }
 
 // a + answer * 1e-300 is a, but has to wait for the answer
-fn chained(case: Case, args: &[f64]) -> f64 {
-    let mut x = 1.0;
-    for a in args {
-        x = a + (case.call)(x) * 1e-300;
-    }
-    x
+fn chained(call: fn(f64) -> f64, args: &[f64]) -> f64 {
+    args.iter().fold(1.0, |x, a| a + call(x) * 1e-300)
 }
 
-fn apart(case: Case, args: &[f64]) -> f64 {
+fn apart(call: fn(f64) -> f64, args: &[f64]) -> f64 {
     let mut answers = [0.0; COUNT];
     for (r, a) in answers.iter_mut().zip(args) {
-        *r = (case.call)(*a);
+        *r = call(*a);
     }
     black_box(&answers)[COUNT - 1]
 }
 
 fn compare(ours: Case, theirs: Case, args: &[f64]) {
-    let cases = [Case { name: "", call: nothing }, ours, theirs];
-    let latency = least(&cases, |case| chained(case, args));
-    let throughput = least(&cases, |case| apart(case, args));
-    let (a, b) = (latency[1] - latency[0], latency[2] - latency[0]);
-    println!("{:<10} latency    {a:6.2} ns   {:<22} {b:6.2} ns   ratio {:.2}", ours.name, theirs.name, a / b);
-    let (a, b) = (throughput[1], throughput[2]);
-    println!("{:<10} throughput {a:6.2} ns   {:<22} {b:6.2} ns   ratio {:.2}", ours.name, theirs.name, a / b);
+    let report = |what, a: f64, b: f64| {
+        let (x, y, ratio) = (ours.0, theirs.0, a / b);
+        println!("{x:<8} {what:<10} {a:6.2} ns   {y:<22} {b:6.2} ns   ratio {ratio:.2}");
+    };
+    let cases = [("", nothing as fn(f64) -> f64), ours, theirs];
+    let [chain, a, b] = least(cases, |call| chained(call, args));
+    report("latency", a - chain, b - chain);
+    let [_, a, b] = least(cases, |call| apart(call, args));
+    report("throughput", a, b);
 }
 
 fn same(a: f64, b: f64) -> bool {
     a.to_bits() == b.to_bits() || a.is_nan() && b.is_nan()
 }
 
-// the answers are the same bits: on special values, then on random patterns and random angles
+// the answers are the same bits: on special values, on random patterns, and where roots come near
+// a midpoint or are whole, and angles are even steps
 fn agree(random: &mut Random) -> usize {
-    let special = [0.0, -0.0, 1.0, -1.0, 2.0, f64::INFINITY, f64::NEG_INFINITY, f64::NAN, f64::MAX, f64::MIN_POSITIVE, 5e-324];
-    let pattern = (0..1_000_000).map(|_| f64::from_bits(random.next())).collect::<Vec<_>>();
-    let near_one = (0..2000).map(|i| f64::from_bits(0x3FEFFFFFFFFFFC18 + i));
-    let squares = (1..100_000u64).map(|i| (i * i) as f64);
-    let mut tried = 0;
-    for x in special.into_iter().chain(pattern.iter().copied()).chain(near_one).chain(squares) {
+    let mut args = vec![
+        0.0,
+        -0.0,
+        1.0,
+        -1.0,
+        f64::INFINITY,
+        f64::NEG_INFINITY,
+        f64::NAN,
+    ];
+    args.extend([f64::MAX, f64::MIN_POSITIVE, 5e-324]);
+    args.extend((0..1_000_000).map(|_| f64::from_bits(random.next())));
+    args.extend((0..2000).map(|i| f64::from_bits(0x3FEFFFFFFFFFFC18 + i)));
+    args.extend((1..100_000u64).map(|i| (i * i) as f64));
+    args.extend((0..1_000_000).map(|i| (i as f64 - 5e5) * 1e-3));
+    for &x in &args {
         assert!(same(root(x), x.sqrt()), "root of {x:e}");
-        tried += 1;
-    }
-    for x in special.into_iter().chain(pattern.iter().copied()).chain((0..1_000_000).map(|i| (i as f64 - 5e5) * 1e-3)) {
         let (mut s, mut c) = (0.0, 0.0);
         unsafe { cs_sin_cos(x, &mut s, &mut c) };
-        let (rs, rc) = fixed_steps(x);
-        assert!(same(s, rs) && same(c, rc), "sin_cos of {x:e}");
-        tried += 1;
+        let (rust_s, rust_c) = fixed_steps(x);
+        assert!(same(s, rust_s) && same(c, rust_c), "sin_cos of {x:e}");
     }
-    tried
+    args.len()
 }
 
 fn main() {
     let mut random = Random(0x9E3779B97F4A7C15);
-    println!("{} answers the same, bit for bit", agree(&mut random));
+    println!("{} arguments give the same bits", agree(&mut random));
     let args: Vec<f64> = (0..COUNT).map(|_| random.float()).collect();
     let angles: Vec<f64> = (0..COUNT).map(|_| random.float() % 6.5).collect();
-    compare(Case { name: "root", call: root }, Case { name: "f64::sqrt", call: rust_sqrt }, &args);
-    compare(Case { name: "sin_cos", call: sin_cos }, Case { name: "the same steps in Rust", call: rust_sin_cos }, &angles);
+    compare(("root", root), ("f64::sqrt", rust_sqrt), &args);
+    compare(
+        ("sin_cos", sin_cos),
+        ("the same steps in Rust", rust_sin_cos),
+        &angles,
+    );
 }

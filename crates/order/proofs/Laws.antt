@@ -1,5 +1,6 @@
--- The laws of the order of floats that callers cite, in one place; each is proved in the module that its line names. x ≤ y is `T (le x y)`, x < y is `T (lt x y)`;
--- `number x` says that x is no NaN, `finite x` that it is no infinity either, `fits f x` that the format f holds x, and `Modest x` that x is from -2 ^ 60 to 2 ^ 60.
+-- The laws of the order of floats that callers cite, in one place; each is proved in the module that its line names.
+-- x ≤ y is `T (le x y)`, and x < y is `T (lt x y)`. `number x` says that x is no NaN, `finite x` that it is no infinity either,
+-- `fits f x` that the format f holds x, and `Modest x` that x is from -2 ^ 60 to 2 ^ 60.
 -- Assumes nothing.
 
 -- ≤ is reflexive and total on numbers, transitive, and at most each other means equal

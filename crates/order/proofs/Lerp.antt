@@ -62,7 +62,8 @@ module _ (f : Format) (n : ℕ) (np : 0 < n) (nb : n ≤ 2 ^ prec f) where
       let x = ofInt f (pos i) in
       let y = ofInt f (pos n) in
       let w = whole f i (le-trans h nb) in
-      above f zeroF (div f x y) (plus x * den y) (neg' x * den y) (plus y * den x) (zero-fits f) tt (div-rounds f x y (w .0) n-finite above-zero) (mul-pos above-zero (den-pos x))
+      above f zeroF (div f x y) (plus x * den y) (neg' x * den y) (plus y * den x) (zero-fits f) tt
+      (div-rounds f x y (w .0) n-finite above-zero) (mul-pos above-zero (den-pos x))
       (rw (w .2) (omega (arith, zero-mul (den y), zero-mul (plus y * den x))))
 
   pub quot-high : (i : ℕ) → i ≤ n → T (le (div f (ofInt f (pos i)) (ofInt f (pos n))) oneF)
@@ -70,7 +71,8 @@ module _ (f : Format) (n : ℕ) (np : 0 < n) (nb : n ≤ 2 ^ prec f) where
       let x = ofInt f (pos i) in
       let y = ofInt f (pos n) in
       let w = whole f i (le-trans h nb) in
-      under f oneF (div f x y) (plus x * den y) (neg' x * den y) (plus y * den x) (one-fits f) tt (div-rounds f x y (w .0) n-finite above-zero) (mul-pos above-zero (den-pos x))
+      under f oneF (div f x y) (plus x * den y) (neg' x * den y) (plus y * den x) (one-fits f) tt
+      (div-rounds f x y (w .0) n-finite above-zero) (mul-pos above-zero (den-pos x))
       (rw (w .2, w .1, whole f n nb .1) (small (den x) (den y)))
     where
       small : (a b : ℕ) → i * a * b * 1 + 0 * (n * b * a) ≤ 1 * (n * b * a) + 0 * b * 1
@@ -80,7 +82,8 @@ module _ (f : Format) (n : ℕ) (np : 0 < n) (nb : n ≤ 2 ^ prec f) where
   quot-finite i h = between zeroF (div f (ofInt f (pos i)) (ofInt f (pos n))) oneF tt tt (quot-low i h) (quot-high i h)
 
   quot-mono : (i j : ℕ) → i ≤ j → j ≤ n → T (le (div f (ofInt f (pos i)) (ofInt f (pos n))) (div f (ofInt f (pos j)) (ofInt f (pos n))))
-  quot-mono i j h k = div-mono-by f (ofInt f (pos i)) (ofInt f (pos j)) (ofInt f (pos n)) (whole f i (le-trans (le-trans h k) nb) .0) (whole f j (le-trans k nb) .0) n-finite above-zero (whole-le f i j h)
+  quot-mono i j h k = div-mono-by f (ofInt f (pos i)) (ofInt f (pos j)) (ofInt f (pos n)) (whole f i (le-trans (le-trans h k) nb) .0)
+      (whole f j (le-trans k nb) .0) n-finite above-zero (whole-le f i j h)
 
 -- ---- a product of finite floats, in either order
 unlike-comm : (s t : Bool) → unlike s t ≡ unlike t s
@@ -130,14 +133,18 @@ part-finite f (fin s m e) q F D Q l h =
     let k : plus q ≤ den q = omega (arith, le→ q oneF Q tt h, z, zero-mul (den q), mul-one (plus q)) in
     let R = mul-rounds f d q D Q in
     between (fin true m e) (mul f d q) (fin false m e) tt tt
-    (above f (fin true m e) (mul f d q) (plus d * plus q + neg' d * neg' q) (plus d * neg' q + neg' d * plus q) (den d * den q) (sized f true d F) tt R (mul-pos (den-pos d) (den-pos q)) (rw z (lower s (m * up e) k)))
-    (under f (fin false m e) (mul f d q) (plus d * plus q + neg' d * neg' q) (plus d * neg' q + neg' d * plus q) (den d * den q) (sized f false d F) tt R (mul-pos (den-pos d) (den-pos q)) (rw z (upper s (m * up e) k)))
+    (above f (fin true m e) (mul f d q) (plus d * plus q + neg' d * neg' q) (plus d * neg' q + neg' d * plus q) (den d * den q)
+    (sized f true d F) tt R (mul-pos (den-pos d) (den-pos q)) (rw z (lower s (m * up e) k)))
+    (under f (fin false m e) (mul f d q) (plus d * plus q + neg' d * neg' q) (plus d * neg' q + neg' d * plus q) (den d * den q)
+    (sized f false d F) tt R (mul-pos (den-pos d) (den-pos q)) (rw z (upper s (m * up e) k)))
   where
-    lower : (s : Bool) (a : ℕ) → plus q ≤ den q → 0 * (down e * den q) + (P s a * 0 + N s a * plus q) * down e ≤ (P s a * plus q + N s a * 0) * down e + a * (down e * den q)
+    lower : (s : Bool) (a : ℕ) → plus q ≤ den q
+        → 0 * (down e * den q) + (P s a * 0 + N s a * plus q) * down e ≤ (P s a * plus q + N s a * 0) * down e + a * (down e * den q)
     lower true a k = simp (zero-mul, mul-zero, zero-add) (under-law a (plus q) (down e) (den q) k)
     lower false a k = simp (zero-mul, mul-zero, zero-add, add-zero) (omega arith)
 
-    upper : (s : Bool) (a : ℕ) → plus q ≤ den q → (P s a * plus q + N s a * 0) * down e + 0 * (down e * den q) ≤ a * (down e * den q) + (P s a * 0 + N s a * plus q) * down e
+    upper : (s : Bool) (a : ℕ) → plus q ≤ den q
+        → (P s a * plus q + N s a * 0) * down e + 0 * (down e * den q) ≤ a * (down e * den q) + (P s a * 0 + N s a * plus q) * down e
     upper true a k = simp (zero-mul, mul-zero, zero-add) (omega arith)
     upper false a k = simp (zero-mul, mul-zero, add-zero) (under-law a (plus q) (down e) (den q) k)
 
@@ -145,9 +152,11 @@ part-finite f (fin s m e) q F D Q l h =
 abbrev pub lerp : Format → Float → Float → ℕ → ℕ → Float
 lerp f lo hi i n = add f lo (mul f (sub f hi lo) (div f (ofInt f (pos i)) (ofInt f (pos n))))
 
-module _ (f : Format) (lo hi : Float) (n i j : ℕ) (L : T (finite lo)) (D : T (finite (sub f hi lo))) (np : 0 < n) (nb : n ≤ 2 ^ prec f) (h : i ≤ j) (k : j ≤ n) where
+module _ (f : Format) (lo hi : Float) (n i j : ℕ) (L : T (finite lo)) (D : T (finite (sub f hi lo))) (np : 0 < n) (nb : n ≤ 2 ^ prec f)
+    (h : i ≤ j) (k : j ≤ n) where
   part : (u : ℕ) → u ≤ n → T (finite (mul f (sub f hi lo) (div f (ofInt f (pos u)) (ofInt f (pos n)))))
-  part u g = part-finite f (sub f hi lo) (div f (ofInt f (pos u)) (ofInt f (pos n))) (sub-fits f hi lo) D (quot-finite f n np nb u g) (quot-low f n np nb u g) (quot-high f n np nb u g)
+  part u g = part-finite f (sub f hi lo) (div f (ofInt f (pos u)) (ofInt f (pos n))) (sub-fits f hi lo) D (quot-finite f n np nb u g)
+      (quot-low f n np nb u g) (quot-high f n np nb u g)
 
   pub lerp-rises : T (le zeroF (sub f hi lo)) → T (le (lerp f lo hi i n) (lerp f lo hi j n))
   lerp-rises p =

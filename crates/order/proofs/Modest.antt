@@ -29,11 +29,15 @@ modest-finite x m = between (big 60 true) x (big 60 false) tt tt (m .0) (m .1)
 -- the two parts, each at most 2 ^ 60 denominators
 modest-parts : (x : Float) → Modest x → (plus x ≤ 1152921504606846976 * den x + neg' x) × (neg' x ≤ 1152921504606846976 * den x + plus x)
 modest-parts x m =
-    let F = modest-finite x m in
-    (omega (arith, le→ x (big 60 false) F tt (m .1), zero-mul (den x), mul-one (plus x), mul-one (neg' x)), omega (arith, le→ (big 60 true) x tt F (m .0), zero-mul (den x), mul-one (plus x), mul-one (neg' x)))
+    let F = modest-finite x m in (
+      omega (arith, le→ x (big 60 false) F tt (m .1), zero-mul (den x), mul-one (plus x), mul-one (neg' x)),
+      omega
+          (arith, le→ (big 60 true) x tt F (m .0), zero-mul (den x), mul-one (plus x), mul-one (neg' x)),
+    )
 
 -- one of the two is 0
-one-part : (x : Float) → (plus x ≤ 1152921504606846976 * den x + neg' x) × (neg' x ≤ 1152921504606846976 * den x + plus x) → plus x + neg' x ≤ 1152921504606846976 * den x
+one-part : (x : Float) → (plus x ≤ 1152921504606846976 * den x + neg' x) × (neg' x ≤ 1152921504606846976 * den x + plus x)
+    → plus x + neg' x ≤ 1152921504606846976 * den x
 one-part (fin true m e) h = omega arith
 one-part (fin false m e) h = omega arith
 one-part nan h = omega arith
@@ -51,7 +55,8 @@ both-fit : (s : Bool) → T (fits binary64 (big 62 s))
 unfolding fits
 both-fit s = tt
 
-law : (ph nh dh pl nl dl : ℕ) → ph + nh ≤ 1152921504606846976 * dh → pl + nl ≤ 1152921504606846976 * dl → ph * dl + nl * dh ≤ 4611686018427387904 * (dh * dl)
+law : (ph nh dh pl nl dl : ℕ) → ph + nh ≤ 1152921504606846976 * dh → pl + nl ≤ 1152921504606846976 * dl
+    → ph * dl + nl * dh ≤ 4611686018427387904 * (dh * dl)
 law ph nh dh pl nl dl h k =
     let a = mul-le-mul-right dl h in
     let b = mul-le-mul-right dh k in
@@ -83,17 +88,20 @@ sub-finite hi lo h l =
 -- and not below zero from lo ≤ hi
 pub sub-up : (hi lo : Float) → T (finite hi) → T (finite lo) → T (le lo hi) → T (le zeroF (sub binary64 hi lo))
 sub-up hi lo H L h =
-    above binary64 zeroF (sub binary64 hi lo) (plus hi * den lo + neg' lo * den hi) (neg' hi * den lo + plus lo * den hi) (den hi * den lo) (zero-fits binary64) tt (sub-rounds binary64 hi lo H L) (mul-pos (den-pos hi) (den-pos lo))
+    above binary64 zeroF (sub binary64 hi lo) (plus hi * den lo + neg' lo * den hi) (neg' hi * den lo + plus lo * den hi) (den hi * den lo)
+    (zero-fits binary64) tt (sub-rounds binary64 hi lo H L) (mul-pos (den-pos hi) (den-pos lo))
     (omega (arith, le→ lo hi L H h, zero-mul (den hi * den lo)))
 
 -- and not above it from hi ≤ lo
 pub sub-down : (hi lo : Float) → T (finite hi) → T (finite lo) → T (le hi lo) → T (le (sub binary64 hi lo) zeroF)
 sub-down hi lo H L h =
-    under binary64 zeroF (sub binary64 hi lo) (plus hi * den lo + neg' lo * den hi) (neg' hi * den lo + plus lo * den hi) (den hi * den lo) (zero-fits binary64) tt (sub-rounds binary64 hi lo H L) (mul-pos (den-pos hi) (den-pos lo))
+    under binary64 zeroF (sub binary64 hi lo) (plus hi * den lo + neg' lo * den hi) (neg' hi * den lo + plus lo * den hi) (den hi * den lo)
+    (zero-fits binary64) tt (sub-rounds binary64 hi lo H L) (mul-pos (den-pos hi) (den-pos lo))
     (omega (arith, le→ hi lo H L h, zero-mul (den hi * den lo)))
 
 -- ---- the midpoint 0.5 * (a + b) lies between a and b where a ≤ b
-pub middle : (a b : Float) → T (fits binary64 a) → T (fits binary64 b) → Modest a → Modest b → T (le a b) → T (le a (mul binary64 half (add binary64 a b))) × T (le (mul binary64 half (add binary64 a b)) b)
+pub middle : (a b : Float) → T (fits binary64 a) → T (fits binary64 b) → Modest a → Modest b → T (le a b)
+    → T (le a (mul binary64 half (add binary64 a b))) × T (le (mul binary64 half (add binary64 a b)) b)
 middle a b F G m k h =
     let A = modest-finite a m in
     let B = modest-finite b k in
@@ -102,13 +110,18 @@ middle a b F G m k h =
     (middle-low binary64 a b F G A B r t h, middle-high binary64 a b F G A B r t h)
 
 -- and between b and a where b ≤ a
-pub middle-down : (a b : Float) → T (fits binary64 a) → T (fits binary64 b) → Modest a → Modest b → T (le b a) → T (le b (mul binary64 half (add binary64 a b))) × T (le (mul binary64 half (add binary64 a b)) a)
+pub middle-down : (a b : Float) → T (fits binary64 a) → T (fits binary64 b) → Modest a → Modest b → T (le b a)
+    → T (le b (mul binary64 half (add binary64 a b))) × T (le (mul binary64 half (add binary64 a b)) a)
 middle-down a b F G m k h = rw (add-swap binary64 a b (modest-finite a m) (modest-finite b k)) (middle b a G F k m h)
 
 -- lo + (hi - lo) * (i / n) rises with i from lo ≤ hi, for n up to 2 ^ 53
-pub rises : (lo hi : Float) (n i j : ℕ) → Modest lo → Modest hi → 0 < n → n ≤ 2 ^ 53 → i ≤ j → j ≤ n → T (le lo hi) → T (le (lerp binary64 lo hi i n) (lerp binary64 lo hi j n))
-rises lo hi n i j l h np nb p q g = lerp-rises binary64 lo hi n i j (modest-finite lo l) (sub-finite hi lo h l) np nb p q (sub-up hi lo (modest-finite hi h) (modest-finite lo l) g)
+pub rises : (lo hi : Float) (n i j : ℕ) → Modest lo → Modest hi → 0 < n → n ≤ 2 ^ 53 → i ≤ j → j ≤ n → T (le lo hi)
+    → T (le (lerp binary64 lo hi i n) (lerp binary64 lo hi j n))
+rises lo hi n i j l h np nb p q g = lerp-rises binary64 lo hi n i j (modest-finite lo l) (sub-finite hi lo h l) np nb p q
+    (sub-up hi lo (modest-finite hi h) (modest-finite lo l) g)
 
 -- and falls from hi ≤ lo
-pub falls : (lo hi : Float) (n i j : ℕ) → Modest lo → Modest hi → 0 < n → n ≤ 2 ^ 53 → i ≤ j → j ≤ n → T (le hi lo) → T (le (lerp binary64 lo hi j n) (lerp binary64 lo hi i n))
-falls lo hi n i j l h np nb p q g = lerp-falls binary64 lo hi n i j (modest-finite lo l) (sub-finite hi lo h l) np nb p q (sub-down hi lo (modest-finite hi h) (modest-finite lo l) g)
+pub falls : (lo hi : Float) (n i j : ℕ) → Modest lo → Modest hi → 0 < n → n ≤ 2 ^ 53 → i ≤ j → j ≤ n → T (le hi lo)
+    → T (le (lerp binary64 lo hi j n) (lerp binary64 lo hi i n))
+falls lo hi n i j l h np nb p q g = lerp-falls binary64 lo hi n i j (modest-finite lo l) (sub-finite hi lo h l) np nb p q
+    (sub-down hi lo (modest-finite hi h) (modest-finite lo l) g)

@@ -1,4 +1,5 @@
--- Sums, differences, products and quotients of finite floats keep the order, or turn it. Nothing is asked of what they round to: an infinity is in order too.
+-- Sums, differences, products and quotients of finite floats keep the order, or turn it. Nothing is asked of what they round to: an
+-- infinity is in order too.
 -- Assumes nothing.
 use mathlib.Core.Path.{_≡_}
 use Prim.Native.Nat.{ℕ, _+_, _-_, _*_, _≤_, _<_}
@@ -18,7 +19,8 @@ add-law px nx dx py ny dy pz nz dz h = let a = mul-le-mul-right (dz * dz) h in s
 -- x ≤ y gives x + z ≤ y + z
 pub add-mono : (f : Format) (x y z : Float) → T (finite x) → T (finite y) → T (finite z) → T (le x y) → T (le (add f x z) (add f y z))
 add-mono f x y z a b c h =
-    rounds-le f (add f x z) (add f y z) (plus x * den z + plus z * den x) (neg' x * den z + neg' z * den x) (den x * den z) (plus y * den z + plus z * den y) (neg' y * den z + neg' z * den y) (den y * den z)
+    rounds-le f (add f x z) (add f y z) (plus x * den z + plus z * den x) (neg' x * den z + neg' z * den x) (den x * den z)
+    (plus y * den z + plus z * den y) (neg' y * den z + neg' z * den y) (den y * den z)
     (add-rounds f x z a c) (add-rounds f y z b c) (mul-pos (den-pos x) (den-pos z)) (mul-pos (den-pos y) (den-pos z))
     (add-law (plus x) (neg' x) (den x) (plus y) (neg' y) (den y) (plus z) (neg' z) (den z) (le→ x y a b h))
 
@@ -38,35 +40,47 @@ sub-turns f x y z a b c h = add-mono-right f (neg y) (neg x) z (neg-finite y b) 
 
 -- ---- products
 mul-law : (px nx dx py ny dy w nz dz : ℕ) → px * dy + ny * dx ≤ py * dx + nx * dy
-    → (px * (nz + w) + nx * nz) * (dy * dz) + (py * nz + ny * (nz + w)) * (dx * dz) ≤ (py * (nz + w) + ny * nz) * (dx * dz) + (px * nz + nx * (nz + w)) * (dy * dz)
+    → (px * (nz + w) + nx * nz) * (dy * dz) + (py * nz + ny * (nz + w)) * (dx * dz) ≤ (py * (nz + w) + ny * nz) * (dx * dz) +
+    (px * nz + nx * (nz + w)) * (dy * dz)
 mul-law px nx dx py ny dy w nz dz h = let a = mul-le-mul-right (w * dz) h in simp ring (omega (arith, simp ring at a))
 
 over : (p n : ℕ) → n ≤ p → n + (p - n) ≡ p
 over p n h = omega arith
 
-pub mul-mono-by : (f : Format) (x y z : Float) → T (finite x) → T (finite y) → T (finite z) → neg' z ≤ plus z → T (le x y) → T (le (mul f x z) (mul f y z))
+pub mul-mono-by : (f : Format) (x y z : Float) → T (finite x) → T (finite y) → T (finite z) → neg' z ≤ plus z → T (le x y)
+    → T (le (mul f x z) (mul f y z))
 mul-mono-by f x y z a b c g h =
-    rounds-le f (mul f x z) (mul f y z) (plus x * plus z + neg' x * neg' z) (plus x * neg' z + neg' x * plus z) (den x * den z) (plus y * plus z + neg' y * neg' z) (plus y * neg' z + neg' y * plus z) (den y * den z)
+    rounds-le f (mul f x z) (mul f y z) (plus x * plus z + neg' x * neg' z) (plus x * neg' z + neg' x * plus z) (den x * den z)
+    (plus y * plus z + neg' y * neg' z) (plus y * neg' z + neg' y * plus z) (den y * den z)
     (mul-rounds f x z a c) (mul-rounds f y z b c) (mul-pos (den-pos x) (den-pos z)) (mul-pos (den-pos y) (den-pos z))
-    (rw (over (plus z) (neg' z) g) at (mul-law (plus x) (neg' x) (den x) (plus y) (neg' y) (den y) (plus z - neg' z) (neg' z) (den z) (le→ x y a b h)))
+    (rw (over (plus z) (neg' z) g) at
+    (mul-law (plus x) (neg' x) (den x) (plus y) (neg' y) (den y) (plus z - neg' z) (neg' z) (den z) (le→ x y a b h)))
 
-pub mul-turns-by : (f : Format) (x y z : Float) → T (finite x) → T (finite y) → T (finite z) → plus z ≤ neg' z → T (le x y) → T (le (mul f y z) (mul f x z))
+pub mul-turns-by : (f : Format) (x y z : Float) → T (finite x) → T (finite y) → T (finite z) → plus z ≤ neg' z → T (le x y)
+    → T (le (mul f y z) (mul f x z))
 mul-turns-by f x y z a b c g h =
-    rounds-le f (mul f y z) (mul f x z) (plus y * plus z + neg' y * neg' z) (plus y * neg' z + neg' y * plus z) (den y * den z) (plus x * plus z + neg' x * neg' z) (plus x * neg' z + neg' x * plus z) (den x * den z)
+    rounds-le f (mul f y z) (mul f x z) (plus y * plus z + neg' y * neg' z) (plus y * neg' z + neg' y * plus z) (den y * den z)
+    (plus x * plus z + neg' x * neg' z) (plus x * neg' z + neg' x * plus z) (den x * den z)
     (mul-rounds f y z b c) (mul-rounds f x z a c) (mul-pos (den-pos y) (den-pos z)) (mul-pos (den-pos x) (den-pos z))
     (turned (plus x) (neg' x) (plus y) (neg' y) (plus z) (neg' z)
-    (rw (over (neg' z) (plus z) g) at (mul-law (plus x) (neg' x) (den x) (plus y) (neg' y) (den y) (neg' z - plus z) (plus z) (den z) (le→ x y a b h))))
+    (rw (over (neg' z) (plus z) g) at
+    (mul-law (plus x) (neg' x) (den x) (plus y) (neg' y) (den y) (neg' z - plus z) (plus z) (den z) (le→ x y a b h))))
   where
-    turned : (px nx py ny pz nz : ℕ) → (px * nz + nx * pz) * (den y * den z) + (py * pz + ny * nz) * (den x * den z) ≤ (py * nz + ny * pz) * (den x * den z) + (px * pz + nx * nz) * (den y * den z)
-        → (py * pz + ny * nz) * (den x * den z) + (px * nz + nx * pz) * (den y * den z) ≤ (px * pz + nx * nz) * (den y * den z) + (py * nz + ny * pz) * (den x * den z)
+    turned : (px nx py ny pz nz : ℕ)
+        → (px * nz + nx * pz) * (den y * den z) + (py * pz + ny * nz) * (den x * den z) ≤ (py * nz + ny * pz) * (den x * den z) +
+        (px * pz + nx * nz) * (den y * den z)
+        → (py * pz + ny * nz) * (den x * den z) + (px * nz + nx * pz) * (den y * den z) ≤ (px * pz + nx * nz) * (den y * den z) +
+        (py * nz + ny * pz) * (den x * den z)
     turned px nx py ny pz nz k = omega arith
 
 -- x ≤ y gives x * z ≤ y * z for a z not below zero
-pub mul-mono : (f : Format) (x y z : Float) → T (finite x) → T (finite y) → T (finite z) → T (le zeroF z) → T (le x y) → T (le (mul f x z) (mul f y z))
+pub mul-mono : (f : Format) (x y z : Float) → T (finite x) → T (finite y) → T (finite z) → T (le zeroF z) → T (le x y)
+    → T (le (mul f x z) (mul f y z))
 mul-mono f x y z a b c g h = mul-mono-by f x y z a b c (omega (arith, le→ zeroF z tt c g, zero-mul (den z))) h
 
 -- and y * z ≤ x * z for a z not above it
-pub mul-turns : (f : Format) (x y z : Float) → T (finite x) → T (finite y) → T (finite z) → T (le z zeroF) → T (le x y) → T (le (mul f y z) (mul f x z))
+pub mul-turns : (f : Format) (x y z : Float) → T (finite x) → T (finite y) → T (finite z) → T (le z zeroF) → T (le x y)
+    → T (le (mul f y z) (mul f x z))
 mul-turns f x y z a b c g h = mul-turns-by f x y z a b c (omega (arith, le→ z zeroF c tt g, zero-mul (den z))) h
 
 -- ---- quotients
@@ -81,5 +95,6 @@ div-mono-by f x y z a b c g h =
     (div-law (plus x) (neg' x) (den x) (plus y) (neg' y) (den y) (plus z) (den z) (le→ x y a b h))
 
 -- x ≤ y gives x / z ≤ y / z for a z above zero
-pub div-mono : (f : Format) (x y z : Float) → T (finite x) → T (finite y) → T (finite z) → T (lt zeroF z) → T (le x y) → T (le (div f x z) (div f y z))
+pub div-mono : (f : Format) (x y z : Float) → T (finite x) → T (finite y) → T (finite z) → T (lt zeroF z) → T (le x y)
+    → T (le (div f x z) (div f y z))
 div-mono f x y z a b c g h = div-mono-by f x y z a b c (omega (arith, lt→ zeroF z tt c g, zero-mul (den z))) h

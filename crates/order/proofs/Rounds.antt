@@ -1,4 +1,5 @@
--- Rounding keeps the order, for both signs, overflow and subnormal results included; and what each operation on finite floats rounds. Assumes nothing.
+-- Rounding keeps the order, for both signs, overflow and subnormal results included; and what each operation on finite floats rounds.
+-- Assumes nothing.
 use mathlib.Core.Path.{_≡_, refl, sym, ap, _∙_, subst}
 use mathlib.Core.Logic.{inl, inr}
 use Prim.Native.Nat.{ℕ, zero, suc, _+_, _-_, _*_, _^_, _≤_, _<_}
@@ -28,10 +29,12 @@ cond-neg false x y h = refl
 
 units-neg : (f : Format) (q k : ℕ) → units f true q k ≡ neg (units f false q k)
 unfolding units
-units-neg f q k = cond-neg (ltb (q * 2 ^ k) (2 ^ (low f + suc (emax f)))) (odd (suc (prec f)) false q k (low f)) (odd (suc (prec f)) true q k (low f)) (odd-neg (suc (prec f)) q k (low f))
+units-neg f q k = cond-neg (ltb (q * 2 ^ k) (2 ^ (low f + suc (emax f)))) (odd (suc (prec f)) false q k (low f))
+    (odd (suc (prec f)) true q k (low f)) (odd-neg (suc (prec f)) q k (low f))
 
 pub round-neg : (f : Format) (a c : ℕ) → round f true a c ≡ neg (round f false a c)
-round-neg f a c = round-is f true a c ∙ units-neg f (kept (prec f) (a * 2 ^ low f) c) (drop (prec f) (a * 2 ^ low f) c) ∙ ap neg (sym (round-is f false a c))
+round-neg f a c = round-is f true a c ∙ units-neg f (kept (prec f) (a * 2 ^ low f) c) (drop (prec f) (a * 2 ^ low f) c)
+    ∙ ap neg (sym (round-is f false a c))
 
 -- ---- what `round f false` gives has no sign
 abbrev Plain : Float → Type 0
@@ -50,7 +53,8 @@ cond-plain false x h = refl
 
 units-plain : (f : Format) (q k : ℕ) → Plain (units f false q k)
 unfolding units
-units-plain f q k = cond-plain (ltb (q * 2 ^ k) (2 ^ (low f + suc (emax f)))) (odd (suc (prec f)) false q k (low f)) (odd-plain (suc (prec f)) q k (low f))
+units-plain f q k = cond-plain (ltb (q * 2 ^ k) (2 ^ (low f + suc (emax f)))) (odd (suc (prec f)) false q k (low f))
+    (odd-plain (suc (prec f)) q k (low f))
 
 round-plain : (f : Format) (a c : ℕ) → Plain (round f false a c)
 round-plain f a c = subst Plain (sym (round-is f false a c)) (units-plain f (kept (prec f) (a * 2 ^ low f) c) (drop (prec f) (a * 2 ^ low f) c))
@@ -96,10 +100,13 @@ is-zero w k r K h = elim (eq-zero-or-pos w) [ inl z ↦ z | inr g ↦ absurd (ba
     bad : 0 < w * k → ⊥
     bad p = omega arith
 
-pub round-le : (f : Format) (s : Bool) (a c : ℕ) (t : Bool) (b d : ℕ) → 0 < c → 0 < d → P s a * d + N t b * c ≤ P t b * c + N s a * d → T (le (round f s a c) (round f t b d))
+pub round-le : (f : Format) (s : Bool) (a c : ℕ) (t : Bool) (b d : ℕ) → 0 < c → 0 < d → P s a * d + N t b * c ≤ P t b * c + N s a * d
+    → T (le (round f s a c) (round f t b d))
 round-le f false a c false b d C D h = round-mono f a c b d C D (omega (arith, zero-mul c, zero-mul d))
-round-le f true a c true b d C D h = rw (round-neg f a c, round-neg f b d) (neg-le (round f false b d) (round f false a c) (round-mono f b d a c D C (omega (arith, zero-mul c, zero-mul d))))
-round-le f true a c false b d C D h = subst (λ (z : Float). T (le z (round f false b d))) (sym (round-neg f a c)) (across (round f false a c) (round f false b d) (round-plain f a c) (round-plain f b d))
+round-le f true a c true b d C D h = rw (round-neg f a c, round-neg f b d)
+    (neg-le (round f false b d) (round f false a c) (round-mono f b d a c D C (omega (arith, zero-mul c, zero-mul d))))
+round-le f true a c false b d C D h = subst (λ (z : Float). T (le z (round f false b d))) (sym (round-neg f a c))
+    (across (round f false a c) (round f false b d) (round-plain f a c) (round-plain f b d))
 round-le f false a c true b d C D h =
     let u : a ≡ 0 = is-zero a d (b * c) D (omega (arith, zero-mul c, zero-mul d)) in
     let v : b ≡ 0 = is-zero b c (a * d) C (omega (arith, zero-mul c, zero-mul d)) in
@@ -110,7 +117,8 @@ abbrev pub Rounds : Format → Float → ℕ → ℕ → ℕ → Type 0
 Rounds f z p n c = (s : Bool) × (a : ℕ) × (z ≡ round f s a c) × (P s a + n ≡ p + N s a)
 
 -- so p / c - n / c ≤ p' / c' - n' / c' gives z ≤ w
-pub rounds-le : (f : Format) (z w : Float) (p n c p' n' c' : ℕ) → Rounds f z p n c → Rounds f w p' n' c' → 0 < c → 0 < c' → p * c' + n' * c ≤ p' * c + n * c' → T (le z w)
+pub rounds-le : (f : Format) (z w : Float) (p n c p' n' c' : ℕ) → Rounds f z p n c → Rounds f w p' n' c' → 0 < c → 0 < c'
+    → p * c' + n' * c ≤ p' * c + n * c' → T (le z w)
 rounds-le f z w p n c p' n' c' (s, a, e, v) (t, b, e', v') C C' h =
     let x = ap (λ (y : ℕ). y * c') v in
     let y = ap (λ (y : ℕ). y * c) v' in
@@ -129,23 +137,29 @@ sum-rounds f false a true b c = go (ltb a b) (ltb→lt a b) (nltb→le a b)
     go false h k = (false, a - b, refl, let l = k tt in omega arith)
 sum-rounds f true a false b c = go (ltb a b) (ltb b a) (ltb→lt a b) (nltb→le a b) (nltb→le b a)
   where
-    go : (o u : Bool) → (T o → a < b) → (T (not o) → b ≤ a) → (T (not u) → a ≤ b) → Rounds f (cond o (round f false (b - a) c) (round f u (a - b) c)) (0 + b) (a + 0) c
+    go : (o u : Bool) → (T o → a < b) → (T (not o) → b ≤ a) → (T (not u) → a ≤ b)
+        → Rounds f (cond o (round f false (b - a) c) (round f u (a - b) c)) (0 + b) (a + 0) c
     go true u h k j = (false, b - a, refl, let l = h tt in omega arith)
     go false true h k j = (true, a - b, refl, let l = k tt in omega arith)
     go false false h k j = (false, a - b, refl, let l = k tt in let r = j tt in omega arith)
 
 -- a sum
-pub add-rounds : (f : Format) (x y : Float) → T (finite x) → T (finite y) → Rounds f (add f x y) (plus x * den y + plus y * den x) (neg' x * den y + neg' y * den x) (den x * den y)
+pub add-rounds : (f : Format) (x y : Float) → T (finite x) → T (finite y)
+    → Rounds f (add f x y) (plus x * den y + plus y * den x) (neg' x * den y + neg' y * den x) (den x * den y)
 unfolding add
 add-rounds f nan y p q = absurd p
 add-rounds f (inf s) y p q = absurd p
 add-rounds f (fin s m e) nan p q = absurd q
 add-rounds f (fin s m e) (inf t) p q = absurd q
 add-rounds f (fin s m e) (fin t n d) p q =
-    subst (λ (w : ℕ). Rounds f (sum f s (m * up e * down d) t (n * up d * down e) (down e * down d)) w (N s (m * up e) * down d + N t (n * up d) * down e) (down e * down d))
-    (ap (λ (w : ℕ). w + P t (n * up d * down e)) (P-mul s (m * up e) (down d)) ∙ ap (λ (w : ℕ). P s (m * up e) * down d + w) (P-mul t (n * up d) (down e)))
-    (subst (λ (w : ℕ). Rounds f (sum f s (m * up e * down d) t (n * up d * down e) (down e * down d)) (P s (m * up e * down d) + P t (n * up d * down e)) w (down e * down d))
-    (ap (λ (w : ℕ). w + N t (n * up d * down e)) (N-mul s (m * up e) (down d)) ∙ ap (λ (w : ℕ). N s (m * up e) * down d + w) (N-mul t (n * up d) (down e)))
+    subst (λ (w : ℕ). Rounds f (sum f s (m * up e * down d) t (n * up d * down e) (down e * down d)) w
+    (N s (m * up e) * down d + N t (n * up d) * down e) (down e * down d))
+    (ap (λ (w : ℕ). w + P t (n * up d * down e)) (P-mul s (m * up e) (down d))
+    ∙ ap (λ (w : ℕ). P s (m * up e) * down d + w) (P-mul t (n * up d) (down e)))
+    (subst (λ (w : ℕ). Rounds f (sum f s (m * up e * down d) t (n * up d * down e) (down e * down d))
+    (P s (m * up e * down d) + P t (n * up d * down e)) w (down e * down d))
+    (ap (λ (w : ℕ). w + N t (n * up d * down e)) (N-mul s (m * up e) (down d))
+    ∙ ap (λ (w : ℕ). N s (m * up e) * down d + w) (N-mul t (n * up d) (down e)))
     (sum-rounds f s (m * up e * down d) t (n * up d * down e) (down e * down d)))
 
 -- the negation of a finite float is finite
@@ -162,7 +176,8 @@ neg-den (inf s) = refl
 neg-den (fin s m e) = refl
 
 -- a difference
-pub sub-rounds : (f : Format) (x y : Float) → T (finite x) → T (finite y) → Rounds f (sub f x y) (plus x * den y + neg' y * den x) (neg' x * den y + plus y * den x) (den x * den y)
+pub sub-rounds : (f : Format) (x y : Float) → T (finite x) → T (finite y)
+    → Rounds f (sub f x y) (plus x * den y + neg' y * den x) (neg' x * den y + plus y * den x) (den x * den y)
 unfolding sub
 sub-rounds f x y p q = rw (neg-plus y, neg-minus y, neg-den y) at (add-rounds f x (neg y) p (neg-finite y q))
 
@@ -173,7 +188,8 @@ mul-signs true false a b = omega (arith, zero-mul b, mul-comm a 0, zero-mul a)
 mul-signs true true a b = omega (arith, zero-mul b, mul-comm a 0, zero-mul a)
 
 -- a product
-pub mul-rounds : (f : Format) (x y : Float) → T (finite x) → T (finite y) → Rounds f (mul f x y) (plus x * plus y + neg' x * neg' y) (plus x * neg' y + neg' x * plus y) (den x * den y)
+pub mul-rounds : (f : Format) (x y : Float) → T (finite x) → T (finite y)
+    → Rounds f (mul f x y) (plus x * plus y + neg' x * neg' y) (plus x * neg' y + neg' x * plus y) (den x * den y)
 unfolding mul
 mul-rounds f nan y p q = absurd p
 mul-rounds f (inf s) y p q = absurd p
@@ -182,7 +198,8 @@ mul-rounds f (fin s m e) (inf t) p q = absurd q
 mul-rounds f (fin s m e) (fin t n d) p q = (unlike s t, m * up e * (n * up d), refl, mul-signs s t (m * up e) (n * up d))
 
 -- a quotient by a y above 0
-pub div-rounds : (f : Format) (x y : Float) → T (finite x) → T (finite y) → 0 < plus y → Rounds f (div f x y) (plus x * den y) (neg' x * den y) (plus y * den x)
+pub div-rounds : (f : Format) (x y : Float) → T (finite x) → T (finite y) → 0 < plus y
+    → Rounds f (div f x y) (plus x * den y) (neg' x * den y) (plus y * den x)
 unfolding div
 div-rounds f nan y p q g = absurd p
 div-rounds f (inf s) y p q g = absurd p
@@ -203,14 +220,16 @@ sum-swap f false a false b c = rw (add-comm a b)
 sum-swap f true a true b c = rw (add-comm a b)
 sum-swap f false a true b c = go (ltb a b) (ltb b a) (ltb→lt a b) (ltb→lt b a) (nltb→le a b) (nltb→le b a)
   where
-    go : (o u : Bool) → (T o → a < b) → (T u → b < a) → (T (not o) → b ≤ a) → (T (not u) → a ≤ b) → cond o (round f true (b - a) c) (round f false (a - b) c) ≡ cond u (round f false (a - b) c) (round f o (b - a) c)
+    go : (o u : Bool) → (T o → a < b) → (T u → b < a) → (T (not o) → b ≤ a) → (T (not u) → a ≤ b)
+        → cond o (round f true (b - a) c) (round f false (a - b) c) ≡ cond u (round f false (a - b) c) (round f o (b - a) c)
     go true true h i j k = let x = h tt in let y = i tt in absurd (lt-irrefl a (omega arith))
     go true false h i j k = refl
     go false true h i j k = refl
     go false false h i j k = let x = j tt in let y = k tt in let z : a - b ≡ b - a = omega arith in rw z
 sum-swap f true a false b c = sym (go (ltb b a) (ltb a b) (ltb→lt b a) (ltb→lt a b) (nltb→le b a) (nltb→le a b))
   where
-    go : (o u : Bool) → (T o → b < a) → (T u → a < b) → (T (not o) → a ≤ b) → (T (not u) → b ≤ a) → cond o (round f true (a - b) c) (round f false (b - a) c) ≡ cond u (round f false (b - a) c) (round f o (a - b) c)
+    go : (o u : Bool) → (T o → b < a) → (T u → a < b) → (T (not o) → a ≤ b) → (T (not u) → b ≤ a)
+        → cond o (round f true (a - b) c) (round f false (b - a) c) ≡ cond u (round f false (b - a) c) (round f o (a - b) c)
     go true true h i j k = let x = h tt in let y = i tt in absurd (lt-irrefl a (omega arith))
     go true false h i j k = refl
     go false true h i j k = refl

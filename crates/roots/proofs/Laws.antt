@@ -54,8 +54,10 @@ units-above-zero : (s : Bool) (e : ℤ) (v : Float) (a : ℕ) → Units v a → 
 units-above-zero s e nan a u = absurd u
 units-above-zero s e (inf t) a u = absurd u
 units-above-zero s e (fin true m d) a u = absurd (true≢false (u .0))
-units-above-zero true e (fin false m d) a u = le← (fin true zero e) (fin false m d) tt tt (omega (arith, zero-mul (up e), zero-mul (down e), zero-mul (down d)))
-units-above-zero false e (fin false m d) a u = le← (fin false zero e) (fin false m d) tt tt (omega (arith, zero-mul (up e), zero-mul (down e), zero-mul (down d)))
+units-above-zero true e (fin false m d) a u = le← (fin true zero e) (fin false m d) tt tt
+    (omega (arith, zero-mul (up e), zero-mul (down e), zero-mul (down d)))
+units-above-zero false e (fin false m d) a u = le← (fin false zero e) (fin false m d) tt tt
+    (omega (arith, zero-mul (up e), zero-mul (down e), zero-mul (down d)))
 
 units-below-top : (v : Float) (a : ℕ) → Units v a → T (le v (inf false))
 unfolding le
@@ -64,7 +66,8 @@ units-below-top (inf s) a u = absurd u
 units-below-top (fin s m e) a u = tt
 
 not-down : (m : ℕ) (e : ℤ) (t : Bool) (d : ℤ) → T (le (fin false (suc m) e) (fin t zero d)) → ⊥
-not-down m e t d h = bad t (suc m * up e) (down d) (down e) (up d) (mul-pos (mul-pos (zero-lt-suc m) (up-pos e)) (down-pos d)) (le→ (fin false (suc m) e) (fin t zero d) tt tt h)
+not-down m e t d h = bad t (suc m * up e) (down d) (down e) (up d) (mul-pos (mul-pos (zero-lt-suc m) (up-pos e)) (down-pos d))
+    (le→ (fin false (suc m) e) (fin t zero d) tt tt h)
   where
     bad : (t : Bool) (a b c u : ℕ) → 0 < a * b → a * b + N t (0 * u) * c ≤ P t (0 * u) * c + 0 * b → ⊥
     bad true a b c u p h = omega (arith, zero-mul u, zero-mul c)
@@ -82,7 +85,8 @@ root-monotone x y F G p h = go x y F G (kind x p) (kind y (le-trans zeroF x y p 
     go x y F G (above m e p) (above n d q) h =
         let N = nearest-root x F p in
         let M = nearest-root y G q in
-        between-roots (N .0) (M .0) (rootOf x) (rootOf y) (le-of-mul-le-mul-right (values-of-le x y (N .0) (2 ^ 1074) (M .0) (2 ^ 1074) p q (N .1) (M .1) h) (pow-pos 1074)) (N .2) (M .2)
+        between-roots (N .0) (M .0) (rootOf x) (rootOf y)
+        (le-of-mul-le-mul-right (values-of-le x y (N .0) (2 ^ 1074) (M .0) (2 ^ 1074) p q (N .1) (M .1) h) (pow-pos 1074)) (N .2) (M .2)
     go x y F G (above m e p) top h = let N = nearest-root x F p .2 in unfold rootOf in units-below-top (rootOf x) (N .a) (N .value)
     go x y F G top (zeros t d) h = absurd (unfold le in h)
     go x y F G top (above n d q) h = absurd (unfold le in h)
@@ -107,11 +111,13 @@ root-reflects x y F G h =
     nle→lt x y (number-right zeroF x p) (number-right zeroF y q) (λ (k : T (le y x)). lt→nle (rootOf x) (rootOf y) h (root-monotone y x G F q k))
 
 -- ---- a cut-off: √cut ≤ c < √up, so that √s is compared with c by comparing s with cut and up
-pub root-under : (s cut c : Float) → T (fits binary64 s) → T (fits binary64 cut) → T (le (rootOf cut) c) → T (le zeroF s) → T (le s cut) → T (le (rootOf s) c)
+pub root-under : (s cut c : Float) → T (fits binary64 s) → T (fits binary64 cut) → T (le (rootOf cut) c) → T (le zeroF s) → T (le s cut)
+    → T (le (rootOf s) c)
 root-under s cut c F G h p k = le-trans (rootOf s) (rootOf cut) c (root-monotone s cut F G p k) h
 
 pub root-over : (s up c : Float) → T (fits binary64 s) → T (fits binary64 up) → T (lt c (rootOf up)) → T (le up s) → T (lt c (rootOf s))
-root-over s up c F G h k = lt-le-trans c (rootOf up) (rootOf s) h (root-monotone up s G F (rooted up (number-right c (rootOf up) (lt→le c (rootOf up) h))) k)
+root-over s up c F G h k = lt-le-trans c (rootOf up) (rootOf s) h
+    (root-monotone up s G F (rooted up (number-right c (rootOf up) (lt→le c (rootOf up) h))) k)
 
 -- ---- the next float up has the next pattern
 units-rise : (x t y u : ℕ) → t < 2 ^ 52 → u < 2 ^ 52 → x * 2 ^ 52 + t ≤ y * 2 ^ 52 + u → unitsOf x t ≤ unitsOf y u
@@ -130,7 +136,8 @@ units-rise (suc x) t (suc y) u h k l =
 
 bits-rise : (b c : ℕ) → b ≤ c → c < 2047 * 2 ^ 52 → T (le (ofBits binary64 b) (ofBits binary64 c))
 bits-rise b c h k =
-    le-of-values (ofBits binary64 b) (ofBits binary64 c) (unitsOf (b / 2 ^ 52) (b % 2 ^ 52)) (2 ^ 1074) (unitsOf (c / 2 ^ 52) (c % 2 ^ 52)) (2 ^ 1074) (pow-pos 1074) (pow-pos 1074)
+    le-of-values (ofBits binary64 b) (ofBits binary64 c) (unitsOf (b / 2 ^ 52) (b % 2 ^ 52)) (2 ^ 1074) (unitsOf (c / 2 ^ 52) (c % 2 ^ 52))
+    (2 ^ 1074) (pow-pos 1074) (pow-pos 1074)
     (value-of b (lt-of-le-of-lt h k)) (value-of c k)
     (mul-le-mul-right (2 ^ 1074) (units-rise (b / 2 ^ 52) (b % 2 ^ 52) (c / 2 ^ 52) (c % 2 ^ 52) (omega arith) (omega arith) (omega arith)))
 
@@ -159,7 +166,10 @@ next-up (fin false m e) (fin false n d) a F G u h =
     let b = toBits binary64 x in
     let c = toBits binary64 y in
     subst (λ (z : Float). T (le (next x) z)) (ofBits-toBits binary64 y G)
-    (bits-rise (b + 1) c (not-above (b + 1) c (λ (k : c < b + 1). lt→nle x y h (subst (λ (z : Float). T (le z x)) (ofBits-toBits binary64 y G) (subst (λ (z : Float). T (le (ofBits binary64 c) z)) (ofBits-toBits binary64 x F) (bits-rise c b (omega arith) (below-infinity m e F)))))) (below-infinity n d G))
+    (bits-rise (b + 1) c (not-above (b + 1) c (λ (k : c < b + 1). lt→nle x y h
+    (subst (λ (z : Float). T (le z x)) (ofBits-toBits binary64 y G)
+    (subst (λ (z : Float). T (le (ofBits binary64 c) z)) (ofBits-toBits binary64 x F)
+    (bits-rise c b (omega arith) (below-infinity m e F)))))) (below-infinity n d G))
 
 same-test : (p q : Bool) → (T p → T q) → (T q → T p) → p ≡ q
 same-test true true f g = refl
@@ -173,7 +183,8 @@ units-number (inf s) a u = tt
 units-number (fin s m e) a u = tt
 
 -- a cut-off with √cut ≤ c < √(next cut), and an s not below zero
-module _ (cut c s : Float) (a : ℕ) (F : T (fits binary64 cut)) (u : Units cut a) (G : T (fits binary64 s)) (p : T (le zeroF s)) (low : T (le (rootOf cut) c)) (high : T (lt c (rootOf (next cut)))) where
+module _ (cut c s : Float) (a : ℕ) (F : T (fits binary64 cut)) (u : Units cut a) (G : T (fits binary64 s)) (p : T (le zeroF s))
+    (low : T (le (rootOf cut) c)) (high : T (lt c (rootOf (next cut)))) where
   beyond : T (lt cut s) → T (lt c (rootOf s))
   beyond h = root-over s (next cut) c G (ofBits-fits binary64 (toBits binary64 cut + 1)) high (next-up cut s a F G u h)
 
@@ -181,12 +192,14 @@ module _ (cut c s : Float) (a : ℕ) (F : T (fits binary64 cut)) (u : Units cut 
   pub root-cut-le : le (rootOf s) c ≡ le s cut
   root-cut-le =
       same-test (le (rootOf s) c) (le s cut)
-      (λ (h : T (le (rootOf s) c)). nlt→le cut s (units-number cut a u) (number-right zeroF s p) (not-T (lt cut s) (λ (t : T (lt cut s)). lt→nle c (rootOf s) (beyond t) h)))
+      (λ (h : T (le (rootOf s) c)). nlt→le cut s (units-number cut a u) (number-right zeroF s p)
+      (not-T (lt cut s) (λ (t : T (lt cut s)). lt→nle c (rootOf s) (beyond t) h)))
       (root-under s cut c G F low p)
 
   -- and c < √s is cut < s
   pub root-cut-lt : lt c (rootOf s) ≡ lt cut s
   root-cut-lt =
       same-test (lt c (rootOf s)) (lt cut s)
-      (λ (h : T (lt c (rootOf s))). nle→lt cut s (units-number cut a u) (number-right zeroF s p) (λ (k : T (le s cut)). lt→nle c (rootOf s) h (root-under s cut c G F low p k)))
+      (λ (h : T (lt c (rootOf s))). nle→lt cut s (units-number cut a u) (number-right zeroF s p)
+      (λ (k : T (le s cut)). lt→nle c (rootOf s) h (root-under s cut c G F low p k)))
       beyond

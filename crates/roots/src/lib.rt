@@ -6,6 +6,16 @@ ghost use lib.Dec.{T};
 ghost use lib.Ieee.{ofBits, binary64};
 ghost use Rattle.roots.specs.Root.{rootOf, nearRoot};
 
+const TWO_26: u64 = 67108864;
+
+const TWO_30: u64 = 1073741824;
+
+const TWO_32: u64 = 4294967296;
+
+const TWO_52: u64 = 4503599627370496;
+
+const TWO_53: u64 = 9007199254740992;
+
 // A root so far, and what is left: root * root + rest is the number.
 struct Digits {
     root: u64,
@@ -58,30 +68,31 @@ fn is_nearest(n: u64, q: u64) -> bool
     ensures { λ b. ⌜ (T b → q ≡ nearRoot (n * 2 ^ 52)) ⌝ }
 {
     let r = std::num::wrapping_sub_u64(q, 1);
-    if 9007199254740992 <= r {
+    if TWO_53 <= r {
         return false;
     }
-    // r = a * 2^26 + c, and n * 2^52 - r * r is worked out in parts that fit: each is small if q is near
+    // with r = a * 2^26 + c, n * 2^52 - r * r is worked out in parts, all small where q is near
     let a = r >> 26;
-    let c = r % 67108864;
+    let c = r % TWO_26;
     let d = std::num::wrapping_sub_u64(n, a * a);
-    if 1073741824 <= d {
+    if TWO_30 <= d {
         return false;
     }
-    let e = std::num::wrapping_sub_u64(d * 67108864, 2 * a * c);
-    if 4294967296 <= e {
+    let e = std::num::wrapping_sub_u64(d * TWO_26, 2 * a * c);
+    if TWO_32 <= e {
         return false;
     }
-    let rest = std::num::wrapping_sub_u64(e * 67108864, c * c);
-    // between (r + 1/2)^2 and (r + 3/2)^2
+    let rest = std::num::wrapping_sub_u64(e * TWO_26, c * c);
+    // n * 2^52 is above (r + 1/2)^2 and below (r + 3/2)^2
     r < rest && rest <= 3 * r + 2
 }
 
-// A float near the root of t, for a t from 1/2 to 2: nearly always the nearest.
+// A float near the root of t, for a t from 1/2 to 2: all but one time in 2,000 the nearest.
 fn estimate(t: f64) -> f64 {
-    // d is within 0.11% of the root, and 1.5 * 2^27, put on and taken off, leaves it 26 digits
+    // d is within 0.11% of the root. 1.5 * 2^27, put on and taken off, leaves it 26 digits, so that
+    // t - d * d is exact
     let d = (201326592.3069113 + 0.9351923 * t + 0.0508 * (t * t) * (t - 5.7479)) - 201326592.0;
-    // so t - d * d is exact. With w = (t - d * d) / 4t the root is d / √(1 - 4w)
+    // with w = (t - d * d) / 4t the root is d / √(1 - 4w) = d + 2dw(1 + 3w + 10w² + 35w³ + ..)
     let w = (t - d * d) * (0.25 / t);
     let ww = w * w;
     let series = 1.0
@@ -91,19 +102,20 @@ fn estimate(t: f64) -> f64 {
     d + d * (w + w) * series
 }
 
-// The digits of the root of the float with the pattern b, which is not subnormal: those of the
-// estimate where they pass the check.
+// The 53 digits of the root of a float with the digits of the pattern b, which is not subnormal, and
+// an exponent odd or even as b's: those of the estimate, if they pass the check.
 fn near_root(b: u64) -> u64
     ensures { λ r. ⌜ r ≡ nearRoot ((b % 2 ^ 52 + 2 ^ 52) * (2 - b / 2 ^ 52 % 2) * 2 ^ 52) ⌝ }
 {
-    let m = b % 4503599627370496 + 4503599627370496;
+    let m = b % TWO_52 + TWO_52;
     let n = m * (2 - (b >> 52) % 2);
-    // the pattern of the float times an even power of two, from 1/2 to 2
-    let t = b % 9007199254740992 + 1022 * 4503599627370496;
+    // the float times an even power of two is t, from 1/2 to 2, with the pattern m + place; and the
+    // pattern of its root is q + place
+    let t = b % TWO_53 + 1022 * TWO_52;
+    let place = t - m;
     let s = estimate(f64::from_bits(t));
     if s == s {
-        // m and q, the digits of t and of its root, have the same place
-        let q = std::num::wrapping_sub_u64(f64::to_bits(s), t - m);
+        let q = std::num::wrapping_sub_u64(f64::to_bits(s), place);
         if is_nearest(n, q) {
             return q;
         }
@@ -118,13 +130,13 @@ fn positive(b: u64) -> u64
 {
     let field = b >> 52;
     if field == 0 {
-        // the digits, moved up to 53, and how many they are
+        // its z digits, moved up to 53 of them, in a pattern that is not subnormal
         let zeros = u64::leading_zeros(b) as u64;
         let m = b << (zeros - 11);
         let z = 64 - zeros;
-        ((z + 1) / 2 + 484) * 4503599627370496 + by_digits(m * (2 - z % 2))
+        ((z + 1) / 2 + 484) * TWO_52 + near_root(z % 2 * TWO_52 + m % TWO_52)
     } else {
-        ((field + 53) / 2 + 484) * 4503599627370496 + near_root(b)
+        ((field + 53) / 2 + 484) * TWO_52 + near_root(b)
     }
 }
 

@@ -44,8 +44,12 @@ loop-holds c = search needs
 digit-requires : tie.Need-digit-requires Inv-loop μ-loop
 digit-requires c κs =
     let l = c .before .loop in
-    let s = c .before .before in
-    (l .inv .2, low (l .root) (l .rest) (w (s .args .n) (l .i) / 2 ^ 64) (l .inv .1) (in-loop (s .args .n) (l .i) (s .pre .1) (c .loop-test .taken)), omega arith)
+    let s = c .before .before in (
+      l .inv .2,
+      low (l .root) (l .rest) (w (s .args .n) (l .i) / 2 ^ 64) (l .inv .1)
+          (in-loop (s .args .n) (l .i) (s .pre .1) (c .loop-test .taken)),
+      omega arith,
+    )
 
 add-i : tie.Need-add-i Inv-loop μ-loop
 add-i c = search needs
@@ -80,7 +84,12 @@ add-result : tie.Need-add-result Inv-loop μ-loop
 add-result c =
     let l = c .before .before .loop in
     let s = c .before .before .before in
-    record { fits = more (l .root) (low (l .root) (l .rest) (s .args .n * 2 ^ 52) (all (s .args .n) (l .i) (l .root * l .root + l .rest) (l .inv .0) (c .before .loop-test .left) (l .inv .1)) (wide (s .args .n) (s .pre .1))) }
+    record {
+      fits = more (l .root)
+          (low (l .root) (l .rest) (s .args .n * 2 ^ 52)
+          (all (s .args .n) (l .i) (l .root * l .root + l .rest) (l .inv .0) (c .before .loop-test .left) (l .inv .1))
+          (wide (s .args .n) (s .pre .1)));
+    }
   where
     more : (r : ℕ) → r < 2 ^ 53 → r + 1 < 2 ^ 64
     more r h = omega arith
@@ -90,14 +99,17 @@ returns c =
     let l = c .before .before .loop in
     let s = c .before .before .before in
     let n = s .args .n in
-    is-next (l .root) (l .rest) (n * 2 ^ 52) (all n (l .i) (l .root * l .root + l .rest) (l .inv .0) (c .before .loop-test .left) (l .inv .1)) (wide n (s .pre .1)) (c .if1 .taken) (omega (arith, l .inv .2))
+    is-next (l .root) (l .rest) (n * 2 ^ 52)
+    (all n (l .i) (l .root * l .root + l .rest) (l .inv .0) (c .before .loop-test .left) (l .inv .1)) (wide n (s .pre .1)) (c .if1 .taken)
+    (omega (arith, l .inv .2))
 
 returns-2 : tie.Need-returns-2 Inv-loop μ-loop
 returns-2 c =
     let l = c .before .before .loop in
     let s = c .before .before .before in
     let n = s .args .n in
-    is-r (l .root) (l .rest) (n * 2 ^ 52) (all n (l .i) (l .root * l .root + l .rest) (l .inv .0) (c .before .loop-test .left) (l .inv .1)) (some n (s .pre .0)) (wide n (s .pre .1)) (c .if1 .left)
+    is-r (l .root) (l .rest) (n * 2 ^ 52) (all n (l .i) (l .root * l .root + l .rest) (l .inv .0) (c .before .loop-test .left) (l .inv .1))
+    (some n (s .pre .0)) (wide n (s .pre .1)) (c .if1 .left)
 
 pub by-digits-spec : {M : Type 1} → statement M
 by-digits-spec =

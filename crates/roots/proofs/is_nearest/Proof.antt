@@ -33,7 +33,10 @@ mul-wrapping-sub-u64-3 : tie.Need-mul-wrapping-sub-u64-3
 mul-wrapping-sub-u64-3 c = search needs
 
 mul-wrapping-sub-u64-4 : tie.Need-mul-wrapping-sub-u64-4
-mul-wrapping-sub-u64-4 c = let r = c .before .before .before .wrapping-sub-u64 .result in record { fits = below (2 * (r / 2 ^ 26)) (r % 2 ^ 26) (omega arith) (omega arith) }
+mul-wrapping-sub-u64-4 c = let r = c .before .before .before .wrapping-sub-u64 .result in record {
+  fits = below (2 * (r / 2 ^ 26))
+      (r % 2 ^ 26) (omega arith) (omega arith);
+}
 
 wrapping-sub-u64-requires-3 : tie.Need-wrapping-sub-u64-requires-3
 wrapping-sub-u64-requires-3 c κs = search needs
@@ -45,7 +48,10 @@ mul-wrapping-sub-u64-5 : tie.Need-mul-wrapping-sub-u64-5
 mul-wrapping-sub-u64-5 c = search needs
 
 mul-wrapping-sub-u64-6 : tie.Need-mul-wrapping-sub-u64-6
-mul-wrapping-sub-u64-6 c = let r = c .before .before .before .before .before .wrapping-sub-u64 .result in record { fits = below (r % 2 ^ 26) (r % 2 ^ 26) (omega arith) (omega arith) }
+mul-wrapping-sub-u64-6 c = let r = c .before .before .before .before .before .wrapping-sub-u64 .result in record {
+  fits = below
+      (r % 2 ^ 26) (r % 2 ^ 26) (omega arith) (omega arith);
+}
 
 wrapping-sub-u64-requires-4 : tie.Need-wrapping-sub-u64-requires-4
 wrapping-sub-u64-requires-4 c κs = search needs
@@ -62,7 +68,8 @@ returns-4 c = λ t.
     let b5 = c .before .before .before .before .before in
     let b3 = c .before .before .before in
     let b1 = c .before in
-    accepted (b7 .before .args .n) (b7 .before .args .q) (b7 .wrapping-sub-u64 .result) (b5 .wrapping-sub-u642 .result) (b3 .wrapping-sub-u643 .result) (b1 .wrapping-sub-u644 .result)
+    accepted (b7 .before .args .n) (b7 .before .args .q) (b7 .wrapping-sub-u64 .result) (b5 .wrapping-sub-u642 .result)
+    (b3 .wrapping-sub-u643 .result) (b1 .wrapping-sub-u644 .result)
     (b7 .before .pre) (b7 .wrapping-sub-u64 .ensures) (c .before .before .before .before .before .before .if1 .left)
     (b5 .wrapping-sub-u642 .ensures) (c .before .before .before .before .if2 .left)
     (b3 .wrapping-sub-u643 .ensures) (c .before .before .if3 .left)
