@@ -133,7 +133,7 @@ up = record {
   middle-of = λ a b A B h.
       let m = middle a b (A .fits64) (B .fits64) (A .modest) (B .modest) h in
       record { from = m .0; to = m .1; good = midpoint-good a b a b A B (m .0) (m .1) };
-  step-on = λ range n i j L H np nb p q h. rises (range .lo) (range .hi) n i j (L .modest) (H .modest) np (omega arith) p q h;
+  step-on = λ range n i j L H np nb p q h. rises (range .lo) (range .hi) n i j (L .modest) (H .modest) np nb p q h;
 }
 
 pub down : Order Down
@@ -144,5 +144,5 @@ down = record {
   middle-of = λ a b A B h.
       let m = middle-down a b (A .fits64) (B .fits64) (A .modest) (B .modest) h in
       record { from = m .1; to = m .0; good = midpoint-good a b b a B A (m .0) (m .1) };
-  step-on = λ range n i j L H np nb p q h. falls (range .lo) (range .hi) n i j (L .modest) (H .modest) np (omega arith) p q h;
+  step-on = λ range n i j L H np nb p q h. falls (range .lo) (range .hi) n i j (L .modest) (H .modest) np nb p q h;
 }

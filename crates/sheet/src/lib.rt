@@ -89,14 +89,7 @@ fn rows(s: &[u8], at: usize, shape: &[u8], wholes: &mut [u32], floats: &mut [f64
 }
 
 // A table: its line of names, then its rows.
-fn table(
-    s: &[u8],
-    at: usize,
-    names: &[u8],
-    shape: &[u8],
-    wholes: &mut [u32],
-    floats: &mut [f64],
-) -> Num
+fn table(s: &[u8], at: usize, names: &[u8], shape: &[u8], wholes: &mut [u32], floats: &mut [f64]) -> Num
     requires { ⌜ (at ≤ length (now s)) × (length (now s) ≤ size) × Roomy (now shape) (length (now wholes)) (length (now floats)) ⌝ }
     ensures { λ r. ⌜ (r ≡ toldList (now (s .entry)) (tableOf (now (names .entry)) (now (shape .entry)) .read (drop at (now (s .entry)))))
         × Stored (flat (wholesOf (shapeOf (now (shape .entry))))) (tableOf (now (names .entry)) (now (shape .entry)) .read (drop at (now (s .entry)))) (now (wholes .entry)) (now (wholes .exit))

@@ -95,10 +95,9 @@ returns-2 c =
     let l = c .before .loop in
     let b = l .inv .3 in
     let all = all-cells (a .s .now) (a .shape .now) (a .at) (l .p) (l .i) b (omega arith) in
-    let r : Read (a .s .now) (line (shapeOf (a .shape .now)) .read (drop (a .at) (a .s .now))) (b .taken) (l .p) = record { within = l .inv .0; is = all } in (
-      told-list (a .s .now) _ (b .taken) (l .i) (l .p) (sym (b .count)) r,
-      stored-got (λ l. l) _ (b .taken) (drop (l .p) (a .s .now)) (a .row .now) (l .row) all (l .inv .4),
-    )
+    let r : Read (a .s .now) (line (shapeOf (a .shape .now)) .read (drop (a .at) (a .s .now))) (b .taken) (l .p) = record { within = l .inv .0; is = all } in
+    (told-list (a .s .now) _ (b .taken) (l .i) (l .p) (sym (b .count)) r,
+    stored-got (λ l. l) _ (b .taken) (drop (l .p) (a .s .now)) (a .row .now) (l .row) all (l .inv .4))
 
 pub line-spec : {M : Type 1} → statement M
 line-spec =
