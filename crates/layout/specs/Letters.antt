@@ -1,12 +1,15 @@
--- Columns by letters, as the code names them.
-use mathlib.Core.Bool.{cond}
-use mathlib.Core.List.{List, map}
-use Prim.Native.Nat.{ℕ}
+-- Columns by letters, as the code names them; rows of nine numbers.
+use mathlib.Core.Bool.{true, false, cond}
+use mathlib.Core.List.{List, [], map, _++_}
+use Prim.Native.Nat.{ℕ, _-_}
+use lib.ListN.{length, replicate}
 use lib.Dec.{eqb}
+use Rattle.formats.specs.Format.{Parsed, bad, got}
 use Rattle.formats.specs.Table.{Field, float}
 use Rattle.text.specs.declared.Num.{Num}
 use Rattle.text.specs.declared.Num.the-variants.{Got, Bad}
 use Rattle.layout.specs.Layout.{u32, u64, kind}
+use Rattle.layout.specs.declared.Row.{Row}
 
 -- the first answer, or else the second
 unfoldable pub orTold : Num → Num → Num
@@ -19,3 +22,12 @@ fieldOf c = cond (eqb c 102) float (cond (eqb c 119) u32 (cond (eqb c 108) u64 k
 
 abbrev pub shapeOf : List ℕ → List Field
 shapeOf = map fieldOf
+
+-- n places: the numbers, then zeros
+unfoldable pub padded : {E : Type 0} → ℕ → E → List E → List E
+padded n zero l = l ++ replicate (n - length l) zero
+
+-- a line's numbers and the place behind it; or that it cannot be read
+unfoldable pub toldRow : List ℕ → Parsed (List ℕ) → Row
+toldRow s bad = record { ok = false; numbers = padded 9 0 []; next = 0 }
+toldRow s (got l rest) = record { ok = true; numbers = padded 9 0 l; next = length s - length rest }

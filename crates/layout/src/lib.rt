@@ -1,13 +1,20 @@
-// The leaves of the sheet's reader: a kind's word, and a cell of a line. The layout itself is specs/Layout.antt.
+// The leaves of the sheet's reader: a kind's word, a cell, and a line. The layout itself is specs/Layout.antt.
 ghost use mathlib.Core.Path.{_≡_};
-ghost use Prim.Native.Nat.{_≤_};
+ghost use Prim.Native.Nat.{_+_, _<_, _≤_};
 ghost use lib.ListN.{length, drop};
 ghost use Rattle.formats.specs.Format.{expect, readWord};
-ghost use Rattle.formats.specs.Table.{cell};
+ghost use Rattle.formats.specs.Table.{behind, cell, line};
 ghost use Rattle.text.specs.Told.{told};
 ghost use Rattle.layout.specs.Layout.{kinds};
-ghost use Rattle.layout.specs.Letters.{orTold, fieldOf};
+ghost use Rattle.layout.specs.Letters.{orTold, fieldOf, shapeOf, toldRow};
 use text::Num;
+
+// A line's numbers, zeros behind them, and the next place; no line where `ok` is false.
+pub struct Row {
+    pub ok: bool,
+    pub numbers: [u64; 9],
+    pub next: usize,
+}
 
 // The answer `first`, or else the word w for the number n.
 fn or_word(first: Num, s: &[u8], at: usize, w: &[u8], n: u64) -> Num
@@ -51,5 +58,42 @@ pub fn cell(s: &[u8], at: usize, letter: u8, end: u8) -> Num
     match kind(s, at) {
         Num::Got(k, p) => text::byte(s, p, end, k),
         Num::Bad => Num::Bad,
+    }
+}
+
+// The byte behind the value of column i.
+fn end_of(shape: &[u8], i: usize) -> u8
+    requires { ⌜ i < length (now shape) ⌝ }
+    ensures { λ r. ⌜ r ≡ behind (drop (i + 1) (now (shape .entry))) ⌝ }
+{
+    if i + 1 < shape.len() { b' ' } else { b'\n' }
+}
+
+// A line of at most nine columns.
+pub fn line(s: &[u8], at: usize, shape: &[u8]) -> Row
+    requires { ⌜ (at ≤ length (now s)) × (length (now shape) ≤ 9) ⌝ }
+    ensures { λ r. ⌜ r ≡ toldRow (now (s .entry)) (line (shapeOf (now (shape .entry))) .read (drop at (now (s .entry)))) ⌝ }
+{
+    let mut numbers = [0u64; 9];
+    let mut p = at;
+    let mut i = 0usize;
+    while i < shape.len() {
+        let letter = shape[i];
+        let end = end_of(shape, i);
+        let Num::Got(v, q) = cell(s, p, letter, end) else {
+            return Row {
+                ok: false,
+                numbers: [0u64; 9],
+                next: 0,
+            };
+        };
+        numbers[i] = v;
+        i += 1;
+        p = q;
+    }
+    Row {
+        ok: true,
+        numbers,
+        next: p,
     }
 }

@@ -3,3 +3,4 @@ pub mod Columns
 pub mod Stores
 pub mod Valid
 pub mod Turns
+pub mod Blocks

@@ -23,24 +23,24 @@ flat row [] = []
 flat row (a ∷ l) = row a ++ flat row l
 
 -- x y z
-abbrev pub points : RawSheet → List Float
-points raw = flat (floatsOf (fields pointColumns)) (raw .points)
+abbrev pub pointsIn : RawSheet → List Float
+pointsIn raw = flat (floatsOf (fields pointColumns)) (raw .points)
 
 -- kind first count
-abbrev pub curves : RawSheet → List ℕ
-curves raw = flat (wholesOf (fields curveColumns)) (raw .curves)
+abbrev pub curvesIn : RawSheet → List ℕ
+curvesIn raw = flat (wholesOf (fields curveColumns)) (raw .curves)
 
 -- p q
-abbrev pub reals : RawSheet → List Float
-reals raw = flat (floatsOf (fields curveColumns)) (raw .curves)
+abbrev pub realsIn : RawSheet → List Float
+realsIn raw = flat (floatsOf (fields curveColumns)) (raw .curves)
 
 -- curve sense
-abbrev pub parts : RawSheet → List ℕ
-parts raw = flat (wholesOf (fields segmentColumns)) (raw .segments)
+abbrev pub partsIn : RawSheet → List ℕ
+partsIn raw = flat (wholesOf (fields segmentColumns)) (raw .segments)
 
 -- lo hi
-abbrev pub ranges : RawSheet → List Float
-ranges raw = flat (floatsOf (fields segmentColumns)) (raw .segments)
+abbrev pub rangesIn : RawSheet → List Float
+rangesIn raw = flat (floatsOf (fields segmentColumns)) (raw .segments)
 
 -- ---- the tables afterwards
 -- n places: the numbers, then zeros

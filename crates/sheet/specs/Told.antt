@@ -11,10 +11,10 @@ use Rattle.layout.specs.Layout.{RawSheet}
 use Rattle.layout.specs.Letters.{shapeOf}
 use Rattle.rows.specs.Rows.{edgeOf, optionsOf}
 use Rattle.sheet.specs.Tables.{flat}
-use Rattle.sheet.specs.declared.Tables.{Tables}
-use Rattle.sheet.specs.declared.Tables.the-variants.{Counts, NoTables}
-use Rattle.sheet.specs.declared.Ends.{Ends}
-use Rattle.sheet.specs.declared.Ends.the-variants.{Pair, NoEnds}
+use Rattle.sheet.specs.declared.Counted.{Counted}
+use Rattle.sheet.specs.declared.Counted.the-variants.{Counts, NoTables}
+use Rattle.sheet.specs.declared.Finish.{Finish}
+use Rattle.sheet.specs.declared.Finish.the-variants.{Pair, NoEnds}
 
 -- a table and a single line by their names and letters
 abbrev pub tableOf : List ℕ → List ℕ → Format (List (List ℕ))
@@ -24,14 +24,18 @@ abbrev pub singleOf : List ℕ → List ℕ → Format (List ℕ)
 singleOf names shape = names before line (shapeOf shape)
 
 -- the three tables: their rows' counts and the place behind them
-unfoldable pub toldTables : List ℕ → Parsed (List (List ℕ) × (List (List ℕ) × List (List ℕ))) → Tables
+unfoldable pub toldTables : List ℕ → Parsed (List (List ℕ) × (List (List ℕ) × List (List ℕ))) → Counted
 toldTables s bad = NoTables
 toldTables s (got t rest) = Counts (length (t .0)) (length (t .1 .0)) (length (t .1 .1)) (length s - length rest)
 
 -- the edge and the options, and the place behind them
-unfoldable pub toldEnds : List ℕ → Parsed (List ℕ × List ℕ) → Ends
+unfoldable pub toldEnds : List ℕ → Parsed (List ℕ × List ℕ) → Finish
 toldEnds s bad = NoEnds
 toldEnds s (got t rest) = Pair (edgeOf (t .0)) (optionsOf (t .1)) (length s - length rest)
+
+-- what the three tables of the text have, as a sheet with nothing else
+abbrev pub onlyTables : List (List ℕ) × (List (List ℕ) × List (List ℕ)) → RawSheet
+onlyTables t = record { points = t .0; curves = t .1 .0; segments = t .1 .1; edge = []; options = [] }
 
 -- what was read is stored from the table's start on. After a failure nothing is said
 unfoldable pub Stored : {A E : Type 0} → (A → List E) → Parsed A → List E → List E → Type 0

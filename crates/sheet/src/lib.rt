@@ -9,9 +9,9 @@ ghost use Rattle.text.specs.Told.{toldList};
 ghost use Rattle.layout.specs.Layout.{size, tables, ends, readSheet};
 ghost use Rattle.layout.specs.Letters.{shapeOf};
 ghost use Rattle.rows.specs.Rows.{floatsOf, wholesOf};
-ghost use Rattle.sheet.specs.Tables.{answer, flat, points, curves, reals, parts, ranges, floatTable, wholeTable};
-ghost use Rattle.sheet.specs.Room.{Roomy};
-ghost use Rattle.sheet.specs.Told.{tableOf, singleOf, toldTables, toldEnds, Stored, Kept};
+ghost use Rattle.sheet.specs.Tables.{answer, flat, pointsIn, curvesIn, realsIn, partsIn, rangesIn, floatTable, wholeTable};
+ghost use Rattle.sheet.specs.Room.{Roomy, Lent};
+ghost use Rattle.sheet.specs.Told.{tableOf, singleOf, toldTables, toldEnds, onlyTables, Stored, Kept};
 use rows::RawEdge;
 use rows::RawOptions;
 use text::Num;
@@ -22,12 +22,14 @@ pub enum Sheet {
     Refused(u32),
 }
 
-enum Tables {
+// How many rows the three tables have, and the place behind them.
+enum Counted {
     Counts(u64, u64, u64, usize),
     NoTables,
 }
 
-enum Ends {
+// The edge, the options, and the place behind them.
+enum Finish {
     Pair(RawEdge, RawOptions, usize),
     NoEnds,
 }
@@ -89,7 +91,14 @@ fn rows(s: &[u8], at: usize, shape: &[u8], wholes: &mut [u32], floats: &mut [f64
 }
 
 // A table: its line of names, then its rows.
-fn table(s: &[u8], at: usize, names: &[u8], shape: &[u8], wholes: &mut [u32], floats: &mut [f64]) -> Num
+fn table(
+    s: &[u8],
+    at: usize,
+    names: &[u8],
+    shape: &[u8],
+    wholes: &mut [u32],
+    floats: &mut [f64],
+) -> Num
     requires { ⌜ (at ≤ length (now s)) × (length (now s) ≤ size) × Roomy (now shape) (length (now wholes)) (length (now floats)) ⌝ }
     ensures { λ r. ⌜ (r ≡ toldList (now (s .entry)) (tableOf (now (names .entry)) (now (shape .entry)) .read (drop at (now (s .entry)))))
         × Stored (flat (wholesOf (shapeOf (now (shape .entry))))) (tableOf (now (names .entry)) (now (shape .entry)) .read (drop at (now (s .entry)))) (now (wholes .entry)) (now (wholes .exit))
@@ -111,4 +120,97 @@ fn single(s: &[u8], at: usize, names: &[u8], shape: &[u8], row: &mut [u64]) -> N
         return Num::Bad;
     };
     line(s, p, shape, row)
+}
+
+// The three tables, from the text's start on. (A point has no whole number: nothing goes into `curves` for it.)
+fn tables(
+    s: &[u8],
+    points: &mut [f64],
+    curves: &mut [u32],
+    reals: &mut [f64],
+    parts: &mut [u32],
+    ranges: &mut [f64],
+) -> Counted
+    requires { ⌜ (length (now s) ≤ size) × Lent (length (now points)) (length (now curves)) (length (now reals)) (length (now parts)) (length (now ranges)) ⌝ }
+    ensures { λ r. ⌜ (r ≡ toldTables (now (s .entry)) (tables .read (now (s .entry))))
+        × Stored (λ t. pointsIn (onlyTables t)) (tables .read (now (s .entry))) (now (points .entry)) (now (points .exit))
+        × Stored (λ t. curvesIn (onlyTables t)) (tables .read (now (s .entry))) (now (curves .entry)) (now (curves .exit))
+        × Stored (λ t. realsIn (onlyTables t)) (tables .read (now (s .entry))) (now (reals .entry)) (now (reals .exit))
+        × Stored (λ t. partsIn (onlyTables t)) (tables .read (now (s .entry))) (now (parts .entry)) (now (parts .exit))
+        × Stored (λ t. rangesIn (onlyTables t)) (tables .read (now (s .entry))) (now (ranges .entry)) (now (ranges .exit)) ⌝ }
+{
+    let Num::Got(n, p) = table(s, 0, b"x y z\n", b"fff", curves, points) else {
+        return Counted::NoTables;
+    };
+    let Num::Got(m, q) = table(s, p, b"kind first count p q\n", b"kwwff", curves, reals) else {
+        return Counted::NoTables;
+    };
+    let Num::Got(k, next) = table(s, q, b"curve lo hi sense\n", b"wffw", parts, ranges) else {
+        return Counted::NoTables;
+    };
+    Counted::Counts(n, m, k, next)
+}
+
+// The edge, the empty line behind it, and the options.
+fn ends(s: &[u8], at: usize) -> Finish
+    requires { ⌜ at ≤ length (now s) ⌝ }
+    ensures { λ r. ⌜ r ≡ toldEnds (now (s .entry)) (ends .read (drop at (now (s .entry)))) ⌝ }
+{
+    let mut row = [0u64; 9];
+    let Num::Got(_, p) = single(
+        s,
+        at,
+        b"curve start end sense lo hi tolerance low high\n",
+        b"wwwwfffww",
+        &mut row,
+    ) else {
+        return Finish::NoEnds;
+    };
+    let edge = rows::edge_of(&row);
+    let Num::Got(_, q) = text::byte(s, p, b'\n', 0) else {
+        return Finish::NoEnds;
+    };
+    let Num::Got(_, next) = single(
+        s,
+        q,
+        b"deflection angle relative segments depth scale\n",
+        b"ffwlwf",
+        &mut row,
+    ) else {
+        return Finish::NoEnds;
+    };
+    Finish::Pair(edge, rows::options_of(&row), next)
+}
+
+// The sheet, with its numbers in the tables. A refusal leaves in them what had been read.
+fn try_sheet(
+    s: &[u8],
+    points: &mut [f64],
+    curves: &mut [u32],
+    reals: &mut [f64],
+    parts: &mut [u32],
+    ranges: &mut [f64],
+) -> Sheet
+    requires { ⌜ Lent (length (now points)) (length (now curves)) (length (now reals)) (length (now parts)) (length (now ranges)) ⌝ }
+    ensures { λ r. ⌜ (r ≡ answer (readSheet (now (s .entry))))
+        × Kept pointsIn (readSheet (now (s .entry))) (now (points .entry)) (now (points .exit))
+        × Kept curvesIn (readSheet (now (s .entry))) (now (curves .entry)) (now (curves .exit))
+        × Kept realsIn (readSheet (now (s .entry))) (now (reals .entry)) (now (reals .exit))
+        × Kept partsIn (readSheet (now (s .entry))) (now (parts .entry)) (now (parts .exit))
+        × Kept rangesIn (readSheet (now (s .entry))) (now (ranges .entry)) (now (ranges .exit)) ⌝ }
+{
+    if 65536 < s.len() {
+        return Sheet::Refused(10);
+    }
+    let Counted::Counts(n, m, k, at) = tables(s, points, curves, reals, parts, ranges) else {
+        return Sheet::Refused(10);
+    };
+    let Finish::Pair(edge, options, end) = ends(s, at) else {
+        return Sheet::Refused(10);
+    };
+    if end == s.len() {
+        Sheet::Read(n, m, k, edge, options)
+    } else {
+        Sheet::Refused(10)
+    }
 }

@@ -13,11 +13,11 @@ use Rattle.formats.specs.Format.{Parsed, bad, got, Format, andThen, _and_, none
 use Rattle.formats.specs.Table.{Field, float, whole, word, behind, cell, line}
 use Rattle.formats.proofs.Laws.{Lawful}
 use Rattle.formats.proofs.Tables.{Good, behind-no-digit, cell-law, line-law}
 use Rattle.layout.specs.Layout.{u32, u64, kind}
 use Rattle.layout.specs.Letters.{fieldOf, shapeOf}
 use Rattle.layout.proofs.Laws.{u32-good, u64-good, kind-good}
 use Rattle.text.proofs.Place.{Read}
-use Rattle.sheet.proofs.Onto.{onto, onto-onto, onto-nothing, onto-one}
+use Rattle.layout.proofs.Onto.{onto, onto-onto, onto-nothing, onto-one}
 
 -- ---- every letter's column is lawful
 pub letter-good : (c : ℕ) → Good (fieldOf c)

@@ -37,10 +37,11 @@ returns c =
     let a = c .before .before .before .before .before .before .before .before .args in
     let F = lines (line (shapeOf (a .shape .now))) in
     let q = tableOf (a .names .now) (a .shape .now) .read (drop (a .at) (a .s .now)) in
-    let none = before-bad (a .s .now) (a .names .now) F (a .at) (names-bad (a .s .now) (a .names .now) 0 (a .at) (sym (c .enum-told .given .1) ∙ c .before .before .word .ensures)) in
-    (told-no-list (a .s .now) q none,
-    stored-bad (flat (wholesOf (shapeOf (a .shape .now)))) q (a .wholes .now) (a .wholes .now) none,
-    stored-bad (flat (floatsOf (shapeOf (a .shape .now)))) q (a .floats .now) (a .floats .now) none)
+    let none = before-bad (a .s .now) (a .names .now) F (a .at) (names-bad (a .s .now) (a .names .now) 0 (a .at) (sym (c .enum-told .given .1) ∙ c .before .before .word .ensures)) in (
+      told-no-list (a .s .now) q none,
+      stored-bad (flat (wholesOf (shapeOf (a .shape .now)))) q (a .wholes .now) (a .wholes .now) none,
+      stored-bad (flat (floatsOf (shapeOf (a .shape .now)))) q (a .floats .now) (a .floats .now) none,
+    )
 
 rows-requires : tie.Need-rows-requires
 rows-requires c κs =
@@ -56,10 +57,11 @@ returns-2 : tie.Need-returns-2
 returns-2 c =
     let a = c .before .before .before .before .before .before .before .before .before .before .before .before .before .before .before .before .args in
     let q = tableOf (a .names .now) (a .shape .now) .read (drop (a .at) (a .s .now)) in
-    let same = sym (before-is (a .s .now) (a .names .now) (lines (line (shapeOf (a .shape .now)))) (a .at) (c .before .before .before .before .before .before .before .before .p .given .0 .1 .0) (named (c .before .before .before .before .before .before .before))) in
-    (c .before .before .before .before .rows .ensures .0 ∙ ap (toldList (a .s .now)) same,
-    stored-same (flat (wholesOf (shapeOf (a .shape .now)))) _ q (a .wholes .now) _ same (c .before .before .before .before .rows .ensures .1),
-    stored-same (flat (floatsOf (shapeOf (a .shape .now)))) _ q (a .floats .now) _ same (c .before .before .before .before .rows .ensures .2))
+    let same = sym (before-is (a .s .now) (a .names .now) (lines (line (shapeOf (a .shape .now)))) (a .at) (c .before .before .before .before .before .before .before .before .p .given .0 .1 .0) (named (c .before .before .before .before .before .before .before))) in (
+      c .before .before .before .before .rows .ensures .0 ∙ ap (toldList (a .s .now)) same,
+      stored-same (flat (wholesOf (shapeOf (a .shape .now)))) _ q (a .wholes .now) _ same (c .before .before .before .before .rows .ensures .1),
+      stored-same (flat (floatsOf (shapeOf (a .shape .now)))) _ q (a .floats .now) _ same (c .before .before .before .before .rows .ensures .2),
+    )
 
 pub table-spec : {M : Type 1} → statement M
 table-spec =

@@ -86,10 +86,11 @@ returns c =
     let l = c .before .before .before .loop in
     let i = l .inv in
     let all = all-rows (a .s .now) (a .shape .now) (a .at) (a .wholes .now) (a .floats .now) (c .before .before .before .before .before .before .before .before .pre .2) (l .wholes) (l .floats) (l .row) (l .p) (l .n) (l .w) (l .f) (l .inv) (omega arith) (c .if1 .taken) in
-    let r : Read (a .s .now) (lines (line (shapeOf (a .shape .now))) .read (drop (a .at) (a .s .now))) (i .taken) (l .p + 1) = record { within = omega arith; is = all } in
-    (told-list (a .s .now) (lines (line (shapeOf (a .shape .now))) .read (drop (a .at) (a .s .now))) (i .taken) (l .n) (l .p + 1) (sym (i .count)) r,
-    stored-got (flat (wholesOf (shapeOf (a .shape .now)))) (lines (line (shapeOf (a .shape .now))) .read (drop (a .at) (a .s .now))) (i .taken) _ (a .wholes .now) (l .wholes) all (i .wholes-are),
-    stored-got (flat (floatsOf (shapeOf (a .shape .now)))) (lines (line (shapeOf (a .shape .now))) .read (drop (a .at) (a .s .now))) (i .taken) _ (a .floats .now) (l .floats) all (i .floats-are))
+    let r : Read (a .s .now) (lines (line (shapeOf (a .shape .now))) .read (drop (a .at) (a .s .now))) (i .taken) (l .p + 1) = record { within = omega arith; is = all } in (
+      told-list (a .s .now) (lines (line (shapeOf (a .shape .now))) .read (drop (a .at) (a .s .now))) (i .taken) (l .n) (l .p + 1) (sym (i .count)) r,
+      stored-got (flat (wholesOf (shapeOf (a .shape .now)))) (lines (line (shapeOf (a .shape .now))) .read (drop (a .at) (a .s .now))) (i .taken) _ (a .wholes .now) (l .wholes) all (i .wholes-are),
+      stored-got (flat (floatsOf (shapeOf (a .shape .now)))) (lines (line (shapeOf (a .shape .now))) .read (drop (a .at) (a .s .now))) (i .taken) _ (a .floats .now) (l .floats) all (i .floats-are),
+    )
 
 slice-aggregate-line : tie.Need-slice-aggregate-line Inv-loop μ-loop
 slice-aggregate-line c = sym (c .before .before .before .before .loop .inv .row-same)
@@ -117,10 +118,11 @@ returns-2 c =
     let a = c .before .before .before .before .before .before .before .before .before .before .before .before .before .args in
     let l = c .before .before .before .before .before .before .before .before .loop in
     let line-bad = read-no-list (a .s .now) _ (sym (c .enum-told .given .1) ∙ c .before .before .before .line .ensures .0) in
-    let none = rows-bad (a .s .now) (a .shape .now) (a .at) (a .wholes .now) (a .floats .now) (c .before .before .before .before .before .before .before .before .before .before .before .before .before .pre .2) (l .wholes) (l .floats) (l .row) (l .p) (l .n) (l .w) (l .f) (l .inv) (omega arith) (c .before .before .before .before .before .if1 .left) line-bad in
-    (told-no-list (a .s .now) (lines (line (shapeOf (a .shape .now))) .read (drop (a .at) (a .s .now))) none,
-    stored-bad (flat (wholesOf (shapeOf (a .shape .now)))) (lines (line (shapeOf (a .shape .now))) .read (drop (a .at) (a .s .now))) (a .wholes .now) (l .wholes) none,
-    stored-bad (flat (floatsOf (shapeOf (a .shape .now)))) (lines (line (shapeOf (a .shape .now))) .read (drop (a .at) (a .s .now))) (a .floats .now) (l .floats) none)
+    let none = rows-bad (a .s .now) (a .shape .now) (a .at) (a .wholes .now) (a .floats .now) (c .before .before .before .before .before .before .before .before .before .before .before .before .before .pre .2) (l .wholes) (l .floats) (l .row) (l .p) (l .n) (l .w) (l .f) (l .inv) (omega arith) (c .before .before .before .before .before .if1 .left) line-bad in (
+      told-no-list (a .s .now) (lines (line (shapeOf (a .shape .now))) .read (drop (a .at) (a .s .now))) none,
+      stored-bad (flat (wholesOf (shapeOf (a .shape .now)))) (lines (line (shapeOf (a .shape .now))) .read (drop (a .at) (a .s .now))) (a .wholes .now) (l .wholes) none,
+      stored-bad (flat (floatsOf (shapeOf (a .shape .now)))) (lines (line (shapeOf (a .shape .now))) .read (drop (a .at) (a .s .now))) (a .floats .now) (l .floats) none,
+    )
 
 slice-aggregate-put-wholes : tie.Need-slice-aggregate-put-wholes Inv-loop μ-loop
 slice-aggregate-put-wholes c = sym (row-length (c .before))
@@ -160,10 +162,11 @@ returns-3 : tie.Need-returns-3 Inv-loop μ-loop
 returns-3 c =
     let a = c .before .before .before .before .before .before .args in
     let l = c .before .loop in
-    let none = rows-end (a .s .now) (a .shape .now) (a .at) (a .wholes .now) (a .floats .now) (c .before .before .before .before .before .before .pre .2) (l .wholes) (l .floats) (l .row) (l .p) (l .n) (l .w) (l .f) (l .inv) (omega arith) in
-    (told-no-list (a .s .now) (lines (line (shapeOf (a .shape .now))) .read (drop (a .at) (a .s .now))) none,
-    stored-bad (flat (wholesOf (shapeOf (a .shape .now)))) (lines (line (shapeOf (a .shape .now))) .read (drop (a .at) (a .s .now))) (a .wholes .now) (l .wholes) none,
-    stored-bad (flat (floatsOf (shapeOf (a .shape .now)))) (lines (line (shapeOf (a .shape .now))) .read (drop (a .at) (a .s .now))) (a .floats .now) (l .floats) none)
+    let none = rows-end (a .s .now) (a .shape .now) (a .at) (a .wholes .now) (a .floats .now) (c .before .before .before .before .before .before .pre .2) (l .wholes) (l .floats) (l .row) (l .p) (l .n) (l .w) (l .f) (l .inv) (omega arith) in (
+      told-no-list (a .s .now) (lines (line (shapeOf (a .shape .now))) .read (drop (a .at) (a .s .now))) none,
+      stored-bad (flat (wholesOf (shapeOf (a .shape .now)))) (lines (line (shapeOf (a .shape .now))) .read (drop (a .at) (a .s .now))) (a .wholes .now) (l .wholes) none,
+      stored-bad (flat (floatsOf (shapeOf (a .shape .now)))) (lines (line (shapeOf (a .shape .now))) .read (drop (a .at) (a .s .now))) (a .floats .now) (l .floats) none,
+    )
 
 pub rows-spec : {M : Type 1} → statement M
 rows-spec =

@@ -1,9 +1,9 @@
--- `sheet::end_of` meets its contract. Assumes nothing.
+-- `layout::end_of` meets its contract. Assumes nothing.
 use Prim.Native.Nat.{_+_}
-use Rattle.sheet.proofs.Columns.{behind-more, behind-last}
+use Rattle.layout.proofs.Columns.{behind-more, behind-last}
 use borrow.Author.Needs.{needs}
-use Rattle.sheet.proofs.end_of.Statement.{statement}
-use Rattle.sheet.proofs.end_of.Tie as tie
+use Rattle.layout.proofs.end_of.Statement.{statement}
+use Rattle.layout.proofs.end_of.Tie as tie
 
 add-if1 : tie.Need-add-if1
 add-if1 c = search needs
