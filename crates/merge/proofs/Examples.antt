@@ -18,14 +18,6 @@ at x y t = record { point = vec x y nought; param = t }
 abbrev polyline : List Sample
 polyline = at nought nought nought ∷ at one nought one ∷ at one one two ∷ []
 
-pub three : merged (mergeFloor quarter one) polyline ≡ polyline
+pub examples : merged (mergeFloor quarter one) polyline ∷ merged (mergeFloor quarter two) polyline ∷ [] ≡ polyline ∷ (at nought nought nought ∷ at one one two ∷ []) ∷ []
 unfolding mergeFloor merged withEnd spaced lastOf vLength vDot vSub rootOf add sub mul lt le isNan ofBits
-three = refl
-
-pub floor-one : mergeFloor quarter two ≡ one
-unfolding mergeFloor mul lt isNan ofBits
-floor-one = refl
-
-pub ends : merged (mergeFloor quarter two) polyline ≡ at nought nought nought ∷ at one one two ∷ []
-unfolding mergeFloor merged withEnd spaced lastOf vLength vDot vSub rootOf add sub mul lt le isNan ofBits
-ends = refl
+examples = refl

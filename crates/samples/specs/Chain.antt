@@ -16,6 +16,10 @@ use Rattle.samples.specs.declared.Counted.the-variants.{Refused, Count}
 abbrev pub width : ℕ
 width = 4
 
+-- the most records that a chain can have
+abbrev pub most : ℕ
+most = 16384
+
 -- the record of a sample
 abbrev pub row : Sample → List Float
 row s = s .point .x ∷ s .point .y ∷ s .point .z ∷ s .param ∷ []
@@ -43,6 +47,10 @@ samplesFrom c i (suc n) = sampleAt c i ∷ samplesFrom c (suc i) n
 -- the first n samples of a buffer
 abbrev pub samples : ℕ → List Float → List Sample
 samples n c = samplesFrom c 0 n
+
+-- a chain's points by their index, as `points[i]`; NaN past its end
+abbrev pub pointOf : List Sample → ℕ → Vec3
+pointOf l i = getD l i (record { point = vec nan nan nan; param = nan }) .point
 
 -- the last of d ∷ l
 unfoldable pub lastOf : {A : Type 0} → A → List A → A

@@ -9,6 +9,9 @@ ghost use Rattle.samples.specs.Chain.{width, row, pointAt, sampleAt};
 // How many floats a record has.
 pub const WIDTH: usize = 4;
 
+// The most records that a chain can have.
+pub const MOST: usize = 16384;
+
 // A point of a chain and the parameter beside it.
 pub struct Sample {
     pub point: Vec3,

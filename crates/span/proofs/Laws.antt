@@ -112,23 +112,23 @@ module _ (points : ℕ → Vec3) (tolerance angle : Float) where
     pub leaves : lt tolerance (w .distance) ≡ false → lt angle (turnOf points a b) ≡ false → Leave ≡ decision points tolerance angle a b
     leaves t u = by-tests false (rw (t, u))
 
--- ---- the decision looks at the points up to b alone
-module _ (p q : ℕ → Vec3) where
-  worst-same : (pa axis : Vec3) (n i : ℕ) (w : Worst) → ((j : ℕ) → j < i + n → p j ≡ q j) → worstFrom p pa axis n i w ≡ worstFrom q pa axis n i w
+-- ---- the decision looks at the points of its span alone
+module _ (p q : ℕ → Vec3) (n : ℕ) (same : (j : ℕ) → j < n → p j ≡ q j) where
+  worst-same : (pa axis : Vec3) (m i : ℕ) (w : Worst) → i + m ≤ n → worstFrom p pa axis m i w ≡ worstFrom q pa axis m i w
   unfolding worstFrom
   worst-same pa axis zero i w h = refl
-  worst-same pa axis (suc n) i w h = rw (h i (omega arith)) (worst-same pa axis n (suc i) _ (λ j l. h j (omega arith)))
+  worst-same pa axis (suc m) i w h = rw (same i (omega arith)) (worst-same pa axis m (suc i) _ (omega arith))
 
-  directions-same : (n a : ℕ) → ((j : ℕ) → j ≤ a + n → p j ≡ q j) → directions p n a ≡ directions q n a
+  directions-same : (m a : ℕ) → a + m < n → directions p m a ≡ directions q m a
   unfolding directions
   directions-same zero a h = refl
-  directions-same (suc n) a h = rw (h (suc a) (omega arith), h a (omega arith), directions-same n (suc a) (λ j l. h j (omega arith)))
+  directions-same (suc m) a h = rw (same (suc a) (omega arith), same a (omega arith), directions-same m (suc a) (omega arith))
 
-  pub decision-same : (tolerance angle : Float) (a b : ℕ) → a < b → ((j : ℕ) → j ≤ b → p j ≡ q j) → decision p tolerance angle a b ≡ decision q tolerance angle a b
+  pub decision-same : (tolerance angle : Float) (a b : ℕ) → a < n → b < n → decision p tolerance angle a b ≡ decision q tolerance angle a b
   unfolding decision worstOf turnOf
-  decision-same tolerance angle a b l h = rw (
-    h a (omega arith),
-    h b (omega arith),
-    worst-same (q a) (vSub (q b) (q a)) (b - (a + 1)) (a + 1) (worstIs nought a) (λ j g. h j (omega arith)),
-    directions-same (b - a) a (λ j g. h j (omega arith)),
+  decision-same tolerance angle a b g h = rw (
+    same a g,
+    same b h,
+    worst-same (q a) (vSub (q b) (q a)) (b - (a + 1)) (a + 1) (worstIs nought a) (omega arith),
+    directions-same (b - a) a (omega arith),
   )

@@ -1,0 +1,4 @@
+pub mod Loops
+pub mod Ways
+pub mod Laws
+pub mod Examples
