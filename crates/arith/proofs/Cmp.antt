@@ -47,16 +47,13 @@ ne-self (inf false) = refl
 ne-self (fin true m e) = let a = m * up e * down e in rw (is-true (eqb a a) (eqb-refl a))
 ne-self (fin false m e) = let a = m * up e * down e in rw (is-true (eqb a a) (eqb-refl a))
 
--- ---- min and max: b where the test t says so or a is a NaN, and else a
-module _ (t : Bool) (a b : Float) where
-  pub by-test : t ≡ true → b ≡ cond (t || isNan a) b a
-  by-test h = rw h
+-- ---- the test of min and max: t, or else whether a is a NaN
+module _ (t o : Bool) (a : Float) where
+  pub by-order : t ≡ true → o ≡ t → o ≡ (t || isNan a)
+  by-order h k = k ∙ rw h
 
-  pub by-nan : t ≡ false → ne a a ≡ true → b ≡ cond (t || isNan a) b a
-  by-nan h k = rw (h, ← ne-self, k)
-
-  pub by-neither : t ≡ false → ne a a ≡ false → a ≡ cond (t || isNan a) b a
-  by-neither h k = rw (h, ← ne-self, k)
+  pub by-nan : t ≡ false → o ≡ ne a a → o ≡ (t || isNan a)
+  by-nan h k = k ∙ rw h (ne-self a)
 
 -- ---- `x < 0.0` tells the sign of an x that is not 0
 pub not-minus : (m : ℕ) (e : ℤ) → lt (fin false m e) zeroF ≡ true → ⊥

@@ -45,26 +45,14 @@ pub fn abs(x: f64) -> f64
 pub fn min(a: f64, b: f64) -> f64
     ensures { λ r. ⌜ r ≡ minOf a b ⌝ }
 {
-    if b < a {
-        b
-    } else if a != a {
-        b
-    } else {
-        a
-    }
+    if b < a || a != a { b } else { a }
 }
 
 // f64::max, with the same choice at equal operands and at a NaN.
 pub fn max(a: f64, b: f64) -> f64
     ensures { λ r. ⌜ r ≡ maxOf a b ⌝ }
 {
-    if a < b {
-        b
-    } else if a != a {
-        b
-    } else {
-        a
-    }
+    if a < b || a != a { b } else { a }
 }
 
 // f64::clamp, without its panic: only what is strictly below lower or above upper changes, so a
