@@ -1,0 +1,281 @@
+// Reads lines `NAME BITS..` from standard input and writes a line of 16 hex digits for each: the
+// answer's bits, of a NaN 7ff8000000000000; `?` for a malformed line. One space between, floats by
+// their bits as 16 lowercase hex digits, clamp's operands in the order x, lower, upper.
+ghost use mathlib.Core.Path.{_≡_};
+ghost use Prim.Native.Nat.{_+_, _≤_, _<_};
+ghost use lib.Ieee.{binary64, toBits};
+use libc::STDIN_FILENO;
+use libc::STDOUT_FILENO;
+use text::Num;
+
+// Names as numbers: their letters in base 256, behind a 1.
+const ROOT: u64 = 0x01726f6f74;
+
+const SIN: u64 = 0x0173696e;
+
+const COS: u64 = 0x01636f73;
+
+const ACOS: u64 = 0x0161636f73;
+
+const FLOOR: u64 = 0x01666c6f6f72;
+
+const CEIL: u64 = 0x016365696c;
+
+const ABS: u64 = 0x01616273;
+
+const MIN: u64 = 0x016d696e;
+
+const MAX: u64 = 0x016d6178;
+
+const CLAMP: u64 = 0x01636c616d70;
+
+// The answer to a line.
+enum Answer {
+    Value(f64),
+    Malformed,
+}
+
+// How many bytes of the line are kept, and how many of the output wait.
+struct Kept {
+    line: usize,
+    out: usize,
+}
+
+// The line's name, of at most five letters, and the place behind the space that ends it.
+fn name(line: &[u8]) -> Num {
+    let mut v = 1u64;
+    let mut i = 0usize;
+    while i < 6 {
+        if line.len() <= i {
+            return Num::Bad;
+        }
+        let b = line[i];
+        if b == b' ' {
+            return Num::Got(v, i + 1);
+        }
+        v = v % 0x100000000000000 * 256 + (b as u64);
+        i += 1;
+    }
+    Num::Bad
+}
+
+// An operand that a space ends.
+fn next(line: &[u8], at: usize) -> Num {
+    if line.len() < at {
+        return Num::Bad;
+    }
+    text::hex_then(line, at, b' ')
+}
+
+// An operand that the line's end ends.
+fn last(line: &[u8], at: usize) -> Num {
+    if line.len() < at {
+        return Num::Bad;
+    }
+    match text::hex(line, at) {
+        Num::Got(v, p) => {
+            if p == line.len() {
+                Num::Got(v, p)
+            } else {
+                Num::Bad
+            }
+        }
+        Num::Bad => Num::Bad,
+    }
+}
+
+fn one(line: &[u8], at: usize, name: u64) -> Answer {
+    let Num::Got(operand, _) = last(line, at) else {
+        return Answer::Malformed;
+    };
+    let x = rows::float_of(operand);
+    match name {
+        ROOT => Answer::Value(roots::root(x)),
+        SIN => Answer::Value(trig::sin(x)),
+        COS => Answer::Value(trig::cos(x)),
+        ACOS => Answer::Value(trig::acos(x)),
+        FLOOR => Answer::Value(arith::floor(x)),
+        CEIL => Answer::Value(arith::ceil(x)),
+        ABS => Answer::Value(arith::abs(x)),
+        _ => Answer::Malformed,
+    }
+}
+
+// min where name is MIN, and else max.
+fn two(line: &[u8], at: usize, name: u64) -> Answer {
+    let Num::Got(first, p) = next(line, at) else {
+        return Answer::Malformed;
+    };
+    let Num::Got(second, _) = last(line, p) else {
+        return Answer::Malformed;
+    };
+    let a = rows::float_of(first);
+    let b = rows::float_of(second);
+    if name == MIN {
+        Answer::Value(arith::min(a, b))
+    } else {
+        Answer::Value(arith::max(a, b))
+    }
+}
+
+fn three(line: &[u8], at: usize) -> Answer {
+    let Num::Got(first, p) = next(line, at) else {
+        return Answer::Malformed;
+    };
+    let Num::Got(second, q) = next(line, p) else {
+        return Answer::Malformed;
+    };
+    let Num::Got(third, _) = last(line, q) else {
+        return Answer::Malformed;
+    };
+    let x = rows::float_of(first);
+    let lower = rows::float_of(second);
+    let upper = rows::float_of(third);
+    Answer::Value(arith::clamp(x, lower, upper))
+}
+
+// The answer to the line of n bytes at the start of a buffer.
+fn answer_to(buffer: &[u8], n: usize) -> Answer {
+    if buffer.len() < n {
+        return Answer::Malformed;
+    }
+    let line = &buffer[..n];
+    match name(line) {
+        Num::Got(n, at) => match n {
+            MIN | MAX => two(line, at, n),
+            CLAMP => three(line, at),
+            _ => one(line, at, n),
+        },
+        Num::Bad => Answer::Malformed,
+    }
+}
+
+// The bits of x, with one pattern for every NaN.
+fn bits(x: f64) -> u64
+    ensures { λ r. ⌜ r ≡ toBits binary64 x ⌝ }
+{
+    if x != x {
+        0x7FF8000000000000
+    } else {
+        f64::to_bits(x)
+    }
+}
+
+// Sixteen hex digits of v, and a newline.
+fn put_bits(v: u64, out: &mut [u8; 4096], at: usize)
+    requires { ⌜ at + 17 ≤ 4096 ⌝ }
+{
+    let mut rest = v;
+    let mut i = 16usize;
+    while 0 < i {
+        i -= 1;
+        out[at + i] = text::char_of((rest % 16) as u8);
+        rest = rest / 16;
+    }
+    out[at + 16] = b'\n';
+}
+
+// The answer's line at a place of the output; answers the place behind it.
+fn put(answer: Answer, out: &mut [u8; 4096], at: usize) -> usize
+    requires { ⌜ at + 17 ≤ 4096 ⌝ }
+    ensures { λ r. ⌜ r ≤ 4096 ⌝ }
+{
+    match answer {
+        Answer::Value(x) => {
+            put_bits(bits(x), out, at);
+            at + 17
+        }
+        Answer::Malformed => {
+            out[at] = b'?';
+            out[at + 1] = b'\n';
+            at + 2
+        }
+    }
+}
+
+// The first n bytes of a buffer, written.
+fn write(buffer: &[u8], n: usize) {
+    if n <= buffer.len() {
+        io::write_all(STDOUT_FILENO, &buffer[..n]);
+    }
+}
+
+// The output written where a further line might not fit; answers how many bytes still wait.
+fn flushed(out: &[u8; 4096], waiting: usize) -> usize
+    requires { ⌜ waiting ≤ 4096 ⌝ }
+    ensures { λ r. ⌜ r + 17 ≤ 4096 ⌝ }
+{
+    if waiting <= 4079 {
+        return waiting;
+    }
+    write(out, waiting);
+    0
+}
+
+// One byte more of the input; a newline puts the line's answer into the output. No line of more
+// than 56 bytes is well formed, so the first 64 are enough to keep.
+fn step(b: u8, line: &mut [u8; 64], out: &mut [u8; 4096], kept: Kept) -> Kept
+    requires { ⌜ (kept .line ≤ 64) × (kept .out ≤ 4096) ⌝ }
+    ensures { λ r. ⌜ (r .line ≤ 64) × (r .out ≤ 4096) ⌝ }
+{
+    let n = kept.line;
+    if b == b'\n' {
+        let at = flushed(out, kept.out);
+        return Kept {
+            line: 0,
+            out: put(answer_to(line, n), out, at),
+        };
+    }
+    if n < 64 {
+        line[n] = b;
+        return Kept {
+            line: n + 1,
+            out: kept.out,
+        };
+    }
+    kept
+}
+
+fn feed(chunk: &[u8], line: &mut [u8; 64], out: &mut [u8; 4096], start: Kept) -> Kept
+    requires { ⌜ (start .line ≤ 64) × (start .out ≤ 4096) ⌝ }
+    ensures { λ r. ⌜ (r .line ≤ 64) × (r .out ≤ 4096) ⌝ }
+{
+    let mut kept = start;
+    let mut i = 0usize;
+    while i < chunk.len() {
+        kept = step(chunk[i], line, out, kept);
+        i += 1;
+    }
+    kept
+}
+
+// What the input left: a last line that no newline ended, and the output that waits.
+fn finish(line: &mut [u8; 64], out: &mut [u8; 4096], kept: Kept)
+    requires { ⌜ (kept .line ≤ 64) × (kept .out ≤ 4096) ⌝ }
+{
+    if kept.line == 0 {
+        write(out, kept.out);
+    } else {
+        let all = step(b'\n', line, out, kept);
+        write(out, all.out);
+    }
+}
+
+// All of the input, chunk by chunk. The loop counts its turns down, from a number that no run uses
+// up, since nothing says that an input ends.
+fn main() {
+    let mut chunk = io::large_buffer();
+    let mut line = [0u8; 64];
+    let mut out = io::buffer();
+    let mut kept = Kept { line: 0, out: 0 };
+    let mut turns = u64::MAX;
+    while 0 < turns {
+        let n = io::count(libc::read(STDIN_FILENO, &mut chunk), &chunk);
+        if n == 0 {
+            break;
+        }
+        kept = feed(&chunk[..n], &mut line, &mut out, kept);
+        turns -= 1;
+    }
+    finish(&mut line, &mut out, kept);
+}
