@@ -70,7 +70,6 @@ MUTANTS = [
     ("options.rs", ".clamp(0.5, 2.0)", ".clamp(0.5, 1.9)"),
     ("options.rs", ".clamp(0.5, 2.0)", ".clamp(0.6, 2.0)"),
     ("options.rs", "self.sag / 8.0", "self.sag / 9.0"),
-    ("options.rs", "if r > self.sag", "if r >= self.sag"),
     ("options.rs", "self.angle), 1e-3)", "self.angle), 1e-4)"),
     ("options.rs", ".clamp(1e-4, std::f64::consts::PI)", ".clamp(1e-3, std::f64::consts::PI)"),
     ("options.rs", ".clamp(1e-4, std::f64::consts::PI)", ".clamp(1e-4, 7.0)"),

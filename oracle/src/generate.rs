@@ -214,6 +214,10 @@ fn shape(draft: &mut Draft) -> Shape {
 /// The edge's lo and hi.
 fn range(random: &mut Random, shape: Shape) -> (f64, f64) {
     let span = shape.hi - shape.lo;
+    if span == 0.0 && random.percent(30) {
+        // Clamped to a natural range of one zero, or backwards to it.
+        return random.pick(&[(-1.0, -0.0), (-0.0, 1.0), (2.0, 5.0)]);
+    }
     let (a, b) = (random.unit(), random.unit());
     match random.below(40) {
         0..=19 => (shape.lo, shape.hi),
