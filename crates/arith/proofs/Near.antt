@@ -6,7 +6,7 @@ use native.Mathlib.Nat.{mul-le-mul-right, lt-of-mul-lt-mul-right, div-eq-of-lt-l
 use native.Mathlib.Omega.{arith}
 use mathlib.Core.Bool.{true, false}
 use lib.IntN.{pos, negsuc}
-use lib.Dec.{T, leb, eqb, leb→le, le→leb, lit<, lit≤, not-T}
+use lib.Dec.{T, leb, eqb, leb→le, le→leb, leb·suc-suc, lit<, lit≤, not-T}
 use lib.Ieee.{Float, nan, inf, fin, binary64, up, down, minus, add, lt, le, ofInt}
 use lib.Ieee.Bits.{is-true, is-false}
 use lib.Ieee.Fits.{ofInt-fits, add-fits}
@@ -20,7 +20,7 @@ use Rattle.order.proofs.Middle.{above, under}
 use Rattle.arith.specs.Floor.{floorOf}
 use Rattle.arith.specs.Notation.{_⊕_, _⊖_, count}
 use Rattle.arith.proofs.Cmp.{holds, refused, finite-number}
-use Rattle.arith.proofs.Floors.{part, picked, kept, int-value}
+use Rattle.arith.proofs.Floors.{part, picked, kept}
 use Rattle.arith.proofs.Whole.{bottom, top, Between, between, gap, int-le, sub-value, Shifted, shifted}
 
 -- 1.5 * 2 ^ 52, as a number and as a float
@@ -166,8 +166,15 @@ at-whole (fin false m e) S f h = kept false m e (multiple (m * up e) (down e) (S
 at-whole (fin true m e) S f h = kept true m e (multiple (m * up e) (down e) (base - S) (omega (arith, gap base S (down e))))
 
 -- ---- the three cases of `floor`
-abbrev oneF : Float
-oneF = fin false 1 (pos 0)
+-- base + 1
+abbrev nextF : Float
+nextF = fin false 6755399441055745 (pos 0)
+
+one-more : (k : ℕ) → minus (suc k) (suc base) ≡ minus k base
+one-more k =
+    let p : suc k - suc base ≡ k - base = omega arith in
+    let q : suc base - suc (suc k) ≡ base - suc k = omega arith in
+    rw (leb·suc-suc base k, p, q)
 
 module _ (x : Float) (a : le bottom (x ⊕ baseF) ≡ true) (b : lt (x ⊕ baseF) top ≡ true) where
   pub sum-is : Between (x ⊕ baseF)
@@ -179,13 +186,13 @@ module _ (x : Float) (a : le bottom (x ⊕ baseF) ≡ true) (b : lt (x ⊕ baseF
   off : x ⊕ baseF ⊖ baseF ≡ ofInt binary64 (minus (sum-is .number) base)
   off = sub-value (x ⊕ baseF) baseF (sum-is .number) base (sum-is .value) (refl, refl)
 
-  one-less : x ⊕ baseF ⊖ oneF ⊖ baseF ≡ ofInt binary64 (minus (sum-is .number - 1) base)
+  one-less : x ⊕ baseF ⊖ nextF ≡ ofInt binary64 (minus (sum-is .number - 1) base)
   one-less =
-      let S = sum-is .number in
-      let h : S - 1 ≤ 2 ^ 53 = omega (arith, sum-is .high) in
-      let p : minus S 1 ≡ pos (S - 1) = rw (is-true (leb 1 S) (le→leb 1 S one-at-least)) in
-      let e : x ⊕ baseF ⊖ oneF ≡ count (S - 1) = sub-value (x ⊕ baseF) oneF S 1 (sum-is .value) (refl, refl) ∙ ap (ofInt binary64) p in
-      ap (λ (z : Float). z ⊖ baseF) e ∙ sub-value (count (S - 1)) baseF (S - 1) base (int-value (S - 1) h) (refl, refl)
+      let k = sum-is .number - 1 in
+      let e : sum-is .number ≡ suc k = omega (arith, one-at-least) in
+      sub-value (x ⊕ baseF) nextF (sum-is .number) (suc base) (sum-is .value) (refl, refl)
+      ∙ ap (λ (n : ℕ). ofInt binary64 (minus n (suc base))) e
+      ∙ ap (ofInt binary64) (one-more k)
 
   pub is-near : Near x (sum-is .number)
   is-near = near x (sum-is .number) one-at-least (sum-is .high) (sum-is .is)
@@ -195,7 +202,7 @@ module _ (x : Float) (a : le bottom (x ⊕ baseF) ≡ true) (b : lt (x ⊕ baseF
       subst (λ (z : Float). Shifted z (sum-is .number) base) (sym off)
       (shifted (sum-is .number) base (le-of-lt (sum-is .high)) (lit≤ tt))
 
-  pub floor-below : lt x (x ⊕ baseF ⊖ baseF) ≡ true → x ⊕ baseF ⊖ oneF ⊖ baseF ≡ floorOf x
+  pub floor-below : lt x (x ⊕ baseF ⊖ baseF) ≡ true → x ⊕ baseF ⊖ nextF ≡ floorOf x
   floor-below h =
       let S = sum-is .number in
       let k = S - 1 in

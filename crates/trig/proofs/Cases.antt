@@ -4,6 +4,8 @@ use Prim.Native.Nat.{ℕ}
 use lib.Ieee.{Float}
 use Rattle.trig.specs.Trig.{turns, reduced, quarter}
 
-pub by-case : {A : Type 0} (F : ℕ → Float → A) (t r : Float) (q n : ℕ) → (q ≡ quarter (turns t)) × (r ≡ reduced t (turns t)) → q ≡ n
-    → F n r ≡ F (quarter (turns t)) (reduced t (turns t))
-by-case F t r q n (a, b) e = ap (λ (i : ℕ). F i r) (sym e ∙ a) ∙ ap (λ (x : Float). F (quarter (turns t)) x) b
+module _ {A : Type 0} (F : ℕ → Float → A) (t k r : Float) (q n : ℕ) where
+  pub by-case : k ≡ turns t → r ≡ reduced t k → q ≡ quarter k → q ≡ n → F n r ≡ F (quarter (turns t)) (reduced t (turns t))
+  by-case a b c e =
+      ap (λ (i : ℕ). F i r) (sym e ∙ c ∙ ap quarter a)
+      ∙ ap (λ (x : Float). F (quarter (turns t)) x) (b ∙ ap (λ (x : Float). reduced t x) a)

@@ -8,12 +8,6 @@ pub struct SinCos {
     pub cos: f64,
 }
 
-// An angle as quarter turns and what is left.
-struct Reduced {
-    quarter: u64,
-    rest: f64,
-}
-
 // k mod 4 of a whole k, from 0 to 3.
 fn quarter(k: f64) -> u64
     ensures { λ r. ⌜ r ≡ quarter k ⌝ }
@@ -43,15 +37,18 @@ fn quarter_far(k: f64) -> u64
     }
 }
 
-// t less its k quarter turns, to the nearest: what is left, and k mod 4. π / 2 is in two parts.
-fn reduce(t: f64) -> Reduced
-    ensures { λ r. ⌜ (r .quarter ≡ quarter (turns t)) × (r .rest ≡ reduced t (turns t)) ⌝ }
+// k, the quarter turns in t, to the nearest.
+fn turns(t: f64) -> f64
+    ensures { λ k. ⌜ k ≡ turns t ⌝ }
 {
-    let k = arith::floor(t * 0.6366197723675814 + 0.5);
-    Reduced {
-        quarter: quarter(k),
-        rest: t - k * 1.5707963267341256 - k * 6.077100506506192e-11,
-    }
+    arith::floor(t * 0.6366197723675814 + 0.5)
+}
+
+// r, what is left of t after k quarter turns. π / 2 is in two parts.
+fn reduced(t: f64, k: f64) -> f64
+    ensures { λ r. ⌜ r ≡ reduced t k ⌝ }
+{
+    t - k * 1.5707963267341256 - k * 6.077100506506192e-11
 }
 
 // The sine of an r at most an eighth turn from 0.
@@ -90,10 +87,9 @@ fn cos_kernel(r: f64) -> f64
 pub fn sin(t: f64) -> f64
     ensures { λ s. ⌜ s ≡ sinOf t ⌝ }
 {
-    let m = reduce(t);
-    let q = m.quarter;
-    let r = m.rest;
-    match q {
+    let k = turns(t);
+    let r = reduced(t, k);
+    match quarter(k) {
         0 => sin_kernel(r),
         1 => cos_kernel(r),
         2 => -sin_kernel(r),
@@ -104,10 +100,9 @@ pub fn sin(t: f64) -> f64
 pub fn cos(t: f64) -> f64
     ensures { λ s. ⌜ s ≡ cosOf t ⌝ }
 {
-    let m = reduce(t);
-    let q = m.quarter;
-    let r = m.rest;
-    match q {
+    let k = turns(t);
+    let r = reduced(t, k);
+    match quarter(k) {
         0 => cos_kernel(r),
         1 => -sin_kernel(r),
         2 => -cos_kernel(r),
@@ -119,12 +114,11 @@ pub fn cos(t: f64) -> f64
 pub fn sin_cos(t: f64) -> SinCos
     ensures { λ s. ⌜ s ≡ sinCosOf t ⌝ }
 {
-    let m = reduce(t);
-    let q = m.quarter;
-    let r = m.rest;
+    let k = turns(t);
+    let r = reduced(t, k);
     let s = sin_kernel(r);
     let c = cos_kernel(r);
-    match q {
+    match quarter(k) {
         0 => SinCos { sin: s, cos: c },
         1 => SinCos { sin: c, cos: -s },
         2 => SinCos { sin: -s, cos: -c },

@@ -3,14 +3,20 @@ use borrow.Author.Needs.{needs}
 use mathlib.Core.Path.{_≡_, ap, _∙_}
 use native.Mathlib.Omega.{arith}
 use lib.Ieee.{neg}
-use Rattle.trig.specs.Trig.{sinOf, sinBy, turns}
+use Rattle.trig.specs.Trig.{sinOf, sinBy}
 use Rattle.trig.proofs.Cases.{by-case}
 use Rattle.trig.proofs.Modulo.{below-four}
 use Rattle.trig.proofs.sin.Statement.{statement}
 use Rattle.trig.proofs.sin.Tie as tie
 
-reduce-requires : tie.Need-reduce-requires
-reduce-requires c κs = search needs
+turns-requires : tie.Need-turns-requires
+turns-requires c κs = search needs
+
+reduced-requires : tie.Need-reduced-requires
+reduced-requires c κs = search needs
+
+quarter-requires : tie.Need-quarter-requires
+quarter-requires c κs = search needs
 
 sin-kernel-requires : tie.Need-sin-kernel-requires
 sin-kernel-requires c κs = search needs
@@ -28,36 +34,54 @@ returns : tie.Need-returns
 unfolding sinOf sinBy
 returns c =
     let d = c .before .before in
-    let m = d .reduce in
-    c .sin-kernel .ensures ∙ by-case sinBy (d .before .args .t) (m .result .rest) (m .result .quarter) 0 (m .ensures) (c .before .match .keys1)
+    let q = d .quarter in
+    let r = d .before .reduced in
+    let k = d .before .before .turns in
+    let t = d .before .before .before .args .t in
+    c .sin-kernel .ensures
+    ∙ by-case sinBy t (k .result) (r .result) (q .result) 0 (k .ensures) (r .ensures) (q .ensures) (c .before .match .keys1)
 
 returns-2 : tie.Need-returns-2
 unfolding sinOf sinBy
 returns-2 c =
     let d = c .before .before in
-    let m = d .reduce in
-    c .cos-kernel .ensures ∙ by-case sinBy (d .before .args .t) (m .result .rest) (m .result .quarter) 1 (m .ensures) (c .before .match .keys2)
+    let q = d .quarter in
+    let r = d .before .reduced in
+    let k = d .before .before .turns in
+    let t = d .before .before .before .args .t in
+    c .cos-kernel .ensures
+    ∙ by-case sinBy t (k .result) (r .result) (q .result) 1 (k .ensures) (r .ensures) (q .ensures) (c .before .match .keys2)
 
 returns-3 : tie.Need-returns-3
 unfolding sinOf sinBy
 returns-3 c =
     let d = c .before .before in
-    let m = d .reduce in
-    ap neg (c .sin-kernel2 .ensures) ∙ by-case sinBy (d .before .args .t) (m .result .rest) (m .result .quarter) 2 (m .ensures) (c .before .match .keys3)
+    let q = d .quarter in
+    let r = d .before .reduced in
+    let k = d .before .before .turns in
+    let t = d .before .before .before .args .t in
+    ap neg (c .sin-kernel2 .ensures)
+    ∙ by-case sinBy t (k .result) (r .result) (q .result) 2 (k .ensures) (r .ensures) (q .ensures) (c .before .match .keys3)
 
 returns-4 : tie.Need-returns-4
 unfolding sinOf sinBy
 returns-4 c =
     let d = c .before .before in
-    let m = d .reduce in
-    let e : m .result .quarter ≡ 3 = omega (arith, below-four (turns (d .before .args .t))) in
-    ap neg (c .cos-kernel2 .ensures) ∙ by-case sinBy (d .before .args .t) (m .result .rest) (m .result .quarter) 3 (m .ensures) e
+    let q = d .quarter in
+    let r = d .before .reduced in
+    let k = d .before .before .turns in
+    let t = d .before .before .before .args .t in
+    let e : q .result ≡ 3 = omega (arith, below-four (k .result)) in
+    ap neg (c .cos-kernel2 .ensures)
+    ∙ by-case sinBy t (k .result) (r .result) (q .result) 3 (k .ensures) (r .ensures) (q .ensures) e
 
 pub sin-spec : {M : Type 1} → statement M
 sin-spec =
     tie.close
     (tie.spec
-    reduce-requires
+    turns-requires
+    reduced-requires
+    quarter-requires
     sin-kernel-requires
     cos-kernel-requires
     sin-kernel-requires-2
