@@ -1,0 +1,75 @@
+-- When an edge is turned away: causes 1 to 6 of the scope's table, each a predicate of its own, in order. Definitions only.
+use mathlib.Core.Bool.{Bool, false, cond, _||_}
+use mathlib.Core.List.{List}
+use Prim.Native.Nat.{ℕ, _+_, _*_}
+use lib.ListN.{length, getD}
+use lib.Dec.{ltb, leb}
+use Rattle.brep.specs.declared.Curve.{Curve}
+use Rattle.brep.specs.declared.Curve.the-variants.{Line, Circle, Ellipse, Parabola, Polyline, Trimmed, Composite}
+use Rattle.brep.specs.declared.Edge.{Edge}
+use Rattle.brep.specs.Rows.{Tables}
+use Rattle.brep.specs.Tree.{segmentIn, rowIn, tree}
+use Rattle.nest.specs.Nest.{nesting}
+use Rattle.options.specs.declared.Options.{Options}
+use Rattle.bounds.specs.Some.{someBelow}
+use Rattle.bounds.specs.Bounds.{unbounded}
+use Rattle.forms.specs.Forms.{pointCount, curveCount, illFormed}
+use Rattle.causes.specs.declared.Verdict.{Verdict}
+use Rattle.causes.specs.declared.Verdict.the-variants.{Accepted, Refused}
+
+-- 1: a table above its size: 65,536 points, 4,096 rows, 4,096 segments
+unfoldable pub oversize : Tables → Bool
+oversize T =
+    ltb (3 * 65536) (length (T .points))
+    || ((ltb (3 * 4096) (length (T .curves)) || ltb (2 * 4096) (length (T .reals)))
+    || (ltb (2 * 4096) (length (T .parts)) || ltb (2 * 4096) (length (T .ranges))))
+
+-- 2 is `unbounded`, and 3 `illFormed`
+
+-- 4: a trim's base, or the curve of a composite's segment, not in a lower row than its own
+unfoldable pub highSegment : Tables → ℕ → ℕ → ℕ → Bool
+highSegment T row first j = leb row (segmentIn T (first + j) .curve)
+
+unfoldable pub notLower : Tables → ℕ → Curve → Bool
+notLower T row (Line origin direction) = false
+notLower T row (Circle frame radius) = false
+notLower T row (Ellipse frame major minor) = false
+notLower T row (Parabola frame focal) = false
+notLower T row (Polyline first count) = false
+notLower T row (Trimmed base range) = leb row base
+notLower T row (Composite first count) = someBelow count (highSegment T row first)
+
+unfoldable pub unorderedRow : Tables → ℕ → Bool
+unorderedRow T row = notLower T row (rowIn T row)
+
+abbrev pub unordered : Tables → Bool
+unordered T = someBelow (curveCount T) (unorderedRow T)
+
+-- 5: trims and composites nested deeper than 8
+unfoldable pub deepRow : Tables → ℕ → Bool
+deepRow T row = ltb 8 (nesting (tree T row))
+
+-- the same of a table of the rows' nestings
+unfoldable pub deepAt : List ℕ → ℕ → Bool
+deepAt nests row = ltb 8 (getD nests row 0)
+
+abbrev pub tooDeep : Tables → Bool
+tooDeep T = someBelow (curveCount T) (deepRow T)
+
+-- 6: the edge's curve, start, end, low or high outside its table
+unfoldable pub missing : Tables → Edge → Bool
+missing T e =
+    leb (curveCount T) (e .curve)
+    || ((leb (pointCount T) (e .start) || leb (pointCount T) (e .end))
+    || (leb (pointCount T) (e .low) || leb (pointCount T) (e .high)))
+
+-- the lowest that applies
+unfoldable pub verdict : Tables → Edge → Options → Verdict
+verdict T e o =
+    cond (oversize T) (Refused 1)
+    (cond (unbounded (T .points) (T .reals) (T .ranges) e o) (Refused 2)
+    (cond (illFormed T e o) (Refused 3)
+    (cond (unordered T) (Refused 4)
+    (cond (tooDeep T) (Refused 5)
+    (cond (missing T e) (Refused 6)
+    Accepted)))))

@@ -1,0 +1,212 @@
+// When an edge is turned away: causes 1 to 6, in order, the lowest that applies. Every row and segment is looked at.
+use bounds::either;
+use brep::Curve;
+use brep::Edge;
+use options::Options;
+ghost use mathlib.Core.Path.{_≡_};
+ghost use Prim.Native.Nat.{_≤_};
+ghost use lib.ListN.{getD};
+ghost use lib.Dec.{ltb};
+ghost use Rattle.brep.specs.Rows.{lent};
+ghost use Rattle.bounds.specs.Some.{someBelow};
+ghost use Rattle.causes.specs.Causes.{oversize, highSegment, unorderedRow, deepRow, deepAt, missing, verdict};
+
+pub enum Verdict {
+    Accepted,
+    Refused(u32),
+}
+
+// Cause 1: 65,536 points in threes, 4,096 rows in threes and pairs, 4,096 segments in pairs.
+fn oversize(points: &[f64], curves: &[u32], reals: &[f64], parts: &[u32], ranges: &[f64]) -> bool
+    ensures { λ r. ⌜ r ≡ oversize (lent (points .entry) (curves .entry) (reals .entry) (parts .entry) (ranges .entry)) ⌝ }
+{
+    let rows = either(12288 < curves.len(), 8192 < reals.len());
+    let segments = either(8192 < parts.len(), 8192 < ranges.len());
+    either(196608 < points.len(), either(rows, segments))
+}
+
+// Whether segment number j of the composite in row refers to that row or a higher one.
+fn high_segment(
+    points: &[f64],
+    curves: &[u32],
+    reals: &[f64],
+    parts: &[u32],
+    ranges: &[f64],
+    row: u32,
+    first: u32,
+    j: u32,
+) -> bool
+    ensures { λ r. ⌜ r ≡ highSegment (lent (points .entry) (curves .entry) (reals .entry) (parts .entry) (ranges .entry)) row first j ⌝ }
+{
+    let s = brep::segment_at(parts, ranges, first, j);
+    row <= s.curve
+}
+
+fn any_high_segment(
+    points: &[f64],
+    curves: &[u32],
+    reals: &[f64],
+    parts: &[u32],
+    ranges: &[f64],
+    row: u32,
+    first: u32,
+    count: u32,
+) -> bool
+    ensures { λ r. ⌜ r ≡ someBelow count (highSegment (lent (points .entry) (curves .entry) (reals .entry) (parts .entry) (ranges .entry)) row first) ⌝ }
+{
+    let mut j: u32 = 0;
+    while j < count {
+        if high_segment(points, curves, reals, parts, ranges, row, first, j) {
+            return true;
+        }
+        j += 1;
+    }
+    false
+}
+
+fn unordered_row(
+    points: &[f64],
+    curves: &[u32],
+    reals: &[f64],
+    parts: &[u32],
+    ranges: &[f64],
+    row: u32,
+) -> bool
+    ensures { λ r. ⌜ r ≡ unorderedRow (lent (points .entry) (curves .entry) (reals .entry) (parts .entry) (ranges .entry)) row ⌝ }
+{
+    let c = brep::row_at(points, curves, reals, row);
+    match c {
+        Curve::Line {
+            origin: _,
+            direction: _,
+        } => false,
+        Curve::Circle {
+            frame: _,
+            radius: _,
+        } => false,
+        Curve::Ellipse {
+            frame: _,
+            semi_major: _,
+            semi_minor: _,
+        } => false,
+        Curve::Parabola {
+            frame: _,
+            focal_dist: _,
+        } => false,
+        Curve::Polyline { first: _, count: _ } => false,
+        Curve::Trimmed { base, range: _ } => row <= base,
+        Curve::Composite { first, count } => {
+            any_high_segment(points, curves, reals, parts, ranges, row, first, count)
+        }
+    }
+}
+
+// Cause 4, in the first rows rows.
+fn unordered(
+    points: &[f64],
+    curves: &[u32],
+    reals: &[f64],
+    parts: &[u32],
+    ranges: &[f64],
+    rows: u32,
+) -> bool
+    ensures { λ r. ⌜ r ≡ someBelow rows (unorderedRow (lent (points .entry) (curves .entry) (reals .entry) (parts .entry) (ranges .entry))) ⌝ }
+{
+    let mut row: u32 = 0;
+    while row < rows {
+        if unordered_row(points, curves, reals, parts, ranges, row) {
+            return true;
+        }
+        row += 1;
+    }
+    false
+}
+
+fn deep_at(nests: &[u32], row: u32) -> bool
+    ensures { λ r. ⌜ r ≡ deepAt (now (nests .entry)) row ⌝ }
+{
+    8 < brep::int_at(nests, row as usize)
+}
+
+fn any_deep(nests: &[u32], rows: u32) -> bool
+    ensures { λ r. ⌜ r ≡ someBelow rows (deepAt (now (nests .entry))) ⌝ }
+{
+    let mut row: u32 = 0;
+    while row < rows {
+        if deep_at(nests, row) {
+            return true;
+        }
+        row += 1;
+    }
+    false
+}
+
+// Cause 5, in the first rows rows. Each row's nesting is computed once.
+fn too_deep(
+    points: &[f64],
+    curves: &[u32],
+    reals: &[f64],
+    parts: &[u32],
+    ranges: &[f64],
+    rows: u32,
+) -> bool
+    requires { ⌜ rows ≤ 4096 ⌝ }
+    ensures { λ r. ⌜ r ≡ someBelow rows (deepRow (lent (points .entry) (curves .entry) (reals .entry) (parts .entry) (ranges .entry))) ⌝ }
+{
+    let mut nests = [0u32; 4096];
+    nest::nest_table(points, curves, reals, parts, ranges, &mut nests, rows);
+    any_deep(&nests, rows)
+}
+
+// Cause 6.
+fn missing(
+    points: &[f64],
+    curves: &[u32],
+    reals: &[f64],
+    parts: &[u32],
+    ranges: &[f64],
+    edge: Edge,
+) -> bool
+    ensures { λ r. ⌜ r ≡ missing (lent (points .entry) (curves .entry) (reals .entry) (parts .entry) (ranges .entry)) edge ⌝ }
+{
+    let n = points.len() / 3;
+    let vertices = either(n <= edge.start as usize, n <= edge.end as usize);
+    let corners = either(n <= edge.low as usize, n <= edge.high as usize);
+    either(
+        curves.len() / 3 <= edge.curve as usize,
+        either(vertices, corners),
+    )
+}
+
+pub fn check(
+    points: &[f64],
+    curves: &[u32],
+    reals: &[f64],
+    parts: &[u32],
+    ranges: &[f64],
+    edge: Edge,
+    options: Options,
+) -> Verdict
+    ensures { λ r. ⌜ r ≡ verdict (lent (points .entry) (curves .entry) (reals .entry) (parts .entry) (ranges .entry)) edge options ⌝ }
+{
+    if oversize(points, curves, reals, parts, ranges) {
+        return Verdict::Refused(1);
+    }
+    let rows = (curves.len() / 3) as u32;
+    if bounds::unbounded(points, reals, ranges, edge, options) {
+        return Verdict::Refused(2);
+    }
+    if forms::ill_formed(points, curves, reals, parts, ranges, edge, options) {
+        return Verdict::Refused(3);
+    }
+    if unordered(points, curves, reals, parts, ranges, rows) {
+        return Verdict::Refused(4);
+    }
+    if too_deep(points, curves, reals, parts, ranges, rows) {
+        return Verdict::Refused(5);
+    }
+    if missing(points, curves, reals, parts, ranges, edge) {
+        return Verdict::Refused(6);
+    }
+    Verdict::Accepted
+}

@@ -1,0 +1,15 @@
+-- `forms::spare_q` meets its contract. Assumes nothing.
+use Rattle.forms.specs.Forms.{spareQ}
+use borrow.Author.Needs.{needs}
+use Rattle.forms.proofs.spare_q.Statement.{statement}
+use Rattle.forms.proofs.spare_q.Tie as tie
+
+either-requires : tie.Need-either-requires
+either-requires c κs = search needs
+
+returns : tie.Need-returns
+unfolding spareQ
+returns c = rw (c .either .ensures)
+
+pub spare-q-spec : {M : Type 1} → statement M
+spare-q-spec = tie.close (tie.spec either-requires returns)
