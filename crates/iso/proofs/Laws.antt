@@ -1,6 +1,8 @@
 -- ISO 10303-42 and point_at: in every commutative ring the Rust's order means what the standard's does; and point_at is the Rust's order, each operation rounded once. Assumes nothing.
 use mathlib.Core.Path.{_≡_, refl, ap}
-use mathlib.Mathlib.Algebra.Ring.Defs.{CommRing}
+use mathlib.Mathlib.Algebra.Group.Defs.{AddGroup}
+use mathlib.Mathlib.Algebra.Group.Basic.{add-sub-add-right-eq-sub}
+use mathlib.Mathlib.Algebra.Ring.Defs.{CommRing, NonUnitalNonAssocRing, IsNonUnitalNonAssocRing, IsNonUnitalNonAssocSemiring, IsHasDistribNeg, IsRing·toIsNonUnitalNonAssocRing, NonUnitalNonAssocRing·toIsHasDistribNeg}
 use mathlib.Core.List.{List}
 use Prim.Native.Nat.{ℕ, _+_}
 use lib.ListN.{getD}
@@ -12,11 +14,32 @@ use Rattle.math.specs.declared.Frame.{Frame}
 use Rattle.math.specs.Math.{vZero, vAdd, vSub, vScale, vLerp, vCross, yDir, polar, vec}
 use Rattle.brep.specs.Tree.{line, circle, ellipse, parabola}
 use Rattle.curve.specs.Eval.{pointAt, ellipsePoint, parabolaPoint, alongFrom}
-use Rattle.iso.specs.Iso.{Expr, value, exact, rounded, roundedVector, isoLine, rustLine, isoCircle, rustCircle, isoEllipse, rustEllipse, isoParabola, rustParabola, isoPolyline, rustPolyline, crossPart}
+use Rattle.iso.specs.Iso.{Expr, value, exact, rounded, roundedVector, isoLine, rustLine, isoCircle, rustCircle, isoEllipse, rustEllipse, isoParabola, rustParabola, isoPolyline, isoPolylineFromOne, rustPolyline, crossPart, one, _+_ as _plus_}
 
--- (a) the exact meaning
-module _ {A : Type 0} (K : CommRing A) where
-  open CommRing K using (add, mul)
+-- what is used of the ring's laws
+module _ {ℓ} {A : Type ℓ} (K : CommRing A) where
+  open CommRing K using (add, mul, neg)
+
+  semiring : IsNonUnitalNonAssocSemiring A add mul (K .zero)
+  semiring = K .isCommRing .isRing .isSemiring .isNonUnitalSemiring .isNonUnitalNonAssocSemiring
+
+  nonassociative : IsNonUnitalNonAssocRing A add mul (K .zero) neg
+  nonassociative = IsRing·toIsNonUnitalNonAssocRing (K .isCommRing .isRing)
+
+  negation : IsHasDistribNeg A mul neg
+  negation = NonUnitalNonAssocRing·toIsHasDistribNeg (record { add = add; mul = mul; zero = K .zero; neg = neg; isNonUnitalNonAssocRing = nonassociative })
+
+  abbrev group : AddGroup A
+  group = record { add = add; zero = K .zero; neg = neg; isAddGroup = nonassociative .isAddCommGroup .isAddGroup }
+
+  add-assoc : (a b c : A) → add (add a b) c ≡ add a (add b c)
+  add-assoc = semiring .isAddCommMonoid .isAddMonoid .isAddSemigroup .add-assoc
+
+  add-comm : (a b : A) → add a b ≡ add b a
+  add-comm = semiring .isAddCommMonoid .add-comm
+
+  add-left-comm : (a b c : A) → add a (add b c) ≡ add b (add a c)
+  add-left-comm a b c = rw (← add-assoc a b c, add-comm a b, add-assoc b a c)
 
   mul-comm : (a b : A) → mul a b ≡ mul b a
   mul-comm = K .isCommRing .mul-comm
@@ -27,12 +50,28 @@ module _ {A : Type 0} (K : CommRing A) where
   mul-left-comm : (a b c : A) → mul a (mul b c) ≡ mul b (mul a c)
   mul-left-comm a b c = rw (← mul-assoc a b c, mul-comm a b, mul-assoc b a c)
 
+  mul-one : (a : A) → mul a (K .one) ≡ a
+  mul-one = K .isCommRing .isRing .isSemiring .mul-one
+
   mul-add : (a b c : A) → mul a (add b c) ≡ add (mul a b) (mul a c)
-  mul-add = K .isCommRing .isRing .isSemiring .isNonUnitalSemiring .isNonUnitalNonAssocSemiring .left-distrib
+  mul-add = semiring .left-distrib
 
-  add-assoc : (a b c : A) → add (add a b) c ≡ add a (add b c)
-  add-assoc = K .isCommRing .isRing .isSemiring .isNonUnitalSemiring .isNonUnitalNonAssocSemiring .isAddCommMonoid .isAddMonoid .isAddSemigroup .add-assoc
+  add-mul : (a b c : A) → mul (add a b) c ≡ add (mul a c) (mul b c)
+  add-mul = semiring .right-distrib
 
+  neg-mul : (a b : A) → mul (neg a) b ≡ neg (mul a b)
+  neg-mul = negation .neg-mul
+
+  mul-neg : (a b : A) → mul a (neg b) ≡ neg (mul a b)
+  mul-neg = negation .mul-neg
+
+  neg-neg : (a : A) → neg (neg a) ≡ a
+  neg-neg = negation .isInvolutiveNeg .neg-neg
+
+  weights : (p q i u : A) → add p (mul (add q (neg p)) (add u (neg i))) ≡ add (mul p (add (add i (K .one)) (neg u))) (mul q (add u (neg i)))
+  weights p q i u = simp (mul-add, add-mul, neg-mul, mul-neg, neg-neg, mul-one, add-assoc, add-comm, add-left-comm)
+
+  -- (a) the exact meaning
   pub line-exact : (C «V» u : Expr A) → exact K (rustLine C «V» u) ≡ exact K (isoLine C «V» u)
   unfolding exact rustLine isoLine
   line-exact C «V» u = rw (mul-comm (exact K «V»))
@@ -52,6 +91,10 @@ module _ {A : Type 0} (K : CommRing A) where
   pub polyline-exact : (P next i u : Expr A) → exact K (rustPolyline P next i u) ≡ exact K (isoPolyline P next i u)
   unfolding exact rustPolyline isoPolyline
   polyline-exact P next i u = ap (add (exact K P)) (mul-comm _ _)
+
+  pub polyline-from-one-exact : (P next i u : Expr A) → exact K (rustPolyline P next i u) ≡ exact K (isoPolylineFromOne P next (i plus one) u)
+  unfolding exact rustPolyline isoPolylineFromOne
+  polyline-from-one-exact P next i u = rw (add-sub-add-right-eq-sub group (exact K u) (exact K i) (K .one)) (weights (exact K P) (exact K next) (exact K i) (exact K u))
 
 -- (b) the rounded meaning: x is ref_dir, y the computed axis × ref_dir, cos u and sin u the fixed steps for them
 pub line-rounded : (o d : Vec3) (t : Float) → pointAt (line o d) t ≡ roundedVector (λ part. rustLine (part o) (part d) (value t))

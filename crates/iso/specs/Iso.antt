@@ -3,23 +3,25 @@
 use lib.Ieee.{Float}
 use mathlib.Mathlib.Algebra.Ring.Defs.{CommRing}
 use Rattle.arith.specs.Notation.{_⊕_, _⊖_, _⊗_}
-use Rattle.arith.specs.Notation.{two as float-two}
+use Rattle.arith.specs.Notation.{one as float-one, two as float-two}
 use Rattle.math.specs.declared.Vec3.{Vec3}
 use Rattle.math.specs.Math.{vec}
 
 infixl 65 _+_ _-_
 infixl 70 _·_
--- an expression over real operations: a named value, the number 2, a sum, a difference, a product
-pub data Expr (A : Type 0) : Type 0 where
+-- an expression over real operations: a named value, 1 and 2, a sum, a difference, a product
+pub data Expr {ℓ} (A : Type ℓ) : Type ℓ where
   value : A → Expr A
+  one : Expr A
   two : Expr A
   _+_ : Expr A → Expr A → Expr A
   _-_ : Expr A → Expr A → Expr A
   _·_ : Expr A → Expr A → Expr A
 
 -- the exact meaning, in any commutative ring
-unfoldable pub exact : {A : Type 0} → CommRing A → Expr A → A
+unfoldable pub exact {ℓ} : {A : Type ℓ} → CommRing A → Expr A → A
 exact K (value a) = a
+exact K one = K .one
 exact K two = K .add (K .one) (K .one)
 exact K (a + b) = K .add (exact K a) (exact K b)
 exact K (a - b) = K .add (exact K a) (K .neg (exact K b))
@@ -28,6 +30,7 @@ exact K (a · b) = K .mul (exact K a) (exact K b)
 -- the rounded meaning, in f64: each operation once, to nearest even
 unfoldable pub rounded : Expr Float → Float
 rounded (value a) = a
+rounded one = float-one
 rounded two = float-two
 rounded (a + b) = rounded a ⊕ rounded b
 rounded (a - b) = rounded a ⊖ rounded b
@@ -39,7 +42,7 @@ roundedVector e =
     vec (rounded (e (λ v. value (v .x)))) (rounded (e (λ v. value (v .y)))) (rounded (e (λ v. value (v .z))))
 
 -- x and y are the placement's first two directions, given to both sides; cosu and sinu are cos u and sin u
-module _ {A : Type 0} where
+module _ {ℓ} {A : Type ℓ} where
   -- line: C + u V
   unfoldable pub isoLine : (C «V» u : Expr A) → Expr A
   isoLine C «V» u = C + u · «V»
@@ -75,6 +78,10 @@ module _ {A : Type 0} where
   -- polyline, from point P of number i to the next: P + (u - i) (next - P)
   unfoldable pub isoPolyline : (P next i u : Expr A) → Expr A
   isoPolyline P next i u = P + (u - i) · (next - P)
+
+  -- the same with the points numbered from 1 and each given its weight: P (i - u) + next (u + 1 - i)
+  unfoldable pub isoPolylineFromOne : (P next i u : Expr A) → Expr A
+  isoPolylineFromOne P next i u = P · (i - u) + next · (u + one - i)
 
   -- points[i].lerp(points[i + 1], t - i as f64)
   unfoldable pub rustPolyline : (P next i u : Expr A) → Expr A
