@@ -1,0 +1,42 @@
+-- `thin_breaks::deviation` meets its contract. Assumes nothing.
+use mathlib.Core.Path.{_∙_}
+use Rattle.brep.specs.Rows.{tables}
+use Rattle.brep.specs.Tree.{tree}
+use Rattle.curve.specs.Eval.{pointAt}
+use Rattle.thin_breaks.proofs.Quarters.{deviation-is}
+use borrow.Author.Needs.{needs}
+use Rattle.thin_breaks.proofs.deviation.Statement.{statement}
+use Rattle.thin_breaks.proofs.deviation.Tie as tie
+
+point-at-requires : tie.Need-point-at-requires
+point-at-requires c κs = search needs
+
+point-at-requires-2 : tie.Need-point-at-requires-2
+point-at-requires-2 c κs = search needs
+
+point-at-requires-3 : tie.Need-point-at-requires-3
+point-at-requires-3 c κs = search needs
+
+point-at-requires-4 : tie.Need-point-at-requires-4
+point-at-requires-4 c κs = search needs
+
+worst-of-requires : tie.Need-worst-of-requires
+worst-of-requires c κs = search needs
+
+returns : tie.Need-returns
+returns c =
+    let st = c .before .before .before .before .before .before .before .before .before .before in
+    let a = st .args in
+    c .worst-of .ensures
+    ∙ deviation-is (pointAt (tree (tables (a .points .now) (a .curves .now) (a .reals .now) (a .parts .now) (a .ranges .now)) (a .row))) (a .a) (a .b) (st .pre) (c .before .before .before .before .point-at .ensures) (c .before .before .before .point-at2 .ensures) (c .before .before .point-at3 .ensures) (c .before .point-at4 .ensures)
+
+pub deviation-spec : {M : Type 1} → statement M
+deviation-spec =
+    tie.close
+    (tie.spec
+    point-at-requires
+    point-at-requires-2
+    point-at-requires-3
+    point-at-requires-4
+    worst-of-requires
+    returns)

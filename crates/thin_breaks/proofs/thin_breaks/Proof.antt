@@ -1,0 +1,136 @@
+-- `thin_breaks::thin_breaks` meets its contract: pa is the point of start, and what is kept, then what thinning leaves of the rest, is the whole.
+-- Assumes nothing.
+use borrow.Author.Needs.{needs}
+use native.Mathlib.Omega.{arith}
+use mathlib.Core.Path.{_≡_}
+use Prim.Native.Nat.{_-_}
+use lib.ListN.{length}
+use Rattle.brep.specs.Rows.{tables}
+use Rattle.brep.specs.Tree.{tree}
+use Rattle.curve.specs.Eval.{pointAt}
+use Rattle.knots.specs.Knots.{deviation}
+use Rattle.thin_breaks.proofs.Thinning.{Thinning, thinning-start, thinning-keep, thinning-skip, thinning-room, thinning-done, all-kept}
+use Rattle.thin_breaks.proofs.thin_breaks.Statement.{statement}
+use Rattle.thin_breaks.proofs.thin_breaks.Tie as tie
+
+abbrev Inv-loop : tie.InvT-loop
+Inv-loop points curves reals parts ranges row lo hi sag breaks₀ n start₀ pa₀ k₀ i₀ breaks start pa k i =
+    (pa ≡ pointAt (tree (tables points curves reals parts ranges) row) start)
+    × Thinning (deviation (pointAt (tree (tables points curves reals parts ranges) row))) sag hi lo breaks₀ breaks start k i
+
+abbrev μ-loop : tie.MeasureT-loop
+μ-loop points curves reals parts ranges row lo hi sag breaks₀ n start₀ pa₀ k₀ i₀ breaks start pa k i = length breaks₀ - i
+
+point-at-requires : tie.Need-point-at-requires Inv-loop μ-loop
+point-at-requires c κs = search needs
+
+loop-holds : tie.Need-loop-holds Inv-loop μ-loop
+loop-holds c =
+    let st = c .before .before .before .before .before .before .before .before in
+    let a = st .args in
+    (c .point-at .ensures, thinning-start (deviation (pointAt (tree (tables (a .points .now) (a .curves .now) (a .reals .now) (a .parts .now) (a .ranges .now)) (a .row)))) (a .sag) (a .hi) (a .lo) (a .breaks .now) (st .good .1 .1 .1 .1 .1 .1 .1 .1 .1 .0 .1))
+
+mul-b : tie.Need-mul-b Inv-loop μ-loop
+mul-b c = search needs
+
+slice-read-b : tie.Need-slice-read-b Inv-loop μ-loop
+slice-read-b c = search needs
+
+next-of-requires : tie.Need-next-of-requires Inv-loop μ-loop
+next-of-requires c κs =
+    let l = c .before .before .before .loop in
+    omega (arith, c .before .before .loop-test .taken, l .inv .1 .filtering .same-length)
+
+deviation-requires : tie.Need-deviation-requires Inv-loop μ-loop
+deviation-requires c κs = c .before .before .before .before .loop .inv .0
+
+mul-breaks : tie.Need-mul-breaks Inv-loop μ-loop
+mul-breaks c =
+    let l = c .before .before .before .before .before .before .loop in
+    omega (arith, c .before .before .before .before .before .loop-test .taken, l .inv .1 .small, l .inv .1 .filtering .kept)
+
+slice-write-breaks : tie.Need-slice-write-breaks Inv-loop μ-loop
+slice-write-breaks c =
+    let l = c .before .before .before .before .before .before .loop in
+    omega (arith, c .before .before .before .before .before .loop-test .taken, l .inv .1 .filtering .same-length, l .inv .1 .filtering .kept)
+
+add-k : tie.Need-add-k Inv-loop μ-loop
+add-k c =
+    let l = c .before .before .before .before .before .before .loop in
+    omega (arith, c .before .before .before .before .before .loop-test .taken, l .inv .1 .small, l .inv .1 .filtering .kept)
+
+point-at-requires-2 : tie.Need-point-at-requires-2 Inv-loop μ-loop
+point-at-requires-2 c κs = search needs
+
+add-i : tie.Need-add-i Inv-loop μ-loop
+add-i c =
+    let l = c .before .before .before .before .before .before .before .loop in
+    omega (arith, c .before .before .before .before .before .before .loop-test .taken, l .inv .1 .small)
+
+loop-less : tie.Need-loop-less Inv-loop μ-loop
+loop-less c = search needs
+
+loop-again : tie.Need-loop-again Inv-loop μ-loop
+loop-again c =
+    let l = c .before .before .before .before .before .before .before .loop in
+    let a = c .before .before .before .before .before .before .before .before .before .before .before .before .before .before .before .before .args in
+    (c .point-at2 .ensures, thinning-keep (deviation (pointAt (tree (tables (a .points .now) (a .curves .now) (a .reals .now) (a .parts .now) (a .ranges .now)) (a .row)))) (a .sag) (a .hi) (a .lo) (l .inv .1) (c .before .before .before .before .before .before .loop-test .taken) (c .before .before .before .next-of .result) (c .before .before .deviation .result) (c .before .before .before .next-of .ensures) (c .before .before .deviation .ensures) (c .before .if2 .taken))
+
+add-i-2 : tie.Need-add-i-2 Inv-loop μ-loop
+add-i-2 c =
+    let l = c .before .before .before .before .before .before .loop in
+    omega (arith, c .before .before .before .before .before .loop-test .taken, l .inv .1 .small)
+
+loop-less-2 : tie.Need-loop-less-2 Inv-loop μ-loop
+loop-less-2 c = search needs
+
+loop-again-2 : tie.Need-loop-again-2 Inv-loop μ-loop
+loop-again-2 c =
+    let l = c .before .before .before .before .before .before .loop in
+    let a = c .before .before .before .before .before .before .before .before .before .before .before .before .before .before .before .args in
+    (l .inv .0, thinning-skip (deviation (pointAt (tree (tables (a .points .now) (a .curves .now) (a .reals .now) (a .parts .now) (a .ranges .now)) (a .row)))) (a .sag) (a .hi) (a .lo) (l .inv .1) (c .before .before .before .before .before .loop-test .taken) (c .before .before .next-of .result) (c .before .deviation .result) (c .before .before .next-of .ensures) (c .before .deviation .ensures) (c .if2 .left))
+
+clear-from-requires : tie.Need-clear-from-requires Inv-loop μ-loop
+clear-from-requires c κs =
+    let a = c .before .before .before .before .before .before .before .before .before .before .before .args in
+    thinning-room (deviation (pointAt (tree (tables (a .points .now) (a .curves .now) (a .reals .now) (a .parts .now) (a .ranges .now)) (a .row)))) (a .sag) (a .hi) (a .lo) (c .before .before .loop .inv .1) (c .before .loop-test .left)
+
+same-length : tie.Need-same-length Inv-loop μ-loop
+same-length c = search needs
+
+returns : tie.Need-returns Inv-loop μ-loop
+returns c =
+    let a = c .before .before .before .before .before .before .before .before .before .before .before .before .before .before .args in
+    thinning-done (deviation (pointAt (tree (tables (a .points .now) (a .curves .now) (a .reals .now) (a .parts .now) (a .ranges .now)) (a .row)))) (a .sag) (a .hi) (a .lo) (c .before .before .before .before .before .loop .inv .1) (c .before .before .before .before .loop-test .left) (c .before .before .before .before .before .before .before .if1 .taken) _ (c .before .before .clear-from .ensures)
+
+returns-2 : tie.Need-returns-2 Inv-loop μ-loop
+returns-2 c =
+    let a = c .before .before .before .before .before .before .before .args in
+    all-kept (deviation (pointAt (tree (tables (a .points .now) (a .curves .now) (a .reals .now) (a .parts .now) (a .ranges .now)) (a .row)))) (a .sag) (a .hi) (a .lo) (a .breaks .now) (c .if1 .left)
+
+pub thin-breaks-spec : {M : Type 1} → statement M
+thin-breaks-spec =
+    tie.close
+    (tie.spec
+    Inv-loop
+    μ-loop
+    point-at-requires
+    loop-holds
+    mul-b
+    slice-read-b
+    next-of-requires
+    deviation-requires
+    mul-breaks
+    slice-write-breaks
+    add-k
+    point-at-requires-2
+    add-i
+    loop-less
+    loop-again
+    add-i-2
+    loop-less-2
+    loop-again-2
+    clear-from-requires
+    same-length
+    returns
+    returns-2)
