@@ -37,7 +37,7 @@ naturalRange (polyline ps) = interval nought (count (length ps - 1))
 naturalRange (trimmed base range) = range
 naturalRange (composite ss) = interval nought (count (countOf ss))
 
--- more than two points, the first and the last nearer than 1e-10
+-- more than two points, the squared distance of the first and the last below 1e-20
 unfoldable pub closes : List Vec3 → Bool
 closes ps =
     ltb 2 (length ps)
