@@ -1,17 +1,14 @@
 -- What a table holds: one more number, one more row; what was read is stored. Assumes nothing.
 use mathlib.Core.Path.{_≡_, refl, sym, ap, subst, _∙_}
 use mathlib.Core.List.{List, [], _∷_, _++_, append-assoc, append-nil}
-use Prim.Native.Nat.{ℕ, _+_, _*_}
+use Prim.Native.Nat.{ℕ, suc, _+_, _-_, _≤_}
 use native.Mathlib.Omega.{arith}
-use native.Mathlib.Nat.{mul-suc}
-use lib.ListN.{length, set, length-append}
-use lib.Seq.{sets}
-use Rattle.lists.specs.Result.{Result, refused, got as accepted}
+use lib.ListN.{length, drop, replicate, length-append, length-replicate}
+use lib.Seq.{sets, sets-eq}
 use Rattle.formats.specs.Format.{Parsed, bad, got}
 use Rattle.text.proofs.Buffer.{sets-append}
-use Rattle.layout.specs.Layout.{RawSheet}
-use Rattle.sheet.specs.Tables.{flat}
-use Rattle.sheet.specs.Told.{Stored, Kept}
+use Rattle.layout.specs.Letters.{padded}
+use Rattle.blocks.specs.Told.{flat, numbersOf, Stored}
 
 -- ---- more numbers behind those that are there
 pub more-stored : {E : Type 0} (before out next xs ys : List E) (k : ℕ) → k ≡ length xs → out ≡ sets before 0 xs → next ≡ sets out k ys
@@ -42,3 +39,15 @@ module _ {A E : Type 0} (row : A → List E) where
 
   pub stored-same : (q r : Parsed A) (before after : List E) → q ≡ r → Stored row q before after → Stored row r before after
   stored-same q r before after e t = subst (λ z. Stored row z before after) e t
+
+  -- ---- in a table that was zeros
+  pub numbers-bad : (q : Parsed A) → q ≡ bad → numbersOf row q ≡ []
+  unfolding numbersOf
+  numbers-bad q e = rw e
+
+  pub numbers-got : (q : Parsed A) (a : A) (rest : List ℕ) → q ≡ got a rest → numbersOf row q ≡ row a
+  unfolding numbersOf
+  numbers-got q a rest e = rw e
+
+  pub numbers-same : (q r : Parsed A) → q ≡ r → numbersOf row q ≡ numbersOf row r
+  numbers-same q r e = ap (numbersOf row) e

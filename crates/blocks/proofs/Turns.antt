@@ -17,15 +17,16 @@ use Rattle.formats.proofs.Laws.{Lawful}
 use Rattle.formats.proofs.Lines.{NoLine, line-some, turns}
 use Rattle.formats.proofs.Tables.{no-line}
 use Rattle.layout.specs.Layout.{size}
-use Rattle.layout.specs.Letters.{fieldOf, shapeOf}
+use Rattle.layout.specs.Letters.{fieldOf, shapeOf, padded}
 use Rattle.rows.specs.Rows.{isFloat, chosen, floatsOf, wholesOf}
+use Rattle.layout.proofs.Padded.{padded-length}
 use Rattle.text.proofs.Place.{Read}
-use Rattle.sheet.specs.Tables.{flat}
-use Rattle.sheet.specs.Room.{least, countOf, Roomy}
-use Rattle.sheet.proofs.Onto.{onto, onto-onto, onto-nothing, onto-one}
-use Rattle.sheet.proofs.Stores.{flat-snoc, more-stored}
-use Rattle.sheet.proofs.Columns.{letter-good, shape-good, shape-law}
-use Rattle.sheet.proofs.Valid.{row-length, chosen-length, chosen-stored, narrow as narrow-valid, line-long}
+use Rattle.blocks.specs.Told.{flat}
+use Rattle.blocks.specs.Room.{least, countOf, Roomy}
+use Rattle.layout.proofs.Onto.{onto, onto-onto, onto-nothing, onto-one}
+use Rattle.blocks.proofs.Stores.{flat-snoc, more-stored}
+use Rattle.layout.proofs.Columns.{letter-good, shape-good, shape-law}
+use Rattle.blocks.proofs.Valid.{row-length, chosen-length, chosen-padded, narrow as narrow-valid, line-long}
 
 -- ---- lines at a place
 module _ {A : Type 0} (F : Format A) (L : Lawful F) (N : NoLine F) (s : List ℕ) where
@@ -71,16 +72,20 @@ module _ {A : Type 0} (F : Format A) (L : Lawful F) (N : NoLine F) (s : List ℕ
 abbrev pub isWhole : Field → Bool
 isWhole f = not (isFloat f)
 
+-- a row is no empty line
+pub shape-no-line : (shape : List ℕ) → 0 < length shape → NoLine (line (shapeOf shape))
+shape-no-line [] h = absurd (omega arith)
+shape-no-line (c ∷ cs) h = no-line (fieldOf c) (shapeOf cs) (letter-good c)
+
 module _ (s shape : List ℕ) (at : ℕ) (wholes₀ : List ℕ) (floats₀ : List Float) where
   abbrev fs : List Field
   fs = shapeOf shape
 
   -- n rows were read from `at` on, and the next begins at p
-  pub record Rows (wholes : List ℕ) (floats : List Float) (row : List ℕ) (p n w f : ℕ) : Type 0 where
+  pub record Rows (wholes : List ℕ) (floats : List Float) (p n w f : ℕ) : Type 0 where
     pub within : p ≤ length s
     pub bytes : at + least fs * n ≤ p
     pub few : n ≤ p
-    pub row-same : length row ≡ 9
     pub wholes-same : length wholes ≡ length wholes₀
     pub floats-same : length floats ≡ length floats₀
     pub w-count : w ≡ countOf isWhole fs * n
@@ -93,24 +98,24 @@ module _ (s shape : List ℕ) (at : ℕ) (wholes₀ : List ℕ) (floats₀ : Lis
     pub wholes-are : wholes ≡ sets wholes₀ 0 (flat (wholesOf fs) taken)
     pub floats-are : floats ≡ sets floats₀ 0 (flat (floatsOf fs) taken)
 
-  -- one more row is in the array `row`: what the calls that store it ask, and where the loop stands behind them
+  -- one more row is read, into the array `row`: what the calls that store it ask, and where the loop stands behind them
   pub record Next (wholes : List ℕ) (floats : List Float) (row : List ℕ) (p q n w f : ℕ) : Type 0 where
     pub later : p < q
+    pub nine : length row ≡ 9
     pub cells : length shape ≤ length row
     pub wholes-fit : w + length (wholesOf fs row) ≤ length wholes
     pub floats-fit : f + length (floatsOf fs row) ≤ length floats
     pub narrow : All (λ n. n < 2 ^ 32) (wholesOf fs row)
     pub turn : (wholes′ : List ℕ) (w′ : ℕ) (floats′ : List Float) (f′ : ℕ)
         → w′ ≡ w + length (wholesOf fs row) → wholes′ ≡ sets wholes w (wholesOf fs row)
-        → f′ ≡ f + length (floatsOf fs row) → floats′ ≡ sets floats f (floatsOf fs row) → Rows wholes′ floats′ row q (n + 1) w′ f′
+        → f′ ≡ f + length (floatsOf fs row) → floats′ ≡ sets floats f (floatsOf fs row) → Rows wholes′ floats′ q (n + 1) w′ f′
 
-  pub no-rows : (row : List ℕ) → length row ≡ 9 → at ≤ length s → Rows wholes₀ floats₀ row at 0 0 0
+  pub no-rows : at ≤ length s → Rows wholes₀ floats₀ at 0 0 0
   unfolding flat
-  no-rows row e h = record {
+  no-rows h = record {
     within = h;
     bytes = omega (arith, mul-zero (least fs));
     few = omega arith;
-    row-same = e;
     wholes-same = refl;
     floats-same = refl;
     w-count = sym (mul-zero (countOf isWhole fs));
@@ -129,13 +134,9 @@ module _ (s shape : List ℕ) (at : ℕ) (wholes₀ : List ℕ) (floats₀ : Lis
     F = line fs
 
     pub no-row : NoLine F
-    no-row = go shape (room .some)
-      where
-        go : (shape : List ℕ) → 0 < length shape → NoLine (line (shapeOf shape))
-        go [] h = absurd (omega arith)
-        go (c ∷ cs) h = no-line (fieldOf c) (shapeOf cs) (letter-good c)
+    no-row = shape-no-line shape (room .some)
 
-    module _ (wholes : List ℕ) (floats : List Float) (row : List ℕ) (p n w f : ℕ) (r : Rows wholes floats row p n w f) where
+    module _ (wholes : List ℕ) (floats : List Float) (p n w f : ℕ) (r : Rows wholes floats p n w f) where
       -- the ways out
       pub rows-end : length s ≤ p → lines F .read (drop at s) ≡ bad
       unfolding onto
@@ -151,9 +152,9 @@ module _ (s shape : List ℕ) (at : ℕ) (wholes₀ : List ℕ) (floats₀ : Lis
           sym (r .whole) ∙ ap (onto (r .taken)) (lines-empty F (shape-law shape) no-row s p h e)
           ∙ ap (λ l. got l (drop (p + 1) s)) (append-nil (r .taken))
 
-      -- one more row, l, in the array and then in the tables
+      -- one more row, l
       module _ (short-enough : length s ≤ size) (h : p < length s) (e : getD s p 0 ≡ 10 → ⊥) (l : List ℕ) (q : ℕ) (was : Read s (F .read (drop p s)) l q)
-          (row′ : List ℕ) (stored : row′ ≡ sets row 0 l) where
+          (row : List ℕ) (held : row ≡ padded 9 0 l) where
         later : p < q
         later =
             let m = line-some F (shape-law shape) no-row (drop p s) l (drop q s) (was .is) in
@@ -180,63 +181,63 @@ module _ (s shape : List ℕ) (at : ℕ) (wholes₀ : List ℕ) (floats₀ : Lis
             let x = farther in
             omega (arith, ap (λ z. least fs * z) (add-one n) ∙ mul-suc (least fs) n)
 
-        same-row : (t : Field → Bool) → chosen t fs row′ ≡ chosen t fs l
-        same-row t =
-            let few = room .few in
-            let nine = r .row-same in
-            ap (chosen t fs) stored ∙ chosen-stored t fs row l as-many (omega (arith, as-many, length-map shape fieldOf))
+        same-row : (t : Field → Bool) → chosen t fs row ≡ chosen t fs l
+        same-row t = ap (chosen t fs) held ∙ chosen-padded t fs 9 l as-many
 
-        w-more : length (wholesOf fs row′) ≡ countOf isWhole fs
+        w-more : length (wholesOf fs row) ≡ countOf isWhole fs
         w-more = ap length (same-row isWhole) ∙ chosen-length isWhole fs l as-many
 
-        f-more : length (floatsOf fs row′) ≡ countOf isFloat fs
-        f-more = length-map (chosen isFloat fs row′) (ofBits binary64) ∙ ap length (same-row isFloat) ∙ chosen-length isFloat fs l as-many
+        f-more : length (floatsOf fs row) ≡ countOf isFloat fs
+        f-more = length-map (chosen isFloat fs row) (ofBits binary64) ∙ ap length (same-row isFloat) ∙ chosen-length isFloat fs l as-many
 
-        w-next : w + length (wholesOf fs row′) ≡ countOf isWhole fs * (n + 1)
+        w-next : w + length (wholesOf fs row) ≡ countOf isWhole fs * (n + 1)
         w-next =
             let a = r .w-count in
             let b = w-more in
             omega (arith, ap (λ z. countOf isWhole fs * z) (add-one n) ∙ mul-suc (countOf isWhole fs) n)
 
-        f-next : f + length (floatsOf fs row′) ≡ countOf isFloat fs * (n + 1)
+        f-next : f + length (floatsOf fs row) ≡ countOf isFloat fs * (n + 1)
         f-next =
             let a = r .f-count in
             let b = f-more in
             omega (arith, ap (λ z. countOf isFloat fs * z) (add-one n) ∙ mul-suc (countOf isFloat fs) n)
 
         -- what the calls that store it ask
-        row-cells : length shape ≤ length row′
-        row-cells =
+        nine : length row ≡ 9
+        nine =
             let few = room .few in
-            let nine = r .row-same in
-            omega (arith, ap length stored ∙ length-sets row 0 l)
+            let m = length-map shape fieldOf in
+            let k = as-many in
+            ap length held ∙ padded-length 9 0 l (omega arith)
 
-        w-fit : w + length (wholesOf fs row′) ≤ length wholes
+        row-cells : length shape ≤ length row
+        row-cells = let few = room .few in let e = nine in omega arith
+
+        w-fit : w + length (wholesOf fs row) ≤ length wholes
         w-fit = let a = room .wholes (n + 1) rows-fit in let b = r .wholes-same in let c = w-next in omega arith
 
-        f-fit : f + length (floatsOf fs row′) ≤ length floats
+        f-fit : f + length (floatsOf fs row) ≤ length floats
         f-fit = let a = room .floats (n + 1) rows-fit in let b = r .floats-same in let c = f-next in omega arith
 
-        narrow-row : All (λ n. n < 2 ^ 32) (wholesOf fs row′)
+        narrow-row : All (λ n. n < 2 ^ 32) (wholesOf fs row)
         narrow-row = rw (same-row isWhole) (narrow-valid shape l (room .slim) valid)
 
         module _ (wholes′ : List ℕ) (w′ : ℕ) (floats′ : List Float) (f′ : ℕ)
-            (wp : w′ ≡ w + length (wholesOf fs row′)) (ws : wholes′ ≡ sets wholes w (wholesOf fs row′))
-            (fp : f′ ≡ f + length (floatsOf fs row′)) (ff : floats′ ≡ sets floats f (floatsOf fs row′)) where
-          w-flat : flat (wholesOf fs) (r .taken ++ (l ∷ [])) ≡ flat (wholesOf fs) (r .taken) ++ wholesOf fs row′
+            (wp : w′ ≡ w + length (wholesOf fs row)) (ws : wholes′ ≡ sets wholes w (wholesOf fs row))
+            (fp : f′ ≡ f + length (floatsOf fs row)) (ff : floats′ ≡ sets floats f (floatsOf fs row)) where
+          w-flat : flat (wholesOf fs) (r .taken ++ (l ∷ [])) ≡ flat (wholesOf fs) (r .taken) ++ wholesOf fs row
           w-flat = flat-snoc (wholesOf fs) (r .taken) l ∙ ap (λ z. flat (wholesOf fs) (r .taken) ++ z) (sym (same-row isWhole))
 
-          f-flat : flat (floatsOf fs) (r .taken ++ (l ∷ [])) ≡ flat (floatsOf fs) (r .taken) ++ floatsOf fs row′
+          f-flat : flat (floatsOf fs) (r .taken ++ (l ∷ [])) ≡ flat (floatsOf fs) (r .taken) ++ floatsOf fs row
           f-flat = flat-snoc (floatsOf fs) (r .taken) l ∙ ap (λ z. flat (floatsOf fs) (r .taken) ++ map (ofBits binary64) z) (sym (same-row isFloat))
 
-          one-row : Rows wholes′ floats′ row′ q (n + 1) w′ f′
+          one-row : Rows wholes′ floats′ q (n + 1) w′ f′
           one-row = record {
             within = was .within;
             bytes = let b = r .bytes in let x = farther in omega (arith, ap (λ z. least fs * z) (add-one n) ∙ mul-suc (least fs) n);
             few = let b = r .few in let x = later in omega arith;
-            row-same = ap length stored ∙ length-sets row 0 l ∙ r .row-same;
-            wholes-same = ap length ws ∙ length-sets wholes w (wholesOf fs row′) ∙ r .wholes-same;
-            floats-same = ap length ff ∙ length-sets floats f (floatsOf fs row′) ∙ r .floats-same;
+            wholes-same = ap length ws ∙ length-sets wholes w (wholesOf fs row) ∙ r .wholes-same;
+            floats-same = ap length ff ∙ length-sets floats f (floatsOf fs row) ∙ r .floats-same;
             w-count = wp ∙ w-next;
             f-count = fp ∙ f-next;
             taken = r .taken ++ (l ∷ []);
@@ -244,11 +245,11 @@ module _ (s shape : List ℕ) (at : ℕ) (wholes₀ : List ℕ) (floats₀ : Lis
             whole =
                 onto-onto (r .taken) (l ∷ []) (lines F .read (drop q s))
                 ∙ ap (onto (r .taken)) (sym (lines-turn F (shape-law shape) no-row s p h e l q (was .is))) ∙ r .whole;
-            w-place = let c = r .w-place in omega (arith, wp, ap length w-flat ∙ length-append (flat (wholesOf fs) (r .taken)) (wholesOf fs row′));
-            f-place = let c = r .f-place in omega (arith, fp, ap length f-flat ∙ length-append (flat (floatsOf fs) (r .taken)) (floatsOf fs row′));
-            wholes-are = more-stored wholes₀ wholes wholes′ (flat (wholesOf fs) (r .taken)) (wholesOf fs row′) w (r .w-place) (r .wholes-are) ws ∙ ap (sets wholes₀ 0) (sym w-flat);
-            floats-are = more-stored floats₀ floats floats′ (flat (floatsOf fs) (r .taken)) (floatsOf fs row′) f (r .f-place) (r .floats-are) ff ∙ ap (sets floats₀ 0) (sym f-flat);
+            w-place = let c = r .w-place in omega (arith, wp, ap length w-flat ∙ length-append (flat (wholesOf fs) (r .taken)) (wholesOf fs row));
+            f-place = let c = r .f-place in omega (arith, fp, ap length f-flat ∙ length-append (flat (floatsOf fs) (r .taken)) (floatsOf fs row));
+            wholes-are = more-stored wholes₀ wholes wholes′ (flat (wholesOf fs) (r .taken)) (wholesOf fs row) w (r .w-place) (r .wholes-are) ws ∙ ap (sets wholes₀ 0) (sym w-flat);
+            floats-are = more-stored floats₀ floats floats′ (flat (floatsOf fs) (r .taken)) (floatsOf fs row) f (r .f-place) (r .floats-are) ff ∙ ap (sets floats₀ 0) (sym f-flat);
           }
 
-        pub next-row : Next wholes floats row′ p q n w f
-        next-row = record { later = later; cells = row-cells; wholes-fit = w-fit; floats-fit = f-fit; narrow = narrow-row; turn = one-row }
+        pub next-row : Next wholes floats row p q n w f
+        next-row = record { later = later; nine = nine; cells = row-cells; wholes-fit = w-fit; floats-fit = f-fit; narrow = narrow-row; turn = one-row }

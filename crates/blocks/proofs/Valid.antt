@@ -4,8 +4,7 @@ use mathlib.Core.Bool.{Bool, true, false, cond, not}
 use mathlib.Core.List.{List, [], _∷_, _++_, map}
 use Prim.Native.Nat.{ℕ, zero, suc, _+_, _-_, _^_, _<_, _≤_}
 use native.Mathlib.Omega.{arith}
-use lib.ListN.{length, getD, drop, length-append}
-use lib.Seq.{sets, sets-eq}
+use lib.ListN.{length, getD, replicate, length-append}
 use lib.Dec.{eqb}
 use borrow.Author.Tests.{eq-eqb, ne-eqb}
 use Rattle.lists.specs.Sub.{All, none as all-none, more}
@@ -15,9 +14,9 @@ use Rattle.formats.proofs.Digits.{digits-length, decimal-some}
 use Rattle.formats.proofs.Words.{differ, differAll, differ-at, apart, and-left, no-truth}
 use Rattle.formats.proofs.Tables.{Good}
 use Rattle.layout.specs.Layout.{kinds, u32, u64, kind}
-use Rattle.layout.specs.Letters.{fieldOf, shapeOf}
+use Rattle.layout.specs.Letters.{fieldOf, shapeOf, padded}
 use Rattle.rows.specs.Rows.{isFloat, chosen, wholesOf}
-use Rattle.sheet.specs.Room.{least, countOf, short}
+use Rattle.blocks.specs.Room.{least, countOf, short}
 
 pub row-length : (fs : List Field) (row : List ℕ) → line fs .valid row → length row ≡ length fs
 unfolding line _and_ none ValidCons
@@ -44,10 +43,9 @@ module _ (t : Field → Bool) where
   chosen-front (f ∷ fs) [] rest h = absurd (omega arith)
   chosen-front (f ∷ fs) (n ∷ row) rest h = ap (λ l. cond (t f) (n ∷ l) l) (chosen-front fs row rest (omega arith))
 
-  pub chosen-stored : (fs : List Field) (before row : List ℕ) → length row ≡ length fs → length row ≤ length before
-      → chosen t fs (sets before 0 row) ≡ chosen t fs row
-  chosen-stored fs before row h g =
-      ap (chosen t fs) (sets-eq row before 0 (omega arith)) ∙ chosen-front fs row (drop (0 + length row) before) h
+  pub chosen-padded : (fs : List Field) (n : ℕ) (row : List ℕ) → length row ≡ length fs → chosen t fs (padded n 0 row) ≡ chosen t fs row
+  unfolding padded
+  chosen-padded fs n row h = chosen-front fs row (replicate (n - length row) 0) h
 
 -- ---- whole numbers of 32 bits
 one-narrow : (f w l : Bool) (end n : ℕ) (rest : List ℕ) → l ≡ false → cell (cond f float (cond w u32 (cond l u64 kind))) end .valid n

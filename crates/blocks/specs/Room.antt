@@ -32,11 +32,3 @@ pub record Roomy (shape : List ℕ) (w f : ℕ) : Type 0 where
   pub slim : short shape ≡ true
   pub wholes : (n : ℕ) → least (shapeOf shape) * n ≤ size → countOf (λ c. not (isFloat c)) (shapeOf shape) * n ≤ w
   pub floats : (n : ℕ) → least (shapeOf shape) * n ≤ size → countOf isFloat (shapeOf shape) * n ≤ f
-
--- room for what a sheet can hold: at most 1,285 points, 1,638 curves and 1,724 segments
-pub record Lent (points curves reals parts ranges : ℕ) : Type 0 where
-  pub points-fit : 3 * 1285 ≤ points
-  pub curves-fit : 3 * 1638 ≤ curves
-  pub reals-fit : 2 * 1638 ≤ reals
-  pub parts-fit : 2 * 1724 ≤ parts
-  pub ranges-fit : 2 * 1724 ≤ ranges

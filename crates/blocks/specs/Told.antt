@@ -1,0 +1,46 @@
+-- What the readers of a sheet's blocks answer, and what they leave in the tables that they were lent.
+use mathlib.Core.Path.{_≡_}
+use mathlib.Core.List.{List, [], _∷_, _++_}
+use Prim.Native.Nat.{ℕ, _-_}
+use lib.ListN.{length}
+use lib.Seq.{sets}
+use Rattle.formats.specs.Format.{Format, Parsed, bad, got, _before_, lines}
+use Rattle.formats.specs.Table.{line}
+use Rattle.layout.specs.Letters.{shapeOf}
+use Rattle.rows.specs.Rows.{edgeOf, optionsOf}
+use Rattle.blocks.specs.declared.EdgeAt.{EdgeAt}
+use Rattle.blocks.specs.declared.EdgeAt.the-variants.{Edge, NoEdge}
+use Rattle.blocks.specs.declared.OptionsAt.{OptionsAt}
+use Rattle.blocks.specs.declared.OptionsAt.the-variants.{Options, NoOptions}
+
+-- a table and a single line by their names and letters
+abbrev pub tableOf : List ℕ → List ℕ → Format (List (List ℕ))
+tableOf names shape = names before lines (line (shapeOf shape))
+
+abbrev pub singleOf : List ℕ → List ℕ → Format (List ℕ)
+singleOf names shape = names before line (shapeOf shape)
+
+-- the edge and the place behind it
+unfoldable pub toldEdge : List ℕ → Parsed (List ℕ) → EdgeAt
+toldEdge s bad = NoEdge
+toldEdge s (got row rest) = Edge (edgeOf row) (length s - length rest)
+
+-- the options and the place behind them
+unfoldable pub toldOptions : List ℕ → Parsed (List ℕ) → OptionsAt
+toldOptions s bad = NoOptions
+toldOptions s (got row rest) = Options (optionsOf row) (length s - length rest)
+
+-- the rows' numbers, one row behind the other
+unfoldable pub flat : {A E : Type 0} → (A → List E) → List A → List E
+flat row [] = []
+flat row (a ∷ l) = row a ++ flat row l
+
+-- the numbers of what was read; none where nothing was
+unfoldable pub numbersOf : {A E : Type 0} → (A → List E) → Parsed A → List E
+numbersOf numbers bad = []
+numbersOf numbers (got a rest) = numbers a
+
+-- those numbers are stored from the table's start on. Where nothing was read, nothing is said
+unfoldable pub Stored : {A E : Type 0} → (A → List E) → Parsed A → List E → List E → Type 0
+Stored numbers bad old new = Unit
+Stored numbers (got a rest) old new = new ≡ sets old 0 (numbers a)
