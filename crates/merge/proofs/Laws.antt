@@ -59,7 +59,7 @@ record Block (floor : Float) (p z : Sample) (all m : List Sample) : Type 0 where
   pub some : Sub inner all
   pub apart : T (lt nought floor) → Apart floor (p ∷ inner)
 
-with-end : (floor : Float) (p z : Sample) (kept all : List Sample) → Sub kept all → Apart floor (p ∷ kept) → Block floor p z all (withEnd floor (p ∷ kept) z)
+with-end : (floor : Float) (p z : Sample) (kept all : List Sample) → Sub kept all → Apart floor (p ∷ kept) → Block floor p z all (withEnd floor p (p ∷ kept) z)
 unfolding withEnd lastOf
 with-end floor p z [] all s a = record { inner = []; is = alone (le (distance (z .point) (p .point)) floor); some = s; apart = λ t. a }
   where
@@ -71,7 +71,7 @@ with-end floor p z (x ∷ kept) all s a = go (le (distance (z .point) (lastOf x 
     more : ltb 1 (length (p ∷ x ∷ kept)) ≡ true
     more = lt-ltb 1 (length (p ∷ x ∷ kept)) (omega arith)
 
-    go : (b : Bool) → le (distance (z .point) (lastOf x kept .point)) floor ≡ b → Block floor p z all (withEnd floor (p ∷ x ∷ kept) z)
+    go : (b : Bool) → le (distance (z .point) (lastOf x kept .point)) floor ≡ b → Block floor p z all (withEnd floor p (p ∷ x ∷ kept) z)
     go true e = record { inner = dropLast (x ∷ kept); is = rw (e, more); some = sub-trans (dropLast-sub (x ∷ kept)) s; apart = λ t. dropLast-apart floor (p ∷ x ∷ kept) a }
     go false e = record { inner = x ∷ kept; is = rw e; some = s; apart = λ t. a }
 

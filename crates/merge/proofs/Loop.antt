@@ -2,10 +2,9 @@
 use mathlib.Core.Path.{_≡_, refl, sym, ap, _∙_}
 use mathlib.Core.Logic.{_⊎_, ⊎-elim}
 use mathlib.Core.Bool.{Bool, true, false, cond, _&&_}
-use mathlib.Core.List.{List, [], _∷_, _++_, dropLast, append-assoc, append-nil}
+use mathlib.Core.List.{List, [], _∷_, _++_, dropLast}
 use Prim.Native.Nat.{ℕ, zero, suc, _+_, _-_, _*_, _<_, _≤_}
 use native.Mathlib.Nat.{add-zero, add-suc, suc-add}
-use native.Mathlib.Numerals.{add-one}
 use native.Mathlib.Omega.{arith}
 use lib.ListN.{length, length-append}
 use lib.Seq.{sets}
@@ -17,7 +16,8 @@ use Rattle.math.specs.declared.Vec3.{Vec3}
 use Rattle.math.specs.Math.{distance}
 use Rattle.samples.specs.declared.Sample.{Sample}
 use Rattle.samples.specs.Chain.{width, row, flat, sampleAt, samplesFrom, samples, lastOf, Stored}
-use Rattle.samples.proofs.Laws.{push, replace, row-own, samples-own, sampleAt-behind, samplesFrom-length, flat-one}
+use Rattle.samples.proofs.Laws.{push, replace, row-own, samples-own, samplesFrom-length, flat-one}
+use Rattle.samples.proofs.Compact.{Compacted, compact-behind, compact-skip, compact-keep, compact-all}
 use Rattle.samples.proofs.Shorter.{last-snoc, dropLast-last, dropLast-length}
 use Rattle.merge.specs.Merge.{spaced, withEnd, merged}
 
@@ -32,69 +32,58 @@ unfolding lastOf samplesFrom
 last-samples d c i zero = ap (sampleAt c) (sym (add-zero i))
 last-samples d c i (suc n) = last-samples (sampleAt c i) c (suc i) n ∙ ap (sampleAt c) (suc-add i n ∙ sym (add-suc i n))
 
+dropLast-last-of : (d : Sample) (l : List Sample) → 0 < length l → dropLast l ++ (lastOf d l ∷ []) ≡ l
+unfolding lastOf
+dropLast-last-of d [] h = absurd (omega arith)
+dropLast-last-of d (p ∷ l) h = dropLast-last p l
+
 module _ (c : List Float) (n : ℕ) (floor : Float) where
   abbrev first : Sample
   first = sampleAt c 0
 
-  -- where the loop stands: the buffer holds the first sample and `inner`, the last of their points is `last`, and the records before i are passed
+  -- all that the loop keeps
+  abbrev all : List Sample
+  all = first ∷ spaced floor (first .point) (samplesFrom c 1 (n - 2))
+
+  -- where the loop stands: of the records before i k are kept, the last of them at `last`
   pub record Kept (chain : List Float) (last : Vec3) (k i : ℕ) : Type 0 where
-    pub inner : List Sample
-    pub count : suc (length inner) ≡ k
-    pub floats : chain ≡ sets c 0 (flat (first ∷ inner))
-    pub top : lastOf first inner .point ≡ last
-    pub whole : inner ++ spaced floor last (samplesFrom c i (n - 1 - i)) ≡ spaced floor (first .point) (samplesFrom c 1 (n - 2))
+    pub kept : List Sample
+    pub number : length kept ≡ k
+    pub moved : Compacted c (n - 1) all (spaced floor last) chain kept i
+    pub top : lastOf first kept .point ≡ last
 
   pub kept-first : (last : Vec3) → last ≡ first .point → Kept c last 1 1
   unfolding lastOf
   kept-first last e = record {
-    inner = [];
-    count = refl;
-    floats = sym (ap (sets c 0) (flat-one first) ∙ row-own c 0);
+    kept = first ∷ [];
+    number = refl;
+    moved = record {
+      floats = sym (ap (sets c 0) (flat-one first) ∙ row-own c 0);
+      rest = let q : n - 1 - 1 ≡ n - 2 = omega arith in rw (e, q);
+    };
     top = sym e;
-    whole = let q : n - 1 - 1 ≡ n - 2 = omega arith in rw (e, q);
   }
 
-  -- one more sample in front of those that are left
-  next : (last : Vec3) (i : ℕ) → i < n - 1 → spaced floor last (samplesFrom c i (n - 1 - i)) ≡ cond (lt floor (distance (sampleAt c i .point) last))
-      (sampleAt c i ∷ spaced floor (sampleAt c i .point) (samplesFrom c (i + 1) (n - 1 - (i + 1))))
-      (spaced floor last (samplesFrom c (i + 1) (n - 1 - (i + 1))))
-  unfolding spaced samplesFrom
-  next last i h = let q : n - 1 - i ≡ suc (n - 1 - (i + 1)) = omega arith in rw (q, add-one i)
+  module _ (chain : List Float) (last : Vec3) (k i : ℕ) (w : Kept chain last k i) (inside : i < n - 1) (p : Sample) (e : p ≡ sampleAt chain i) (behind : k ≤ i) where
+    pub kept-push : (d : List Float) → lt floor (distance (p .point) last) ≡ true → d ≡ sets chain (width * k) (row p) → Kept d (p .point) (k + 1) (i + 1)
+    unfolding spaced
+    kept-push d t b =
+        let q = w .number in
+        record {
+          kept = w .kept ++ (p ∷ []);
+          number = simp length-append (omega arith);
+          moved =
+              compact-keep (w .moved) (spaced floor (p .point)) inside p d e (omega arith) (rw t)
+              (b ∙ ap (λ (j : ℕ). sets chain (width * j) (row p)) (sym q));
+          top = ap (λ (s : Sample). s .point) (last-snoc first (w .kept) p);
+        }
 
-  module _ (chain : List Float) (last : Vec3) (k i : ℕ) (w : Kept chain last k i) where
-    -- the records from k on are still those of the start
-    same : (j : ℕ) → k ≤ j → sampleAt chain j ≡ sampleAt c j
-    same j h = let q = w .count in ap (λ (r : List Float). sampleAt r j) (w .floats) ∙ sampleAt-behind c (first ∷ w .inner) j (omega arith)
-
-    module _ (p : Sample) (e : p ≡ sampleAt chain i) (behind : k ≤ i) (inside : i < n - 1) where
-      pub kept-push : (d : List Float) → lt floor (distance (p .point) last) ≡ true → d ≡ sets chain (width * k) (row p) → Kept d (p .point) (k + 1) (i + 1)
-      kept-push d t b =
-          let x : p ≡ sampleAt c i = e ∙ same i behind in
-          record {
-            inner = w .inner ++ (p ∷ []);
-            count = let q = w .count in simp length-append (omega arith);
-            floats =
-                b
-                ∙ ap (λ (r : List Float). sets r (width * k) (row p)) (w .floats)
-                ∙ ap (λ (j : ℕ). sets (sets c 0 (flat (first ∷ w .inner))) (width * j) (row p)) (sym (w .count))
-                ∙ push c (first ∷ w .inner) p;
-            top = ap (λ (s : Sample). s .point) (last-snoc first (w .inner) p);
-            whole =
-                append-assoc (w .inner) (p ∷ []) _
-                ∙ ap (λ (r : List Sample). w .inner ++ r) (sym (next last i inside ∙ rw (sym x, t)))
-                ∙ w .whole;
-          }
-
-      pub kept-pass : lt floor (distance (p .point) last) ≡ false → Kept chain last k (i + 1)
-      kept-pass t =
-          let x : p ≡ sampleAt c i = e ∙ same i behind in
-          record {
-            inner = w .inner;
-            count = w .count;
-            floats = w .floats;
-            top = w .top;
-            whole = ap (λ (r : List Sample). w .inner ++ r) (sym (next last i inside ∙ rw (sym x, t))) ∙ w .whole;
-          }
+    pub kept-pass : lt floor (distance (p .point) last) ≡ false → Kept chain last k (i + 1)
+    unfolding spaced
+    kept-pass t =
+        let q = w .number in
+        let same : p ≡ sampleAt c i = e ∙ compact-behind (w .moved) i (omega arith) in
+        record { kept = w .kept; number = q; moved = compact-skip (w .moved) (spaced floor last) inside (rw (sym same, t)); top = w .top }
 
   -- ---- the ways out
   pub as-it-was : merged floor (samples n c) ≡ samples n c → Stored c c n (merged floor (samples n c))
@@ -119,20 +108,20 @@ module _ (c : List Float) (n : ℕ) (floor : Float) where
       go [] e = refl
       go (p ∷ l) e = rw (le-ltb 2 (length (p ∷ l)) (omega arith)) (either (lt nought floor))
         where
-          either : (b : Bool) → cond (b && false) (withEnd floor (p ∷ spaced floor (p .point) (dropLast l)) (lastOf p l)) (p ∷ l) ≡ p ∷ l
+          either : (b : Bool) → cond (b && false) (withEnd floor p (p ∷ spaced floor (p .point) (dropLast l)) (lastOf p l)) (p ∷ l) ≡ p ∷ l
           either true = refl
           either false = refl
 
-  many : lt nought floor ≡ true → 2 < n → merged floor (samples n c) ≡ withEnd floor (first ∷ spaced floor (first .point) (samplesFrom c 1 (n - 2))) (sampleAt c (n - 1))
+  many : lt nought floor ≡ true → 2 < n → merged floor (samples n c) ≡ withEnd floor first all (sampleAt c (n - 1))
   unfolding merged samplesFrom
   many t h =
       let q : n ≡ suc (suc (n - 2)) = omega arith in
       let z : 1 + (n - 2) ≡ n - 1 = omega arith in
       ap (λ (m : ℕ). merged floor (samples m c)) q
       ∙ go (n - 2) (omega arith)
-      ∙ ap (λ (j : ℕ). withEnd floor (first ∷ spaced floor (first .point) (samplesFrom c 1 (n - 2))) (sampleAt c j)) z
+      ∙ ap (λ (j : ℕ). withEnd floor first all (sampleAt c j)) z
     where
-      go : (m : ℕ) → 0 < m → merged floor (samples (suc (suc m)) c) ≡ withEnd floor (first ∷ spaced floor (first .point) (samplesFrom c 1 m)) (sampleAt c (1 + m))
+      go : (m : ℕ) → 0 < m → merged floor (samples (suc (suc m)) c) ≡ withEnd floor first (first ∷ spaced floor (first .point) (samplesFrom c 1 m)) (sampleAt c (1 + m))
       go m g = rw (
         t,
         lt-ltb 2 (suc (suc (length (samplesFrom c 2 m)))) (let l = samplesFrom-length c 2 m in omega arith),
@@ -142,53 +131,53 @@ module _ (c : List Float) (n : ℕ) (floor : Float) where
 
   module _ (above : lt nought floor ≡ true) (enough : 2 < n) (chain : List Float) (last : Vec3) (k i : ℕ) (w : Kept chain last k i) (within : k ≤ n - 1)
       (done : n - 1 ≤ i) (end : Sample) (e : end ≡ sampleAt chain (n - 1)) where
-    meant : merged floor (samples n c) ≡ withEnd floor (first ∷ w .inner) end
-    unfolding spaced samplesFrom
+    meant : merged floor (samples n c) ≡ withEnd floor first (w .kept) end
+    unfolding spaced
     meant =
-        let q : n - 1 - i ≡ 0 = omega arith in
-        let a : w .inner ≡ spaced floor (first .point) (samplesFrom c 1 (n - 2)) = sym (append-nil (w .inner)) ∙ rw q at (w .whole) in
-        many above enough ∙ rw (sym a, sym (e ∙ same chain last k i w (n - 1) within))
+        let q = w .number in
+        many above enough ∙ rw (sym (compact-all (w .moved) refl done), sym (e ∙ compact-behind (w .moved) (n - 1) (omega arith)))
 
     -- r is the number of records before the end
     module _ (d : List Float) (r : ℕ) (b : d ≡ sets chain (width * r) (row end)) where
       popped : r ≡ k - 1 → le (distance (end .point) last) floor ≡ true → 1 < k → Stored c d (r + 1) (merged floor (samples n c))
       unfolding withEnd
       popped f t h =
-          let q = w .count in
-          let m : merged floor (samples n c) ≡ dropLast (first ∷ w .inner) ++ (end ∷ []) = meant ∙ rw (w .top, t, lt-ltb 1 (length (first ∷ w .inner)) (omega arith)) in
-          let g : r ≡ length (dropLast (first ∷ w .inner)) = let x = dropLast-length (first ∷ w .inner) in omega arith in
+          let q = w .number in
+          let m : merged floor (samples n c) ≡ dropLast (w .kept) ++ (end ∷ []) = meant ∙ rw (w .top, t, lt-ltb 1 (length (w .kept)) (omega arith)) in
+          let g : r ≡ length (dropLast (w .kept)) = let x = dropLast-length (w .kept) in omega arith in
+          let z = dropLast-last-of first (w .kept) (omega arith) in
           record {
             count = sym (ap length m ∙ simp length-append (omega arith));
             floats =
                 b
-                ∙ ap (λ (l : List Float). sets l (width * r) (row end)) (w .floats)
-                ∙ ap (λ (l : List Sample). sets (sets c 0 (flat l)) (width * r) (row end)) (sym (dropLast-last first (w .inner)))
-                ∙ ap (λ (j : ℕ). sets (sets c 0 (flat (dropLast (first ∷ w .inner) ++ (lastOf first (w .inner) ∷ [])))) (width * j) (row end)) g
-                ∙ replace c (dropLast (first ∷ w .inner)) (lastOf first (w .inner)) end
+                ∙ ap (λ (l : List Float). sets l (width * r) (row end)) (w .moved .floats)
+                ∙ ap (λ (l : List Sample). sets (sets c 0 (flat l)) (width * r) (row end)) (sym z)
+                ∙ ap (λ (j : ℕ). sets (sets c 0 (flat (dropLast (w .kept) ++ (lastOf first (w .kept) ∷ [])))) (width * j) (row end)) g
+                ∙ replace c (dropLast (w .kept)) (lastOf first (w .kept)) end
                 ∙ ap (λ (l : List Sample). sets c 0 (flat l)) (sym m);
           }
 
-      stays : r ≡ k → merged floor (samples n c) ≡ (first ∷ w .inner) ++ (end ∷ []) → Stored c d (r + 1) (merged floor (samples n c))
+      stays : r ≡ k → merged floor (samples n c) ≡ w .kept ++ (end ∷ []) → Stored c d (r + 1) (merged floor (samples n c))
       stays f m =
-          let q = w .count in
-          let g : r ≡ length (first ∷ w .inner) = omega arith in
+          let q = w .number in
+          let g : r ≡ length (w .kept) = omega arith in
           record {
             count = sym (ap length m ∙ simp length-append (omega arith));
             floats =
                 b
-                ∙ ap (λ (l : List Float). sets l (width * r) (row end)) (w .floats)
-                ∙ ap (λ (j : ℕ). sets (sets c 0 (flat (first ∷ w .inner))) (width * j) (row end)) g
-                ∙ push c (first ∷ w .inner) end
+                ∙ ap (λ (l : List Float). sets l (width * r) (row end)) (w .moved .floats)
+                ∙ ap (λ (j : ℕ). sets (sets c 0 (flat (w .kept))) (width * j) (row end)) g
+                ∙ push c (w .kept) end
                 ∙ ap (λ (l : List Sample). sets c 0 (flat l)) (sym m);
           }
 
       alone : r ≡ k → k ≤ 1 → Stored c d (r + 1) (merged floor (samples n c))
       unfolding withEnd
       alone f h =
-          let q = w .count in
-          stays f (meant ∙ rw (le-ltb 1 (length (first ∷ w .inner)) (omega arith)) (either (le (distance (end .point) (lastOf first (w .inner) .point)) floor)))
+          let q = w .number in
+          stays f (meant ∙ rw (le-ltb 1 (length (w .kept)) (omega arith)) (either (le (distance (end .point) (lastOf first (w .kept) .point)) floor)))
         where
-          either : (v : Bool) → cond (v && false) (dropLast (first ∷ w .inner)) (first ∷ w .inner) ++ (end ∷ []) ≡ (first ∷ w .inner) ++ (end ∷ [])
+          either : (v : Bool) → cond (v && false) (dropLast (w .kept)) (w .kept) ++ (end ∷ []) ≡ w .kept ++ (end ∷ [])
           either true = refl
           either false = refl
 
@@ -197,5 +186,6 @@ module _ (c : List Float) (n : ℕ) (floor : Float) where
       apart f t = stays f (meant ∙ rw (w .top, t))
 
       -- what the test at the end found
-      pub ended : ((le (distance (end .point) last) floor ≡ true) × (1 < k) × (r ≡ k - 1)) ⊎ (((k ≤ 1) ⊎ (le (distance (end .point) last) floor ≡ false)) × (r ≡ k)) → Stored c d (r + 1) (merged floor (samples n c))
+      pub ended : ((le (distance (end .point) last) floor ≡ true) × (1 < k) × (r ≡ k - 1)) ⊎ (((k ≤ 1) ⊎ (le (distance (end .point) last) floor ≡ false)) × (r ≡ k))
+          → Stored c d (r + 1) (merged floor (samples n c))
       ended = ⊎-elim (λ v. popped (v .2) (v .0) (v .1)) (λ v. ⊎-elim (alone (v .1)) (apart (v .1)) (v .0))

@@ -28,13 +28,10 @@ spaced floor last [] = []
 spaced floor last (p ∷ l) =
     cond (lt floor (distance (p .point) last)) (p ∷ spaced floor (p .point) l) (spaced floor last l)
 
--- after the loop: where the end is too close to the last one kept, that one goes, unless it is the first
-unfoldable pub withEnd : Float → List Sample → Sample → List Sample
-withEnd floor [] end = end ∷ []
-withEnd floor (first ∷ kept) end =
-    cond (le (distance (end .point) (lastOf first kept .point)) floor && ltb 1 (length (first ∷ kept)))
-    (dropLast (first ∷ kept))
-    (first ∷ kept)
+-- after the loop: where the end is too close to the last one kept, that one goes, unless it is the only one
+unfoldable pub withEnd : Float → Sample → List Sample → Sample → List Sample
+withEnd floor first kept end =
+    cond (le (distance (end .point) (lastOf first kept .point)) floor && ltb 1 (length kept)) (dropLast kept) kept
     ++ (end ∷ [])
 
 -- the whole block
@@ -42,7 +39,7 @@ unfoldable pub merged : Float → List Sample → List Sample
 merged floor [] = []
 merged floor (first ∷ l) =
     cond (lt nought floor && ltb 2 (length (first ∷ l)))
-    (withEnd floor (first ∷ spaced floor (first .point) (dropLast l)) (lastOf first l))
+    (withEnd floor first (first ∷ spaced floor (first .point) (dropLast l)) (lastOf first l))
     (first ∷ l)
 
 -- demand 3: each point further than the floor from the one before it

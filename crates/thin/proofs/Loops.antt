@@ -1,7 +1,7 @@
 -- The loops of `count_kept`, `mark_evenly` and `retain`. Assumes nothing.
 use mathlib.Core.Path.{_≡_, refl, sym, ap, _∙_}
 use mathlib.Core.Bool.{Bool, true, false, cond}
-use mathlib.Core.List.{List, [], _∷_, _++_, append-assoc, append-nil}
+use mathlib.Core.List.{List, [], _∷_, _++_}
 use Prim.Native.Nat.{ℕ, zero, suc, _+_, _-_, _*_, _/_, _<_, _≤_, max}
 use native.Mathlib.Nat.{le-max-left, mul-le-mul, mul-le-mul-right, div-le-of-le-mul, max-eq-left, max-eq-right}
 use native.Mathlib.Numerals.{add-one}
@@ -10,8 +10,8 @@ use lib.ListN.{length, getD, set, take, drop, length-append, length-set}
 use lib.Seq.{sets, take-suc, drop-cons}
 use lib.Ieee.{Float}
 use Rattle.samples.specs.declared.Sample.{Sample}
-use Rattle.samples.specs.Chain.{width, most, row, flat, sampleAt, samplesFrom, samples, Stored}
-use Rattle.samples.proofs.Laws.{push, sampleAt-behind}
+use Rattle.samples.specs.Chain.{width, most, row, sampleAt, samples, Stored}
+use Rattle.samples.proofs.Compact.{Compacted, compact-start, compact-skip, compact-keep, compact-done}
 use Rattle.spans.specs.Spans.{marks}
 use Rattle.thin.specs.Thin.{count, evenAt, evens, retained}
 
@@ -67,64 +67,47 @@ pub steps-one : (want : ℕ) → want ≤ 1 → 1 ≡ max (want - 1) 1
 steps-one want h = sym (max-eq-right (omega arith))
 
 -- ---- `retain`
-retained-none : (keep : List Bool) → retained keep [] ≡ []
+pub retained-none : (keep : List Bool) → retained keep [] ≡ []
 unfolding retained
 retained-none [] = refl
 retained-none (b ∷ keep) = refl
 
 module _ (c : List Float) (keep : List Bool) where
-  abbrev n : ℕ
-  n = length keep
-
-  -- the buffer holds k samples, and the records before i are passed
+  -- of the records before i k are kept
   pub record Moved (chain : List Float) (k i : ℕ) : Type 0 where
     pub kept : List Sample
     pub number : length kept ≡ k
-    pub floats : chain ≡ sets c 0 (flat kept)
-    pub whole : kept ++ retained (drop i keep) (samplesFrom c i (n - i)) ≡ retained keep (samples n c)
+    pub moved : Compacted c (length keep) (retained keep (samples (length keep) c)) (retained (drop i keep)) chain kept i
 
   pub moved-none : Moved c 0 0
-  unfolding flat
-  moved-none = record { kept = []; number = refl; floats = refl; whole = let q : n - 0 ≡ n = omega arith in rw q }
+  moved-none = record { kept = []; number = refl; moved = compact-start c (length keep) (retained keep) }
 
-  next : (i : ℕ) → i < n → retained (drop i keep) (samplesFrom c i (n - i))
-      ≡ cond (getD keep i false) (sampleAt c i ∷ retained (drop (i + 1) keep) (samplesFrom c (i + 1) (n - (i + 1)))) (retained (drop (i + 1) keep) (samplesFrom c (i + 1) (n - (i + 1))))
-  unfolding retained samplesFrom
-  next i h = let q : n - i ≡ suc (n - (i + 1)) = omega arith in rw (q, add-one i, drop-cons keep i false h) (go (getD keep i false))
+  next : (i : ℕ) (s : Sample) (l : List Sample) → i < length keep → retained (drop i keep) (s ∷ l) ≡ cond (getD keep i false) (s ∷ retained (drop (i + 1) keep) l) (retained (drop (i + 1) keep) l)
+  unfolding retained
+  next i s l h = rw (drop-cons keep i false h, add-one i) (go (getD keep i false))
     where
-      go : (b : Bool) → retained (b ∷ drop (suc i) keep) (sampleAt c i ∷ samplesFrom c (suc i) (n - suc i))
-          ≡ cond b (sampleAt c i ∷ retained (drop (suc i) keep) (samplesFrom c (suc i) (n - suc i))) (retained (drop (suc i) keep) (samplesFrom c (suc i) (n - suc i)))
+      go : (b : Bool) → retained (b ∷ drop (suc i) keep) (s ∷ l) ≡ cond b (s ∷ retained (drop (suc i) keep) l) (retained (drop (suc i) keep) l)
       go true = refl
       go false = refl
 
-  module _ (chain : List Float) (k i : ℕ) (w : Moved chain k i) (inside : i < n) where
+  module _ (chain : List Float) (k i : ℕ) (w : Moved chain k i) (inside : i < length keep) where
     pub moved-pass : getD keep i false ≡ false → Moved chain k (i + 1)
     moved-pass t = record {
       kept = w .kept;
       number = w .number;
-      floats = w .floats;
-      whole = ap (λ (r : List Sample). w .kept ++ r) (sym (next i inside ∙ rw t)) ∙ w .whole;
+      moved = compact-skip (w .moved) (retained (drop (i + 1) keep)) inside (next i (sampleAt c i) _ inside ∙ rw t);
     }
 
     pub moved-push : (s : Sample) (d : List Float) → k ≤ i → getD keep i false ≡ true → s ≡ sampleAt chain i → d ≡ sets chain (width * k) (row s) → Moved d (k + 1) (i + 1)
     moved-push s d behind t e b =
         let q = w .number in
-        let same : s ≡ sampleAt c i = e ∙ ap (λ (r : List Float). sampleAt r i) (w .floats) ∙ sampleAt-behind c (w .kept) i (omega arith) in
         record {
           kept = w .kept ++ (s ∷ []);
           number = simp length-append (omega arith);
-          floats =
-              b
-              ∙ ap (λ (r : List Float). sets r (width * k) (row s)) (w .floats)
-              ∙ ap (λ (j : ℕ). sets (sets c 0 (flat (w .kept))) (width * j) (row s)) (sym q)
-              ∙ push c (w .kept) s;
-          whole = append-assoc (w .kept) (s ∷ []) _ ∙ ap (λ (r : List Sample). w .kept ++ r) (sym (next i inside ∙ rw (sym same, t))) ∙ w .whole;
+          moved =
+              compact-keep (w .moved) (retained (drop (i + 1) keep)) inside s d e (omega arith) (next i s _ inside ∙ rw t)
+              (b ∙ ap (λ (j : ℕ). sets chain (width * j) (row s)) (sym q));
         }
 
-  pub moved-all : (chain : List Float) (k i : ℕ) → n ≤ i → Moved chain k i → Stored c chain k (retained keep (samples n c))
-  unfolding samplesFrom
-  moved-all chain k i h w =
-      let q : n - i ≡ 0 = omega arith in
-      let z : retained (drop i keep) (samplesFrom c i (n - i)) ≡ [] = rw q (retained-none (drop i keep)) in
-      let e : w .kept ≡ retained keep (samples n c) = sym (append-nil (w .kept)) ∙ ap (λ (r : List Sample). w .kept ++ r) (sym z) ∙ w .whole in
-      record { count = sym (w .number) ∙ ap length e; floats = w .floats ∙ ap (λ (r : List Sample). sets c 0 (flat r)) e }
+  pub moved-all : (chain : List Float) (k i : ℕ) → length keep ≤ i → Moved chain k i → Stored c chain k (retained keep (samples (length keep) c))
+  moved-all chain k i h w = compact-done (w .moved) k (w .number) (retained-none (drop i keep)) h

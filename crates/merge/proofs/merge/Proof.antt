@@ -67,7 +67,7 @@ loop-again c =
       refl,
       ap length (w .6 ∙ w .2 .ensures) ∙ length-sets (l .chain) (width * l .k) (row (s .result)) ∙ l .inv .5,
       rw (w .6, w .7, w .8)
-          (kept-push (a .chain .now) (a .n) (a .floor) (l .chain) (l .last) (l .k) (l .i) (l .inv .6) (s .result) (s .ensures) (l .inv .2) (omega arith) _ (far ∙ w .0 .taken) (w .2 .ensures)),
+          (kept-push (a .chain .now) (a .n) (a .floor) (l .chain) (l .last) (l .k) (l .i) (l .inv .6) (omega arith) (s .result) (s .ensures) (l .inv .2) _ (far ∙ w .0 .taken) (w .2 .ensures)),
     ))
     (λ w. (
       omega arith,
@@ -77,7 +77,7 @@ loop-again c =
       refl,
       ap length (w .1) ∙ l .inv .5,
       rw (w .1, w .2, w .3)
-          (kept-pass (a .chain .now) (a .n) (a .floor) (l .chain) (l .last) (l .k) (l .i) (l .inv .6) (s .result) (s .ensures) (l .inv .2) (omega arith) (far ∙ w .0 .left)),
+          (kept-pass (a .chain .now) (a .n) (a .floor) (l .chain) (l .last) (l .k) (l .i) (l .inv .6) (omega arith) (s .result) (s .ensures) (l .inv .2) (far ∙ w .0 .left)),
     ))
     (c .if3 .came)
 
