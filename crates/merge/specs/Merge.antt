@@ -1,4 +1,4 @@
--- The merge block of `discretise`: points nearer than the floor to the one before them go, the ends never. Definitions only.
+-- The merge block of `discretise`: a point that is no further than the floor from the last one kept goes, the ends never. Definitions only.
 use mathlib.Core.Bool.{cond, _&&_}
 use mathlib.Core.List.{List, [], _∷_, _++_, dropLast}
 use lib.ListN.{length}
