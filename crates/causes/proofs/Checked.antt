@@ -23,6 +23,7 @@ use Rattle.bounds.proofs.Laws.{some-none}
 use Rattle.forms.specs.Forms.{pointCount, curveCount, segmentCount, broken, uneven, unknownKind, wrongCount, unusedSet, room, malformed, malformedRow, malformedSegment, illFormed}
 use Rattle.causes.specs.declared.Verdict.{Verdict}
 use Rattle.causes.specs.declared.Verdict.the-variants.{Accepted, Refused}
+use Rattle.causes.proofs.Laws.{neither, three, four, sizes}
 use Rattle.causes.specs.Causes.{oversize, highSegment, notLower, unorderedRow, unordered, deepRow, tooDeep, missing, verdict}
 
 -- at most 1e9 in magnitude
@@ -34,6 +35,10 @@ abbrev pub AllBounded : List Float → Type 0
 AllBounded l = (i : ℕ) → i < length l → Bounded (getD l i nan)
 
 pub record Checked (t : Tables) (e : Edge) (o : Options) : Type 0 where
+  pub pointsAtMost : pointCount t ≤ 65536
+  pub curvesAtMost : curveCount t ≤ 4096
+  pub segmentsAtMost : segmentCount t ≤ 4096
+  -- every float is finite and at most 1e9 in magnitude; lo, hi and scale where they are finite
   pub pointsBounded : AllBounded (t .points)
   pub realsBounded : AllBounded (t .reals)
   pub rangesBounded : AllBounded (t .ranges)
@@ -60,20 +65,6 @@ pub record Checked (t : Tables) (e : Edge) (o : Options) : Type 0 where
 differ : true ≡ false → ⊥
 differ h = let z : _≡_ {A = ℕ} 0 1 = cc in omega arith
 
-neither : (a b : Bool) → a || b ≡ false → (a ≡ false) × (b ≡ false)
-neither true b h = absurd (differ h)
-neither false b h = (refl, h)
-
-three : (a b c : Bool) → a || (b || c) ≡ false → (a ≡ false) × (b ≡ false) × (c ≡ false)
-three a b c h = let k = neither a (b || c) h in let l = neither b c (k .1) in (k .0, l .0, l .1)
-
-four : (a b c d : Bool) → (a || b) || (c || d) ≡ false → (a ≡ false) × (b ≡ false) × (c ≡ false) × (d ≡ false)
-four a b c d h =
-    let k = neither (a || b) (c || d) h in
-    let l = neither a b (k .0) in
-    let m = neither c d (k .1) in
-    (l .0, l .1, m .0, m .1)
-
 never : (n : ℕ) → Refused n ≡ Accepted → ⊥
 never n h = let z : _≡_ {A = ℕ} 0 1 = cc in omega arith
 
@@ -81,7 +72,7 @@ passed : (b : Bool) (n : ℕ) (v : Verdict) → cond b (Refused n) v ≡ Accepte
 passed true n v h = absurd (never n h)
 passed false n v h = (refl, h)
 
-six : (a b c d e f : Bool) → cond a (Refused 1) (cond b (Refused 2) (cond c (Refused 3) (cond d (Refused 4) (cond e (Refused 5) (cond f (Refused 6) Accepted))))) ≡ Accepted → (b ≡ false) × (c ≡ false) × (d ≡ false) × (e ≡ false) × (f ≡ false)
+six : (a b c d e f : Bool) → cond a (Refused 1) (cond b (Refused 2) (cond c (Refused 3) (cond d (Refused 4) (cond e (Refused 5) (cond f (Refused 6) Accepted))))) ≡ Accepted → (a ≡ false) × (b ≡ false) × (c ≡ false) × (d ≡ false) × (e ≡ false) × (f ≡ false)
 six a b c d e f h =
     let v6 = cond f (Refused 6) Accepted in
     let v5 = cond e (Refused 5) v6 in
@@ -94,7 +85,7 @@ six a b c d e f h =
     let hd = passed d 4 v5 (hc .1) in
     let he = passed e 5 v6 (hd .1) in
     let hf = passed f 6 Accepted (he .1) in
-    (hb .0, hc .0, hd .0, he .0, hf .0)
+    (ha .0, hb .0, hc .0, hd .0, he .0, hf .0)
 
 -- ---- cause 2
 both-hold : (a b : Bool) → not (a && b) ≡ false → T a × T b
@@ -182,19 +173,26 @@ module _ (t : Tables) (e : Edge) (o : Options) where
       let l = four (leb n (e .start)) (leb n (e .end)) (leb n (e .low)) (leb n (e .high)) (k .1) in
       (leb-false (curveCount t) (e .curve) (k .0), leb-false n (e .start) (l .0), leb-false n (e .end) (l .1), leb-false n (e .low) (l .2), leb-false n (e .high) (l .3))
 
-  causes-of : verdict t e o ≡ Accepted → (unbounded (t .points) (t .reals) (t .ranges) e o ≡ false) × (illFormed t e o ≡ false) × (unordered t ≡ false) × (tooDeep t ≡ false) × (missing t e ≡ false)
+  causes-of : verdict t e o ≡ Accepted → (oversize t ≡ false) × (unbounded (t .points) (t .reals) (t .ranges) e o ≡ false) × (illFormed t e o ≡ false) × (unordered t ≡ false) × (tooDeep t ≡ false) × (missing t e ≡ false)
   unfolding verdict
   causes-of h = six (oversize t) (unbounded (t .points) (t .reals) (t .ranges) e o) (illFormed t e o) (unordered t) (tooDeep t) (missing t e) h
+
+  sizes-at : oversize t ≡ false → (pointCount t ≤ 65536) × (curveCount t ≤ 4096) × (segmentCount t ≤ 4096)
+  sizes-at h = let k = sizes t h in (omega arith, omega arith, omega arith)
 
   pub checked : verdict t e o ≡ Accepted → Checked t e o
   checked h =
       let c = causes-of h in
-      let b = bounds-of (c .0) in
+      let z = sizes-at (c .0) in
+      let b = bounds-of (c .1) in
       let be = edge-of (b .3) in
       let bo = options-of (b .4) in
-      let f = forms-of (c .1) in
-      let x = indexes-of (c .4) in
+      let f = forms-of (c .2) in
+      let x = indexes-of (c .5) in
       record {
+        pointsAtMost = z .0;
+        curvesAtMost = z .1;
+        segmentsAtMost = z .2;
         pointsBounded = all-bounded (t .points) (b .0);
         realsBounded = all-bounded (t .reals) (b .1);
         rangesBounded = all-bounded (t .ranges) (b .2);
@@ -206,9 +204,9 @@ module _ (t : Tables) (e : Edge) (o : Options) where
         scaleBounded = bounded-finite (o .scale) (bo .2);
         runInside = λ i l. row-inside i (some-none (malformedRow t) (curveCount t) i l (f .0));
         segmentInside = λ i l. segment-inside i (some-none (malformedSegment t) (segmentCount t) i l (f .1));
-        trimFalls = λ i base range l k. trim-falls i base range (some-none (unorderedRow t) (curveCount t) i l (c .2)) k;
-        segmentFalls = λ i first count j l k m. segment-falls i first count j (some-none (unorderedRow t) (curveCount t) i l (c .2)) k m;
-        nestingAtMost = λ i l. nesting-at-most i (some-none (deepRow t) (curveCount t) i l (c .3));
+        trimFalls = λ i base range l k. trim-falls i base range (some-none (unorderedRow t) (curveCount t) i l (c .3)) k;
+        segmentFalls = λ i first count j l k m. segment-falls i first count j (some-none (unorderedRow t) (curveCount t) i l (c .3)) k m;
+        nestingAtMost = λ i l. nesting-at-most i (some-none (deepRow t) (curveCount t) i l (c .4));
         curveInside = x .0;
         startInside = x .1;
         endInside = x .2;

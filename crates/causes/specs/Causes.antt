@@ -24,12 +24,13 @@ oversize T =
     || ((ltb (3 * 4096) (length (T .curves)) || ltb (2 * 4096) (length (T .reals)))
     || (ltb (2 * 4096) (length (T .parts)) || ltb (2 * 4096) (length (T .ranges))))
 
--- 2 is `unbounded`, and 3 `illFormed`
+-- 2 is `unbounded` of the crate bounds, and 3 `illFormed` of forms
 
--- 4: a trim's base, or the curve of a composite's segment, not in a lower row than its own
+-- segment j of the run that starts at first refers to row or a higher one
 unfoldable pub highSegment : Tables → ℕ → ℕ → ℕ → Bool
 highSegment T row first j = leb row (segmentIn T (first + j) .curve)
 
+-- what a row of this kind refers to is not all in lower rows
 unfoldable pub notLower : Tables → ℕ → Curve → Bool
 notLower T row (Line origin direction) = false
 notLower T row (Circle frame radius) = false
@@ -39,13 +40,15 @@ notLower T row (Polyline first count) = false
 notLower T row (Trimmed base range) = leb row base
 notLower T row (Composite first count) = someBelow count (highSegment T row first)
 
+-- curve row number row
 unfoldable pub unorderedRow : Tables → ℕ → Bool
 unorderedRow T row = notLower T row (rowIn T row)
 
+-- 4: a trim's base, or the curve of a composite's segment, not in a lower row than its own
 abbrev pub unordered : Tables → Bool
 unordered T = someBelow (curveCount T) (unorderedRow T)
 
--- 5: trims and composites nested deeper than 8
+-- a row nested deeper than 8
 unfoldable pub deepRow : Tables → ℕ → Bool
 deepRow T row = ltb 8 (nesting (tree T row))
 
@@ -53,6 +56,7 @@ deepRow T row = ltb 8 (nesting (tree T row))
 unfoldable pub deepAt : List ℕ → ℕ → Bool
 deepAt nests row = ltb 8 (getD nests row 0)
 
+-- 5: trims and composites nested deeper than 8
 abbrev pub tooDeep : Tables → Bool
 tooDeep T = someBelow (curveCount T) (deepRow T)
 

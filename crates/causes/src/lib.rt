@@ -178,6 +178,7 @@ fn missing(
     )
 }
 
+// The lowest of the causes 1 to 6 that applies, for any slices of any length.
 pub fn check(
     points: &[f64],
     curves: &[u32],

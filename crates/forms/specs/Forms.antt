@@ -32,6 +32,7 @@ broken T =
 unfoldable pub uneven : Tables → Bool
 uneven T = not (eqb (length (T .reals) / 2) (curveCount T)) || not (eqb (length (T .ranges) / 2) (segmentCount T))
 
+-- none of the seven kinds
 unfoldable pub unknownKind : ℕ → Bool
 unknownKind kind = ltb kind 1 || ltb 7 kind
 
@@ -42,10 +43,11 @@ wrongCount kind count =
     (cond (leb kind 4) (not (eqb count 3))
     (cond (eqb kind 6) (not (eqb count 1)) false))
 
--- lines, polylines and composites have no p; all but ellipses and trims have no q
+-- lines, polylines and composites have no p
 unfoldable pub spareP : ℕ → Bool
 spareP kind = eqb kind 1 || (eqb kind 5 || eqb kind 7)
 
+-- all but ellipses and trims have no q
 unfoldable pub spareQ : ℕ → Bool
 spareQ kind = not (eqb kind 3 || eqb kind 6)
 
@@ -76,6 +78,7 @@ malformedRow T i =
 unfoldable pub malformedSegment : Tables → ℕ → Bool
 malformedSegment T i = leb (curveCount T) (getD (T .parts) (i * 2) 0) || ltb 1 (getD (T .parts) (i * 2 + 1) 0)
 
+-- the slices, the rows, the segments, the edge's sense, or relative
 unfoldable pub illFormed : Tables → Edge → Options → Bool
 illFormed T e o =
     (broken T || uneven T)

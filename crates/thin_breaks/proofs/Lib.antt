@@ -1,2 +1,3 @@
 pub mod Thinning
 pub mod Quarters
+pub mod Kept

@@ -1,16 +1,15 @@
 // thin_breaks of knots.rs: the breaks that a curve bends across.
+use knots::Knots;
 use math::Vec3;
 ghost use mathlib.Core.Path.{_≡_};
-ghost use Prim.Native.Nat.{_<_};
-ghost use lib.ListN.{length, getD, drop};
-ghost use lib.Ieee.{nan};
-ghost use Prim.Native.Nat.{_+_};
+ghost use Prim.Native.Nat.{_+_, _<_, _≤_};
+ghost use lib.ListN.{length, drop};
 ghost use Rattle.lists.specs.Room.{filled};
 ghost use Rattle.params.specs.Params.{nextOf};
 ghost use Rattle.brep.specs.Rows.{lent};
 ghost use Rattle.brep.specs.Tree.{tree};
 ghost use Rattle.curve.specs.Eval.{pointAt};
-ghost use Rattle.thin_breaks.specs.Thin.{curveDeviation, curveThinned};
+ghost use Rattle.thin_breaks.specs.Thin.{curveDeviation, curveThinned, keptAnswer, keptLeft};
 
 // How far the curve of a row leaves the chord from a to b; pa is its point at a.
 fn deviation(
@@ -87,4 +86,32 @@ pub fn thin_breaks(
         return k;
     }
     n
+}
+
+// The breaks of the curve of a row inside lo..hi that it bends across, from the start of out, and +0.0 after them.
+pub fn kept_breaks(
+    points: &[f64],
+    curves: &[u32],
+    reals: &[f64],
+    parts: &[u32],
+    ranges: &[f64],
+    row: u32,
+    lo: f64,
+    hi: f64,
+    sag: f64,
+    out: &mut [f64],
+) -> Knots
+    requires { ⌜ length (now out) ≤ 8192 ⌝ }
+    ensures { λ r. ⌜ (r ≡ keptAnswer (length (now (out .entry))) (tree (lent (points .entry) (curves .entry) (reals .entry) (parts .entry) (ranges .entry)) row) lo hi sag)
+        × (now (out .exit) ≡ keptLeft (now (out .entry)) (tree (lent (points .entry) (curves .entry) (reals .entry) (parts .entry) (ranges .entry)) row) lo hi sag) ⌝ }
+{
+    let found = knots::curve_breaks(points, curves, reals, parts, ranges, row, lo, hi, out);
+    match found {
+        Knots::Count(n) => {
+            let kept = &mut out[..n];
+            let m = thin_breaks(points, curves, reals, parts, ranges, row, lo, hi, sag, kept);
+            Knots::Count(m)
+        }
+        Knots::TooMany => Knots::TooMany,
+    }
 }

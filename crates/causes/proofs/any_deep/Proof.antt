@@ -1,4 +1,4 @@
--- `causes::any_deep` meets its contract. The invariant: none of the rows passed is one. Assumes nothing.
+-- `causes::any_deep` meets its contract. The invariant: no row passed is nested deeper than 8. Assumes nothing.
 use Rattle.bounds.proofs.Laws.{Clear, clear-none, clear-more, clear-found, clear-all}
 use Rattle.causes.specs.Causes.{deepAt}
 use Prim.Native.Nat.{_≤_, _-_}

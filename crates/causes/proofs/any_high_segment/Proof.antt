@@ -1,4 +1,4 @@
--- `causes::any_high_segment` meets its contract. The invariant: none of the segments passed is one. Assumes nothing.
+-- `causes::any_high_segment` meets its contract. The invariant: each segment passed refers to a lower row. Assumes nothing.
 use Rattle.bounds.proofs.Laws.{Clear, clear-none, clear-more, clear-found, clear-all}
 use Rattle.brep.specs.Rows.{tables}
 use Rattle.causes.specs.Causes.{highSegment}

@@ -1,7 +1,7 @@
--- `causes::check` meets its contract: the lowest cause. Assumes nothing.
+-- `causes::check` meets its contract: at each way out, which causes were passed and which was met. Assumes nothing.
 use mathlib.Core.Path.{sym, _∙_}
 use Rattle.causes.specs.Causes.{verdict}
-use Rattle.causes.proofs.Laws.{sized}
+use Rattle.causes.proofs.Laws.{sizes}
 use native.Mathlib.Omega.{arith}
 use borrow.Author.Needs.{needs}
 use Rattle.causes.proofs.check.Statement.{statement}
@@ -11,7 +11,7 @@ oversize-requires : tie.Need-oversize-requires
 oversize-requires c κs = search needs
 
 cast-rows : tie.Need-cast-rows
-cast-rows c = omega (arith, sized _ (sym (c .before .oversize .ensures) ∙ c .if1 .left))
+cast-rows c = omega (arith, sizes _ (sym (c .before .oversize .ensures) ∙ c .if1 .left) .1)
 
 unbounded-requires : tie.Need-unbounded-requires
 unbounded-requires c κs = search needs
@@ -23,7 +23,7 @@ unordered-requires : tie.Need-unordered-requires
 unordered-requires c κs = search needs
 
 too-deep-requires : tie.Need-too-deep-requires
-too-deep-requires c κs = omega (arith, sized _ (sym (c .before .before .before .before .before .before .before .oversize .ensures) ∙ c .before .before .before .before .before .before .if1 .left))
+too-deep-requires c κs = omega (arith, sizes _ (sym (c .before .before .before .before .before .before .before .oversize .ensures) ∙ c .before .before .before .before .before .before .if1 .left) .1)
 
 missing-requires : tie.Need-missing-requires
 missing-requires c κs = search needs

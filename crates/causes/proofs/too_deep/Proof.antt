@@ -1,4 +1,4 @@
--- `causes::too_deep` meets its contract. Assumes nothing.
+-- `causes::too_deep` meets its contract: the table holds each nesting, or 9 where it is deeper. Assumes nothing.
 use mathlib.Core.Path.{_∙_}
 use Rattle.causes.proofs.Laws.{deep-same}
 use Rattle.nest.proofs.Table.{filled-known}

@@ -1,4 +1,4 @@
--- `causes::unordered` meets its contract. The invariant: none of the rows passed is one. Assumes nothing.
+-- `causes::unordered` meets its contract. The invariant: each row passed refers to lower rows alone. Assumes nothing.
 use Rattle.bounds.proofs.Laws.{Clear, clear-none, clear-more, clear-found, clear-all}
 use Rattle.brep.specs.Rows.{tables}
 use Rattle.causes.specs.Causes.{unorderedRow}

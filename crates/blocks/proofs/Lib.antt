@@ -1,6 +1,0 @@
-pub mod Stores
-pub mod Valid
-pub mod Turns
-pub mod Singles
-pub mod Fits
-pub mod Tables

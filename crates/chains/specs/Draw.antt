@@ -1,0 +1,121 @@
+-- Drawing an edge: the answer, what both chain buffers hold afterwards, and what holds of every chain. Definitions only.
+use mathlib.Core.Path.{_≡_}
+use mathlib.Core.Bool.{Bool, true, false, cond, _||_}
+use mathlib.Core.List.{List, [], _∷_, map, dropLast}
+use Prim.Native.Nat.{ℕ, _≤_, _-_, _/_, min}
+use lib.ListN.{length}
+use lib.Dec.{ltb, leb}
+use lib.Ieee.{Float, lt}
+use Rattle.lists.specs.Result.{Result, refused, got, bind}
+use Rattle.lists.specs.Sub.{All}
+use Rattle.lists.specs.Room.{filled}
+use Rattle.arith.specs.Notation.{nought}
+use Rattle.brep.specs.declared.Edge.{Edge}
+use Rattle.brep.specs.Rows.{Tables}
+use Rattle.curve.specs.Eval.{pointAt}
+use Rattle.options.specs.declared.Options.{Options}
+use Rattle.options.specs.declared.Resolved.{Resolved}
+use Rattle.options.specs.Options.{resolve, forExtent}
+use Rattle.causes.specs.declared.Verdict.{Verdict}
+use Rattle.causes.specs.declared.Verdict.the-variants as verdicts
+use Rattle.causes.specs.Causes.{verdict}
+use Rattle.params.specs.OneWay.{OneWay}
+use Rattle.samples.specs.declared.Sample.{Sample}
+use Rattle.samples.specs.Chain.{width, most, flat, samples, pointOf, between}
+use Rattle.merge.specs.Merge.{mergeFloor, Apart}
+use Rattle.usable.specs.declared.Usable.{Usable}
+use Rattle.usable.specs.declared.Usable.the-variants.{Range, Unusable}
+use Rattle.usable.specs.Usable.{usableRange}
+use Rattle.chains.specs.declared.Way.{Way}
+use Rattle.chains.specs.declared.Way.the-variants.{AsDrawn, Chord, Complement, ShortArc, Runaway}
+use Rattle.chains.specs.declared.Drawn.{Drawn}
+use Rattle.chains.specs.declared.Drawn.the-variants.{Refused, Chain}
+use Rattle.chains.specs.Edge.{edgeCurve, edgeStart, edgeEnd, edgeExtent, discretised}
+use Rattle.chains.specs.Repair.{Got, by, repaired}
+
+-- ---- the closure inside discretise_all
+-- options.for_extent(edge_extent(solid, e))
+unfoldable pub localOptions : Tables → Edge → Options → Resolved
+localOptions T e o = forExtent (resolve o) (edgeExtent T e)
+
+-- the way of the first drawing
+unfoldable pub firstWay : Usable → Way
+firstWay (Range range) = AsDrawn
+firstWay Unusable = Chord
+
+-- discretise, then repair_runaway
+unfoldable pub drawnIn : ℕ → Tables → Edge → Resolved → Result Got
+drawnIn room T e r =
+    bind (discretised room T e r) (λ chain. repaired room T e r (by (firstWay (usableRange (edgeCurve T e) (e .range))) chain))
+
+-- ---- the entry point
+-- room R, of buffers of so many floats: the smallest of 16,384 and the number of whole records in either
+unfoldable pub roomOf : ℕ → ℕ → ℕ
+roomOf first second = min most (min (first / width) (second / width))
+
+-- cause 7: a chain buffer shorter than 8 floats
+abbrev pub tooShort : ℕ → ℕ → Bool
+tooShort first second = ltb first 8 || ltb second 8
+
+-- the refusal with the lowest number from 1 to 7; else 8 or 9 in the reference's order of work; else the chain and its way
+unfoldable pub drawn : Tables → Edge → Options → ℕ → ℕ → Result Got
+drawn T e o first second =
+    elim (verdict T e o) [
+      | verdicts.Refused n ↦ refused n
+      | verdicts.Accepted ↦
+          cond (tooShort first second) (refused 7) (drawnIn (roomOf first second) T e (localOptions T e o))
+    ]
+
+-- the answer
+unfoldable pub answerOf : Result Got → Drawn
+answerOf (refused n) = Refused n
+answerOf (got g) = Chain (g .way) (length (g .chain))
+
+-- ---- the buffers afterwards
+-- a chain lies in the first buffer where it was kept as first drawn, in the second where repair replaced it
+abbrev pub inFirst : Way → Bool
+inFirst AsDrawn = true
+inFirst Chord = true
+inFirst Complement = false
+inFirst ShortArc = false
+inFirst Runaway = false
+
+-- 1 to 7 leave a buffer as before, 8 and 9 leave it all +0.0
+abbrev pub afterRefusal : ℕ → List Float → List Float
+afterRefusal n entry = cond (leb n 7) entry (filled (length entry) [])
+
+-- the first buffer, and the second; a buffer that holds no chain is all +0.0
+unfoldable pub firstAfter : List Float → Result Got → List Float
+firstAfter entry (refused n) = afterRefusal n entry
+firstAfter entry (got g) = filled (length entry) (cond (inFirst (g .way)) (flat (g .chain)) [])
+
+unfoldable pub secondAfter : List Float → Result Got → List Float
+secondAfter entry (refused n) = afterRefusal n entry
+secondAfter entry (got g) = filled (length entry) (cond (inFirst (g .way)) [] (flat (g .chain)))
+
+-- the chain as the buffers hold it
+unfoldable pub chainIn : List Float → List Float → Drawn → List Sample
+chainIn first second (Refused n) = []
+chainIn first second (Chain way n) = samples n (cond (inFirst way) first second)
+
+-- ---- demand 3
+-- what holds of every chain of an edge, whichever way it was got, with its merge floor
+pub record Sound (T : Tables) (e : Edge) (floor : Float) (chain : List Sample) : Type 0 where
+  -- it has at least two points
+  pub two : 2 ≤ length chain
+  -- its first point is the edge's start vertex and its last the end vertex, bit for bit
+  pub ends : (pointOf chain 0 ≡ edgeStart T e) × (pointOf chain (length chain - 1) ≡ edgeEnd T e)
+  -- every point between is the curve's own point at the parameter beside it
+  pub own : All (λ (s : Sample). s .point ≡ pointAt (edgeCurve T e) (s .param)) (between chain)
+  -- its parameters do not rise in one place and fall in another
+  pub oneWay : OneWay (map (λ (s : Sample). s .param) chain)
+  -- where the merge floor is above zero, each point but the last is further than it from the one before
+  pub apart : lt nought floor ≡ true → Apart floor (dropLast chain)
+
+-- the outcome of drawing: answer and buffers by the definition, and demand 3 of the chain that the buffers hold
+pub record Outcome (T : Tables) (e : Edge) (o : Options) (first second : List Float) (answer : Drawn) (first' second' : List Float) : Type 0 where
+  pub answered : answer ≡ answerOf (drawn T e o (length first) (length second))
+  pub firstHolds : first' ≡ firstAfter first (drawn T e o (length first) (length second))
+  pub secondHolds : second' ≡ secondAfter second (drawn T e o (length first) (length second))
+  pub sound : (way : Way) (n : ℕ) → answer ≡ Chain way n
+      → Sound T e (mergeFloor (e .tolerance) (localOptions T e o .sag)) (chainIn first' second' answer)

@@ -1,0 +1,62 @@
+-- `ends::edge` meets its contract. Assumes nothing.
+use mathlib.Core.Path.{_≡_, refl, sym, ap, _∙_}
+use mathlib.Core.List.{[], _∷_}
+use Prim.Native.Nat.{ℕ}
+use lib.ListN.{drop}
+use Rattle.formats.specs.Bytes.{bytes}
+use Rattle.formats.specs.Table.{single}
+use Rattle.layout.specs.Layout.{edgeColumns}
+use Rattle.layout.specs.Letters.{padded, toldRow}
+use Rattle.rows.specs.Rows.{Narrow, edgeOf}
+use Rattle.formats.proofs.Laws.{Lawful, Was}
+use Rattle.layout.proofs.Laws.{edge-law}
+use Rattle.layout.proofs.Rows.{RowRead, row-read, no-row-read}
+use Rattle.ends.specs.declared.EdgeAt.the-variants.{Edge}
+use Rattle.ends.proofs.Singles.{edge-same, edge-narrow, told-edge, told-no-edge}
+use borrow.Author.Needs.{needs}
+use Rattle.ends.proofs.edge.Statement.{statement}
+use Rattle.ends.proofs.edge.Tie as tie
+
+-- what is told of the layout's line
+told-row : (c : tie.After-single) → c .single .result ≡ toldRow (c .before .before .before .before .args .s .now) (single edgeColumns .read (drop (c .before .before .before .before .args .at) (c .before .before .before .before .args .s .now)))
+unfolding bytes
+told-row c = let a = c .before .before .before .before .args in c .single .ensures ∙ ap (λ F. toldRow (a .s .now) (F .read (drop (a .at) (a .s .now)))) edge-same
+
+read : (c : tie.Then1) → RowRead (c .before .before .before .before .before .args .s .now) (single edgeColumns .read (drop (c .before .before .before .before .before .args .at) (c .before .before .before .before .before .args .s .now))) (c .before .single .result)
+read c = row-read (c .before .before .before .before .before .args .s .now) (single edgeColumns) edge-law (c .before .before .before .before .before .args .at) (c .before .single .result) (c .before .before .before .before .before .pre) (told-row (c .before)) (c .if1 .taken)
+
+slice-aggregate-single : tie.Need-slice-aggregate-single
+slice-aggregate-single c = search needs
+
+slice-aggregate-single-2 : tie.Need-slice-aggregate-single-2
+slice-aggregate-single-2 c = search needs
+
+single-requires : tie.Need-single-requires
+single-requires c κs = search needs
+
+edge-of-requires : tie.Need-edge-of-requires
+edge-of-requires c κs =
+    let r = read (c .before .before) in
+    let v = edge-law .was _ (r .list) _ (r .is .is) .right in
+    rw (r .numbers-are) (edge-narrow (r .list) v)
+
+returns : tie.Need-returns
+returns c =
+    let r = read (c .before .before .before) in
+    ap (λ x. Edge x (c .before .before .before .before .single .result .next)) (c .edge-of .ensures)
+    ∙ told-edge (c .before .before .before .before .before .before .before .before .args .s .now) _ (r .list) (c .before .before .before .before .single .result .next) (c .before .before .before .before .single .result .numbers) (r .numbers-are) (r .is)
+
+returns-2 : tie.Need-returns-2
+returns-2 c =
+    told-no-edge (c .before .before .before .before .before .args .s .now) _ (no-row-read (c .before .before .before .before .before .args .s .now) _ (c .before .single .result) (told-row (c .before)) (c .if1 .left))
+
+pub edge-spec : {M : Type 1} → statement M
+edge-spec =
+    tie.close
+    (tie.spec
+    slice-aggregate-single
+    slice-aggregate-single-2
+    single-requires
+    edge-of-requires
+    returns
+    returns-2)
