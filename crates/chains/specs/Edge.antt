@@ -110,11 +110,14 @@ atLeastTwo range [] = range .lo ∷ range .hi ∷ []
 atLeastTwo range (t ∷ []) = range .lo ∷ range .hi ∷ []
 atLeastTwo range (t ∷ u ∷ l) = t ∷ u ∷ l
 
--- the parameters' samples, oriented, pinned, thinned and merged
+-- the parameters' samples, oriented and pinned
+unfoldable pub placed : Tables → Edge → List Float → List Sample
+placed T e params = pinned (edgeStart T e) (edgeEnd T e) (oriented T e (located (edgeCurve T e) params))
+
+-- the same, thinned and merged
 unfoldable pub finished : Tables → Edge → Resolved → List Float → Result (List Sample)
 finished T e r params =
-    each (merged (mergeFloor (e .tolerance) (r .sag)))
-    (thinnedIf (isSampled (edgeCurve T e)) r (pinned (edgeStart T e) (edgeEnd T e) (oriented T e (located (edgeCurve T e) params))))
+    each (merged (mergeFloor (e .tolerance) (r .sag))) (thinnedIf (isSampled (edgeCurve T e)) r (placed T e params))
 
 -- discretise
 unfoldable pub discretised : ℕ → Tables → Edge → Resolved → Result (List Sample)
