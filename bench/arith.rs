@@ -40,10 +40,17 @@ fn sin_cos(t: f64) -> f64 {
     s + c
 }
 
+// The Rust is called as the library is: a call of its own, which stores both answers.
 #[inline(never)]
 fn rust_sin_cos(t: f64) -> f64 {
-    let (s, c) = fixed_steps(t);
+    let (mut s, mut c) = (0.0, 0.0);
+    stored_steps(t, &mut s, &mut c);
     s + c
+}
+
+#[inline(never)]
+extern "C" fn stored_steps(t: f64, sin: &mut f64, cos: &mut f64) {
+    (*sin, *cos) = fixed_steps(t);
 }
 
 // The steps of sin and cos: the quarter turns k, what is left r, the two kernels, and k mod 4.
