@@ -2,13 +2,13 @@
 use mathlib.Core.Path.{_≡_, refl, sym, ap, _∙_}
 use mathlib.Core.Bool.{Bool, true, false, cond, not, _&&_, _||_}
 use mathlib.Core.List.{List}
-use Prim.Native.Nat.{ℕ, _+_, _*_, _<_, _≤_}
+use Prim.Native.Nat.{ℕ, _+_, _*_, _/_, _<_, _≤_}
 use native.Mathlib.Omega.{arith}
 use lib.ListN.{length, getD}
-use lib.Dec.{T, ltb, leb}
+use lib.Dec.{T, ltb, leb, eqb}
 use lib.Ieee.{Float, nan, le, neg}
 use lib.Ieee.Scale.{finite}
-use borrow.Author.Tests.{ltb-false, leb-false}
+use borrow.Author.Tests.{ltb-false, leb-false, eqb-true}
 use Rattle.math.specs.declared.Interval.{Interval}
 use Rattle.brep.specs.declared.Curve.{Curve}
 use Rattle.brep.specs.declared.Curve.the-variants.{Trimmed, Composite}
@@ -38,6 +38,9 @@ pub record Checked (t : Tables) (e : Edge) (o : Options) : Type 0 where
   pub pointsAtMost : pointCount t ≤ 65536
   pub curvesAtMost : curveCount t ≤ 4096
   pub segmentsAtMost : segmentCount t ≤ 4096
+  -- the two slices of a table have as many rows
+  pub realsAsMany : length (t .reals) / 2 ≡ curveCount t
+  pub rangesAsMany : length (t .ranges) / 2 ≡ segmentCount t
   -- every float is finite and at most 1e9 in magnitude; lo, hi and scale where they are finite
   pub pointsBounded : AllBounded (t .points)
   pub realsBounded : AllBounded (t .reals)
@@ -67,6 +70,10 @@ differ h = let z : _≡_ {A = ℕ} 0 1 = cc in omega arith
 
 never : (n : ℕ) → Refused n ≡ Accepted → ⊥
 never n h = let z : _≡_ {A = ℕ} 0 1 = cc in omega arith
+
+holds-not : (b : Bool) → not b ≡ false → b ≡ true
+holds-not true h = refl
+holds-not false h = absurd (differ h)
 
 passed : (b : Bool) (n : ℕ) (v : Verdict) → cond b (Refused n) v ≡ Accepted → (b ≡ false) × (v ≡ Accepted)
 passed true n v h = absurd (never n h)
@@ -129,6 +136,17 @@ module _ (t : Tables) (e : Edge) (o : Options) where
   options-of h = three (beyond (o .deflection)) (beyond (o .angle .0)) (finiteBeyond (o .scale)) h
 
   -- ---- cause 3
+  even-slices : illFormed t e o ≡ false → (length (t .reals) / 2 ≡ curveCount t) × (length (t .ranges) / 2 ≡ segmentCount t)
+  unfolding illFormed uneven
+  even-slices h =
+      let reals = not (eqb (length (t .reals) / 2) (curveCount t)) in
+      let ranges = not (eqb (length (t .ranges) / 2) (segmentCount t)) in
+      let r = someBelow (curveCount t) (malformedRow t) || someBelow (segmentCount t) (malformedSegment t) in
+      let w = ltb 1 (e .sense) || ltb 1 (o .relative) in
+      let k = neither reals ranges (neither (broken t) (reals || ranges) (neither (broken t || (reals || ranges)) (r || w) h .0) .1) in
+      (eqb-true (length (t .reals) / 2) (curveCount t) (holds-not (eqb (length (t .reals) / 2) (curveCount t)) (k .0)),
+      eqb-true (length (t .ranges) / 2) (segmentCount t) (holds-not (eqb (length (t .ranges) / 2) (segmentCount t)) (k .1)))
+
   forms-of : illFormed t e o ≡ false → (someBelow (curveCount t) (malformedRow t) ≡ false) × (someBelow (segmentCount t) (malformedSegment t) ≡ false)
   unfolding illFormed
   forms-of h =
@@ -187,12 +205,15 @@ module _ (t : Tables) (e : Edge) (o : Options) where
       let b = bounds-of (c .1) in
       let be = edge-of (b .3) in
       let bo = options-of (b .4) in
+      let s = even-slices (c .2) in
       let f = forms-of (c .2) in
       let x = indexes-of (c .5) in
       record {
         pointsAtMost = z .0;
         curvesAtMost = z .1;
         segmentsAtMost = z .2;
+        realsAsMany = s .0;
+        rangesAsMany = s .1;
         pointsBounded = all-bounded (t .points) (b .0);
         realsBounded = all-bounded (t .reals) (b .1);
         rangesBounded = all-bounded (t .ranges) (b .2);
