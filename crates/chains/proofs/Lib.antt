@@ -1,2 +1,3 @@
 pub mod Tame
 pub mod Ranges
+pub mod Placed
