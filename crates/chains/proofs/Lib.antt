@@ -1,3 +1,5 @@
 pub mod Tame
 pub mod Ranges
 pub mod Placed
+pub mod Outcome
+pub mod Discretised

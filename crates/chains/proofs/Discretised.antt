@@ -1,0 +1,186 @@
+-- Demand 3 of every chain that `discretise` gives, of a range that can be sampled. Assumes nothing.
+use mathlib.Core.Path.{_≡_, refl, sym, ap, subst, _∙_}
+use mathlib.Core.Bool.{Bool, true, false}
+use mathlib.Core.List.{List, [], _∷_, dropLast}
+use Prim.Native.Nat.{ℕ, suc, _^_, _-_, _+_, _≤_}
+use native.Mathlib.Omega.{arith}
+use lib.Dec.{T}
+use lib.ListN.{length, getD}
+use lib.Ieee.{Float, lt}
+use Rattle.arith.specs.Notation.{_⊗_, bits, nought}
+use Rattle.lists.specs.Result.{Result, refused, got, bind, each}
+use Rattle.lists.specs.Sub.{All, none}
+use Rattle.lists.proofs.Order.{sub-length}
+use Rattle.lists.proofs.Joined.{sub-map}
+use Rattle.math.specs.declared.Interval.{Interval}
+use Rattle.brep.specs.declared.Edge.{Edge}
+use Rattle.brep.specs.Rows.{Tables}
+use Rattle.curve.specs.Eval.{pointAt, isSampled}
+use Rattle.options.specs.declared.Resolved.{Resolved}
+use Rattle.knots.specs.Knots.{curveKnots, curveBreaks, deviation}
+use Rattle.params.proofs.Runs.{good-number}
+use Rattle.params.proofs.Steady.{Steady, steady-sub, steady-one-way, two-one-way, two-steady}
+use Rattle.params.proofs.Lists.{sampled-length, sampled-refused}
+use Rattle.params.proofs.Sampled.{sampled-steady, thin-sound}
+use Rattle.samples.specs.declared.Sample.{Sample}
+use Rattle.samples.specs.Chain.{lastOf, pointOf, between}
+use Rattle.samples.proofs.Shorter.{Shorter, shorter-same, shorter-trans, shorter-sub, shorter-two, shorter-first, shorter-last, shorter-between}
+use Rattle.merge.specs.Merge.{mergeFloor, merged, Apart, one}
+use Rattle.merge.proofs.Laws.{merge-shorter, merge-apart}
+use Rattle.thin.specs.Thin.{thinned}
+use Rattle.thin.proofs.Laws.{thin-shorter, thin-refused}
+use Rattle.usable.specs.declared.Usable.{Usable}
+use Rattle.usable.specs.declared.Usable.the-variants.{Range, Unusable}
+use Rattle.usable.specs.Usable.{usableRange}
+use Rattle.sample.specs.Sample.{sampler, sampled}
+use Rattle.chains.specs.Edge.{edgeCurve, edgeStart, edgeEnd, thinnedIf, chordOf, atLeastTwo, placed, finished, discretised}
+use Rattle.chains.specs.Draw.{Sound}
+use Rattle.chains.proofs.Tame.{Tame}
+use Rattle.chains.proofs.Ranges.{Ends, Goods, usable-goods}
+use Rattle.chains.proofs.Placed.{paramsOf, Own, Placed, placed-holds, placed-length}
+use Rattle.chains.proofs.Outcome.{Outcome, answer, eight, nine}
+
+-- demand 3 of a chain, and that it fits the room
+pub record Chained (t : Tables) (e : Edge) (floor : Float) (room : ℕ) (l : List Sample) : Type 0 where
+  pub sound : Sound t e floor l
+  pub fits : length l ≤ room
+
+-- how many records there is room for
+pub record Room (room : ℕ) : Type 0 where
+  pub least : 2 ≤ room
+  pub most : room ≤ 2 ^ 53
+
+-- ---- a chord of the vertices
+pub chord-chained : (t : Tables) (e : Edge) (floor : Float) (room : ℕ) → 2 ≤ room → (a b : Float) → Chained t e floor room (chordOf t e a b)
+chord-chained t e floor room h a b = record {
+  sound = record {
+    two = omega arith;
+    ends = (refl, refl);
+    own = none;
+    oneWay = two-one-way a b;
+    apart = λ z. one;
+  };
+  fits = h;
+}
+
+-- ---- placed samples, thinned and merged
+end-at : (d p : Sample) (l : List Sample) → getD (p ∷ l) (length l) d ≡ lastOf p l
+unfolding lastOf
+end-at d p [] = refl
+end-at d p (q ∷ l) = end-at d q l
+
+last-at : (d : Sample) (l : List Sample) → 1 ≤ length l → getD l (length l - 1) d ≡ lastOf d l
+unfolding lastOf
+last-at d [] h = absurd (omega arith)
+last-at d (p ∷ l) h = let z : length (p ∷ l) - 1 ≡ length l = omega arith in rw z (end-at d p l)
+
+module _ (t : Tables) (e : Edge) (r : Resolved) (l : List Sample) (p : Placed t e l) where
+  thinned-shorter : (b : Bool) (k : List Sample) → thinnedIf b r l ≡ got k → Shorter k l
+  unfolding thinnedIf
+  thinned-shorter true k q = thin-shorter (r .sag ⊗ bits 0x3F847AE147AE147B) (r .angle) (r .segments + 1) l k (p .two) q
+  thinned-shorter false k q = let x : l ≡ k = cc in subst (λ (m : List Sample). Shorter m l) x (itself l (p .two))
+    where
+      itself : (l : List Sample) → 2 ≤ length l → Shorter l l
+      itself [] h = absurd (omega arith)
+      itself (a ∷ []) h = absurd (omega arith)
+      itself (a ∷ b ∷ l) h = shorter-same a b l
+
+  thinned-refused : (b : Bool) (n : ℕ) → thinnedIf b r l ≡ refused n → n ≡ 9
+  unfolding thinnedIf
+  thinned-refused true n q = thin-refused (r .sag ⊗ bits 0x3F847AE147AE147B) (r .angle) (r .segments + 1) l n q
+  thinned-refused false n q = absurd (let z : _≡_ {A = ℕ} 0 1 = cc in omega arith)
+
+  -- what some of the placed samples keep, the ends among them
+  merged-sound : (floor : Float) (k : List Sample) → Shorter k l → Sound t e floor (merged floor k)
+  merged-sound floor k s =
+      let m = merged floor k in
+      let h = shorter-two k l s in
+      let u = shorter-trans m k l (merge-shorter floor k h) s in
+      let two = shorter-two m l u in
+      record {
+        two = two;
+        ends = (
+          ap (λ (x : Sample). x .point) (shorter-first m l u _) ∙ p .begins _,
+          ap (λ (x : Sample). x .point) (last-at _ m (omega arith) ∙ shorter-last m l u _) ∙ p .finishes _,
+        );
+        own = shorter-between m l u (Own (edgeCurve t e)) (p .own);
+        oneWay = steady-one-way (steady-sub (sub-map (λ (x : Sample). x .param) (shorter-sub m l u)) (p .steady));
+        apart = λ z. merge-apart floor k h (rw z tt);
+      }
+
+  merged-length : (floor : Float) (k : List Sample) → Shorter k l → length (merged floor k) ≤ length l
+  merged-length floor k s =
+      sub-length (shorter-sub (merged floor k) l (shorter-trans (merged floor k) k l (merge-shorter floor k (shorter-two k l s)) s))
+
+module _ (t : Tables) (e : Edge) (r : Resolved) where
+  abbrev floorOf : Float
+  floorOf = mergeFloor (e .tolerance) (r .sag)
+
+  finished-outcome : (room : ℕ) (params : List Float) → 2 ≤ length params → length params ≤ room → Steady params
+      → Outcome (Chained t e floorOf room) (finished t e r params)
+  unfolding finished
+  finished-outcome room params h n s = go (thinnedIf (isSampled (edgeCurve t e)) r (placed t e params)) refl
+    where
+      go : (x : Result (List Sample)) → thinnedIf (isSampled (edgeCurve t e)) r (placed t e params) ≡ x
+          → Outcome (Chained t e floorOf room) (each (merged floorOf) x)
+      go (got k) q =
+          let l = placed t e params in
+          let p = placed-holds t e params h s in
+          let u = thinned-shorter t e r l p (isSampled (edgeCurve t e)) k q in
+          answer (record {
+            sound = merged-sound t e r l p floorOf k u;
+            fits = omega (arith, merged-length t e r l p floorOf k u, placed-length t e params);
+          })
+      go (refused k) q =
+          let z = thinned-refused t e r (placed t e params) (placed-holds t e params h s) (isSampled (edgeCurve t e)) k q in rw z nine
+
+-- ---- the parameters
+module _ (range : Interval) (g : Goods range) where
+  two-steady-ends : Steady (range .lo ∷ range .hi ∷ [])
+  two-steady-ends = two-steady (range .lo) (range .hi) (good-number (g .low)) (good-number (g .high))
+
+  at-least-two : (l : List Float) → 2 ≤ length (atLeastTwo range l)
+  unfolding atLeastTwo
+  at-least-two [] = omega arith
+  at-least-two (a ∷ []) = omega arith
+  at-least-two (a ∷ b ∷ l) = omega arith
+
+  at-most : (room : ℕ) → 2 ≤ room → (l : List Float) → length l ≤ room → length (atLeastTwo range l) ≤ room
+  unfolding atLeastTwo
+  at-most room h [] n = h
+  at-most room h (a ∷ []) n = h
+  at-most room h (a ∷ b ∷ l) n = n
+
+  still-steady : (l : List Float) → Steady l → Steady (atLeastTwo range l)
+  unfolding atLeastTwo
+  still-steady [] s = two-steady-ends
+  still-steady (a ∷ []) s = two-steady-ends
+  still-steady (a ∷ b ∷ l) s = s
+
+module _ (t : Tables) (e : Edge) (tame : Tame (edgeCurve t e)) (ends : Ends (e .range)) (room : ℕ) (fine : Room room) (r : Resolved) where
+  sampled-outcome : (range : Interval) → Goods range
+      → Outcome (Chained t e (floorOf t e r) room) (bind (sampled room (edgeCurve t e) range r) (λ params. finished t e r (atLeastTwo range params)))
+  unfolding sampled sampler curveBreaks
+  sampled-outcome range g = go (sampled room (edgeCurve t e) range r) refl
+    where
+      go : (x : Result (List Float)) → sampled room (edgeCurve t e) range r ≡ x
+          → Outcome (Chained t e (floorOf t e r) room) (bind x (λ params. finished t e r (atLeastTwo range params)))
+      go (refused n) q = let z = sampled-refused room (sampler (edgeCurve t e) range r) range n q in rw z eight
+      go (got l) q =
+          let s = sampler (edgeCurve t e) range r in
+          let breaks-sound = thin-sound s range (curveKnots (edgeCurve t e)) (r .sag) (deviation (pointAt (edgeCurve t e))) refl (tame .knots) (g .low) (g .high) in
+          finished-outcome t e r room (atLeastTwo range l) (at-least-two range g l)
+          (at-most range g room (fine .least) l (sampled-length room s range l q))
+          (still-steady range g l (sampled-steady s range breaks-sound room (fine .most) l q))
+
+  pub discretised-outcome : Outcome (Chained t e (mergeFloor (e .tolerance) (r .sag)) room) (discretised room t e r)
+  unfolding discretised
+  discretised-outcome = go (usableRange (edgeCurve t e) (e .range)) refl
+    where
+      go : (u : Usable) → usableRange (edgeCurve t e) (e .range) ≡ u
+          → Outcome (Chained t e (mergeFloor (e .tolerance) (r .sag)) room) (elim u [
+            | Unusable ↦ got (chordOf t e (e .range .lo) (e .range .hi))
+            | Range range ↦ bind (sampled room (edgeCurve t e) range r) (λ params. finished t e r (atLeastTwo range params))
+          ])
+      go Unusable q = answer (chord-chained t e (mergeFloor (e .tolerance) (r .sag)) room (fine .least) (e .range .lo) (e .range .hi))
+      go (Range range) q = sampled-outcome range (usable-goods (edgeCurve t e) tame range (e .range) ends q)
