@@ -40,9 +40,9 @@ use Rattle.chains.proofs.Ranges.{Ends, Goods, usable-goods}
 use Rattle.chains.proofs.Placed.{paramsOf, Own, Placed, placed-holds, placed-length}
 use Rattle.chains.proofs.Outcome.{Outcome, answer, eight, nine}
 
--- demand 3 of a chain, and that it fits the room
-pub record Chained (t : Tables) (e : Edge) (floor : Float) (room : ℕ) (l : List Sample) : Type 0 where
-  pub sound : Sound t e floor l
+-- a chain that fits the room, and of which demand 3 holds, given H
+pub record Chained (H : Type 0) (t : Tables) (e : Edge) (floor : Float) (room : ℕ) (l : List Sample) : Type 0 where
+  pub sound : H → Sound t e floor l
   pub fits : length l ≤ room
 
 -- how many records there is room for
@@ -51,9 +51,9 @@ pub record Room (room : ℕ) : Type 0 where
   pub most : room ≤ 2 ^ 53
 
 -- ---- a chord of the vertices
-pub chord-chained : (t : Tables) (e : Edge) (floor : Float) (room : ℕ) → 2 ≤ room → (a b : Float) → Chained t e floor room (chordOf t e a b)
-chord-chained t e floor room h a b = record {
-  sound = record {
+pub chord-chained : (H : Type 0) (t : Tables) (e : Edge) (floor : Float) (room : ℕ) → 2 ≤ room → (a b : Float) → Chained H t e floor room (chordOf t e a b)
+chord-chained H t e floor room h a b = record {
+  sound = λ x. record {
     two = omega arith;
     ends = (refl, refl);
     own = none;
@@ -74,11 +74,11 @@ unfolding lastOf
 last-at d [] h = absurd (omega arith)
 last-at d (p ∷ l) h = let z : length (p ∷ l) - 1 ≡ length l = omega arith in rw z (end-at d p l)
 
-module _ (t : Tables) (e : Edge) (r : Resolved) (l : List Sample) (p : Placed t e l) where
+module _ (r : Resolved) (l : List Sample) (two : 2 ≤ length l) where
   thinned-shorter : (b : Bool) (k : List Sample) → thinnedIf b r l ≡ got k → Shorter k l
   unfolding thinnedIf
-  thinned-shorter true k q = thin-shorter (r .sag ⊗ bits 0x3F847AE147AE147B) (r .angle) (r .segments + 1) l k (p .two) q
-  thinned-shorter false k q = let x : l ≡ k = cc in subst (λ (m : List Sample). Shorter m l) x (itself l (p .two))
+  thinned-shorter true k q = thin-shorter (r .sag ⊗ bits 0x3F847AE147AE147B) (r .angle) (r .segments + 1) l k two q
+  thinned-shorter false k q = let x : l ≡ k = cc in subst (λ (m : List Sample). Shorter m l) x (itself l two)
     where
       itself : (l : List Sample) → 2 ≤ length l → Shorter l l
       itself [] h = absurd (omega arith)
@@ -90,55 +90,53 @@ module _ (t : Tables) (e : Edge) (r : Resolved) (l : List Sample) (p : Placed t 
   thinned-refused true n q = thin-refused (r .sag ⊗ bits 0x3F847AE147AE147B) (r .angle) (r .segments + 1) l n q
   thinned-refused false n q = absurd (let z : _≡_ {A = ℕ} 0 1 = cc in omega arith)
 
-  -- what some of the placed samples keep, the ends among them
-  merged-sound : (floor : Float) (k : List Sample) → Shorter k l → Sound t e floor (merged floor k)
-  merged-sound floor k s =
-      let m = merged floor k in
-      let h = shorter-two k l s in
-      let u = shorter-trans m k l (merge-shorter floor k h) s in
-      let two = shorter-two m l u in
-      record {
-        two = two;
-        ends = (
-          ap (λ (x : Sample). x .point) (shorter-first m l u _) ∙ p .begins _,
-          ap (λ (x : Sample). x .point) (last-at _ m (omega arith) ∙ shorter-last m l u _) ∙ p .finishes _,
-        );
-        own = shorter-between m l u (Own (edgeCurve t e)) (p .own);
-        oneWay = steady-one-way (steady-sub (sub-map (λ (x : Sample). x .param) (shorter-sub m l u)) (p .steady));
-        apart = λ z. merge-apart floor k h (rw z tt);
-      }
-
   merged-length : (floor : Float) (k : List Sample) → Shorter k l → length (merged floor k) ≤ length l
   merged-length floor k s =
       sub-length (shorter-sub (merged floor k) l (shorter-trans (merged floor k) k l (merge-shorter floor k (shorter-two k l s)) s))
+
+-- what some of the placed samples keep, the ends among them
+merged-sound : (t : Tables) (e : Edge) (l : List Sample) → Placed t e l → (floor : Float) (k : List Sample) → Shorter k l → Sound t e floor (merged floor k)
+merged-sound t e l p floor k s =
+    let m = merged floor k in
+    let h = shorter-two k l s in
+    let u = shorter-trans m k l (merge-shorter floor k h) s in
+    let two = shorter-two m l u in
+    record {
+      two = two;
+      ends = (
+        ap (λ (x : Sample). x .point) (shorter-first m l u _) ∙ p .begins _,
+        ap (λ (x : Sample). x .point) (last-at _ m (omega arith) ∙ shorter-last m l u _) ∙ p .finishes _,
+      );
+      own = shorter-between m l u (Own (edgeCurve t e)) (p .own);
+      oneWay = steady-one-way (steady-sub (sub-map (λ (x : Sample). x .param) (shorter-sub m l u)) (p .steady));
+      apart = λ z. merge-apart floor k h (rw z tt);
+    }
 
 module _ (t : Tables) (e : Edge) (r : Resolved) where
   abbrev floorOf : Float
   floorOf = mergeFloor (e .tolerance) (r .sag)
 
-  finished-outcome : (room : ℕ) (params : List Float) → 2 ≤ length params → length params ≤ room → Steady params
-      → Outcome (Chained t e floorOf room) (finished t e r params)
+  finished-outcome : (H : Type 0) (room : ℕ) (params : List Float) → 2 ≤ length params → length params ≤ room → (H → Steady params)
+      → Outcome (Chained H t e floorOf room) (finished t e r params)
   unfolding finished
-  finished-outcome room params h n s = go (thinnedIf (isSampled (edgeCurve t e)) r (placed t e params)) refl
+  finished-outcome H room params h n s = go (thinnedIf (isSampled (edgeCurve t e)) r (placed t e params)) refl
     where
+      long : 2 ≤ length (placed t e params)
+      long = omega (arith, placed-length t e params)
+
       go : (x : Result (List Sample)) → thinnedIf (isSampled (edgeCurve t e)) r (placed t e params) ≡ x
-          → Outcome (Chained t e floorOf room) (each (merged floorOf) x)
+          → Outcome (Chained H t e floorOf room) (each (merged floorOf) x)
       go (got k) q =
           let l = placed t e params in
-          let p = placed-holds t e params h s in
-          let u = thinned-shorter t e r l p (isSampled (edgeCurve t e)) k q in
+          let u = thinned-shorter r l long (isSampled (edgeCurve t e)) k q in
           answer (record {
-            sound = merged-sound t e r l p floorOf k u;
-            fits = omega (arith, merged-length t e r l p floorOf k u, placed-length t e params);
+            sound = λ x. merged-sound t e l (placed-holds t e params h (s x)) floorOf k u;
+            fits = omega (arith, merged-length r l long floorOf k u, placed-length t e params);
           })
-      go (refused k) q =
-          let z = thinned-refused t e r (placed t e params) (placed-holds t e params h s) (isSampled (edgeCurve t e)) k q in rw z nine
+      go (refused k) q = let z = thinned-refused r (placed t e params) long (isSampled (edgeCurve t e)) k q in rw z nine
 
 -- ---- the parameters
-module _ (range : Interval) (g : Goods range) where
-  two-steady-ends : Steady (range .lo ∷ range .hi ∷ [])
-  two-steady-ends = two-steady (range .lo) (range .hi) (good-number (g .low)) (good-number (g .high))
-
+module _ (range : Interval) where
   at-least-two : (l : List Float) → 2 ≤ length (atLeastTwo range l)
   unfolding atLeastTwo
   at-least-two [] = omega arith
@@ -151,36 +149,45 @@ module _ (range : Interval) (g : Goods range) where
   at-most room h (a ∷ []) n = h
   at-most room h (a ∷ b ∷ l) n = n
 
-  still-steady : (l : List Float) → Steady l → Steady (atLeastTwo range l)
-  unfolding atLeastTwo
-  still-steady [] s = two-steady-ends
-  still-steady (a ∷ []) s = two-steady-ends
-  still-steady (a ∷ b ∷ l) s = s
+  module _ (g : Goods range) where
+    ends-steady : Steady (range .lo ∷ range .hi ∷ [])
+    ends-steady = two-steady (range .lo) (range .hi) (good-number (g .low)) (good-number (g .high))
 
-module _ (t : Tables) (e : Edge) (tame : Tame (edgeCurve t e)) (ends : Ends (e .range)) (room : ℕ) (fine : Room room) (r : Resolved) where
-  sampled-outcome : (range : Interval) → Goods range
-      → Outcome (Chained t e (floorOf t e r) room) (bind (sampled room (edgeCurve t e) range r) (λ params. finished t e r (atLeastTwo range params)))
+    still-steady : (l : List Float) → Steady l → Steady (atLeastTwo range l)
+    unfolding atLeastTwo
+    still-steady [] s = ends-steady
+    still-steady (a ∷ []) s = ends-steady
+    still-steady (a ∷ b ∷ l) s = s
+
+-- ---- discretise
+module _ (H : Type 0) (t : Tables) (e : Edge) (tame : H → Tame (edgeCurve t e)) (ends : H → Ends (e .range)) (room : ℕ) (fine : Room room) (r : Resolved) where
+  sampled-outcome : (range : Interval) → (H → Goods range)
+      → Outcome (Chained H t e (floorOf t e r) room) (bind (sampled room (edgeCurve t e) range r) (λ params. finished t e r (atLeastTwo range params)))
   unfolding sampled sampler curveBreaks
   sampled-outcome range g = go (sampled room (edgeCurve t e) range r) refl
     where
       go : (x : Result (List Float)) → sampled room (edgeCurve t e) range r ≡ x
-          → Outcome (Chained t e (floorOf t e r) room) (bind x (λ params. finished t e r (atLeastTwo range params)))
+          → Outcome (Chained H t e (floorOf t e r) room) (bind x (λ params. finished t e r (atLeastTwo range params)))
       go (refused n) q = let z = sampled-refused room (sampler (edgeCurve t e) range r) range n q in rw z eight
       go (got l) q =
-          let s = sampler (edgeCurve t e) range r in
-          let breaks-sound = thin-sound s range (curveKnots (edgeCurve t e)) (r .sag) (deviation (pointAt (edgeCurve t e))) refl (tame .knots) (g .low) (g .high) in
-          finished-outcome t e r room (atLeastTwo range l) (at-least-two range g l)
-          (at-most range g room (fine .least) l (sampled-length room s range l q))
-          (still-steady range g l (sampled-steady s range breaks-sound room (fine .most) l q))
+          let c = edgeCurve t e in
+          let s = sampler c range r in
+          finished-outcome t e r H room (atLeastTwo range l) (at-least-two range l)
+          (at-most range room (fine .least) l (sampled-length room s range l q))
+          (λ x.
+          still-steady range (g x) l
+          (sampled-steady s range
+          (thin-sound s range (curveKnots c) (r .sag) (deviation (pointAt c)) refl (tame x .knots) (g x .low) (g x .high))
+          room (fine .most) l q))
 
-  pub discretised-outcome : Outcome (Chained t e (mergeFloor (e .tolerance) (r .sag)) room) (discretised room t e r)
+  pub discretised-outcome : Outcome (Chained H t e (mergeFloor (e .tolerance) (r .sag)) room) (discretised room t e r)
   unfolding discretised
   discretised-outcome = go (usableRange (edgeCurve t e) (e .range)) refl
     where
       go : (u : Usable) → usableRange (edgeCurve t e) (e .range) ≡ u
-          → Outcome (Chained t e (mergeFloor (e .tolerance) (r .sag)) room) (elim u [
+          → Outcome (Chained H t e (mergeFloor (e .tolerance) (r .sag)) room) (elim u [
             | Unusable ↦ got (chordOf t e (e .range .lo) (e .range .hi))
             | Range range ↦ bind (sampled room (edgeCurve t e) range r) (λ params. finished t e r (atLeastTwo range params))
           ])
-      go Unusable q = answer (chord-chained t e (mergeFloor (e .tolerance) (r .sag)) room (fine .least) (e .range .lo) (e .range .hi))
-      go (Range range) q = sampled-outcome range (usable-goods (edgeCurve t e) tame range (e .range) ends q)
+      go Unusable q = answer (chord-chained H t e (mergeFloor (e .tolerance) (r .sag)) room (fine .least) (e .range .lo) (e .range .hi))
+      go (Range range) q = sampled-outcome range (λ x. usable-goods (edgeCurve t e) (tame x) range (e .range) (ends x) q)

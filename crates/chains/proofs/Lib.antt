@@ -3,3 +3,4 @@ pub mod Ranges
 pub mod Placed
 pub mod Outcome
 pub mod Discretised
+pub mod Repaired
