@@ -1,4 +1,4 @@
--- What is known of the tables, the edge and the options once they are accepted. Assumes nothing.
+-- What is known of the tables, the edge and the options once they are accepted; and which numbers a refusal has. Assumes nothing.
 use mathlib.Core.Path.{_≡_, refl, sym, ap, _∙_}
 use mathlib.Core.Bool.{Bool, true, false, cond, not, _&&_, _||_}
 use mathlib.Core.List.{List}
@@ -93,6 +93,11 @@ six a b c d e f h =
     let he = passed e 5 v6 (hd .1) in
     let hf = passed f 6 Accepted (he .1) in
     (ha .0, hb .0, hc .0, hd .0, he .0, hf .0)
+
+-- a refusal has one of the numbers that the tests are for
+numbered : (b : Bool) (k n : ℕ) (v : Verdict) → cond b (Refused k) v ≡ Refused n → 1 ≤ k → k ≤ 6 → (v ≡ Refused n → (1 ≤ n) × (n ≤ 6)) → (1 ≤ n) × (n ≤ 6)
+numbered true k n v h p q f = let e : k ≡ n = cc in (omega arith, omega arith)
+numbered false k n v h p q f = f h
 
 -- ---- cause 2
 both-hold : (a b : Bool) → not (a && b) ≡ false → T a × T b
@@ -194,6 +199,21 @@ module _ (t : Tables) (e : Edge) (o : Options) where
   causes-of : verdict t e o ≡ Accepted → (oversize t ≡ false) × (unbounded (t .points) (t .reals) (t .ranges) e o ≡ false) × (illFormed t e o ≡ false) × (unordered t ≡ false) × (tooDeep t ≡ false) × (missing t e ≡ false)
   unfolding verdict
   causes-of h = six (oversize t) (unbounded (t .points) (t .reals) (t .ranges) e o) (illFormed t e o) (unordered t) (tooDeep t) (missing t e) h
+
+  pub verdict-numbers : (n : ℕ) → verdict t e o ≡ Refused n → (1 ≤ n) × (n ≤ 6)
+  unfolding verdict
+  verdict-numbers n h =
+      let v6 = cond (missing t e) (Refused 6) Accepted in
+      let v5 = cond (tooDeep t) (Refused 5) v6 in
+      let v4 = cond (unordered t) (Refused 4) v5 in
+      let v3 = cond (illFormed t e o) (Refused 3) v4 in
+      let v2 = cond (unbounded (t .points) (t .reals) (t .ranges) e o) (Refused 2) v3 in
+      numbered (oversize t) 1 n v2 h (omega arith) (omega arith) λ h2.
+      numbered (unbounded (t .points) (t .reals) (t .ranges) e o) 2 n v3 h2 (omega arith) (omega arith) λ h3.
+      numbered (illFormed t e o) 3 n v4 h3 (omega arith) (omega arith) λ h4.
+      numbered (unordered t) 4 n v5 h4 (omega arith) (omega arith) λ h5.
+      numbered (tooDeep t) 5 n v6 h5 (omega arith) (omega arith) λ h6.
+      numbered (missing t e) 6 n Accepted h6 (omega arith) (omega arith) λ h7. absurd (never n (sym h7))
 
   sizes-at : oversize t ≡ false → (pointCount t ≤ 65536) × (curveCount t ≤ 4096) × (segmentCount t ≤ 4096)
   sizes-at h = let k = sizes t h in (omega arith, omega arith, omega arith)
