@@ -196,9 +196,14 @@ module _ (t : Tables) (e : Edge) (o : Options) where
       let l = four (leb n (e .start)) (leb n (e .end)) (leb n (e .low)) (leb n (e .high)) (k .1) in
       (leb-false (curveCount t) (e .curve) (k .0), leb-false n (e .start) (l .0), leb-false n (e .end) (l .1), leb-false n (e .low) (l .2), leb-false n (e .high) (l .3))
 
-  causes-of : verdict t e o ≡ Accepted → (oversize t ≡ false) × (unbounded (t .points) (t .reals) (t .ranges) e o ≡ false) × (illFormed t e o ≡ false) × (unordered t ≡ false) × (tooDeep t ≡ false) × (missing t e ≡ false)
+  -- none of the six applies exactly where the verdict is that they are accepted
+  pub causes-of : verdict t e o ≡ Accepted → (oversize t ≡ false) × (unbounded (t .points) (t .reals) (t .ranges) e o ≡ false) × (illFormed t e o ≡ false) × (unordered t ≡ false) × (tooDeep t ≡ false) × (missing t e ≡ false)
   unfolding verdict
   causes-of h = six (oversize t) (unbounded (t .points) (t .reals) (t .ranges) e o) (illFormed t e o) (unordered t) (tooDeep t) (missing t e) h
+
+  pub no-cause : oversize t ≡ false → unbounded (t .points) (t .reals) (t .ranges) e o ≡ false → illFormed t e o ≡ false → unordered t ≡ false → tooDeep t ≡ false → missing t e ≡ false → verdict t e o ≡ Accepted
+  unfolding verdict
+  no-cause a b c d f g = rw (a, b, c, d, f, g)
 
   pub verdict-numbers : (n : ℕ) → verdict t e o ≡ Refused n → (1 ≤ n) × (n ≤ 6)
   unfolding verdict

@@ -4,3 +4,5 @@ pub mod Placed
 pub mod Outcome
 pub mod Discretised
 pub mod Repaired
+pub mod Sound
+pub mod Held
