@@ -148,9 +148,10 @@ module _ (t : Tables) (e : Edge) (o : Options) where
       let ranges = not (eqb (length (t .ranges) / 2) (segmentCount t)) in
       let r = someBelow (curveCount t) (malformedRow t) || someBelow (segmentCount t) (malformedSegment t) in
       let w = ltb 1 (e .sense) || ltb 1 (o .relative) in
-      let k = neither reals ranges (neither (broken t) (reals || ranges) (neither (broken t || (reals || ranges)) (r || w) h .0) .1) in
-      (eqb-true (length (t .reals) / 2) (curveCount t) (holds-not (eqb (length (t .reals) / 2) (curveCount t)) (k .0)),
-      eqb-true (length (t .ranges) / 2) (segmentCount t) (holds-not (eqb (length (t .ranges) / 2) (segmentCount t)) (k .1)))
+      let k = neither reals ranges (neither (broken t) (reals || ranges) (neither (broken t || (reals || ranges)) (r || w) h .0) .1) in (
+        eqb-true (length (t .reals) / 2) (curveCount t) (holds-not (eqb (length (t .reals) / 2) (curveCount t)) (k .0)),
+        eqb-true (length (t .ranges) / 2) (segmentCount t) (holds-not (eqb (length (t .ranges) / 2) (segmentCount t)) (k .1)),
+      )
 
   forms-of : illFormed t e o ≡ false → (someBelow (curveCount t) (malformedRow t) ≡ false) × (someBelow (segmentCount t) (malformedSegment t) ≡ false)
   unfolding illFormed

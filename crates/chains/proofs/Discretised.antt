@@ -1,15 +1,14 @@
 -- Demand 3 of every chain that `discretise` gives, of a range that can be sampled. Assumes nothing.
-use mathlib.Core.Path.{_≡_, refl, sym, ap, subst, _∙_}
+use mathlib.Core.Path.{_≡_, refl, ap, subst, _∙_}
 use mathlib.Core.Bool.{Bool, true, false}
-use mathlib.Core.List.{List, [], _∷_, dropLast}
-use Prim.Native.Nat.{ℕ, suc, _^_, _-_, _+_, _≤_}
+use mathlib.Core.List.{List, [], _∷_}
+use Prim.Native.Nat.{ℕ, _^_, _-_, _+_, _≤_}
 use native.Mathlib.Omega.{arith}
-use lib.Dec.{T}
 use lib.ListN.{length, getD}
-use lib.Ieee.{Float, lt}
-use Rattle.arith.specs.Notation.{_⊗_, bits, nought}
+use lib.Ieee.{Float}
+use Rattle.arith.specs.Notation.{_⊗_, bits}
 use Rattle.lists.specs.Result.{Result, refused, got, bind, each}
-use Rattle.lists.specs.Sub.{All, none}
+use Rattle.lists.specs.Sub.{none}
 use Rattle.lists.proofs.Order.{sub-length}
 use Rattle.lists.proofs.Joined.{sub-map}
 use Rattle.math.specs.declared.Interval.{Interval}
@@ -23,21 +22,20 @@ use Rattle.params.proofs.Steady.{Steady, steady-sub, steady-one-way, two-one-wa
 use Rattle.params.proofs.Lists.{sampled-length, sampled-refused}
 use Rattle.params.proofs.Sampled.{sampled-steady, thin-sound}
 use Rattle.samples.specs.declared.Sample.{Sample}
-use Rattle.samples.specs.Chain.{lastOf, pointOf, between}
+use Rattle.samples.specs.Chain.{lastOf}
 use Rattle.samples.proofs.Shorter.{Shorter, shorter-same, shorter-trans, shorter-sub, shorter-two, shorter-first, shorter-last, shorter-between}
-use Rattle.merge.specs.Merge.{mergeFloor, merged, Apart, one}
+use Rattle.merge.specs.Merge.{mergeFloor, merged, one}
 use Rattle.merge.proofs.Laws.{merge-shorter, merge-apart}
-use Rattle.thin.specs.Thin.{thinned}
 use Rattle.thin.proofs.Laws.{thin-shorter, thin-refused}
 use Rattle.usable.specs.declared.Usable.{Usable}
 use Rattle.usable.specs.declared.Usable.the-variants.{Range, Unusable}
 use Rattle.usable.specs.Usable.{usableRange}
 use Rattle.sample.specs.Sample.{sampler, sampled}
-use Rattle.chains.specs.Edge.{edgeCurve, edgeStart, edgeEnd, thinnedIf, chordOf, atLeastTwo, placed, finished, discretised}
+use Rattle.chains.specs.Edge.{edgeCurve, thinnedIf, chordOf, atLeastTwo, placed, finished, discretised}
 use Rattle.chains.specs.Draw.{Sound}
 use Rattle.chains.proofs.Tame.{Tame}
 use Rattle.chains.proofs.Ranges.{Ends, Goods, usable-goods}
-use Rattle.chains.proofs.Placed.{paramsOf, Own, Placed, placed-holds, placed-length}
+use Rattle.chains.proofs.Placed.{Own, Placed, placed-holds, placed-length}
 use Rattle.chains.proofs.Outcome.{Outcome, answer, eight, nine}
 
 -- a chain that fits the room, and of which demand 3 holds, given H

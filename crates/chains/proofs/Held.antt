@@ -1,27 +1,24 @@
 -- The chain as the buffers hold it, and demand 3 of that: what a proof of `draw` cites. Assumes nothing but what its statements say.
-use mathlib.Core.Path.{_≡_, refl, sym, ap, subst, _∙_}
+use mathlib.Core.Path.{_≡_, refl, sym, ap, _∙_}
 use mathlib.Core.Bool.{Bool, true, false, cond}
 use mathlib.Core.List.{List, []}
 use Prim.Native.Nat.{ℕ, _*_, _-_, _≤_}
 use native.Mathlib.Omega.{arith}
-use lib.Dec.{leb}
 use lib.ListN.{length, replicate}
 use lib.Ieee.{Float, binary64, ofBits}
 use Rattle.lists.specs.Result.{Result, refused, got}
 use Rattle.lists.specs.Room.{filled}
-use Rattle.lists.proofs.Filled.{filled-length}
 use Rattle.brep.specs.declared.Edge.{Edge}
 use Rattle.brep.specs.Rows.{Tables}
 use Rattle.options.specs.declared.Options.{Options}
-use Rattle.samples.specs.declared.Sample.{Sample}
 use Rattle.samples.specs.Chain.{width, flat, samples}
-use Rattle.samples.proofs.Laws.{reads, length-flat}
+use Rattle.samples.proofs.Laws.{reads}
 use Rattle.merge.specs.Merge.{mergeFloor}
 use Rattle.chains.specs.declared.Way.{Way}
 use Rattle.chains.specs.declared.Drawn.{Drawn}
 use Rattle.chains.specs.declared.Drawn.the-variants.{Refused, Chain}
 use Rattle.chains.specs.Repair.{Got}
-use Rattle.chains.specs.Draw.{localOptions, roomOf, drawn, answerOf, inFirst, afterRefusal, firstAfter, secondAfter, chainIn, Sound, Outcome}
+use Rattle.chains.specs.Draw.{localOptions, roomOf, drawn, answerOf, inFirst, firstAfter, secondAfter, chainIn, Sound, Outcome}
 use Rattle.chains.proofs.Sound.{Binary, drawn-sound, drawn-fits}
 
 -- ---- the chain of the answer is read back from the buffer that holds it

@@ -3,7 +3,7 @@
 use mathlib.Core.Path.{_≡_, refl, sym, ap, subst, _∙_}
 use mathlib.Core.Bool.{Bool, true, false, cond}
 use mathlib.Core.List.{List, [], _∷_, reverse, reverseAux, dropLast, map}
-use Prim.Native.Nat.{ℕ, suc, _≤_}
+use Prim.Native.Nat.{suc, _≤_}
 use native.Mathlib.Omega.{arith}
 use lib.ListN.{length, getD, length-reverse}
 use lib.Ieee.{Float}
@@ -16,7 +16,7 @@ use Rattle.brep.specs.Tree.{CurveTree}
 use Rattle.curve.specs.Eval.{pointAt}
 use Rattle.params.proofs.Steady.{Steady, steady-reverse}
 use Rattle.samples.specs.declared.Sample.{Sample}
-use Rattle.samples.specs.Chain.{lastOf, pointOf, between}
+use Rattle.samples.specs.Chain.{lastOf, between}
 use Rattle.chains.specs.Edge.{edgeCurve, edgeStart, edgeEnd, located, isReversed, oriented, lastPinned, pinned, placed}
 
 -- a chain's parameters

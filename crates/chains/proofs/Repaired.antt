@@ -7,7 +7,7 @@ use lib.Dec.{T}
 use lib.Ieee.{Float, lt}
 use lib.Ieee.Scale.{finite}
 use Rattle.arith.specs.Notation.{_⊕_, nought}
-use Rattle.lists.specs.Result.{Result, refused, got, bind}
+use Rattle.lists.specs.Result.{Result, got, bind}
 use Rattle.math.specs.declared.Interval.{Interval}
 use Rattle.math.specs.Math.{interval, spanOf, isEmpty, diagonal}
 use Rattle.brep.specs.declared.Edge.{Edge}

@@ -1,13 +1,12 @@
 -- Demand 3 of every chain that drawing answers with. Assumes nothing but what its statements say.
 use mathlib.Core.Path.{_≡_, refl, sym, ap, _∙_}
 use mathlib.Core.Logic.{_⊎_, inl, inr}
-use mathlib.Core.Bool.{Bool, true, false, cond, _||_}
-use Prim.Native.Nat.{ℕ, suc, _*_, _≤_}
+use mathlib.Core.Bool.{Bool, true, false, cond}
+use Prim.Native.Nat.{ℕ, _≤_}
 use native.Mathlib.Omega.{arith}
 use lib.Dec.{T, ltb}
 use lib.ListN.{length}
-use lib.Ieee.{Float, binary64, fits}
-use lib.Ieee.Scale.{finite}
+use lib.Ieee.{binary64, fits}
 use borrow.Author.Tests.{ltb-false}
 use Rattle.lists.specs.Result.{Result, refused, got}
 use Rattle.brep.specs.declared.Edge.{Edge}
@@ -17,12 +16,9 @@ use Rattle.causes.specs.declared.Verdict.{Verdict}
 use Rattle.causes.specs.declared.Verdict.the-variants.{Accepted, Refused}
 use Rattle.causes.specs.Causes.{verdict}
 use Rattle.causes.proofs.Laws.{neither}
-use Rattle.causes.proofs.Checked.{Bounded, checked, verdict-numbers}
-use Rattle.params.proofs.Runs.{Good}
-use Rattle.params.proofs.Ends.{Size, size-grows, size-good}
-use Rattle.samples.specs.Chain.{width}
+use Rattle.causes.proofs.Checked.{checked, verdict-numbers}
+use Rattle.params.proofs.Ends.{size-grows, size-good}
 use Rattle.merge.specs.Merge.{mergeFloor}
-use Rattle.chains.specs.Edge.{edgeCurve}
 use Rattle.chains.specs.Repair.{Got}
 use Rattle.chains.specs.Draw.{localOptions, drawnIn, roomOf, tooShort, drawn, Sound}
 use Rattle.chains.proofs.Tame.{Fitting, bounded-size, tree-tame}

@@ -1,17 +1,16 @@
 -- What is known of a curve of accepted tables: how far the ends of its own range and its period lie from 0, and that its knots
 -- are binary64 floats. Assumes nothing.
-use mathlib.Core.Path.{_≡_, refl, sym, ap, subst, _∙_}
+use mathlib.Core.Path.{_≡_, refl, subst}
 use mathlib.Core.Bool.{Bool, true, false, cond, _&&_}
-use mathlib.Core.List.{List, []}
-use Prim.Native.Nat.{ℕ, zero, suc, _+_, _-_, _*_, _/_, _<_, _≤_}
+use mathlib.Core.List.{List}
+use Prim.Native.Nat.{ℕ, zero, suc, _+_, _-_, _*_, _<_, _≤_}
 use native.Mathlib.Omega.{arith}
 use lib.IntN.{pos}
 use lib.ListN.{length, getD}
-use lib.Dec.{T, eqb, leb, ltb}
+use lib.Dec.{T, eqb, leb}
 use lib.Ieee.{Float, nan, binary64, fits, le, lt, neg, ofBits, ofInt}
 use lib.Ieee.Scale.{finite}
 use lib.Ieee.Fits.{ofInt-fits}
-use borrow.Author.Tests.{ltb-true, ltb-false}
 use Rattle.order.proofs.Laws.{le-trans, whole-le}
 use Rattle.order.proofs.Modest.{big}
 use Rattle.arith.specs.Notation.{_⊖_, bits, count, nought}
@@ -23,14 +22,13 @@ use Rattle.lists.specs.Sub.{All, none, more}
 use Rattle.brep.specs.declared.Curve.{Curve}
 use Rattle.brep.specs.declared.Curve.the-variants.{Line, Circle, Ellipse, Parabola, Polyline, Trimmed, Composite}
 use Rattle.brep.specs.declared.Edge.{Edge}
-use Rattle.brep.specs.Rows.{Tables, pointOf, frameOf, segmentOf, kindOf, curveOf}
-use Rattle.brep.specs.Tree.{CurveTree, polyline, run, Segments, segments, rowIn, grown, below, tree}
+use Rattle.brep.specs.Rows.{Tables, segmentOf, kindOf, curveOf}
+use Rattle.brep.specs.Tree.{CurveTree, polyline, run, segments, rowIn, grown, below, tree}
 use Rattle.brep.proofs.Laws.{lower, length-run}
 use Rattle.bounds.specs.Bounds.{largest}
 use Rattle.forms.specs.Forms.{pointCount, curveCount, segmentCount, room}
 use Rattle.options.specs.declared.Options.{Options}
 use Rattle.causes.proofs.Checked.{Bounded, Checked}
-use Rattle.curve.specs.declared.Repeats.{Repeats}
 use Rattle.curve.specs.declared.Repeats.the-variants.{Every, Never}
 use Rattle.curve.specs.Eval.{tau, naturalRange, closes, everySpan, period}
 use Rattle.curve.proofs.Laws.{count-segments}
