@@ -1,0 +1,207 @@
+// Drawing an edge: THE entry point. Whoever calls it, with tables, edge, options and buffers of any content, gets a chain
+// or one of the numbered refusals.
+use brep::Edge;
+use causes::Verdict;
+use chains::Drawn;
+use chains::Way;
+use options::Options;
+use options::Resolved;
+use samples::Counted;
+use usable::Usable;
+ghost use mathlib.Core.Path.{_≡_};
+ghost use mathlib.Core.Bool.{true, cond};
+ghost use mathlib.Core.List.{[]};
+ghost use Prim.Native.Nat.{_*_, _≤_};
+ghost use denote.Ref.{ptr};
+ghost use lib.ListN.{length, take};
+ghost use Rattle.lists.specs.Room.{filled};
+ghost use Rattle.brep.specs.Rows.{lent};
+ghost use Rattle.brep.specs.Tree.{tree};
+ghost use Rattle.causes.specs.declared.Verdict.the-variants.{Accepted};
+ghost use Rattle.causes.specs.Causes.{verdict};
+ghost use Rattle.knots.specs.Knots.{curveKnots};
+ghost use Rattle.samples.specs.Chain.{width, flat, samples};
+ghost use Rattle.samples.specs.Chain.{answerOf} as counted;
+ghost use Rattle.chains.specs.Edge.{discretised};
+ghost use Rattle.chains.specs.Repair.{by, repaired};
+ghost use Rattle.chains.specs.Draw.{firstWay, localOptions, drawnIn, roomOf, answerOf, firstAfter, secondAfter, inFirst, Outcome};
+ghost use Rattle.draw.specs.Part.{liesInFirst, floatsOf};
+
+// The way of the first drawing: the chord where the edge has no usable range.
+fn first_way(usable: Usable) -> Way
+    ensures { λ w. ⌜ w ≡ firstWay usable ⌝ }
+{
+    match usable {
+        Usable::Range(_) => Way::AsDrawn,
+        Usable::Unusable => Way::Chord,
+    }
+}
+
+// The options for an edge of this size.
+fn local_options(
+    points: &[f64],
+    curves: &[u32],
+    reals: &[f64],
+    parts: &[u32],
+    ranges: &[f64],
+    edge: Edge,
+    options: Options,
+) -> Resolved
+    ensures { λ r. ⌜ r ≡ localOptions (lent (points .entry) (curves .entry) (reals .entry) (parts .entry) (ranges .entry)) edge options ⌝ }
+{
+    let extent = extent::edge_extent(points, curves, reals, parts, ranges, edge);
+    options.resolve().for_extent(extent)
+}
+
+fn discretise(
+    points: &[f64],
+    curves: &[u32],
+    reals: &[f64],
+    parts: &[u32],
+    ranges: &[f64],
+    edge: Edge,
+    r: Resolved,
+    chain: &mut [f64],
+    scratch: &mut [f64],
+) -> Counted
+    requires { ⌜ (8 ≤ length (now chain)) × (8 ≤ length (now scratch)) × (length (curveKnots (tree (lent points curves reals parts ranges) (edge .curve))) ≤ 8192) ⌝ }
+    ensures { λ w. ⌜ (w ≡ counted (discretised (roomOf (length (now (chain .entry))) (length (now (scratch .entry)))) (lent (points .entry) (curves .entry) (reals .entry) (parts .entry) (ranges .entry)) edge r))
+        × (now (chain .exit) ≡ filled (length (now (chain .entry))) (flat (chainOf (discretised (roomOf (length (now (chain .entry))) (length (now (scratch .entry)))) (lent (points .entry) (curves .entry) (reals .entry) (parts .entry) (ranges .entry)) edge r))))
+        × (now (scratch .exit) ≡ filled (length (now (scratch .entry))) []) ⌝ }
+{
+    Counted::Refused(8)
+}
+
+fn repair_runaway(
+    points: &[f64],
+    curves: &[u32],
+    reals: &[f64],
+    parts: &[u32],
+    ranges: &[f64],
+    edge: Edge,
+    r: Resolved,
+    way: Way,
+    n: usize,
+    first: &mut [f64],
+    second: &mut [f64],
+) -> Drawn
+    requires { ⌜ (8 ≤ length (now first)) × (8 ≤ length (now second)) × (length (curveKnots (tree (lent points curves reals parts ranges) (edge .curve))) ≤ 8192)
+        × (width * n ≤ length (now first)) × (now first ≡ filled (length (now first)) (flat (samples n (now first))))
+        × (now second ≡ filled (length (now second)) []) × (inFirst way ≡ true) ⌝ }
+    ensures { λ w. ⌜ (w ≡ answerOf (repaired (roomOf (length (now (first .entry))) (length (now (second .entry)))) (lent (points .entry) (curves .entry) (reals .entry) (parts .entry) (ranges .entry)) edge r (by way (samples n (now (first .entry))))))
+        × (now (first .exit) ≡ firstAfter (now (first .entry)) (repaired (roomOf (length (now (first .entry))) (length (now (second .entry)))) (lent (points .entry) (curves .entry) (reals .entry) (parts .entry) (ranges .entry)) edge r (by way (samples n (now (first .entry))))))
+        × (now (second .exit) ≡ secondAfter (now (second .entry)) (repaired (roomOf (length (now (first .entry))) (length (now (second .entry)))) (lent (points .entry) (curves .entry) (reals .entry) (parts .entry) (ranges .entry)) edge r (by way (samples n (now (first .entry)))))) ⌝ }
+{
+    Drawn::Refused(8)
+}
+
+// The closure inside discretise_all: discretise, then repair_runaway.
+fn drawn_in(
+    points: &[f64],
+    curves: &[u32],
+    reals: &[f64],
+    parts: &[u32],
+    ranges: &[f64],
+    edge: Edge,
+    r: Resolved,
+    first: &mut [f64],
+    second: &mut [f64],
+) -> Drawn
+    requires { ⌜ (8 ≤ length (now first)) × (8 ≤ length (now second)) × (length (curveKnots (tree (lent points curves reals parts ranges) (edge .curve))) ≤ 8192) ⌝ }
+    ensures { λ w. ⌜ (w ≡ answerOf (drawnIn (roomOf (length (now (first .entry))) (length (now (second .entry)))) (lent (points .entry) (curves .entry) (reals .entry) (parts .entry) (ranges .entry)) edge r))
+        × (now (first .exit) ≡ firstAfter (now (first .entry)) (drawnIn (roomOf (length (now (first .entry))) (length (now (second .entry)))) (lent (points .entry) (curves .entry) (reals .entry) (parts .entry) (ranges .entry)) edge r))
+        × (now (second .exit) ≡ secondAfter (now (second .entry)) (drawnIn (roomOf (length (now (first .entry))) (length (now (second .entry)))) (lent (points .entry) (curves .entry) (reals .entry) (parts .entry) (ranges .entry)) edge r)) ⌝ }
+{
+    let counted = discretise(points, curves, reals, parts, ranges, edge, r, first, second);
+    match counted {
+        Counted::Refused(n) => Drawn::Refused(n),
+        Counted::Count(n) => {
+            let usable = usable::usable_range(points, curves, reals, parts, ranges, edge.curve, edge.range);
+            let way = first_way(usable);
+            repair_runaway(points, curves, reals, parts, ranges, edge, r, way, n, first, second)
+        }
+    }
+}
+
+// Draws an edge whose tables, numbers and options passed `causes::check`: a caller who draws many edges of one part can
+// look at the tables once.
+pub fn draw_checked(
+    points: &[f64],
+    curves: &[u32],
+    reals: &[f64],
+    parts: &[u32],
+    ranges: &[f64],
+    edge: Edge,
+    options: Options,
+    first: &mut [f64],
+    second: &mut [f64],
+) -> Drawn
+    requires { ⌜ verdict (lent points curves reals parts ranges) edge options ≡ Accepted ⌝ }
+    ensures { λ r. ⌜ Outcome (lent (points .entry) (curves .entry) (reals .entry) (parts .entry) (ranges .entry)) edge options (now (first .entry)) (now (second .entry)) r (now (first .exit)) (now (second .exit)) ⌝ }
+{
+    if first.len() < 8 || second.len() < 8 {
+        return Drawn::Refused(7);
+    }
+    let r = local_options(points, curves, reals, parts, ranges, edge, options);
+    drawn_in(points, curves, reals, parts, ranges, edge, r, first, second)
+}
+
+// THE ENTRY POINT.
+pub fn draw(
+    points: &[f64],
+    curves: &[u32],
+    reals: &[f64],
+    parts: &[u32],
+    ranges: &[f64],
+    edge: Edge,
+    options: Options,
+    first: &mut [f64],
+    second: &mut [f64],
+) -> Drawn
+    ensures { λ r. ⌜ Outcome (lent (points .entry) (curves .entry) (reals .entry) (parts .entry) (ranges .entry)) edge options (now (first .entry)) (now (second .entry)) r (now (first .exit)) (now (second .exit)) ⌝ }
+{
+    let verdict = causes::check(points, curves, reals, parts, ranges, edge, options);
+    match verdict {
+        Verdict::Refused(n) => Drawn::Refused(n),
+        Verdict::Accepted => draw_checked(points, curves, reals, parts, ranges, edge, options, first, second),
+    }
+}
+
+fn is_in_first(way: Way) -> bool
+    ensures { λ b. ⌜ b ≡ inFirst way ⌝ }
+{
+    match way {
+        Way::AsDrawn => true,
+        Way::Chord => true,
+        Way::Complement => false,
+        Way::ShortArc => false,
+        Way::Runaway => false,
+    }
+}
+
+// The first n records of a buffer, or all of it where it has not so many.
+fn leading<'a>(buffer: &'a mut [f64], n: usize) -> &'a mut [f64]
+    ensures { λ r. ⌜ (now r ≡ take (width * n) (now (buffer .entry))) × (ptr r ≡ ptr (buffer .entry)) ⌝ }
+{
+    if n <= buffer.len() / samples::WIDTH {
+        return &mut buffer[..samples::WIDTH * n];
+    }
+    buffer
+}
+
+// The chain of an answer: the leading part of the buffer that holds it, without copying. For a refusal it is empty.
+pub fn chain_of<'a>(drawn: Drawn, first: &'a mut [f64], second: &'a mut [f64]) -> &'a mut [f64]
+    ensures { λ r. ⌜ (now r ≡ take (floatsOf drawn) (cond (liesInFirst drawn) (now (first .entry)) (now (second .entry))))
+        × (ptr r ≡ cond (liesInFirst drawn) (ptr (first .entry)) (ptr (second .entry))) ⌝ }
+{
+    match drawn {
+        Drawn::Refused(_) => leading(first, 0),
+        Drawn::Chain(way, n) => {
+            if is_in_first(way) {
+                leading(first, n)
+            } else {
+                leading(second, n)
+            }
+        }
+    }
+}
