@@ -4,5 +4,6 @@ pub mod Placed
 pub mod Outcome
 pub mod Discretised
 pub mod Repaired
+pub mod Accepted
 pub mod Sound
 pub mod Held

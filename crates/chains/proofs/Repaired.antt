@@ -30,11 +30,11 @@ use Rattle.chains.proofs.Outcome.{Outcome, answer, outcome-bind}
 use Rattle.chains.proofs.Discretised.{Chained, Room, chord-chained, discretised-outcome}
 
 -- an edge's own range: a lo that is finite is small enough to have a period added to it
-pub record Own (range : Interval) : Type 0 where
+pub record OwnRange (range : Interval) : Type 0 where
   pub ends : Ends range
   pub low : T (finite (range .lo)) → Size 40 (range .lo)
 
-module _ (H : Type 0) (t : Tables) (e : Edge) (tame : H → Tame (edgeCurve t e)) (own : H → Own (e .range)) (room : ℕ) (fine : Room room) (r : Resolved) where
+module _ (H : Type 0) (t : Tables) (e : Edge) (tame : H → Tame (edgeCurve t e)) (own : H → OwnRange (e .range)) (room : ℕ) (fine : Room room) (r : Resolved) where
   -- a chain of this edge, whichever way it was got
   abbrev Fine : Got → Type 0
   Fine g = Chained H t e (mergeFloor (e .tolerance) (r .sag)) room (g .chain)

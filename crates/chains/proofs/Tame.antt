@@ -2,7 +2,7 @@
 -- are binary64 floats. Assumes nothing.
 use mathlib.Core.Path.{_≡_, refl, subst}
 use mathlib.Core.Bool.{Bool, true, false, cond, _&&_}
-use mathlib.Core.List.{List}
+use mathlib.Core.List.{List, [], _∷_}
 use Prim.Native.Nat.{ℕ, zero, suc, _+_, _-_, _*_, _<_, _≤_}
 use native.Mathlib.Omega.{arith}
 use lib.IntN.{pos}
@@ -38,6 +38,12 @@ use Rattle.params.proofs.Ends.{Size, size-grows, sub-size}
 -- every float of a list is a binary64, as every float of a lent slice is
 abbrev pub Fitting : List Float → Type 0
 Fitting l = (i : ℕ) → T (fits binary64 (getD l i nan))
+
+-- a slice that has none
+pub fitting-none : (l : List Float) → length l ≡ 0 → Fitting l
+unfolding fits
+fitting-none [] h i = tt
+fitting-none (x ∷ l) h i = absurd (omega arith)
 
 -- ---- sizes
 record Facts : Type 0 where
