@@ -21,11 +21,11 @@ ghost use Rattle.causes.specs.declared.Verdict.the-variants.{Accepted};
 ghost use Rattle.causes.specs.Causes.{verdict};
 ghost use Rattle.knots.specs.Knots.{curveKnots};
 ghost use Rattle.samples.specs.Chain.{width, flat, samples};
-ghost use Rattle.samples.specs.Chain.{answerOf} as counted;
+ghost use Rattle.draw.specs.Standin.{chainOf, counted};
 ghost use Rattle.chains.specs.Edge.{discretised};
 ghost use Rattle.chains.specs.Repair.{by, repaired};
 ghost use Rattle.chains.specs.Draw.{firstWay, localOptions, drawnIn, roomOf, answerOf, firstAfter, secondAfter, inFirst, Outcome};
-ghost use Rattle.draw.specs.Part.{liesInFirst, floatsOf};
+ghost use Rattle.draw.specs.Part.{Fitting, liesInFirst, floatsOf};
 
 // The way of the first drawing: the chord where the edge has no usable range.
 fn first_way(usable: Usable) -> Way
@@ -34,6 +34,15 @@ fn first_way(usable: Usable) -> Way
     match usable {
         Usable::Range(_) => Way::AsDrawn,
         Usable::Unusable => Way::Chord,
+    }
+}
+
+// Every float of a slice is a binary64. Nothing is done: that a slice is read here says it of the slice.
+fn fitting(s: &[f64])
+    ensures { λ _. ⌜ Fitting (now (s .entry)) ⌝ }
+{
+    if 0 < s.len() {
+        let _ = s[0];
     }
 }
 
@@ -142,6 +151,8 @@ pub fn draw_checked(
     if first.len() < 8 || second.len() < 8 {
         return Drawn::Refused(7);
     }
+    fitting(reals);
+    fitting(ranges);
     let r = local_options(points, curves, reals, parts, ranges, edge, options);
     drawn_in(points, curves, reals, parts, ranges, edge, r, first, second)
 }

@@ -1,0 +1,197 @@
+-- The ways through drawing: the answer and both buffers, by what discretise and repair_runaway left. Assumes nothing but what its statements say.
+use mathlib.Core.Path.{_≡_, refl, sym, ap, subst, _∙_}
+use mathlib.Core.Logic.{_⊎_, inl, inr}
+use mathlib.Core.Bool.{Bool, true, false, cond}
+use mathlib.Core.List.{List, []}
+use Prim.Native.Nat.{ℕ, _*_, _-_, _≤_}
+use native.Mathlib.Omega.{arith}
+use lib.ListN.{length, replicate, take}
+use lib.Dec.{leb}
+use lib.Ieee.{Float, binary64, ofBits}
+use borrow.Author.Tests.{lt-leb}
+use Rattle.lists.specs.Result.{Result, refused, got}
+use Rattle.lists.specs.Room.{filled}
+use Rattle.lists.proofs.Filled.{filled-length}
+use Rattle.brep.specs.declared.Edge.{Edge}
+use Rattle.brep.specs.Rows.{Tables}
+use Rattle.options.specs.declared.Resolved.{Resolved}
+use Rattle.usable.specs.declared.Usable.{Usable}
+use Rattle.usable.specs.declared.Usable.the-variants.{Range, Unusable}
+use Rattle.usable.specs.Usable.{usableRange}
+use Rattle.samples.specs.declared.Sample.{Sample}
+use Rattle.samples.specs.declared.Counted.{Counted}
+use Rattle.samples.specs.declared.Counted.the-variants as counted
+use Rattle.samples.specs.Chain.{width, flat, samples, answerOf}
+use Rattle.samples.proofs.Laws.{length-flat, reads}
+use Rattle.merge.specs.Merge.{mergeFloor}
+use Rattle.chains.specs.declared.Way.{Way}
+use Rattle.chains.specs.declared.Drawn.{Drawn}
+use Rattle.chains.specs.declared.Drawn.the-variants.{Refused, Chain}
+use Rattle.chains.specs.Edge.{edgeCurve, discretised}
+use Rattle.chains.specs.Repair.{Got, by, repaired}
+use Rattle.chains.specs.Draw as draw
+use Rattle.chains.specs.Draw.{firstWay, drawnIn, roomOf, inFirst, afterRefusal, firstAfter, secondAfter}
+use Rattle.chains.proofs.Outcome.{outcome-got, outcome-refused}
+use Rattle.chains.proofs.Discretised.{Chained, Room, discretised-outcome}
+use Rattle.chains.proofs.Repaired.{drawn-in-outcome}
+use Rattle.draw.specs.Standin.{chainOf}
+use Rattle.draw.specs.Part.{liesInFirst, floatsOf}
+
+-- ---- the room of buffers that are long enough
+room-fine : (first second : ℕ) → 8 ≤ first → 8 ≤ second → Room (roomOf first second)
+unfolding roomOf
+room-fine first second p q = record { least = omega arith; most = omega arith }
+
+room-least : (first second n : ℕ) → n ≤ roomOf first second → width * n ≤ first
+unfolding roomOf
+room-least first second n h = omega arith
+
+-- ---- what a refusal of drawing leaves
+late : (n : ℕ) (entry : List Float) → (n ≡ 8) ⊎ (n ≡ 9) → afterRefusal n entry ≡ filled (length entry) []
+late n entry (inl e) = ap (λ (b : Bool). cond b entry (filled (length entry) [])) (lt-leb n 7 (omega arith))
+late n entry (inr e) = ap (λ (b : Bool). cond b entry (filled (length entry) [])) (lt-leb n 7 (omega arith))
+
+flat-none : flat [] ≡ []
+unfolding flat
+flat-none = refl
+
+pub first-in-first : (u : Usable) → inFirst (firstWay u) ≡ true
+unfolding firstWay
+first-in-first (Range range) = refl
+first-in-first Unusable = refl
+
+-- a buffer of the same length is left alike
+same-first : (g : Result Got) (a b : List Float) → ((n : ℕ) → g ≡ refused n → (n ≡ 8) ⊎ (n ≡ 9)) → length a ≡ length b → firstAfter a g ≡ firstAfter b g
+unfolding firstAfter
+same-first (refused n) a b h e = late n a (h n refl) ∙ ap (λ (m : ℕ). filled m []) e ∙ sym (late n b (h n refl))
+same-first (got g) a b h e = ap (λ (m : ℕ). filled m (cond (inFirst (g .way)) (flat (g .chain)) [])) e
+
+same-second : (g : Result Got) (a b : List Float) → ((n : ℕ) → g ≡ refused n → (n ≡ 8) ⊎ (n ≡ 9)) → length a ≡ length b → secondAfter a g ≡ secondAfter b g
+unfolding secondAfter
+same-second (refused n) a b h e = late n a (h n refl) ∙ ap (λ (m : ℕ). filled m []) e ∙ sym (late n b (h n refl))
+same-second (got g) a b h e = ap (λ (m : ℕ). filled m (cond (inFirst (g .way)) [] (flat (g .chain)))) e
+
+-- the answer and the buffers, by what drawing gives
+abbrev pub Ended : Result Got → List Float → List Float → Drawn → List Float → List Float → Type 0
+Ended g first second answer f s = (answer ≡ draw.answerOf g) × (f ≡ firstAfter first g) × (s ≡ secondAfter second g)
+
+refused-ended : (n : ℕ) (first second : List Float) → (n ≡ 8) ⊎ (n ≡ 9) → Ended (refused n) first second (Refused n) (filled (length first) []) (filled (length second) [])
+unfolding draw.answerOf firstAfter secondAfter
+refused-ended n first second h = (refl, sym (late n first h), sym (late n second h))
+
+-- ---- drawn_in, after discretise answered w and left f and s
+module _ (t : Tables) (e : Edge) (r : Resolved) (first second : List Float) (p : 8 ≤ length first) (q : 8 ≤ length second) where
+  abbrev chain : Result (List Sample)
+  chain = discretised (roomOf (length first) (length second)) t e r
+
+  abbrev whole : Result Got
+  whole = drawnIn (roomOf (length first) (length second)) t e r
+
+  abbrev way : Way
+  way = firstWay (usableRange (edgeCurve t e) (e .range))
+
+  chain-late : (n : ℕ) → chain ≡ refused n → (n ≡ 8) ⊎ (n ≡ 9)
+  chain-late n = outcome-refused n
+      (discretised-outcome ⊥ t e (λ x. absurd x) (λ x. absurd x) (roomOf (length first) (length second)) (room-fine (length first) (length second) p q) r)
+
+  chain-fits : (l : List Sample) → chain ≡ got l → width * length l ≤ length first
+  chain-fits l h = room-least (length first) (length second) (length l)
+      (outcome-got l
+      (discretised-outcome ⊥ t e (λ x. absurd x) (λ x. absurd x) (roomOf (length first) (length second)) (room-fine (length first) (length second) p q) r)
+      h .fits)
+
+  whole-late : (n : ℕ) → whole ≡ refused n → (n ≡ 8) ⊎ (n ≡ 9)
+  whole-late n = outcome-refused n
+      (drawn-in-outcome ⊥ t e (λ x. absurd x) (λ x. absurd x) (roomOf (length first) (length second)) (room-fine (length first) (length second) p q) r)
+
+  whole-refused : (n : ℕ) → chain ≡ refused n → whole ≡ refused n
+  unfolding drawnIn
+  whole-refused n h = rw h
+
+  whole-got : (l : List Sample) → chain ≡ got l → whole ≡ repaired (roomOf (length first) (length second)) t e r (by way l)
+  unfolding drawnIn
+  whole-got l h = rw h
+
+  module _ (w : Counted) (f s : List Float) (answered : w ≡ answerOf chain) (f-is : f ≡ filled (length first) (flat (chainOf chain))) (s-is : s ≡ filled (length second) []) where
+    -- it refused
+    pub not-drawn : (n : ℕ) → w ≡ counted.Refused n → Ended whole first second (Refused n) f s
+    not-drawn n is = go chain refl
+      where
+        go : (d : Result (List Sample)) → chain ≡ d → Ended whole first second (Refused n) f s
+        go (got l) h = absurd (let z : _≡_ {A = ℕ} 0 1 = cc in omega arith)
+        go (refused m) h =
+            let k : m ≡ n = cc in
+            let c : chain ≡ refused n = h ∙ ap refused k in
+            subst (λ (x : Result Got). Ended x first second (Refused n) f s) (sym (whole-refused n c))
+            (subst (λ (x : List Float). Ended (refused n) first second (Refused n) x s) (sym (f-is ∙ ap (λ (d : Result (List Sample)). filled (length first) (flat (chainOf d))) c ∙ none))
+            (subst (λ (x : List Float). Ended (refused n) first second (Refused n) (filled (length first) []) x) (sym s-is)
+            (refused-ended n first second (chain-late n c))))
+          where
+            none : filled (length first) (flat []) ≡ filled (length first) []
+            none = ap (filled (length first)) flat-none
+
+    -- it counted n: the chain that the first buffer holds
+    pub record Counts (n : ℕ) : Type 0 where
+      pub is : chain ≡ got (samples n f)
+      pub first-long : length f ≡ length first
+      pub second-long : length s ≡ length second
+      pub fits : width * n ≤ length f
+      pub alone : f ≡ filled (length f) (flat (samples n f))
+      pub clear : s ≡ filled (length s) []
+
+    pub counts : (n : ℕ) → w ≡ counted.Count n → Counts n
+    counts n is = go chain refl
+      where
+        go : (d : Result (List Sample)) → chain ≡ d → Counts n
+        go (refused m) h = absurd (let z : _≡_ {A = ℕ} 0 1 = cc in omega arith)
+        go (got l) h =
+            let k : n ≡ length l = cc in
+            let g : f ≡ filled (length first) (flat l) = f-is ∙ ap (λ (d : Result (List Sample)). filled (length first) (flat (chainOf d))) h in
+            let m : length (flat l) ≤ length first = omega (arith, length-flat l, chain-fits l h) in
+            let long : length f ≡ length first = ap length g ∙ filled-length (length first) (flat l) m in
+            let short : length s ≡ length second = ap length s-is ∙ filled-length (length second) [] (omega arith) in
+            let read : samples n f ≡ l =
+                ap (λ (x : List Float). samples n x) g ∙ ap (λ (x : ℕ). samples x (filled (length first) (flat l))) k
+                ∙ reads l (replicate (length first - length (flat l)) (ofBits binary64 0)) in
+            record {
+              is = h ∙ ap got (sym read);
+              first-long = long;
+              second-long = short;
+              fits = omega (arith, k, long, chain-fits l h);
+              alone = g ∙ ap (λ (x : ℕ). filled x (flat l)) (sym long) ∙ ap (λ (x : List Sample). filled (length f) (flat x)) (sym read);
+              clear = s-is ∙ ap (λ (x : ℕ). filled x []) (sym short);
+            }
+
+    -- and repair_runaway went on from it
+    module _ (n : ℕ) (c : Counts n) where
+      pub first-enough : 8 ≤ length f
+      first-enough = omega (arith, c .first-long, p)
+
+      pub second-enough : 8 ≤ length s
+      second-enough = omega (arith, c .second-long, q)
+
+      module _ (v : Way) (v-is : v ≡ way) where
+        abbrev mended : Result Got
+        mended = repaired (roomOf (length f) (length s)) t e r (by v (samples n f))
+
+        all-mended : mended ≡ whole
+        all-mended =
+            ap (λ (u : Way). repaired (roomOf (length f) (length s)) t e r (by u (samples n f))) v-is
+            ∙ ap (λ (m : ℕ). repaired (roomOf m (length s)) t e r (by way (samples n f))) (c .first-long)
+            ∙ ap (λ (m : ℕ). repaired (roomOf (length first) m) t e r (by way (samples n f))) (c .second-long) ∙ sym (whole-got (samples n f) (c .is))
+
+        pub drawn-on : (answer : Drawn) (f' s' : List Float) → Ended mended f s answer f' s' → Ended whole first second answer f' s'
+        drawn-on answer f' s' h =
+            let k = subst (λ (g : Result Got). Ended g f s answer f' s') all-mended h in
+            (k .0, k .1 ∙ same-first whole f first whole-late (c .first-long), k .2 ∙ same-second whole s second whole-late (c .second-long))
+
+-- ---- chain_of: the part of the buffer that holds the chain
+module _ {A : Type 0} (d : Drawn) (way : Way) (n : ℕ) (is : d ≡ Chain way n) (b : Bool) (lies : b ≡ inFirst way) where
+  pub in-the-first : b ≡ true → (x y : A) → x ≡ cond (liesInFirst d) x y
+  in-the-first e x y = ap (λ (t : Bool). cond t x y) (sym e ∙ lies ∙ sym (ap liesInFirst is))
+
+  pub in-the-second : b ≡ false → (x y : A) → y ≡ cond (liesInFirst d) x y
+  in-the-second e x y = ap (λ (t : Bool). cond t x y) (sym e ∙ lies ∙ sym (ap liesInFirst is))
+
+pub so-many : (d : Drawn) (way : Way) (n : ℕ) → d ≡ Chain way n → (l : List Float) → take (width * n) l ≡ take (floatsOf d) l
+so-many d way n is l = ap (λ (m : ℕ). take m l) (sym (ap floatsOf is))
