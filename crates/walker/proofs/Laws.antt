@@ -10,12 +10,13 @@ use lib.Dec.{eqb, ltb}
 use lib.ListN.{length, take, length-append, length-reverse}
 use lib.Seq.{take-all}
 use lib.Ieee.{Float}
+use denote.Ref.{RefT, now}
 use borrow.Author.Tests.{lt-ltb, le-ltb, ne-eqb}
 use Rattle.samples.specs.declared.Sample.{Sample}
 use Rattle.samples.specs.Chain.{width, flat, sampleAt, samplesFrom, samples}
 use Rattle.samples.proofs.Laws.{length-flat, samplesFrom-length, reads}
 use Rattle.walker.specs.declared.Step.the-variants.{Done}
-use Rattle.walker.specs.Walk.{wholeOf, oriented, startOf, passes, stays, stepped, passing, walk}
+use Rattle.walker.specs.Walk.{wholeOf, oriented, startOf, passes, stays, stepped, placed, started, passing, walk}
 
 -- a step, by where it starts
 ahead : (c : List Float) (i : ℕ) → i < wholeOf c → stepped c i true ≡ passes c i (i + 1)
@@ -51,26 +52,6 @@ keeps c place false e = go (eqb (min place (wholeOf c)) 0) e
     go true e = refl
     go false e = cc
 
-module _ (c : List Float) (forward : Bool) where
-  -- a walk goes on behind the point that its first step passed, or stays where it is
-  on : (place i next k : ℕ) → stepped c place forward ≡ passes c i next → walk c forward place (suc k) ≡ sampleAt c i ∷ walk c forward next k
-  unfolding walk passing
-  on place i next k e = rw e
-
-  stuck : (place k : ℕ) → stepped c place forward ≡ stays place → walk c forward place k ≡ []
-  unfolding walk passing
-  stuck place zero e = refl
-  stuck place (suc k) e = rw e (stuck place k e)
-
--- forwards from record i
-walk-ahead : (c : List Float) (k i n : ℕ) → i + n ≡ wholeOf c → walk c true i k ≡ take k (samplesFrom c i n)
-unfolding walk samplesFrom
-walk-ahead c zero i n e = refl
-walk-ahead c (suc k) i zero e = stuck c true i (suc k) (no-more c i (omega arith))
-walk-ahead c (suc k) i (suc n) e =
-    on c true i i (i + 1) k (ahead c i (omega arith))
-    ∙ ap (λ (l : List Sample). sampleAt c i ∷ l) (ap (λ (j : ℕ). walk c true j k) (add-one i) ∙ walk-ahead c k (suc i) n (omega arith))
-
 -- the records in reverse
 reversed : (c : List Float) (i n : ℕ) → reverse (samplesFrom c i (suc n)) ≡ sampleAt c (i + n) ∷ reverse (samplesFrom c i n)
 unfolding samplesFrom
@@ -80,30 +61,53 @@ reversed c i n = ap reverse (snoc c i n) ∙ reverse-append (samplesFrom c i n) 
     snoc c i zero = rw add-zero
     snoc c i (suc n) = ap (λ (l : List Sample). sampleAt c i ∷ l) (snoc c (suc i) n ∙ rw (suc-add, add-suc))
 
--- backwards from behind n records
-walk-back : (c : List Float) (k n : ℕ) → n ≤ wholeOf c → walk c false n k ≡ take k (reverse (samplesFrom c 0 n))
-unfolding walk samplesFrom
-walk-back c zero n h = refl
-walk-back c (suc k) zero h = stuck c false 0 (suc k) (at-start c)
-walk-back c (suc k) (suc n) h =
-    on c false (suc n) n n k (back c n h)
-    ∙ ap (λ (l : List Sample). sampleAt c n ∷ l) (walk-back c k n (omega arith))
-    ∙ sym (ap (take (suc k)) (reversed c 0 n) ∙ rw zero-add)
-
--- THE LAW: k steps of a walker of the whole chain pass the first k points of Chain::oriented
-pub walks : (c : List Float) (forward : Bool) (k : ℕ) → walk c forward (startOf c forward) k ≡ take k (oriented c forward)
-unfolding startOf oriented
-walks c true k = walk-ahead c k 0 (wholeOf c) (zero-add (wholeOf c))
-walks c false k = walk-back c k (wholeOf c) (omega arith)
-
 oriented-length : (c : List Float) (forward : Bool) → length (oriented c forward) ≡ wholeOf c
 unfolding oriented
 oriented-length c true = samplesFrom-length c 0 (wholeOf c)
 oriented-length c false = length-reverse (samples (wholeOf c) c) ∙ samplesFrom-length c 0 (wholeOf c)
 
--- as many steps as there are points pass them all, and more steps pass nothing more
-pub walks-all : (c : List Float) (forward : Bool) (k : ℕ) → wholeOf c ≤ k → walk c forward (startOf c forward) k ≡ oriented c forward
-walks-all c forward k h = walks c forward k ∙ take-all k (oriented c forward) (let e = oriented-length c forward in omega arith)
+module _ (chain : RefT (List Float)) where
+  abbrev c : List Float
+  c = now chain
+
+  -- a walk goes on behind the point that its first step passed, or passes nothing more
+  on : (f : Bool) (place i after k : ℕ) → stepped c place f ≡ passes c i after → walk (placed chain place f) (suc k) ≡ sampleAt c i ∷ walk (placed chain after f) k
+  unfolding walk passing
+  on f place i after k e = rw e
+
+  ended : (f : Bool) (place k : ℕ) → stepped c place f ≡ stays place → walk (placed chain place f) k ≡ []
+  unfolding walk passing
+  ended f place zero e = refl
+  ended f place (suc k) e = rw e (ended f place k e)
+
+  -- forwards from record i, n records before the end
+  walk-ahead : (k i n : ℕ) → i + n ≡ wholeOf c → walk (placed chain i true) k ≡ take k (samplesFrom c i n)
+  unfolding walk samplesFrom
+  walk-ahead zero i n e = refl
+  walk-ahead (suc k) i zero e = ended true i (suc k) (no-more c i (omega arith))
+  walk-ahead (suc k) i (suc n) e =
+      on true i i (i + 1) k (ahead c i (omega arith))
+      ∙ ap (λ (l : List Sample). sampleAt c i ∷ l) (ap (λ (j : ℕ). walk (placed chain j true) k) (add-one i) ∙ walk-ahead k (suc i) n (omega arith))
+
+  -- backwards from behind n records
+  walk-back : (k n : ℕ) → n ≤ wholeOf c → walk (placed chain n false) k ≡ take k (reverse (samplesFrom c 0 n))
+  unfolding walk samplesFrom
+  walk-back zero n h = refl
+  walk-back (suc k) zero h = ended false 0 (suc k) (at-start c)
+  walk-back (suc k) (suc n) h =
+      on false (suc n) n n k (back c n h)
+      ∙ ap (λ (l : List Sample). sampleAt c n ∷ l) (walk-back k n (omega arith))
+      ∙ sym (ap (take (suc k)) (reversed c 0 n) ∙ rw zero-add)
+
+  -- THE LAW: k steps of a walker of the whole chain pass the first k points of Chain::oriented
+  pub walks : (forward : Bool) (k : ℕ) → walk (started chain forward) k ≡ take k (oriented c forward)
+  unfolding startOf oriented
+  walks true k = walk-ahead k 0 (wholeOf c) (zero-add (wholeOf c))
+  walks false k = walk-back k (wholeOf c) (omega arith)
+
+  -- as many steps as there are points pass them all, and more steps pass nothing more
+  pub walks-all : (forward : Bool) (k : ℕ) → wholeOf c ≤ k → walk (started chain forward) k ≡ oriented c forward
+  walks-all forward k h = walks forward k ∙ take-all k (oriented c forward) (let e = oriented-length c forward in omega arith)
 
 -- of a buffer that holds a chain, and behind it no further whole record, they are the chain's
 pub oriented-chain : (l : List Sample) (r : List Float) (forward : Bool) → length r < width → oriented (flat l ++ r) forward ≡ cond forward l (reverse l)

@@ -42,23 +42,26 @@ stepped c place false =
     let before = min place (wholeOf c) in
     cond (eqb before 0) (stays place) (passes c (before - 1) (before - 1))
 
--- a walker of the whole chain
+-- a walker at a place, and one of the whole chain
+abbrev pub placed : RefT (List Float) → ℕ → Bool → Walker
+placed chain place forward = record { chain = chain; at = place; forward = forward }
+
 abbrev pub started : RefT (List Float) → Bool → Walker
-started chain forward = record { chain = chain; at = startOf (now chain) forward; forward = forward }
+started chain forward = placed chain (startOf (now chain) forward) forward
 
 -- a walker's step, and the walker after it
 abbrev pub next : Walker → Stepped
 next w = stepped (now (w .chain)) (w .at) (w .forward)
 
 abbrev pub moved : Walker → Walker
-moved w = record { chain = w .chain; at = next w .at; forward = w .forward }
+moved w = placed (w .chain) (next w .at) (w .forward)
 
 -- the point that a step passes, if any, before the points of the later steps
 unfoldable pub passing : Step → List Sample → List Sample
 passing (Point p) later = p ∷ later
 passing Done later = later
 
--- the points that n steps from a place pass
-unfoldable pub walk : List Float → Bool → ℕ → ℕ → List Sample
-walk c forward place zero = []
-walk c forward place (suc n) = passing (stepped c place forward .step) (walk c forward (stepped c place forward .at) n)
+-- the points that a walker passes in n steps
+unfoldable pub walk : Walker → ℕ → List Sample
+walk w zero = []
+walk w (suc n) = passing (next w .step) (walk (moved w) n)
