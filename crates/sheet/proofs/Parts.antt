@@ -1,18 +1,15 @@
 -- The parts of the reader: what is told of the three tables and held of them, and the sheet that its tables and its ends make. Assumes nothing.
 use mathlib.Core.Path.{_≡_, refl, sym, ap, subst, _∙_}
-use mathlib.Core.Bool.{true, false, cond}
-use mathlib.Core.List.{List, [], _∷_}
-use Prim.Native.Nat.{ℕ, zero, suc, _+_, _-_, _<_, _≤_}
+use mathlib.Core.List.{List}
+use Prim.Native.Nat.{ℕ, zero, suc, _-_, _<_, _≤_}
 use native.Mathlib.Omega.{arith}
-use lib.ListN.{length, drop, getD, replicate, length-drop, drop-of-length-le}
+use lib.ListN.{length, drop, replicate, length-drop, drop-of-length-le}
 use lib.Seq.{drop-cons}
-use lib.Dec.{leb}
 use lib.Ieee.{Float}
 use borrow.Author.Tests.{le-leb, lt-leb}
 use Rattle.lists.specs.Result.{Result, refused, got as accepted}
-use Rattle.formats.specs.Format.{Parsed, bad, got, _then_, as-of, all, whole}
+use Rattle.formats.specs.Format.{Parsed, bad, got, _then_, all, whole}
 use Rattle.formats.specs.Table.{fields, table}
-use Rattle.formats.proofs.Laws.{Lawful}
 use Rattle.layout.specs.Layout.{RawSheet, pointColumns, curveColumns, segmentColumns, tables, ends, sheet, size, readSheet}
 use Rattle.layout.specs.Letters.{padded}
 use Rattle.layout.proofs.Laws.{tables-law, ends-law}
@@ -24,16 +21,13 @@ use Rattle.tables.specs.Told.{flat, numbersOf}
 use Rattle.tables.proofs.Stores.{numbers-got}
 use Rattle.tables.proofs.Fits.{zeros-padded}
 use Rattle.ends.specs.Told.{toldEnds}
-use Rattle.ends.specs.declared.Last.{Last}
 use Rattle.ends.specs.declared.Last.the-variants.{Pair, NoPair}
 use Rattle.brep.specs.Rows.{Tables, tables as tables-of}
 use Rattle.brep.specs.declared.Edge.{Edge}
 use Rattle.options.specs.declared.Options.{Options}
 use Rattle.sheet.specs.Sheet.{floatOf, edgeFrom, optionsFrom, answer, tablesOf, stored, left}
 use Rattle.sheet.specs.Told.{Three, toldTables, onlyTables, Held, Kept}
-use Rattle.sheet.specs.declared.Sheet.{Sheet}
 use Rattle.sheet.specs.declared.Sheet.the-variants.{Read as ReadSheet, Refused}
-use Rattle.sheet.specs.declared.Counted.{Counted}
 use Rattle.sheet.specs.declared.Counted.the-variants.{Counts, NoTables}
 
 -- ---- a table of n places that was read

@@ -1,7 +1,7 @@
 -- What the reader of a sheet answers, and what its tables hold afterwards.
-use mathlib.Core.List.{List, []}
+use mathlib.Core.List.{[]}
 use Prim.Native.Nat.{ℕ, _*_}
-use lib.ListN.{length, getD, replicate}
+use lib.ListN.{length, take}
 use lib.Ieee.{Float, binary64, ofBits}
 use Rattle.lists.specs.Result.{Result, refused, got}
 use Rattle.formats.specs.Table.{fields}
@@ -73,3 +73,9 @@ stored t =
 unfoldable pub left : Result RawSheet → Tables
 left (refused cause) = stored (tables [] [] [] [] [])
 left (got raw) = stored (tablesOf raw)
+
+-- the leading rows of tables: so many points, curves and segments
+unfoldable pub leading : ℕ → ℕ → ℕ → Tables → Tables
+leading points curves segments t =
+    tables (take (3 * points) (t .points)) (take (3 * curves) (t .curves)) (take (2 * curves) (t .reals)) (take (2 * segments) (t .parts))
+    (take (2 * segments) (t .ranges))

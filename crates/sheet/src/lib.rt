@@ -2,7 +2,7 @@
 ghost use mathlib.Core.Path.{_≡_};
 ghost use Prim.Native.Nat.{_≤_};
 ghost use lib.ListN.{length};
-ghost use Rattle.layout.specs.Layout.{size, tables, readSheet};
+ghost use Rattle.layout.specs.Layout.{size, tables, readSheet, Means};
 ghost use Rattle.brep.specs.Rows.{lent};
 ghost use Rattle.sheet.specs.Sheet.{edgeFrom, optionsFrom, answer, left};
 ghost use Rattle.sheet.specs.Told.{toldTables, Held, Kept};
@@ -153,7 +153,8 @@ pub fn read(
     ranges: &mut [f64; RANGES],
 ) -> Sheet
     ensures { λ r. ⌜ (r ≡ answer (readSheet (now (text .entry))))
-        × (lent (points .exit) (curves .exit) (reals .exit) (parts .exit) (ranges .exit) ≡ left (readSheet (now (text .entry)))) ⌝ }
+        × (lent (points .exit) (curves .exit) (reals .exit) (parts .exit) (ranges .exit) ≡ left (readSheet (now (text .entry))))
+        × Means (now (text .entry)) (readSheet (now (text .entry))) ⌝ }
 {
     let sheet = try_sheet(text, points, curves, reals, parts, ranges);
     if let Sheet::Refused(_) = sheet {

@@ -1,5 +1,4 @@
 -- `sheet::edge_from` meets its contract. Assumes nothing.
-use mathlib.Core.Path.{_≡_, refl, sym, ap, _∙_}
 use borrow.Author.Needs.{needs}
 use Rattle.sheet.proofs.edge_from.Statement.{statement}
 use Rattle.sheet.proofs.edge_from.Tie as tie

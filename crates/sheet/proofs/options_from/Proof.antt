@@ -1,5 +1,4 @@
 -- `sheet::options_from` meets its contract. Assumes nothing.
-use mathlib.Core.Path.{_≡_, refl, sym, ap, _∙_}
 use borrow.Author.Needs.{needs}
 use Rattle.sheet.proofs.options_from.Statement.{statement}
 use Rattle.sheet.proofs.options_from.Tie as tie

@@ -1,7 +1,8 @@
 -- `sheet::read` meets its contract. Assumes nothing.
-use mathlib.Core.Path.{_≡_, refl, sym, ap, _∙_}
+use mathlib.Core.Path.{_≡_, sym, ap, _∙_}
 use lib.ListN.{length, replicate}
 use Rattle.layout.specs.Layout.{readSheet}
+use Rattle.layout.proofs.Laws.{means}
 use Rattle.sheet.specs.Sheet.{floatOf}
 use Rattle.sheet.proofs.Parts.{left-no, left-is}
 use borrow.Author.Needs.{needs}
@@ -59,6 +60,7 @@ returns c =
           (c .before .before .before .before .clear-floats2 .ensures ∙ ap (λ n. replicate n (floatOf 0)) (reals-length (c .before .before .before .before .before)))
           (c .before .before .clear-wholes2 .ensures ∙ ap (λ n. replicate n 0) (parts-length (c .before .before .before)))
           (c .clear-floats3 .ensures ∙ ap (λ n. replicate n (floatOf 0)) (ranges-length (c .before))),
+      means s,
     )
 
 returns-2 : tie.Need-returns-2
@@ -66,7 +68,7 @@ returns-2 c =
     let s = c .before .before .before .before .before .before .before .before .before .args .text .now in
     let k = c .enum-told2 .given in
     let e = c .before .before .try-sheet .ensures .0 in
-    (e, left-is (readSheet s) _ _ _ _ _ _ _ _ (sym (k .1) ∙ e) (c .before .before .try-sheet .ensures .1))
+    (e, left-is (readSheet s) _ _ _ _ _ _ _ _ (sym (k .1) ∙ e) (c .before .before .try-sheet .ensures .1), means s)
 
 pub read-spec : {M : Type 1} → statement M
 read-spec =

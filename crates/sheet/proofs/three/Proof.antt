@@ -1,5 +1,5 @@
 -- `sheet::three` meets its contract. Assumes nothing.
-use mathlib.Core.Path.{_≡_, refl, sym, ap, _∙_}
+use mathlib.Core.Path.{_≡_, sym, _∙_}
 use native.Mathlib.Omega.{arith}
 use lib.ListN.{length, drop}
 use Rattle.formats.specs.Format.{_then_}
@@ -7,7 +7,7 @@ use Rattle.formats.specs.Table.{fields, table}
 use Rattle.layout.specs.Layout.{pointColumns, curveColumns, segmentColumns, tables}
 use Rattle.layout.proofs.Laws.{points-law, curves-law, segments-law}
 use Rattle.rows.specs.Rows.{floatsOf, wholesOf}
-use Rattle.text.proofs.Place.{Read, ReadList, read-list, read-no-list, then-bad, then-bad-on, then-read}
+use Rattle.text.proofs.Place.{ReadList, read-list, read-no-list, then-bad, then-bad-on, then-read}
 use Rattle.tables.specs.Told.{flat}
 use Rattle.sheet.specs.Sheet.{floatOf}
 use Rattle.sheet.proofs.Parts.{held-part, told-no-tables, told-tables, held-bad, held-got, stored-is}
