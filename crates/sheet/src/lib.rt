@@ -30,9 +30,9 @@ pub const RANGES: usize = 3448;
 // the floats keep no NaN's bits. Or the cause for which it is turned away.
 pub enum Sheet {
     Read {
-        points: u64,
-        curves: u64,
-        segments: u64,
+        points: usize,
+        curves: usize,
+        segments: usize,
         edge: Edge,
         options: Options,
         lo: u64,
@@ -129,9 +129,9 @@ fn try_sheet(
     };
     if end == text.len() {
         Sheet::Read {
-            points: n,
-            curves: m,
-            segments: k,
+            points: n as usize,
+            curves: m as usize,
+            segments: k as usize,
             edge: edge_from(edge),
             options: options_from(options),
             lo: edge.lo,
