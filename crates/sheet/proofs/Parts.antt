@@ -1,7 +1,8 @@
 -- The parts of the reader: what is told of the three tables and held of them, and the sheet that its tables and its ends make. Assumes nothing.
 use mathlib.Core.Path.{_≡_, refl, sym, ap, subst, _∙_}
 use mathlib.Core.List.{List}
-use Prim.Native.Nat.{ℕ, zero, suc, _-_, _<_, _≤_}
+use Prim.Native.Nat.{ℕ, _-_, _<_, _≤_}
+use native.Mathlib.Numerals.{lt-of-le-of-ne}
 use native.Mathlib.Omega.{arith}
 use lib.ListN.{length, drop, replicate, length-drop, drop-of-length-le}
 use lib.Seq.{drop-cons}
@@ -177,13 +178,8 @@ module _ (s : List ℕ) where
         unfolding readSheet whole all
         not-all n =
             let w = sheet-read .within in
-            let more = drop-cons s j 0 (less j (length s) w n) in
+            let more = drop-cons s j 0 (lt-of-le-of-ne w n) in
             rw (le-leb (length s) size fits, sheet-read .is, more)
-          where
-            less : (a b : ℕ) → a ≤ b → (a ≡ b → ⊥) → a < b
-            less a zero h n = absurd (n (omega arith))
-            less zero (suc b) h n = omega arith
-            less (suc a) (suc b) h n = let r = less a b (omega arith) (λ e. n (ap suc e)) in omega arith
 
 -- ---- what is answered, and what the tables hold
 module _ (r : Result RawSheet) where
