@@ -1,0 +1,28 @@
+-- `listing::put_hex` meets its contract. Assumes nothing.
+use mathlib.Core.Path.{ap, _∙_}
+use Prim.Native.Nat.{_+_}
+use lib.ListN.{set}
+use Rattle.listing.proofs.Lines.{put-field}
+use borrow.Author.Needs.{needs}
+use Rattle.listing.proofs.put_hex.Statement.{statement}
+use Rattle.listing.proofs.put_hex.Tie as tie
+
+put-digits-requires : tie.Need-put-digits-requires
+put-digits-requires c κs = search needs
+
+add-out : tie.Need-add-out
+add-out c = search needs
+
+slice-write-out : tie.Need-slice-write-out
+slice-write-out c = search needs
+
+same-length : tie.Need-same-length
+same-length c = search needs
+
+returns : tie.Need-returns
+returns c =
+    let a = c .before .before .before .before .before .args in
+    ap (λ l. set l (a .at + 16) (a .end)) (c .before .before .put-digits .ensures) ∙ put-field (a .out .now) (a .at) (a .v) (a .end)
+
+pub put-hex-spec : {M : Type 1} → statement M
+put-hex-spec = tie.close (tie.spec put-digits-requires add-out slice-write-out same-length returns)
