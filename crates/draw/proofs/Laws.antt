@@ -1,20 +1,24 @@
 -- The ways through drawing: the answer and both buffers, by what discretise and repair_runaway left. Assumes nothing but what its statements say.
 use mathlib.Core.Path.{_≡_, refl, sym, ap, subst, _∙_}
 use mathlib.Core.Logic.{_⊎_, inl, inr}
-use mathlib.Core.Bool.{Bool, true, false, cond}
+use mathlib.Core.Bool.{Bool, true, false, cond, _||_}
 use mathlib.Core.List.{List, []}
-use Prim.Native.Nat.{ℕ, _*_, _-_, _≤_}
+use Prim.Native.Nat.{ℕ, _*_, _-_, _<_, _≤_}
 use native.Mathlib.Omega.{arith}
 use lib.ListN.{length, replicate, take}
-use lib.Dec.{leb}
+use lib.Dec.{ltb, leb}
 use lib.Ieee.{Float, binary64, ofBits}
-use borrow.Author.Tests.{lt-leb}
+use borrow.Author.Tests.{lt-ltb, le-ltb, le-leb, lt-leb}
 use Rattle.lists.specs.Result.{Result, refused, got}
 use Rattle.lists.specs.Room.{filled}
 use Rattle.lists.proofs.Filled.{filled-length}
 use Rattle.brep.specs.declared.Edge.{Edge}
 use Rattle.brep.specs.Rows.{Tables}
+use Rattle.options.specs.declared.Options.{Options}
 use Rattle.options.specs.declared.Resolved.{Resolved}
+use Rattle.causes.specs.declared.Verdict.the-variants as verdicts
+use Rattle.causes.specs.Causes.{verdict}
+use Rattle.causes.proofs.Checked.{verdict-numbers}
 use Rattle.usable.specs.declared.Usable.{Usable}
 use Rattle.usable.specs.declared.Usable.the-variants.{Range, Unusable}
 use Rattle.usable.specs.Usable.{usableRange}
@@ -30,11 +34,14 @@ use Rattle.chains.specs.declared.Drawn.the-variants.{Refused, Chain}
 use Rattle.chains.specs.Edge.{edgeCurve, discretised}
 use Rattle.chains.specs.Repair.{Got, by, repaired}
 use Rattle.chains.specs.Draw as draw
-use Rattle.chains.specs.Draw.{firstWay, drawnIn, roomOf, inFirst, afterRefusal, firstAfter, secondAfter}
+use Rattle.chains.specs.Draw.{firstWay, localOptions, drawnIn, roomOf, tooShort, drawn, Outcome, inFirst, afterRefusal, firstAfter, secondAfter}
 use Rattle.chains.proofs.Outcome.{outcome-got, outcome-refused}
 use Rattle.chains.proofs.Discretised.{Chained, Room, discretised-outcome}
 use Rattle.chains.proofs.Repaired.{drawn-in-outcome}
-use Rattle.draw.specs.Standin.{chainOf}
+use Rattle.chains.proofs.Sound.{Binary}
+use Rattle.chains.proofs.Accepted.{inRoom, given, by-tables, by-buffers, refused-so}
+use Rattle.chains.proofs.Held.{outcome}
+use Rattle.edge.specs.Discretised.{chainOf}
 use Rattle.draw.specs.Part.{liesInFirst, floatsOf}
 
 -- ---- the room of buffers that are long enough
@@ -184,6 +191,43 @@ module _ (t : Tables) (e : Edge) (r : Resolved) (first second : List Float) (p :
         drawn-on answer f' s' h =
             let k = subst (λ (g : Result Got). Ended g f s answer f' s') all-mended h in
             (k .0, k .1 ∙ same-first whole f first whole-late (c .first-long), k .2 ∙ same-second whole s second whole-late (c .second-long))
+
+-- ---- draw: the outcome, by the way out
+module _ (t : Tables) (e : Edge) (o : Options) (first second : List Float) where
+  refused-outcome : (n : ℕ) → drawn t e o (length first) (length second) ≡ refused n → n ≤ 7 → Outcome t e o first second (Refused n) first second
+  unfolding draw.answerOf firstAfter secondAfter
+  refused-outcome n q h = record {
+    answered = rw q;
+    firstHolds = rw (q, le-leb n 7 h);
+    secondHolds = rw (q, le-leb n 7 h);
+    sound = λ way m is. absurd (let z : _≡_ {A = ℕ} 0 1 = cc in omega arith);
+  }
+
+  pub by-verdict : (n : ℕ) → verdict t e o ≡ verdicts.Refused n → Outcome t e o first second (Refused n) first second
+  by-verdict n a = refused-outcome n (refused-so t e o (length first) (length second) n (by-tables a)) (omega (arith, verdict-numbers t e o n a))
+
+  pub by-length : verdict t e o ≡ verdicts.Accepted → tooShort (length first) (length second) ≡ true → Outcome t e o first second (Refused 7) first second
+  by-length a b = refused-outcome 7 (refused-so t e o (length first) (length second) 7 (by-buffers a b refl)) (omega arith)
+
+  pub by-drawing : verdict t e o ≡ verdicts.Accepted → tooShort (length first) (length second) ≡ false → Binary t e
+      → (answer : Drawn) (f s : List Float) → Ended (inRoom t e o (length first) (length second)) first second answer f s → Outcome t e o first second answer f s
+  by-drawing a b k answer f s h =
+      let d = sym (given t e o (length first) (length second) verdicts.Accepted false a b) in
+      outcome t e o first second answer f s (h .0 ∙ ap draw.answerOf d) (h .1 ∙ ap (firstAfter first) d) (h .2 ∙ ap (secondAfter second) d) k
+
+-- ---- the lengths that draw_checked looks at
+pub first-short : (a b : ℕ) → a < 8 → tooShort a b ≡ true
+first-short a b h = ap (λ (x : Bool). x || ltb b 8) (lt-ltb a 8 h)
+
+pub second-short : (a b : ℕ) → b < 8 → tooShort a b ≡ true
+second-short a b h = ap (λ (x : Bool). ltb a 8 || x) (lt-ltb b 8 h) ∙ or-true (ltb a 8)
+  where
+    or-true : (x : Bool) → x || true ≡ true
+    or-true true = refl
+    or-true false = refl
+
+pub neither-short : (a b : ℕ) → 8 ≤ a → 8 ≤ b → tooShort a b ≡ false
+neither-short a b g h = ap (λ (x : Bool). x || ltb b 8) (le-ltb a 8 g) ∙ le-ltb b 8 h
 
 -- ---- chain_of: the part of the buffer that holds the chain
 module _ {A : Type 0} (d : Drawn) (way : Way) (n : ℕ) (is : d ≡ Chain way n) (b : Bool) (lies : b ≡ inFirst way) where

@@ -1,2 +1,1 @@
 pub mod Part
-pub mod Standin

@@ -4,6 +4,7 @@ use brep::Edge;
 use causes::Verdict;
 use chains::Drawn;
 use chains::Way;
+use math::Interval;
 use options::Options;
 use options::Resolved;
 use samples::Counted;
@@ -14,6 +15,8 @@ ghost use mathlib.Core.List.{[]};
 ghost use Prim.Native.Nat.{_*_, _≤_};
 ghost use denote.Ref.{ptr};
 ghost use lib.ListN.{length, take};
+ghost use lib.Dec.{T};
+ghost use lib.Ieee.{binary64, fits};
 ghost use Rattle.lists.specs.Room.{filled};
 ghost use Rattle.brep.specs.Rows.{lent};
 ghost use Rattle.brep.specs.Tree.{tree};
@@ -21,8 +24,6 @@ ghost use Rattle.causes.specs.declared.Verdict.the-variants.{Accepted};
 ghost use Rattle.causes.specs.Causes.{verdict};
 ghost use Rattle.knots.specs.Knots.{curveKnots};
 ghost use Rattle.samples.specs.Chain.{width, flat, samples};
-ghost use Rattle.draw.specs.Standin.{chainOf, counted};
-ghost use Rattle.chains.specs.Edge.{discretised};
 ghost use Rattle.chains.specs.Repair.{by, repaired};
 ghost use Rattle.chains.specs.Draw.{firstWay, localOptions, drawnIn, roomOf, answerOf, firstAfter, secondAfter, inFirst, Outcome};
 ghost use Rattle.draw.specs.Part.{Fitting, liesInFirst, floatsOf};
@@ -46,6 +47,12 @@ fn fitting(s: &[f64])
     }
 }
 
+// The same of a range's ends.
+fn fitting_ends(range: Interval)
+    ensures { λ _. ⌜ T (fits binary64 (range .lo)) × T (fits binary64 (range .hi)) ⌝ }
+{
+}
+
 // The options for an edge of this size.
 fn local_options(
     points: &[f64],
@@ -60,25 +67,6 @@ fn local_options(
 {
     let extent = extent::edge_extent(points, curves, reals, parts, ranges, edge);
     options.resolve().for_extent(extent)
-}
-
-fn discretise(
-    points: &[f64],
-    curves: &[u32],
-    reals: &[f64],
-    parts: &[u32],
-    ranges: &[f64],
-    edge: Edge,
-    r: Resolved,
-    chain: &mut [f64],
-    scratch: &mut [f64],
-) -> Counted
-    requires { ⌜ (8 ≤ length (now chain)) × (8 ≤ length (now scratch)) × (length (curveKnots (tree (lent points curves reals parts ranges) (edge .curve))) ≤ 8192) ⌝ }
-    ensures { λ w. ⌜ (w ≡ counted (discretised (roomOf (length (now (chain .entry))) (length (now (scratch .entry)))) (lent (points .entry) (curves .entry) (reals .entry) (parts .entry) (ranges .entry)) edge r))
-        × (now (chain .exit) ≡ filled (length (now (chain .entry))) (flat (chainOf (discretised (roomOf (length (now (chain .entry))) (length (now (scratch .entry)))) (lent (points .entry) (curves .entry) (reals .entry) (parts .entry) (ranges .entry)) edge r))))
-        × (now (scratch .exit) ≡ filled (length (now (scratch .entry))) []) ⌝ }
-{
-    Counted::Refused(8)
 }
 
 fn repair_runaway(
@@ -121,7 +109,7 @@ fn drawn_in(
         × (now (first .exit) ≡ firstAfter (now (first .entry)) (drawnIn (roomOf (length (now (first .entry))) (length (now (second .entry)))) (lent (points .entry) (curves .entry) (reals .entry) (parts .entry) (ranges .entry)) edge r))
         × (now (second .exit) ≡ secondAfter (now (second .entry)) (drawnIn (roomOf (length (now (first .entry))) (length (now (second .entry)))) (lent (points .entry) (curves .entry) (reals .entry) (parts .entry) (ranges .entry)) edge r)) ⌝ }
 {
-    let counted = discretise(points, curves, reals, parts, ranges, edge, r, first, second);
+    let counted = edge::discretise(points, curves, reals, parts, ranges, edge, r, first, second);
     match counted {
         Counted::Refused(n) => Drawn::Refused(n),
         Counted::Count(n) => {
@@ -153,6 +141,7 @@ pub fn draw_checked(
     }
     fitting(reals);
     fitting(ranges);
+    fitting_ends(edge.range);
     let r = local_options(points, curves, reals, parts, ranges, edge, options);
     drawn_in(points, curves, reals, parts, ranges, edge, r, first, second)
 }

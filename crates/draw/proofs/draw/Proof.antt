@@ -1,3 +1,7 @@
+-- `draw::draw` meets its contract. Assumes nothing.
+use mathlib.Core.Path.{sym, _∙_}
+use Rattle.brep.specs.Rows.{lent}
+use Rattle.draw.proofs.Laws.{by-verdict}
 use borrow.Author.Needs.{needs}
 use Rattle.draw.proofs.draw.Statement.{statement}
 use Rattle.draw.proofs.draw.Tie as tie
@@ -6,35 +10,27 @@ use Rattle.draw.proofs.draw.Lts as lts
 use Rattle.causes.proofs.check.Reads as check-reads
 use Rattle.draw.proofs.draw_checked.Reads as draw-checked-reads
 
--- src/lib.rt:163:9
 check-requires : tie.Need-check-requires
 check-requires c κs = search needs
 
--- src/lib.rt:165:26
 enum-known-verdict : tie.Need-enum-known-verdict
 enum-known-verdict c = search needs
 
--- src/lib.rt:166:96
 enum-told : tie.Need-enum-told
 enum-told c = search needs
 
--- src/lib.rt:166:30
 draw-checked-requires : tie.Need-draw-checked-requires
-draw-checked-requires c κs = ?
+draw-checked-requires c κs = sym (c .before .before .before .before .check .ensures) ∙ c .before .before .enum-told .given .1
 
--- src/lib.rt:150:1
 returns : tie.Need-returns
-returns c = ?
+returns c = let a = c .before .before .before .before .before .before .before .before .before .before .before .args in by-verdict (lent (a .points) (a .curves) (a .reals) (a .parts) (a .ranges)) (a .edge) (a .options) (a .first .now) (a .second .now) _ (sym (c .before .before .before .check .ensures) ∙ c .before .verdict .given .1)
 
--- src/lib.rt:150:1
 same-length : tie.Need-same-length
 same-length c = search needs
 
--- src/lib.rt:150:1
 same-length-2 : tie.Need-same-length-2
 same-length-2 c = search needs
 
--- src/lib.rt:150:1
 returns-2 : tie.Need-returns-2
 returns-2 c = search needs
 

@@ -1,3 +1,15 @@
+-- `draw::draw_checked` meets its contract. Assumes nothing.
+use mathlib.Core.Path.{subst}
+use mathlib.Core.Logic.{inl, inr}
+use native.Mathlib.Omega.{arith}
+use lib.ListN.{length}
+use borrow.Author.Tests.{ltb-true, ltb-false}
+use Rattle.brep.specs.Rows.{lent}
+use Rattle.options.specs.declared.Resolved.{Resolved}
+use Rattle.causes.proofs.Checked.{checked}
+use Rattle.chains.specs.Draw.{drawnIn, roomOf}
+use Rattle.draw.proofs.Few.{knots-fit}
+use Rattle.draw.proofs.Laws.{Ended, by-length, by-drawing, first-short, second-short, neither-short}
 use borrow.Author.Needs.{needs}
 use Rattle.draw.proofs.draw_checked.Statement.{statement}
 use Rattle.draw.proofs.draw_checked.Tie as tie
@@ -5,39 +17,35 @@ use Rattle.draw.proofs.draw_checked.Reads as reads
 use Rattle.draw.proofs.draw_checked.Lts as lts
 use Rattle.draw.proofs.drawn_in.Reads as drawn-in-reads
 use Rattle.draw.proofs.fitting.Reads as fitting-reads
+use Rattle.draw.proofs.fitting_ends.Reads as fitting-ends-reads
 use Rattle.draw.proofs.local_options.Reads as local-options-reads
 
--- src/lib.rt:152:9
 returns : tie.Need-returns
-returns c = ?
+returns c = let a = c .before .before .before .before .before .before .before .before .args in by-length (lent (a .points) (a .curves) (a .reals) (a .parts) (a .ranges)) (a .edge) (a .options) (a .first .now) (a .second .now) (c .before .before .before .before .before .before .before .before .pre) (elim (c .if1 .came) [ inl x ↦ first-short (length (a .first .now)) (length (a .second .now)) (x .taken) | inr y ↦ second-short (length (a .first .now)) (length (a .second .now)) (ltb-true (length (a .second .now)) 8 (y .1 .taken)) ])
 
--- src/lib.rt:154:5
 fitting-requires : tie.Need-fitting-requires
 fitting-requires c κs = search needs
 
--- src/lib.rt:155:5
 fitting-requires-2 : tie.Need-fitting-requires-2
 fitting-requires-2 c κs = search needs
 
--- src/lib.rt:156:9
+fitting-ends-requires : tie.Need-fitting-ends-requires
+fitting-ends-requires c κs = search needs
+
 local-options-requires : tie.Need-local-options-requires
 local-options-requires c κs = search needs
 
--- src/lib.rt:157:5
 drawn-in-requires : tie.Need-drawn-in-requires
-drawn-in-requires c κs = ?
+drawn-in-requires c κs = let a = c .before .before .before .before .before .before .before .before .before .before .before .before .before .before .before .args in let pre = c .before .before .before .before .before .before .before .before .before .before .before .before .before .before .before .pre in (omega (arith, c .before .before .before .before .before .before .before .if1 .left), ltb-false (length (a .second .now)) 8 (c .before .before .before .before .before .before .if2 .left), knots-fit (lent (a .points) (a .curves) (a .reals) (a .parts) (a .ranges)) (a .edge) (a .options) (checked (lent (a .points) (a .curves) (a .reals) (a .parts) (a .ranges)) (a .edge) (a .options) pre) (a .edge .curve))
 
--- src/lib.rt:137:1
 same-length : tie.Need-same-length
 same-length c = search needs
 
--- src/lib.rt:137:1
 same-length-2 : tie.Need-same-length-2
 same-length-2 c = search needs
 
--- src/lib.rt:137:1
 returns-2 : tie.Need-returns-2
-returns-2 c = ?
+returns-2 c = let a = c .before .before .before .before .before .before .before .before .before .before .before .before .before .before .before .before .before .before .before .before .args in by-drawing (lent (a .points) (a .curves) (a .reals) (a .parts) (a .ranges)) (a .edge) (a .options) (a .first .now) (a .second .now) (c .before .before .before .before .before .before .before .before .before .before .before .before .before .before .before .before .before .before .before .before .pre) (neither-short (length (a .first .now)) (length (a .second .now)) (c .before .before .before .before .before .before .before .before .before .before .before .before .if1 .left) (ltb-false (length (a .second .now)) 8 (c .before .before .before .before .before .before .before .before .before .before .before .if2 .left))) (record { reals = c .before .before .before .before .before .before .before .before .before .before .fitting .ensures; ranges = c .before .before .before .before .before .before .before .before .before .fitting2 .ensures; lo = c .before .before .before .before .before .before .before .before .fitting-ends .ensures .0; hi = c .before .before .before .before .before .before .before .before .fitting-ends .ensures .1 }) _ _ _ (subst (λ (r : Resolved). Ended (drawnIn (roomOf (length (a .first .now)) (length (a .second .now))) (lent (a .points) (a .curves) (a .reals) (a .parts) (a .ranges)) (a .edge) r) (a .first .now) (a .second .now) _ _ _) (c .before .before .before .before .before .before .before .local-options .ensures) (c .before .before .before .before .drawn-in .ensures))
 
 pub draw-checked-spec : {M : Type 1} → statement M
 draw-checked-spec =
@@ -46,6 +54,7 @@ draw-checked-spec =
     returns
     fitting-requires
     fitting-requires-2
+    fitting-ends-requires
     local-options-requires
     drawn-in-requires
     same-length
