@@ -1,0 +1,27 @@
+-- `replay_text::flush` meets its contract. The part written is as long as asked. Assumes nothing.
+use mathlib.Core.Path.{sym}
+use Prim.Native.Nat.{_≤_}
+use native.Mathlib.Omega.{arith}
+use lib.ListN.{length}
+use lib.Seq.{length-take-le}
+use borrow.Author.Needs.{needs}
+use Rattle.replay_text.proofs.flush.Statement.{statement}
+use Rattle.replay_text.proofs.flush.Tie as tie
+
+slice-aggregate-write-all : tie.Need-slice-aggregate-write-all
+slice-aggregate-write-all c =
+    let k = c .before .before .before .args in
+    let h : k .at ≤ length (k .out .now) = omega arith in
+    sym (length-take-le (k .at) (k .out .now) h)
+
+write-all-requires : tie.Need-write-all-requires
+write-all-requires c κs = search needs
+
+returns : tie.Need-returns
+returns c = search needs
+
+returns-2 : tie.Need-returns-2
+returns-2 c = search needs
+
+pub flush-spec : {M : Type 1} → statement M
+flush-spec = tie.close (tie.spec slice-aggregate-write-all write-all-requires returns returns-2)
