@@ -1,0 +1,90 @@
+-- `escape::escapes` meets its contract. The invariant: the records from i on answer as the whole chain does. Assumes nothing.
+use Rattle.escape.proofs.Roots.{root-at-most}
+use Rattle.escape.proofs.Search.{beyond, left, found, passed, none, escapes-whole}
+use Rattle.math.specs.Math.{vLength}
+use borrow.Author.Needs.{needs}
+use native.Mathlib.Omega.{arith}
+use Prim.Native.Nat.{_≤_, _-_}
+use mathlib.Core.Path.{_≡_, refl, sym, ap, _∙_}
+use Rattle.escape.proofs.escapes.Statement.{statement}
+use Rattle.escape.proofs.escapes.Tie as tie
+
+abbrev Inv-loop : tie.InvT-loop
+Inv-loop chain n limit centre cut has-cut i₀ i = (i ≤ n) × (left (beyond limit centre) chain n i ≡ left (beyond limit centre) chain n 0)
+
+abbrev μ-loop : tie.MeasureT-loop
+μ-loop chain n limit centre cut has-cut i₀ i = n - i
+
+diagonal-requires : tie.Need-diagonal-requires Inv-loop μ-loop
+diagonal-requires c κs = search needs
+
+centre-requires : tie.Need-centre-requires Inv-loop μ-loop
+centre-requires c κs = search needs
+
+root-requires : tie.Need-root-requires Inv-loop μ-loop
+root-requires c κs = search needs
+
+loop-holds : tie.Need-loop-holds Inv-loop μ-loop
+loop-holds c = (omega arith, refl)
+
+point-at-requires : tie.Need-point-at-requires Inv-loop μ-loop
+point-at-requires c κs = search needs
+
+sub-requires : tie.Need-sub-requires Inv-loop μ-loop
+sub-requires c κs = search needs
+
+length-squared-requires : tie.Need-length-squared-requires Inv-loop μ-loop
+length-squared-requires c κs = search needs
+
+is-above-requires : tie.Need-is-above-requires Inv-loop μ-loop
+is-above-requires c κs = root-at-most _ (c .before .before .before .before .before .root .ensures)
+
+returns : tie.Need-returns Inv-loop μ-loop
+unfolding vLength
+returns c =
+    let a = c .before .before .before .before .before .before .before .before .before .before .before .before .args in
+    let l = c .before .before .before .before .before .before .loop in
+    found (beyond _ _) (a .chain .now) (a .n) (l .i) (c .before .before .before .before .before .loop-test .taken) (cc) (c .if1 .taken)
+    ∙ l .inv .1
+    ∙ escapes-whole (a .chain .now) (a .n) (a .r) _ _ (a .reference) (cc) (c .before .before .before .before .before .before .before .before .centre .ensures)
+
+add-i : tie.Need-add-i Inv-loop μ-loop
+add-i c = search needs
+
+loop-less : tie.Need-loop-less Inv-loop μ-loop
+loop-less c = search needs
+
+loop-again : tie.Need-loop-again Inv-loop μ-loop
+unfolding vLength
+loop-again c =
+    let a = c .before .before .before .before .before .before .before .before .before .before .before .before .args in
+    let l = c .before .before .before .before .before .before .loop in
+    (omega arith, passed (beyond _ _) (a .chain .now) (a .n) (l .i) (c .before .before .before .before .before .loop-test .taken) (cc) (c .if1 .left) ∙ l .inv .1)
+
+returns-2 : tie.Need-returns-2 Inv-loop μ-loop
+returns-2 c =
+    let a = c .before .before .before .before .before .before .before .args in
+    let l = c .before .loop in
+    none (beyond _ _) (a .chain .now) (a .n) (l .i) (c .loop-test .left)
+    ∙ l .inv .1
+    ∙ escapes-whole (a .chain .now) (a .n) (a .r) _ _ (a .reference) (cc) (c .before .before .before .centre .ensures)
+
+pub escapes-spec : {M : Type 1} → statement M
+escapes-spec =
+    tie.close
+    (tie.spec
+    Inv-loop
+    μ-loop
+    diagonal-requires
+    centre-requires
+    root-requires
+    loop-holds
+    point-at-requires
+    sub-requires
+    length-squared-requires
+    is-above-requires
+    returns
+    add-i
+    loop-less
+    loop-again
+    returns-2)

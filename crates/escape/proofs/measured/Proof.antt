@@ -1,0 +1,21 @@
+-- `escape::measured` meets its contract. Assumes nothing.
+use Rattle.escape.specs.Best.{measured}
+use borrow.Author.Needs.{needs}
+use Rattle.escape.proofs.measured.Statement.{statement}
+use Rattle.escape.proofs.measured.Tie as tie
+
+sub-requires : tie.Need-sub-requires
+sub-requires c κs = search needs
+
+length-squared-requires : tie.Need-length-squared-requires
+length-squared-requires c κs = search needs
+
+root-requires : tie.Need-root-requires
+root-requires c κs = search needs
+
+returns : tie.Need-returns
+unfolding measured
+returns c = cc
+
+pub measured-spec : {M : Type 1} → statement M
+measured-spec = tie.close (tie.spec sub-requires length-squared-requires root-requires returns)

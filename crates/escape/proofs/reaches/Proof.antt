@@ -1,0 +1,86 @@
+-- `escape::reaches` meets its contract. The invariant: the records from i on answer as the whole chain does. Assumes nothing.
+use Rattle.escape.proofs.Search.{close, left, found, passed, none, reaches-whole}
+use Rattle.math.specs.Math.{vLength}
+use lib.Ieee.{lt}
+use borrow.Author.Needs.{needs}
+use native.Mathlib.Omega.{arith}
+use Prim.Native.Nat.{_≤_, _-_}
+use mathlib.Core.Path.{_≡_, refl, sym, ap, _∙_}
+use Rattle.escape.proofs.reaches.Statement.{statement}
+use Rattle.escape.proofs.reaches.Tie as tie
+
+abbrev Inv-loop : tie.InvT-loop
+Inv-loop p chain n limit cut has-cut i₀ i = (i ≤ n) × (left (close limit p) chain n i ≡ left (close limit p) chain n 0)
+
+abbrev μ-loop : tie.MeasureT-loop
+μ-loop p chain n limit cut has-cut i₀ i = n - i
+
+max-requires : tie.Need-max-requires Inv-loop μ-loop
+max-requires c κs = search needs
+
+root-requires : tie.Need-root-requires Inv-loop μ-loop
+root-requires c κs = search needs
+
+loop-holds : tie.Need-loop-holds Inv-loop μ-loop
+loop-holds c = (omega arith, refl)
+
+point-at-requires : tie.Need-point-at-requires Inv-loop μ-loop
+point-at-requires c κs = search needs
+
+sub-requires : tie.Need-sub-requires Inv-loop μ-loop
+sub-requires c κs = search needs
+
+length-squared-requires : tie.Need-length-squared-requires Inv-loop μ-loop
+length-squared-requires c κs = search needs
+
+is-within-requires : tie.Need-is-within-requires Inv-loop μ-loop
+is-within-requires c κs = λ h. ap (lt (c .before .before .before .before .before .before .max .result)) (sym (c .before .before .before .before .before .root .ensures)) ∙ h
+
+returns : tie.Need-returns Inv-loop μ-loop
+unfolding vLength
+returns c =
+    let a = c .before .before .before .before .before .before .before .before .before .before .before .args in
+    let l = c .before .before .before .before .before .before .loop in
+    found (close _ _) (a .chain .now) (a .n) (l .i) (c .before .before .before .before .before .loop-test .taken) (cc) (c .if1 .taken)
+    ∙ l .inv .1
+    ∙ reaches-whole (a .chain .now) (a .n) (a .r) _ _ (a .edge) (c .before .before .before .before .before .before .before .before .max .ensures)
+
+add-i : tie.Need-add-i Inv-loop μ-loop
+add-i c = search needs
+
+loop-less : tie.Need-loop-less Inv-loop μ-loop
+loop-less c = search needs
+
+loop-again : tie.Need-loop-again Inv-loop μ-loop
+unfolding vLength
+loop-again c =
+    let a = c .before .before .before .before .before .before .before .before .before .before .before .args in
+    let l = c .before .before .before .before .before .before .loop in
+    (omega arith, passed (close _ _) (a .chain .now) (a .n) (l .i) (c .before .before .before .before .before .loop-test .taken) (cc) (c .if1 .left) ∙ l .inv .1)
+
+returns-2 : tie.Need-returns-2 Inv-loop μ-loop
+returns-2 c =
+    let a = c .before .before .before .before .before .before .args in
+    let l = c .before .loop in
+    none (close _ _) (a .chain .now) (a .n) (l .i) (c .loop-test .left)
+    ∙ l .inv .1
+    ∙ reaches-whole (a .chain .now) (a .n) (a .r) _ _ (a .edge) (c .before .before .before .max .ensures)
+
+pub reaches-spec : {M : Type 1} → statement M
+reaches-spec =
+    tie.close
+    (tie.spec
+    Inv-loop
+    μ-loop
+    max-requires
+    root-requires
+    loop-holds
+    point-at-requires
+    sub-requires
+    length-squared-requires
+    is-within-requires
+    returns
+    add-i
+    loop-less
+    loop-again
+    returns-2)

@@ -1,0 +1,164 @@
+// The closures of repair_runaway: does a chain leave the reference box, does it reach a vertex, and which parameter is nearest to one.
+use brep::Edge;
+use math::Aabb;
+use math::Interval;
+use math::Vec3;
+use options::Resolved;
+ghost use mathlib.Core.Path.{_≡_};
+ghost use mathlib.Core.Bool.{true};
+ghost use Prim.Native.Nat.{_*_, _≤_};
+ghost use lib.ListN.{length};
+ghost use lib.Ieee.{lt, le};
+ghost use Rattle.roots.specs.Root.{rootOf};
+ghost use Rattle.brep.specs.Rows.{lent};
+ghost use Rattle.brep.specs.Tree.{tree};
+ghost use Rattle.samples.specs.Chain.{width, samples};
+ghost use Rattle.chains.specs.Repair.{escapes, reaches, sweepAt, nearest};
+ghost use Rattle.escape.specs.Best.{measured, nearerOf};
+
+// How many steps `nearest` takes along the natural range.
+const STEPS: u32 = 512;
+
+// A parameter, the squared distance of its point to the target, and that one's root.
+struct Best {
+    param: f64,
+    square: f64,
+    root: f64,
+}
+
+// The parameters that are nearest to an edge's two vertices.
+pub struct Ends {
+    pub start: f64,
+    pub end: f64,
+}
+
+// Whether the root of s is above the limit. A cut whose own root is not answers for every s up to it, without a root.
+fn is_above(s: f64, limit: f64, cut: f64, has_cut: bool) -> bool
+    requires { ⌜ («has_cut» ≡ true → le (rootOf cut) limit ≡ true) ⌝ }
+    ensures { λ b. ⌜ b ≡ lt limit (rootOf s) ⌝ }
+{
+    if has_cut {
+        if s <= cut {
+            return false;
+        }
+    }
+    roots::root(s) > limit
+}
+
+// Whether the root of s is at most the limit. A cut whose own root is above it answers for every s from there on.
+fn is_within(s: f64, limit: f64, cut: f64, has_cut: bool) -> bool
+    requires { ⌜ («has_cut» ≡ true → lt limit (rootOf cut) ≡ true) ⌝ }
+    ensures { λ b. ⌜ b ≡ le (rootOf s) limit ⌝ }
+{
+    if has_cut {
+        if cut <= s {
+            return false;
+        }
+    }
+    roots::root(s) <= limit
+}
+
+// Whether a point of the chain lies further from the box's centre than its diagonal and 16 sags.
+pub fn escapes(reference: Aabb, r: Resolved, chain: &[f64], n: usize) -> bool
+    requires { ⌜ width * n ≤ length (now chain) ⌝ }
+    ensures { λ b. ⌜ b ≡ escapes reference r (samples n (now (chain .entry))) ⌝ }
+{
+    let limit = reference.diagonal() + r.sag * 16.0;
+    let centre = reference.centre();
+    let cut = limit * limit;
+    let has_cut = roots::root(cut) <= limit;
+    for i in 0..n {
+        let p = samples::point_at(chain, i);
+        if is_above(p.sub(centre).length_squared(), limit, cut, has_cut) {
+            return true;
+        }
+    }
+    false
+}
+
+// Whether a point of the chain lies within max(sag, tolerance * 10) of p.
+pub fn reaches(edge: Edge, r: Resolved, p: Vec3, chain: &[f64], n: usize) -> bool
+    requires { ⌜ width * n ≤ length (now chain) ⌝ }
+    ensures { λ b. ⌜ b ≡ reaches edge r p (samples n (now (chain .entry))) ⌝ }
+{
+    let limit = arith::max(r.sag, edge.tolerance * 10.0);
+    // A little above the square, so that the cut's root is above the limit.
+    let cut = limit * limit * 1.000001;
+    let has_cut = limit < roots::root(cut);
+    for i in 0..n {
+        let q = samples::point_at(chain, i);
+        if is_within(q.sub(p).length_squared(), limit, cut, has_cut) {
+            return true;
+        }
+    }
+    false
+}
+
+fn measured(target: Vec3, t: f64, p: Vec3) -> Best
+    ensures { λ b. ⌜ b ≡ measured target t p ⌝ }
+{
+    let s = p.sub(target).length_squared();
+    Best {
+        param: t,
+        square: s,
+        root: roots::root(s),
+    }
+}
+
+// The parameter t with its point p where that is strictly nearer. Only where the square is below the best one can the root be.
+fn nearer(best: Best, target: Vec3, t: f64, p: Vec3) -> Best
+    requires { ⌜ best .root ≡ rootOf (best .square) ⌝ }
+    ensures { λ b. ⌜ b ≡ nearerOf best (measured target t p) ⌝ }
+{
+    let s = p.sub(target).length_squared();
+    if s < best.square {
+        let root = roots::root(s);
+        if root < best.root {
+            return Best {
+                param: t,
+                square: s,
+                root,
+            };
+        }
+    }
+    best
+}
+
+// Parameter number i of those that `nearest` looks at.
+fn sweep_at(natural: Interval, i: u32) -> f64
+    ensures { λ t. ⌜ t ≡ sweepAt natural i ⌝ }
+{
+    natural.at(i as f64 / 512.0)
+}
+
+// Of 513 parameters spread evenly over the natural range, those whose points are nearest to the two vertices, the first of equals.
+pub fn nearest(
+    points: &[f64],
+    curves: &[u32],
+    reals: &[f64],
+    parts: &[u32],
+    ranges: &[f64],
+    row: u32,
+    start: Vec3,
+    end: Vec3,
+) -> Ends
+    ensures { λ w. ⌜ (w .start ≡ nearest (tree (lent (points .entry) (curves .entry) (reals .entry) (parts .entry) (ranges .entry)) row) start) × (w .end ≡ nearest (tree (lent (points .entry) (curves .entry) (reals .entry) (parts .entry) (ranges .entry)) row) end) ⌝ }
+{
+    let natural = curve::natural_range(points, curves, reals, parts, ranges, row);
+    let first = sweep_at(natural, 0);
+    let p = curve::point_at(points, curves, reals, parts, ranges, row, first);
+    let mut a = measured(start, first, p);
+    let mut b = measured(end, first, p);
+    let mut i = 0u32;
+    while i < STEPS {
+        i += 1;
+        let t = sweep_at(natural, i);
+        let q = curve::point_at(points, curves, reals, parts, ranges, row, t);
+        a = nearer(a, start, t, q);
+        b = nearer(b, end, t, q);
+    }
+    Ends {
+        start: a.param,
+        end: b.param,
+    }
+}

@@ -1,0 +1,1 @@
+// The examples of the scope: the list in specs/, the proof in proofs/. There is no code.
