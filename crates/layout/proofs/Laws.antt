@@ -10,13 +10,13 @@ use borrow.Author.Tests.{le-leb, leb-true}
 use Rattle.lists.specs.Sub.{All, none, more}
 use Rattle.lists.specs.Result.{Result, refused, got}
 use Rattle.formats.specs.Bytes.{bytes}
-use Rattle.formats.specs.Format.{Format, oneOf, _ending_, _then_, whole as whole-text}
+use Rattle.formats.specs.Format.{Format, Parsed, bad, got as parsed, all, oneOf, _ending_, _then_, whole as whole-text}
 use Rattle.formats.specs.Table.{Field, Column, fields, line, table, single}
 use Rattle.formats.proofs.Laws.{Lawful, Is, ending-law, then-law, as-law, whole-back, whole-was}
 use Rattle.formats.proofs.Words.{oneOf-law}
 use Rattle.formats.proofs.Lines.{NoLine}
 use Rattle.formats.proofs.Tables.{Good, line-law, no-line, table-law, single-law}
-use Rattle.layout.specs.Layout.{kinds, u32, u64, kind, pointColumns, curveColumns, segmentColumns, edgeColumns, optionColumns, RawSheet, tables, ends, sheet, layout, Valid, size, readSheet}
+use Rattle.layout.specs.Layout.{kinds, u32, u64, kind, pointColumns, curveColumns, segmentColumns, edgeColumns, optionColumns, RawSheet, tables, ends, sheet, layout, Valid, size, readSheet, Follows, Means}
 
 -- ---- what the columns hold
 pub u32-good : Good u32
@@ -97,12 +97,6 @@ pub read-layout : (raw : RawSheet) → Valid raw → length (layout raw) ≤ siz
 unfolding readSheet
 read-layout raw v h = rw (le-leb (length (layout raw)) size h) (whole-back 10 sheet sheet-law raw v)
 
--- the text is the sheet's
-pub record Follows (text : List ℕ) (raw : RawSheet) : Type 0 where
-  pub valid : Valid raw
-  pub is : layout raw ≡ text
-  pub fits : length text ≤ size
-
 pub layout-read : (text : List ℕ) (raw : RawSheet) → readSheet text ≡ got raw → Follows text raw
 unfolding readSheet
 layout-read text raw e = go (leb (length text) size) refl e
@@ -111,13 +105,35 @@ layout-read text raw e = go (leb (length text) size) refl e
     go true t e = let w = whole-was 10 sheet sheet-law text raw e in record { valid = w .right; is = w .text; fits = leb-true (length text) size t }
     go false t e = absurd (let z : _≡_ {A = ℕ} 0 1 = cc in omega arith)
 
+pub follows-read : (text : List ℕ) (raw : RawSheet) → Follows text raw → readSheet text ≡ got raw
+follows-read text raw f =
+    let h : length (layout raw) ≤ size = rw (f .is) (f .fits) in
+    sym (ap readSheet (f .is)) ∙ read-layout raw (f .valid) h
+
 -- so a text that is refused follows the layout of no sheet
 pub refused-none : (text : List ℕ) (n : ℕ) → readSheet text ≡ refused n → (raw : RawSheet) → Follows text raw → ⊥
 refused-none text n e raw f =
-    let h : length (layout raw) ≤ size = rw (f .is) (f .fits) in
-    let r = sym (ap readSheet (f .is)) ∙ read-layout raw (f .valid) h in
+    let r = follows-read text raw f in
     let z : _≡_ {A = ℕ} 0 1 = cc in
     omega arith
+
+-- the cause is always 10
+pub refused-ten : (text : List ℕ) (n : ℕ) → readSheet text ≡ refused n → n ≡ 10
+unfolding readSheet whole-text all
+refused-ten text n e = go (leb (length text) size) (sheet .read text) e
+  where
+    go : (b : Bool) (q : Parsed RawSheet) → cond b (all 10 q) (refused 10) ≡ refused n → n ≡ 10
+    go true bad e = cc
+    go true (parsed a []) e = absurd (let z : _≡_ {A = ℕ} 0 1 = cc in omega arith)
+    go true (parsed a (b ∷ bs)) e = cc
+    go false q e = cc
+
+pub means : (text : List ℕ) → Means text (readSheet text)
+means text = record {
+  back = follows-read text;
+  was = layout-read text;
+  none = λ cause e. (refused-ten text cause e, refused-none text cause e);
+}
 
 -- and no two sheets have one text
 pub layout-one : (a b : RawSheet) → Valid a → Valid b → layout a ≡ layout b → a ≡ b

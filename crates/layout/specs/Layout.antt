@@ -1,11 +1,12 @@
 -- The sheet's layout. A raw sheet is lists of whole numbers: a line's numbers in the order of its columns, a float as its 64 bits, a
 -- kind as its number from 1 to 7.
+use mathlib.Core.Path.{_≡_}
 use mathlib.Core.Bool.{cond}
 use mathlib.Core.List.{List, [], _∷_}
-use Prim.Native.Nat.{ℕ, _-_, _^_}
+use Prim.Native.Nat.{ℕ, _-_, _^_, _≤_}
 use lib.ListN.{length}
 use lib.Dec.{leb}
-use Rattle.lists.specs.Result.{Result, refused}
+use Rattle.lists.specs.Result.{Result, refused, got}
 use Rattle.formats.specs.Bytes.{bytes}
 use Rattle.formats.specs.Format.{Format, _ending_, _then_, as-of, whole as whole-text}
 use Rattle.formats.specs.Table.{Field, float, whole, word, Column, _of_, table, single}
@@ -79,3 +80,16 @@ size = 65536
 -- the sheet that a text stands for; cause 10 where it stands for none or is too long
 unfoldable pub readSheet : List ℕ → Result RawSheet
 readSheet text = cond (leb (length text) size) (whole-text 10 sheet text) (refused 10)
+
+-- ---- both directions
+-- the text is the sheet's
+pub record Follows (text : List ℕ) (raw : RawSheet) : Type 0 where
+  pub valid : Valid raw
+  pub is : layout raw ≡ text
+  pub fits : length text ≤ size
+
+-- r is the sheet whose text this is, or cause 10 where it is the text of none
+pub record Means (text : List ℕ) (r : Result RawSheet) : Type 0 where
+  pub back : (raw : RawSheet) → Follows text raw → r ≡ got raw
+  pub was : (raw : RawSheet) → r ≡ got raw → Follows text raw
+  pub none : (cause : ℕ) → r ≡ refused cause → (cause ≡ 10) × ((raw : RawSheet) → Follows text raw → ⊥)

@@ -1,0 +1,226 @@
+-- The parts of the reader: what is told of the three tables and held of them, and the sheet that its tables and its ends make. Assumes nothing.
+use mathlib.Core.Path.{_≡_, refl, sym, ap, subst, _∙_}
+use mathlib.Core.List.{List}
+use Prim.Native.Nat.{ℕ, zero, suc, _-_, _<_, _≤_}
+use native.Mathlib.Omega.{arith}
+use lib.ListN.{length, drop, replicate, length-drop, drop-of-length-le}
+use lib.Seq.{drop-cons}
+use lib.Ieee.{Float}
+use borrow.Author.Tests.{le-leb, lt-leb}
+use Rattle.lists.specs.Result.{Result, refused, got as accepted}
+use Rattle.formats.specs.Format.{Parsed, bad, got, _then_, all, whole}
+use Rattle.formats.specs.Table.{fields, table}
+use Rattle.layout.specs.Layout.{RawSheet, pointColumns, curveColumns, segmentColumns, tables, ends, sheet, size, readSheet}
+use Rattle.layout.specs.Letters.{padded}
+use Rattle.layout.proofs.Laws.{tables-law, ends-law}
+use Rattle.rows.specs.Rows.{floatsOf, wholesOf, edgeOf, optionsOf}
+use Rattle.rows.specs.declared.RawEdge.{RawEdge}
+use Rattle.rows.specs.declared.RawOptions.{RawOptions}
+use Rattle.text.proofs.Place.{Read, placed, then-bad, then-bad-on, then-read, as-bad, as-read}
+use Rattle.tables.specs.Told.{flat, numbersOf}
+use Rattle.tables.proofs.Stores.{numbers-got}
+use Rattle.tables.proofs.Fits.{zeros-padded}
+use Rattle.ends.specs.Told.{toldEnds}
+use Rattle.ends.specs.declared.Last.the-variants.{Pair, NoPair}
+use Rattle.brep.specs.Rows.{Tables, tables as tables-of}
+use Rattle.brep.specs.declared.Edge.{Edge}
+use Rattle.options.specs.declared.Options.{Options}
+use Rattle.sheet.specs.Sheet.{floatOf, edgeFrom, optionsFrom, answer, tablesOf, stored, left}
+use Rattle.sheet.specs.Told.{Three, toldTables, onlyTables, Held, Kept}
+use Rattle.sheet.specs.declared.Sheet.the-variants.{Read as ReadSheet, Refused}
+use Rattle.sheet.specs.declared.Counted.the-variants.{Counts, NoTables}
+
+-- ---- a table of n places that was read
+pub held-part : {A E : Type 0} (numbers : A → List E) (z : E) (n : ℕ) (q : Parsed A) (l : A) (rest : List ℕ) (old new : List E) → length old ≡ n
+    → q ≡ got l rest → new ≡ padded (length old) z (numbersOf numbers q) → new ≡ padded n z (numbers l)
+held-part numbers z n q l rest old new e f g = g ∙ ap (λ k. padded k z (numbersOf numbers q)) e ∙ ap (padded n z) (numbers-got numbers q l rest f)
+
+-- ---- the three tables
+module _ (s : List ℕ) (q : Parsed Three) where
+  pub told-no-tables : q ≡ bad → NoTables ≡ toldTables s q
+  unfolding toldTables
+  told-no-tables e = rw e
+
+  pub told-tables : (a b c : List (List ℕ)) (n m k p : ℕ) → n ≡ length a → m ≡ length b → k ≡ length c → Read s q (a, (b, c)) p
+      → Counts n m k p ≡ toldTables s q
+  unfolding toldTables
+  told-tables a b c n m k p d e f r =
+      let w = r .within in
+      let j : p ≡ length s - length (drop p s) = simp length-drop (omega arith) in
+      let same : Counts n m k p ≡ Counts (length a) (length b) (length c) (length s - length (drop p s)) = cc in
+      same ∙ ap (toldTables s) (sym (r .is))
+
+  pub held-bad : (new : Tables) → q ≡ bad → Held q new
+  unfolding Held
+  held-bad new e = rw (e, Held) tt
+
+  pub held-got : (t : Three) (rest : List ℕ) (new : Tables) → q ≡ got t rest → new ≡ stored (tablesOf (onlyTables t)) → Held q new
+  unfolding Held
+  held-got t rest new e f = rw (e, Held) f
+
+  pub held-is : (t : Three) (rest : List ℕ) (new : Tables) → q ≡ got t rest → Held q new → new ≡ stored (tablesOf (onlyTables t))
+  unfolding Held
+  held-is t rest new e h = subst (λ z. Held z new) e h
+
+pub stored-is : (a b c : List (List ℕ)) (points : List Float) (curves : List ℕ) (reals : List Float) (parts : List ℕ) (ranges : List Float)
+    → points ≡ padded 3855 (floatOf 0) (flat (floatsOf (fields pointColumns)) a)
+    → curves ≡ padded 4914 0 (flat (wholesOf (fields curveColumns)) b)
+    → reals ≡ padded 3276 (floatOf 0) (flat (floatsOf (fields curveColumns)) b)
+    → parts ≡ padded 3448 0 (flat (wholesOf (fields segmentColumns)) c)
+    → ranges ≡ padded 3448 (floatOf 0) (flat (floatsOf (fields segmentColumns)) c)
+    → tables-of points curves reals parts ranges ≡ stored (tablesOf (onlyTables (a, (b, c))))
+unfolding stored tablesOf
+stored-is a b c points curves reals parts ranges d e f g h = rw (d, e, f, g, h)
+
+-- ---- what was read of them, by what was told
+pub record TablesRead (s : List ℕ) (n m k p : ℕ) : Type 0 where
+  pub points : List (List ℕ)
+  pub curves : List (List ℕ)
+  pub segments : List (List ℕ)
+  pub point-count : n ≡ length points
+  pub curve-count : m ≡ length curves
+  pub segment-count : k ≡ length segments
+  pub is : Read s (tables .read s) (points, (curves, segments)) p
+
+module _ (s : List ℕ) where
+  pub read-tables : (n m k p : ℕ) → Counts n m k p ≡ toldTables s (tables .read s) → TablesRead s n m k p
+  unfolding toldTables
+  read-tables n m k p e = go (tables .read s) refl e
+    where
+      go : (q : Parsed Three) → tables .read s ≡ q → Counts n m k p ≡ toldTables s q → TablesRead s n m k p
+      go bad f e = absurd (let z : _≡_ {A = ℕ} 0 1 = cc in omega arith)
+      go (got t rest) f e =
+          let j : p ≡ length s - length rest = cc in
+          record {
+            points = t .0;
+            curves = t .1 .0;
+            segments = t .1 .1;
+            point-count = cc;
+            curve-count = cc;
+            segment-count = cc;
+            is = rw j (placed s tables tables-law 0 t rest (omega arith) f);
+          }
+
+  pub read-no-tables : NoTables ≡ toldTables s (tables .read s) → tables .read s ≡ bad
+  unfolding toldTables
+  read-no-tables e = go (tables .read s) e
+    where
+      go : (q : Parsed Three) → NoTables ≡ toldTables s q → q ≡ bad
+      go bad e = refl
+      go (got t rest) e = absurd (let z : _≡_ {A = ℕ} 0 1 = cc in omega arith)
+
+-- ---- the edge and the options
+pub record EndsRead (s : List ℕ) (at : ℕ) (e : RawEdge) (o : RawOptions) (p : ℕ) : Type 0 where
+  pub edge : List ℕ
+  pub options : List ℕ
+  pub edge-is : e ≡ edgeOf edge
+  pub options-is : o ≡ optionsOf options
+  pub is : Read s (ends .read (drop at s)) (edge, options) p
+
+module _ (s : List ℕ) (at : ℕ) where
+  pub read-ends : (e : RawEdge) (o : RawOptions) (p : ℕ) → at ≤ length s → Pair e o p ≡ toldEnds s (ends .read (drop at s)) → EndsRead s at e o p
+  unfolding toldEnds
+  read-ends e o p h t = go (ends .read (drop at s)) refl t
+    where
+      go : (q : Parsed (List ℕ × List ℕ)) → ends .read (drop at s) ≡ q → Pair e o p ≡ toldEnds s q → EndsRead s at e o p
+      go bad f t = absurd (let z : _≡_ {A = ℕ} 0 1 = cc in omega arith)
+      go (got r rest) f t =
+          let j : p ≡ length s - length rest = cc in
+          record { edge = r .0; options = r .1; edge-is = cc; options-is = cc; is = rw j (placed s ends ends-law at r rest h f) }
+
+  pub read-no-ends : NoPair ≡ toldEnds s (ends .read (drop at s)) → ends .read (drop at s) ≡ bad
+  unfolding toldEnds
+  read-no-ends t = go (ends .read (drop at s)) t
+    where
+      go : (q : Parsed (List ℕ × List ℕ)) → NoPair ≡ toldEnds s q → q ≡ bad
+      go bad t = refl
+      go (got r rest) t = absurd (let z : _≡_ {A = ℕ} 0 1 = cc in omega arith)
+
+-- ---- the sheet
+-- the sheet of its five blocks
+abbrev pub sheetOf : Three → List ℕ → List ℕ → RawSheet
+sheetOf t edge options = record { points = t .0; curves = t .1 .0; segments = t .1 .1; edge = edge; options = options }
+
+module _ (s : List ℕ) where
+  pub too-long : size < length s → readSheet s ≡ refused 10
+  unfolding readSheet
+  too-long h = rw (lt-leb (length s) size h)
+
+  module _ (fits : length s ≤ size) where
+    pub no-sheet : sheet .read s ≡ bad → readSheet s ≡ refused 10
+    unfolding readSheet whole all
+    no-sheet e = rw (le-leb (length s) size fits, e)
+
+    pub no-tables : tables .read s ≡ bad → readSheet s ≡ refused 10
+    unfolding sheet
+    no-tables e = no-sheet (as-bad s (tables then ends) _ _ 0 (then-bad s tables ends 0 e))
+
+    module _ (t : Three) (p : ℕ) (r : Read s (tables .read s) t p) where
+      pub no-ends : ends .read (drop p s) ≡ bad → readSheet s ≡ refused 10
+      unfolding sheet
+      no-ends e = no-sheet (as-bad s (tables then ends) _ _ 0 (then-bad-on s tables ends 0 t p r e))
+
+      module _ (edge options : List ℕ) (j : ℕ) (e : Read s (ends .read (drop p s)) (edge, options) j) where
+        sheet-read : Read s (sheet .read s) (sheetOf t edge options) j
+        unfolding sheet
+        sheet-read = as-read s (tables then ends) _ _ 0 (t, (edge, options)) j (then-read s tables ends 0 t p r (edge, options) j e)
+
+        -- nothing is left of the text
+        pub is-sheet : j ≡ length s → readSheet s ≡ accepted (sheetOf t edge options)
+        unfolding readSheet whole all
+        is-sheet l =
+            let none = drop-of-length-le s {i = j} (omega arith) in
+            rw (le-leb (length s) size fits, sheet-read .is, none)
+
+        -- something is left
+        pub not-all : (j ≡ length s → ⊥) → readSheet s ≡ refused 10
+        unfolding readSheet whole all
+        not-all n =
+            let w = sheet-read .within in
+            let more = drop-cons s j 0 (less j (length s) w n) in
+            rw (le-leb (length s) size fits, sheet-read .is, more)
+          where
+            less : (a b : ℕ) → a ≤ b → (a ≡ b → ⊥) → a < b
+            less a zero h n = absurd (n (omega arith))
+            less zero (suc b) h n = omega arith
+            less (suc a) (suc b) h n = let r = less a b (omega arith) (λ e. n (ap suc e)) in omega arith
+
+-- ---- what is answered, and what the tables hold
+module _ (r : Result RawSheet) where
+  pub answer-no : (cause : ℕ) → r ≡ refused cause → Refused cause ≡ answer r
+  unfolding answer
+  answer-no cause e = rw e
+
+  pub answer-is : (t : Three) (edge options : List ℕ) (n m k : ℕ) (e : RawEdge) (o : RawOptions) (x : Edge) (y : Options)
+      → r ≡ accepted (sheetOf t edge options) → n ≡ length (t .0) → m ≡ length (t .1 .0) → k ≡ length (t .1 .1) → e ≡ edgeOf edge
+      → o ≡ optionsOf options → x ≡ edgeFrom e → y ≡ optionsFrom o → ReadSheet n m k x y (e .lo) (e .hi) ≡ answer r
+  unfolding answer
+  answer-is t edge options n m k e o x y f a b c d g h i = rw (f, h, i, a, b, c, d, g)
+
+  pub kept-no : (cause : ℕ) (new : Tables) → r ≡ refused cause → Kept r new
+  unfolding Kept
+  kept-no cause new e = rw (e, Kept) tt
+
+  pub kept-is : (t : Three) (edge options : List ℕ) (new : Tables) → r ≡ accepted (sheetOf t edge options) → new ≡ stored (tablesOf (onlyTables t)) → Kept r new
+  unfolding Kept tablesOf
+  kept-is t edge options new e f = rw (e, Kept) f
+
+  -- ---- at the end
+  pub left-no : (cause : ℕ) (points : List Float) (curves : List ℕ) (reals : List Float) (parts : List ℕ) (ranges : List Float) → Refused cause ≡ answer r
+      → points ≡ replicate 3855 (floatOf 0) → curves ≡ replicate 4914 0 → reals ≡ replicate 3276 (floatOf 0) → parts ≡ replicate 3448 0
+      → ranges ≡ replicate 3448 (floatOf 0) → tables-of points curves reals parts ranges ≡ left r
+  unfolding answer left stored
+  left-no cause points curves reals parts ranges a d e f g h = go r a
+    where
+      go : (r : Result RawSheet) → Refused cause ≡ answer r → tables-of points curves reals parts ranges ≡ left r
+      go (refused n) a =
+          rw (d ∙ zeros-padded (floatOf 0) 3855, e ∙ zeros-padded 0 4914, f ∙ zeros-padded (floatOf 0) 3276, g ∙ zeros-padded 0 3448, h ∙ zeros-padded (floatOf 0) 3448)
+      go (accepted raw) a = absurd (let z : _≡_ {A = ℕ} 0 1 = cc in omega arith)
+
+  pub left-is : (n m k : ℕ) (e : Edge) (o : Options) (lo hi : ℕ) (new : Tables) → ReadSheet n m k e o lo hi ≡ answer r → Kept r new → new ≡ left r
+  unfolding answer left Kept
+  left-is n m k e o lo hi new a h = go r a h
+    where
+      go : (r : Result RawSheet) → ReadSheet n m k e o lo hi ≡ answer r → Kept r new → new ≡ left r
+      go (refused cause) a h = absurd (let z : _≡_ {A = ℕ} 0 1 = cc in omega arith)
+      go (accepted raw) a h = h

@@ -1,0 +1,135 @@
+-- `sheet::three` meets its contract. Assumes nothing.
+use mathlib.Core.Path.{_≡_, sym, _∙_}
+use native.Mathlib.Omega.{arith}
+use lib.ListN.{length, drop}
+use Rattle.formats.specs.Format.{_then_}
+use Rattle.formats.specs.Table.{fields, table}
+use Rattle.layout.specs.Layout.{pointColumns, curveColumns, segmentColumns, tables}
+use Rattle.layout.proofs.Laws.{points-law, curves-law, segments-law}
+use Rattle.rows.specs.Rows.{floatsOf, wholesOf}
+use Rattle.text.proofs.Place.{ReadList, read-list, read-no-list, then-bad, then-bad-on, then-read}
+use Rattle.tables.specs.Told.{flat}
+use Rattle.sheet.specs.Sheet.{floatOf}
+use Rattle.sheet.proofs.Parts.{held-part, told-no-tables, told-tables, held-bad, held-got, stored-is}
+use borrow.Author.Needs.{needs}
+use Rattle.sheet.proofs.three.Statement.{statement}
+use Rattle.sheet.proofs.three.Tie as tie
+
+-- the points were read
+points-read : (c : tie.After-known-told)
+    → ReadList (c .before .before .before .before .before .before .args .text .now) (table pointColumns .read (c .before .before .before .before .before .before .args .text .now)) (c .before .n .given .0 .0) (c .before .n .given .0 .1 .0)
+points-read c =
+    let k = c .before .n .given in
+    read-list (c .before .before .before .before .before .before .args .text .now) (table pointColumns) points-law 0 (k .0 .0) (k .0 .1 .0) (omega arith) (sym (k .1) ∙ c .before .before .before .points .ensures .0)
+
+-- and the curves behind them
+curves-read : (c : tie.After-known-told2)
+    → ReadList (c .before .before .before .before .before .before .before .before .before .before .before .before .args .text .now) (table curveColumns .read (drop (c .before .before .before .before .before .before .before .n .given .0 .1 .0) (c .before .before .before .before .before .before .before .before .before .before .before .before .args .text .now))) (c .before .m .given .0 .0) (c .before .m .given .0 .1 .0)
+curves-read c =
+    let k = c .before .m .given in
+    read-list (c .before .before .before .before .before .before .before .before .before .before .before .before .args .text .now) (table curveColumns) curves-law _ (k .0 .0) (k .0 .1 .0) (points-read (c .before .before .before .before .before .before) .is .within) (sym (k .1) ∙ c .before .before .before .curves .ensures .0)
+
+-- the tables' sizes
+points-length : (c : tie.After-points-arg) → length (c .before .before .args .points .now) ≡ 3855
+points-length c = search needs
+
+curves-length : (c : tie.After-curves-arg) → length (c .before .before .before .before .before .before .before .args .curves .now) ≡ 4914
+curves-length c = search needs
+
+reals-length : (c : tie.After-curves-arg2) → length (c .before .before .before .before .before .before .before .before .args .reals .now) ≡ 3276
+reals-length c = search needs
+
+parts-length : (c : tie.After-segments-arg) → length (c .before .before .before .before .before .before .before .before .before .before .before .before .before .args .parts .now) ≡ 3448
+parts-length c = search needs
+
+ranges-length : (c : tie.After-segments-arg2) → length (c .before .before .before .before .before .before .before .before .before .before .before .before .before .before .args .ranges .now) ≡ 3448
+ranges-length c = search needs
+
+points-requires : tie.Need-points-requires
+points-requires c κs = search needs
+
+enum-known-n : tie.Need-enum-known-n
+enum-known-n c = search needs
+
+enum-told : tie.Need-enum-told
+enum-told c = search needs
+
+returns : tie.Need-returns
+returns c =
+    let s = c .before .before .before .before .before .args .text .now in
+    let none = then-bad s (table pointColumns) (table curveColumns then table segmentColumns) 0 (read-no-list s _ (sym (c .enum-told .given .1) ∙ c .before .before .points .ensures .0)) in
+    (told-no-tables s _ none, held-bad s _ _ none)
+
+curves-requires : tie.Need-curves-requires
+curves-requires c κs =
+    let w = points-read (c .before .before) .is .within in (w, search needs, search needs, search needs)
+
+enum-known-m : tie.Need-enum-known-m
+enum-known-m c = search needs
+
+enum-told-2 : tie.Need-enum-told-2
+enum-told-2 c = search needs
+
+returns-2 : tie.Need-returns-2
+returns-2 c =
+    let s = c .before .before .before .before .before .before .before .before .before .before .before .args .text .now in
+    let l = points-read (c .before .before .before .before .before) in
+    let none = read-no-list s _ (sym (c .enum-told2 .given .1) ∙ c .before .before .curves .ensures .0) in
+    let no-more = then-bad-on s (table pointColumns) (table curveColumns then table segmentColumns) 0 (l .list) _ (l .is) (then-bad s (table curveColumns) (table segmentColumns) (c .before .before .before .before .before .before .n .given .0 .1 .0) none) in
+    (told-no-tables s _ no-more, held-bad s _ _ no-more)
+
+segments-requires : tie.Need-segments-requires
+segments-requires c κs =
+    let w = curves-read (c .before .before) .is .within in (w, search needs, search needs, search needs)
+
+enum-known-k : tie.Need-enum-known-k
+enum-known-k c = search needs
+
+enum-told-3 : tie.Need-enum-told-3
+enum-told-3 c = search needs
+
+returns-3 : tie.Need-returns-3
+returns-3 c =
+    let s = c .before .before .before .before .before .before .before .before .before .before .before .before .before .before .before .before .before .args .text .now in
+    let l = points-read (c .before .before .before .before .before .before .before .before .before .before .before) in
+    let m = curves-read (c .before .before .before .before .before) in
+    let none = read-no-list s _ (sym (c .enum-told3 .given .1) ∙ c .before .before .segments .ensures .0) in
+    let no-more = then-bad-on s (table pointColumns) (table curveColumns then table segmentColumns) 0 (l .list) _ (l .is) (then-bad-on s (table curveColumns) (table segmentColumns) (c .before .before .before .before .before .before .before .before .before .before .before .before .n .given .0 .1 .0) (m .list) _ (m .is) none) in
+    (told-no-tables s _ no-more, held-bad s _ _ no-more)
+
+returns-4 : tie.Need-returns-4
+returns-4 c =
+    let a = c .before .before .before .before .before .before .before .before .before .before .before .before .before .before .before .before .before .before .args in
+    let s = a .text .now in
+    let g = c .before .k .given in
+    let l = points-read (c .before .before .before .before .before .before .before .before .before .before .before .before) in
+    let m = curves-read (c .before .before .before .before .before .before) in
+    let k = read-list s (table segmentColumns) segments-law _ (g .0 .0) (g .0 .1 .0) (m .is .within) (sym (g .1) ∙ c .before .before .before .segments .ensures .0) in
+    let r = then-read s (table pointColumns) (table curveColumns then table segmentColumns) 0 (l .list) _ (l .is) (m .list, k .list) _ (then-read s (table curveColumns) (table segmentColumns) (c .before .before .before .before .before .before .before .before .before .before .before .before .before .n .given .0 .1 .0) (m .list) _ (m .is) (k .list) _ (k .is)) in (
+      told-tables s _ (l .list) (m .list) (k .list) _ _ _ _ (l .count) (m .count) (k .count) r,
+      held-got s _ (l .list, (m .list, k .list)) _ _ (r .is)
+          (stored-is (l .list) (m .list) (k .list) _ _ _ _ _
+          (held-part (flat (floatsOf (fields pointColumns))) (floatOf 0) 3855 _ (l .list) _ (a .points .now) _ (points-length (c .before .before .before .before .before .before .before .before .before .before .before .before .before .before .before .before)) (l .is .is) (c .before .before .before .before .before .before .before .before .before .before .before .before .before .before .before .points .ensures .1))
+          (held-part (flat (wholesOf (fields curveColumns))) 0 4914 _ (m .list) _ (a .curves .now) _ (curves-length (c .before .before .before .before .before .before .before .before .before .before .before)) (m .is .is) (c .before .before .before .before .before .before .before .before .before .curves .ensures .1))
+          (held-part (flat (floatsOf (fields curveColumns))) (floatOf 0) 3276 _ (m .list) _ (a .reals .now) _ (reals-length (c .before .before .before .before .before .before .before .before .before .before)) (m .is .is) (c .before .before .before .before .before .before .before .before .before .curves .ensures .2))
+          (held-part (flat (wholesOf (fields segmentColumns))) 0 3448 _ (k .list) _ (a .parts .now) _ (parts-length (c .before .before .before .before .before)) (k .is .is) (c .before .before .before .segments .ensures .1))
+          (held-part (flat (floatsOf (fields segmentColumns))) (floatOf 0) 3448 _ (k .list) _ (a .ranges .now) _ (ranges-length (c .before .before .before .before)) (k .is .is) (c .before .before .before .segments .ensures .2))),
+    )
+
+pub three-spec : {M : Type 1} → statement M
+three-spec =
+    tie.close
+    (tie.spec
+    points-requires
+    enum-known-n
+    enum-told
+    returns
+    curves-requires
+    enum-known-m
+    enum-told-2
+    returns-2
+    segments-requires
+    enum-known-k
+    enum-told-3
+    returns-3
+    returns-4)

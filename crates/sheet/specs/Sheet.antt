@@ -1,0 +1,81 @@
+-- What the reader of a sheet answers, and what its tables hold afterwards.
+use mathlib.Core.List.{[]}
+use Prim.Native.Nat.{ℕ, _*_}
+use lib.ListN.{length, take}
+use lib.Ieee.{Float, binary64, ofBits}
+use Rattle.lists.specs.Result.{Result, refused, got}
+use Rattle.formats.specs.Table.{fields}
+use Rattle.layout.specs.Layout.{RawSheet, pointColumns, curveColumns, segmentColumns}
+use Rattle.layout.specs.Letters.{padded}
+use Rattle.rows.specs.Rows.{floatsOf, wholesOf, edgeOf, optionsOf}
+use Rattle.rows.specs.declared.RawEdge.{RawEdge}
+use Rattle.rows.specs.declared.RawOptions.{RawOptions}
+use Rattle.tables.specs.Told.{flat}
+use Rattle.math.specs.Math.{interval}
+use Rattle.brep.specs.Rows.{Tables, tables}
+use Rattle.brep.specs.declared.Edge.{Edge}
+use Rattle.options.specs.declared.Options.{Options}
+use Rattle.options.specs.Options.{radians}
+use Rattle.sheet.specs.declared.Sheet.{Sheet}
+use Rattle.sheet.specs.declared.Sheet.the-variants.{Read, Refused}
+
+-- ---- the edge and the options
+-- the float of 64 bits; a NaN's bits are a NaN
+abbrev pub floatOf : ℕ → Float
+floatOf bits = ofBits binary64 bits
+
+abbrev pub edgeFrom : RawEdge → Edge
+edgeFrom raw = record {
+  curve = raw .curve;
+  start = raw .start;
+  end = raw .end;
+  sense = raw .sense;
+  range = interval (floatOf (raw .lo)) (floatOf (raw .hi));
+  tolerance = floatOf (raw .tolerance);
+  low = raw .low;
+  high = raw .high;
+}
+
+abbrev pub optionsFrom : RawOptions → Options
+optionsFrom raw = record {
+  deflection = floatOf (raw .deflection);
+  angle = radians (floatOf (raw .angle));
+  relative = raw .relative;
+  segments = raw .segments;
+  depth = raw .depth;
+  scale = floatOf (raw .scale);
+}
+
+-- THE ANSWER: how many points, curves and segments, the edge, the options, and the bits of lo and hi; or the refusal
+unfoldable pub answer : Result RawSheet → Sheet
+answer (refused cause) = Refused cause
+answer (got raw) =
+    Read (length (raw .points)) (length (raw .curves)) (length (raw .segments)) (edgeFrom (edgeOf (raw .edge)))
+    (optionsFrom (optionsOf (raw .options))) (edgeOf (raw .edge) .lo) (edgeOf (raw .edge) .hi)
+
+-- ---- the tables
+-- the sheet's tables: points (x y z), curves (kind first count, and p q), segments (curve sense, and lo hi), row behind row
+unfoldable pub tablesOf : RawSheet → Tables
+tablesOf raw =
+    tables (flat (floatsOf (fields pointColumns)) (raw .points))
+    (flat (wholesOf (fields curveColumns)) (raw .curves))
+    (flat (floatsOf (fields curveColumns)) (raw .curves))
+    (flat (wholesOf (fields segmentColumns)) (raw .segments))
+    (flat (floatsOf (fields segmentColumns)) (raw .segments))
+
+-- the numbers, then zeros, in the tables as they are lent
+unfoldable pub stored : Tables → Tables
+stored t =
+    tables (padded 3855 (floatOf 0) (t .points)) (padded 4914 0 (t .curves)) (padded 3276 (floatOf 0) (t .reals)) (padded 3448 0 (t .parts))
+    (padded 3448 (floatOf 0) (t .ranges))
+
+-- WHAT IS LEFT in the tables: those of the sheet that was read; zeros alone after a refusal
+unfoldable pub left : Result RawSheet → Tables
+left (refused cause) = stored (tables [] [] [] [] [])
+left (got raw) = stored (tablesOf raw)
+
+-- the leading rows of tables: so many points, curves and segments
+unfoldable pub leading : ℕ → ℕ → ℕ → Tables → Tables
+leading points curves segments t =
+    tables (take (3 * points) (t .points)) (take (3 * curves) (t .curves)) (take (2 * curves) (t .reals)) (take (2 * segments) (t .parts))
+    (take (2 * segments) (t .ranges))

@@ -1,0 +1,168 @@
+// THE reader of a sheet: the layout is Rattle.layout.specs.Layout, and what is read of it specs/Sheet.antt.
+ghost use mathlib.Core.Path.{_≡_};
+ghost use Prim.Native.Nat.{_≤_};
+ghost use lib.ListN.{length};
+ghost use Rattle.layout.specs.Layout.{size, tables, readSheet, Means};
+ghost use Rattle.brep.specs.Rows.{lent};
+ghost use Rattle.sheet.specs.Sheet.{edgeFrom, optionsFrom, answer, left};
+ghost use Rattle.sheet.specs.Told.{toldTables, Held, Kept};
+use brep::Edge;
+use ends::Last;
+use math::Interval;
+use options::Options;
+use options::Radians;
+use rows::RawEdge;
+use rows::RawOptions;
+use text::Num;
+
+// What 65,536 bytes can hold at most: 1,285 points of 51 bytes, 1,638 curves of 40, 1,724 segments of 38.
+pub const POINTS: usize = 3855;
+
+pub const CURVES: usize = 4914;
+
+pub const REALS: usize = 3276;
+
+pub const PARTS: usize = 3448;
+
+pub const RANGES: usize = 3448;
+
+// A sheet: how many rows its tables hold, its edge, its options, and the edge's lo and hi by their own 64 bits, since
+// the floats keep no NaN's bits. Or the cause for which it is turned away.
+pub enum Sheet {
+    Read {
+        points: u64,
+        curves: u64,
+        segments: u64,
+        edge: Edge,
+        options: Options,
+        lo: u64,
+        hi: u64,
+    },
+    Refused(u32),
+}
+
+// How many rows the three tables have, and the place behind them.
+enum Counted {
+    Counts(u64, u64, u64, usize),
+    NoTables,
+}
+
+// The edge of its numbers.
+fn edge_from(raw: RawEdge) -> Edge
+    ensures { λ r. ⌜ r ≡ edgeFrom raw ⌝ }
+{
+    let range = Interval {
+        lo: rows::float_of(raw.lo),
+        hi: rows::float_of(raw.hi),
+    };
+    Edge {
+        curve: raw.curve,
+        start: raw.start,
+        end: raw.end,
+        sense: raw.sense,
+        range,
+        tolerance: rows::float_of(raw.tolerance),
+        low: raw.low,
+        high: raw.high,
+    }
+}
+
+// The options of their numbers. A sheet's angle is in radians.
+fn options_from(raw: RawOptions) -> Options
+    ensures { λ r. ⌜ r ≡ optionsFrom raw ⌝ }
+{
+    Options {
+        deflection: rows::float_of(raw.deflection),
+        angle: Radians::of(rows::float_of(raw.angle)),
+        relative: raw.relative,
+        segments: raw.segments,
+        depth: raw.depth,
+        scale: rows::float_of(raw.scale),
+    }
+}
+
+// The three tables, from the text's start on.
+fn three(
+    text: &[u8],
+    points: &mut [f64; POINTS],
+    curves: &mut [u32; CURVES],
+    reals: &mut [f64; REALS],
+    parts: &mut [u32; PARTS],
+    ranges: &mut [f64; RANGES],
+) -> Counted
+    requires { ⌜ length (now text) ≤ size ⌝ }
+    ensures { λ r. ⌜ (r ≡ toldTables (now (text .entry)) (tables .read (now (text .entry))))
+        × Held (tables .read (now (text .entry))) (lent (points .exit) (curves .exit) (reals .exit) (parts .exit) (ranges .exit)) ⌝ }
+{
+    let Num::Got(n, p) = tables::points(text, 0, points) else {
+        return Counted::NoTables;
+    };
+    let Num::Got(m, q) = tables::curves(text, p, curves, reals) else {
+        return Counted::NoTables;
+    };
+    let Num::Got(k, next) = tables::segments(text, q, parts, ranges) else {
+        return Counted::NoTables;
+    };
+    Counted::Counts(n, m, k, next)
+}
+
+// The sheet, its numbers in the tables. A refusal leaves in them what had been read.
+fn try_sheet(
+    text: &[u8],
+    points: &mut [f64; POINTS],
+    curves: &mut [u32; CURVES],
+    reals: &mut [f64; REALS],
+    parts: &mut [u32; PARTS],
+    ranges: &mut [f64; RANGES],
+) -> Sheet
+    ensures { λ r. ⌜ (r ≡ answer (readSheet (now (text .entry))))
+        × Kept (readSheet (now (text .entry))) (lent (points .exit) (curves .exit) (reals .exit) (parts .exit) (ranges .exit)) ⌝ }
+{
+    if 65536 < text.len() {
+        return Sheet::Refused(10);
+    }
+    let Counted::Counts(n, m, k, at) = three(text, points, curves, reals, parts, ranges) else {
+        return Sheet::Refused(10);
+    };
+    let Last::Pair(edge, options, end) = ends::ends(text, at) else {
+        return Sheet::Refused(10);
+    };
+    if end == text.len() {
+        Sheet::Read {
+            points: n,
+            curves: m,
+            segments: k,
+            edge: edge_from(edge),
+            options: options_from(options),
+            lo: edge.lo,
+            hi: edge.hi,
+        }
+    } else {
+        Sheet::Refused(10)
+    }
+}
+
+// The sheet that the text stands for: its numbers in the tables, zeros behind them. Zeros alone, and cause 10, where it
+// stands for none.
+pub fn read(
+    text: &[u8],
+    points: &mut [f64; POINTS],
+    curves: &mut [u32; CURVES],
+    reals: &mut [f64; REALS],
+    parts: &mut [u32; PARTS],
+    ranges: &mut [f64; RANGES],
+) -> Sheet
+    ensures { λ r. ⌜ (r ≡ answer (readSheet (now (text .entry))))
+        × (lent (points .exit) (curves .exit) (reals .exit) (parts .exit) (ranges .exit) ≡ left (readSheet (now (text .entry))))
+        × Means (now (text .entry)) (readSheet (now (text .entry))) ⌝ }
+{
+    let sheet = try_sheet(text, points, curves, reals, parts, ranges);
+    if let Sheet::Refused(_) = sheet {
+        rows::clear_floats(points);
+        rows::clear_wholes(curves);
+        rows::clear_floats(reals);
+        rows::clear_wholes(parts);
+        rows::clear_floats(ranges);
+    }
+    sheet
+}
