@@ -50,13 +50,13 @@ def beside(x):
 
 
 def ask(command, text):
-    """What the oracle answers."""
-    run = subprocess.run([HERE / "target/oracle", *command], input=text.encode(), capture_output=True, check=True)
-    return run.stdout.decode()
+    """What the oracle answers. Texts stand for bytes, one character each: a damaged sheet may hold any."""
+    run = subprocess.run([HERE / "target/oracle", *command], input=text.encode("latin-1"), capture_output=True, check=True)
+    return run.stdout.decode("latin-1")
 
 
 def write(program, texts, answers):
     """The program's files: texts and answers, a separator between each two."""
     to = HERE.parent / "crates" / program
-    (to / "stdin").write_bytes(SEPARATOR.join(texts).encode())
-    (to / "stdout").write_bytes(SEPARATOR.join(answers).encode())
+    (to / "stdin").write_bytes(SEPARATOR.join(texts).encode("latin-1"))
+    (to / "stdout").write_bytes(SEPARATOR.join(answers).encode("latin-1"))
