@@ -3,6 +3,7 @@ import math
 import pathlib
 import struct
 import subprocess
+import sys
 
 HERE = pathlib.Path(__file__).resolve().parent
 SEPARATOR = "====\n"
@@ -55,8 +56,19 @@ def ask(command, text):
     return run.stdout.decode("latin-1")
 
 
-def write(program, texts, answers):
-    """The program's files: texts and answers, a separator between each two."""
-    to = HERE.parent / "crates" / program
-    (to / "stdin").write_bytes(SEPARATOR.join(texts).encode("latin-1"))
-    (to / "stdout").write_bytes(SEPARATOR.join(answers).encode("latin-1"))
+def replay(program, texts, answers):
+    """Writes the program's files, a separator between each two texts and answers. With arguments SEED N it writes nothing,
+    runs the program that `rt check` linked, and says whether it answers as the oracle does."""
+    stdin, stdout = (SEPARATOR.join(parts).encode("latin-1") for parts in (texts, answers))
+    if larger() is None:
+        (HERE.parent / "crates" / program / "stdin").write_bytes(stdin)
+        (HERE.parent / "crates" / program / "stdout").write_bytes(stdout)
+        return
+    run = subprocess.run([HERE.parent / "target/bin" / program], input=stdin, capture_output=True, check=True)
+    same = "the same" if run.stdout == stdout else "NOT THE SAME"
+    print(f"{len(answers)} answers, {len(stdout.splitlines())} lines: {same}")
+
+
+def larger():
+    """The seed and the number of a larger run, if one is asked for."""
+    return (int(sys.argv[1]), int(sys.argv[2])) if len(sys.argv) == 3 else None

@@ -452,26 +452,22 @@ fn put_tables(
     )
 }
 
-// The answer to a group: the sheet is the first bytes of a text, the lines stand from a place to an end.
-fn put_group(
+// The answer to a sheet, and to the lines from a place of a text to an end.
+fn put_sheet(
+    sheet: &[u8],
     text: &[u8],
-    sheet: usize,
     from: usize,
     end: usize,
     out: &mut [u8; 4096],
     at: usize,
 ) -> usize {
-    if text.len() < sheet {
-        return at;
-    }
     let mut points = [0.0f64; sheet::POINTS];
     let mut curves = [0u32; sheet::CURVES];
     let mut reals = [0.0f64; sheet::REALS];
     let mut parts = [0u32; sheet::PARTS];
     let mut ranges = [0.0f64; sheet::RANGES];
-    let first = &text[..sheet];
     let read = sheet::read(
-        first,
+        sheet,
         &mut points,
         &mut curves,
         &mut reals,
@@ -506,6 +502,21 @@ fn put_group(
         ),
         Sheet::Refused(cause) => put_refusal(cause, out, at),
     }
+}
+
+// The answer to a group, whose sheet is the first bytes of the text.
+fn put_group(
+    text: &[u8],
+    sheet: usize,
+    from: usize,
+    end: usize,
+    out: &mut [u8; 4096],
+    at: usize,
+) -> usize {
+    if text.len() < sheet {
+        return at;
+    }
+    put_sheet(&text[..sheet], text, from, end, out, at)
 }
 
 // A part that ends at a place, and the place behind its separator: a sheet, or the last part of a group.

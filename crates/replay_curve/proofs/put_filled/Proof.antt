@@ -1,8 +1,7 @@
 -- `replay_curve::put_filled` meets its contract. Each part is as long as asked. Assumes nothing.
 use mathlib.Core.Path.{sym}
-use Prim.Native.Nat.{_*_, _≤_}
+use Prim.Native.Nat.{_*_}
 use native.Mathlib.Omega.{arith}
-use lib.ListN.{length}
 use lib.Seq.{length-take-le}
 use borrow.Author.Needs.{needs}
 use Rattle.replay_curve.proofs.put_filled.Statement.{statement}
