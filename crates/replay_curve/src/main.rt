@@ -2,7 +2,6 @@
 // ended by the five bytes `====` and newline, the last by the input's end. Writes for each sheet its refusal, or the edge's
 // curve, the breaks within its usable range and those that are kept; then for each parameter the point, the derivative and
 // the tangent there, or `?` for a malformed line. A line `====` stands between the answers. Floats are written by their bits.
-ghost use mathlib.Core.Path.{_≡_};
 ghost use Prim.Native.Nat.{_*_, _<_, _≤_};
 ghost use lib.ListN.{length};
 use brep::Edge;

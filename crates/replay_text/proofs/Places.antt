@@ -1,9 +1,9 @@
 -- One digit of a number in front of the others, and bytes that wait. Assumes nothing.
 use mathlib.Core.Path.{_≡_, refl, sym, ap, _∙_}
-use mathlib.Core.Logic.{_⊎_, inl, inr, ⊎-elim}
+use mathlib.Core.Logic.{_⊎_, ⊎-elim}
 use mathlib.Core.List.{List, [], _∷_, _++_}
 use Prim.Native.Nat.{ℕ, zero, suc, _+_, _-_, _*_, _/_, _%_, _^_, _≤_, _<_}
-use native.Mathlib.Nat.{mod-lt, one-le-pow, pow-suc, pow-le-pow-right, mul-div-cancel, div-lt-iff-lt-mul}
+use native.Mathlib.Nat.{mod-lt, one-le-pow, pow-suc, pow-le-pow-right, mul-div-cancel}
 use native.Mathlib.Omega.{arith}
 use mathlib.Core.Bool.{Bool, true, false}
 use lib.Dec.{ltb}
@@ -11,8 +11,8 @@ use borrow.Author.Tests.{ltb-true, ltb-false}
 use lib.ListN.{length, drop, getD}
 use lib.Seq.{drop-cons}
 use native.Mathlib.Numerals.{add-one, unary-clauses}
-use Rattle.formats.specs.Format.{charOf, digits, widthUpTo, decimal}
-use Rattle.formats.proofs.Digits.{first-small, Width, width, width-is}
+use Rattle.formats.specs.Format.{charOf, digits, widthUpTo}
+use Rattle.formats.proofs.Digits.{first-small, width, width-is}
 use Rattle.replay_text.specs.Waiting.{Waiting, put, puts}
 
 module _ (base : ℕ) (some : 1 < base) where

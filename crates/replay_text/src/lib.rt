@@ -2,7 +2,7 @@
 // and how many bytes wait in it, and answers how many wait afterwards.
 ghost use mathlib.Core.Path.{_≡_};
 ghost use mathlib.Core.List.{[], _∷_, _++_};
-ghost use Prim.Native.Nat.{_+_, _-_, _^_, _≤_, _<_};
+ghost use Prim.Native.Nat.{_-_, _^_, _≤_, _<_};
 ghost use lib.Ieee.{binary64, toBits};
 ghost use Rattle.formats.specs.Format.{digits, decimal, widthUpTo, hex16};
 ghost use Rattle.replay_text.specs.Waiting.{waits, put, puts};

@@ -1,15 +1,13 @@
 -- `replay_options::begun` meets its contract: the line's second and fourth whole numbers have 32 bits. Assumes nothing.
-use mathlib.Core.Path.{_≡_}
 use mathlib.Core.List.{List}
 use Prim.Native.Nat.{ℕ}
 use native.Mathlib.Omega.{arith}
 use Rattle.formats.specs.Bytes.{bytes}
 use Rattle.formats.specs.Format.{_before_}
 use Rattle.formats.specs.Table.{fields, line}
-use Rattle.formats.proofs.Laws.{Lawful, Was}
 use Rattle.layout.specs.Letters.{fieldOf, shapeOf}
 use Rattle.layout.proofs.Columns.{shape-law}
-use Rattle.layout.proofs.Rows.{RowRead, row-read}
+use Rattle.layout.proofs.Rows.{row-read}
 use Rattle.ends.proofs.Singles.{options-narrow}
 use borrow.Author.Needs.{needs}
 use Rattle.replay_options.proofs.begun.Statement.{statement}

@@ -1,5 +1,4 @@
 -- `replay_text::decimal_then` meets its contract: the width is that of the number. Assumes nothing.
-use mathlib.Core.Path.{_≡_, sym, ap, _∙_}
 use native.Mathlib.Omega.{arith}
 use borrow.Author.Needs.{needs}
 use Rattle.formats.specs.Format.{decimal}

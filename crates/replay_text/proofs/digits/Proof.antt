@@ -1,6 +1,6 @@
 -- `replay_text::digits` meets its contract: what the digits that are left add to what waits stays the same. Assumes nothing.
 use mathlib.Core.Path.{_≡_, refl, sym, ap, _∙_}
-use Prim.Native.Nat.{_-_, _/_, _%_, _^_, _≤_, _<_}
+use Prim.Native.Nat.{_-_, _%_, _^_, _≤_, _<_}
 use native.Mathlib.Omega.{arith}
 use borrow.Author.Needs.{needs}
 use Rattle.formats.specs.Format.{digits}

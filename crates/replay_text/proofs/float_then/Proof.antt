@@ -1,5 +1,4 @@
 -- `replay_text::float_then` meets its contract. Assumes nothing.
-use mathlib.Core.Path.{_≡_, sym, ap, _∙_}
 use borrow.Author.Needs.{needs}
 use Rattle.replay_text.proofs.float_then.Statement.{statement}
 use Rattle.replay_text.proofs.float_then.Tie as tie
