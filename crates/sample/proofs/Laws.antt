@@ -15,7 +15,7 @@ use Rattle.options.specs.declared.Resolved.{Resolved}
 use Rattle.options.specs.Options.{segmentsForArc}
 use Rattle.params.specs.declared.Closed.{Closed}
 use Rattle.params.specs.declared.Closed.the-variants.{Unknown, Segments}
-use Rattle.params.specs.Params.{Sampler, steps, evenly, fitting, bisected, floored, refined, sampleParams}
+use Rattle.params.specs.Params.{Sampler, evenly, fitting, bisected, floored, refined, sampleParams}
 use Rattle.params.proofs.Lists.{Outcome, list, eight, outcome-got, steps-length, sampled-length}
 use Rattle.usable.specs.Usable.{analyticSegments}
 use Rattle.sample.specs.Sample.{sampler, sampled}

@@ -1,24 +1,23 @@
-use Rattle.params.specs.Params.{refined}
+-- `sample::refine` meets its contract. Assumes nothing.
 use mathlib.Core.Path.{refl}
-use Rattle.brep.specs.Tree.{CurveTree, tree}
-use Rattle.brep.specs.Rows.{tables}
-use Rattle.sample.proofs.Settled.{settle-room, settled, some, refined-refused, refined-few, refined-enough}
-use Rattle.sample.specs.Sample.{sampler}
 use lib.ListN.{length}
 use borrow.Author.Needs.{needs}
+use Rattle.brep.specs.Rows.{tables}
+use Rattle.brep.specs.Tree.{CurveTree, tree}
+use Rattle.params.specs.Params.{Sampler, refined}
+use Rattle.sample.specs.Sample.{sampler}
+use Rattle.sample.proofs.Settled.{settle-room, settled, some, refined-refused, refined-few, refined-enough}
 use Rattle.sample.proofs.refine.Statement.{statement}
 use Rattle.sample.proofs.refine.Tie as tie
-use Rattle.sample.proofs.refine.Reads as reads
-use Rattle.sample.proofs.refine.Lts as lts
-use Rattle.listed.proofs.evenly.Reads as evenly-reads
-use Rattle.sample.proofs.bisect_range.Reads as bisect-range-reads
-use Rattle.sample.proofs.settle.Reads as settle-reads
 
 -- the curve that is read
 abbrev curve-of : tie.Start → CurveTree
 curve-of st =
     let a = st .args in
     tree (tables (a .points .now) (a .curves .now) (a .reals .now) (a .parts .now) (a .ranges .now)) (a .row)
+
+abbrev sampler-of : tie.Start → Sampler
+sampler-of st = sampler (curve-of st) (st .args .range) (st .args .r)
 
 bisect-range-requires : tie.Need-bisect-range-requires
 bisect-range-requires c κs = search needs
@@ -36,10 +35,19 @@ same-length : tie.Need-same-length
 same-length c = search needs
 
 returns : tie.Need-returns
-returns c = settled _ _ refl (c .before .before .before .before .before .before .before .before .bisect-range .ensures) (length (c .before .before .before .before .before .before .before .before .before .before .before .before .before .before .before .before .args .out .now)) (refined (length (c .before .before .before .before .before .before .before .before .before .before .before .before .before .before .before .before .args .out .now)) (sampler (curve-of (c .before .before .before .before .before .before .before .before .before .before .before .before .before .before .before .before)) (c .before .before .before .before .before .before .before .before .before .before .before .before .before .before .before .before .args .range) (c .before .before .before .before .before .before .before .before .before .before .before .before .before .before .before .before .args .r)) (c .before .before .before .before .before .before .before .before .before .before .before .before .before .before .before .before .args .range)) refl (refined-refused (sampler (curve-of (c .before .before .before .before .before .before .before .before .before .before .before .before .before .before .before .before)) (c .before .before .before .before .before .before .before .before .before .before .before .before .before .before .before .before .args .range) (c .before .before .before .before .before .before .before .before .before .before .before .before .before .before .before .before .args .r)) (c .before .before .before .before .before .before .before .before .before .before .before .before .before .before .before .before .args .range) _ (c .before .before .before .before .before .before .before .before .bisect-range .ensures) (c .before .before .before .before .enum-told .given .1)) _ _ (c .before .before .settle .ensures .0) (c .before .before .settle .ensures .1)
+returns c =
+    let st = c .before .before .before .before .before .before .before .before .before .before .before .before .before .before .before .before in
+    settled _ _ refl (c .before .before .before .before .before .before .before .before .bisect-range .ensures) (length
+    (st .args .out .now)) (refined (length (st .args .out .now)) (sampler-of st) (st .args .range)) refl (refined-refused (sampler-of st)
+    (st .args .range) _ (c .before .before .before .before .before .before .before .before .bisect-range .ensures)
+    (c .before .before .before .before .enum-told .given .1)) _ _ (c .before .before .settle .ensures .0)
+    (c .before .before .settle .ensures .1)
 
 sub-if1 : tie.Need-sub-if1
-sub-if1 c = some (sampler (curve-of (c .before .before .before .before .before .before .before .before .before .before .before .before .before)) (c .before .before .before .before .before .before .before .before .before .before .before .before .before .args .range) (c .before .before .before .before .before .before .before .before .before .before .before .before .before .args .r)) (c .before .before .before .before .before .before .before .before .before .before .before .before .before .args .range) _ (c .before .before .before .before .before .bisect-range .ensures) _ (c .before .listed .given .1)
+sub-if1 c =
+    let st = c .before .before .before .before .before .before .before .before .before .before .before .before .before in
+    some (sampler-of st) (st .args .range) _ (c .before .before .before .before .before .bisect-range .ensures) _
+    (c .before .listed .given .1)
 
 evenly-requires : tie.Need-evenly-requires
 evenly-requires c κs = search needs
@@ -52,17 +60,35 @@ same-length-2 c = search needs
 
 returns-2 : tie.Need-returns-2
 unfolding sampler
-returns-2 c = settled _ _ refl (c .before .before .before .before .before .before .evenly .ensures) (length (c .before .before .before .before .before .before .before .before .before .before .before .before .before .before .before .before .before .before .before .before .before .before .before .args .out .now)) (refined (length (c .before .before .before .before .before .before .before .before .before .before .before .before .before .before .before .before .before .before .before .before .before .before .before .args .out .now)) (sampler (curve-of (c .before .before .before .before .before .before .before .before .before .before .before .before .before .before .before .before .before .before .before .before .before .before .before)) (c .before .before .before .before .before .before .before .before .before .before .before .before .before .before .before .before .before .before .before .before .before .before .before .args .range) (c .before .before .before .before .before .before .before .before .before .before .before .before .before .before .before .before .before .before .before .before .before .before .before .args .r)) (c .before .before .before .before .before .before .before .before .before .before .before .before .before .before .before .before .before .before .before .before .before .before .before .args .range)) (c .before .before .before .before .before .before .before .before .before .before .before .before .before .before .out .given) (refined-few (sampler (curve-of (c .before .before .before .before .before .before .before .before .before .before .before .before .before .before .before .before .before .before .before .before .before .before .before)) (c .before .before .before .before .before .before .before .before .before .before .before .before .before .before .before .before .before .before .before .before .before .before .before .args .range) (c .before .before .before .before .before .before .before .before .before .before .before .before .before .before .before .before .before .before .before .before .before .before .before .args .r)) (c .before .before .before .before .before .before .before .before .before .before .before .before .before .before .before .before .before .before .before .before .before .before .before .args .range) _ (c .before .before .before .before .before .before .before .before .before .before .before .before .before .before .before .bisect-range .ensures) _ (c .before .before .before .before .before .before .before .before .before .before .before .listed .given .1) (c .before .before .before .before .before .before .before .before .if1 .taken)) _ _ (c .before .before .settle2 .ensures .0) (c .before .before .settle2 .ensures .1)
+returns-2 c =
+    let st = c .before .before .before .before .before .before .before .before .before .before .before .before .before .before .before .before .before .before .before .before .before .before .before in
+    settled _ _ refl (c .before .before .before .before .before .before .evenly .ensures) (length (st .args .out .now)) (refined
+    (length (st .args .out .now)) (sampler-of st) (st .args .range))
+    (c .before .before .before .before .before .before .before .before .before .before .before .before .before .before .out .given)
+    (refined-few (sampler-of st) (st .args .range) _
+    (c .before .before .before .before .before .before .before .before .before .before .before .before .before .before .before .bisect-range .ensures)
+    _ (c .before .before .before .before .before .before .before .before .before .before .before .listed .given .1)
+    (c .before .before .before .before .before .before .before .before .if1 .taken)) _ _ (c .before .before .settle2 .ensures .0)
+    (c .before .before .settle2 .ensures .1)
 
 settle-requires-3 : tie.Need-settle-requires-3
-settle-requires-3 c κs = settle-room _ _ (c .before .before .before .before .listed .given .1) (c .before .before .before .before .before .before .before .before .bisect-range .ensures)
+settle-requires-3 c κs =
+    settle-room _ _ (c .before .before .before .before .listed .given .1)
+    (c .before .before .before .before .before .before .before .before .bisect-range .ensures)
 
 same-length-3 : tie.Need-same-length-3
 same-length-3 c = search needs
 
 returns-3 : tie.Need-returns-3
 unfolding sampler
-returns-3 c = settled _ _ (c .before .before .before .before .before .before .before .listed .given .1) (c .before .before .before .before .before .before .before .before .before .before .before .bisect-range .ensures) (length (c .before .before .before .before .before .before .before .before .before .before .before .before .before .before .before .before .before .before .before .args .out .now)) (refined (length (c .before .before .before .before .before .before .before .before .before .before .before .before .before .before .before .before .before .before .before .args .out .now)) (sampler (curve-of (c .before .before .before .before .before .before .before .before .before .before .before .before .before .before .before .before .before .before .before)) (c .before .before .before .before .before .before .before .before .before .before .before .before .before .before .before .before .before .before .before .args .range) (c .before .before .before .before .before .before .before .before .before .before .before .before .before .before .before .before .before .before .before .args .r)) (c .before .before .before .before .before .before .before .before .before .before .before .before .before .before .before .before .before .before .before .args .range)) refl (refined-enough (sampler (curve-of (c .before .before .before .before .before .before .before .before .before .before .before .before .before .before .before .before .before .before .before)) (c .before .before .before .before .before .before .before .before .before .before .before .before .before .before .before .before .before .before .before .args .range) (c .before .before .before .before .before .before .before .before .before .before .before .before .before .before .before .before .before .before .before .args .r)) (c .before .before .before .before .before .before .before .before .before .before .before .before .before .before .before .before .before .before .before .args .range) _ (c .before .before .before .before .before .before .before .before .before .before .before .bisect-range .ensures) _ (c .before .before .before .before .before .before .before .listed .given .1) (c .before .before .before .before .if1 .left)) _ _ (c .before .before .settle3 .ensures .0) (c .before .before .settle3 .ensures .1)
+returns-3 c =
+    let st = c .before .before .before .before .before .before .before .before .before .before .before .before .before .before .before .before .before .before .before in
+    settled _ _ (c .before .before .before .before .before .before .before .listed .given .1)
+    (c .before .before .before .before .before .before .before .before .before .before .before .bisect-range .ensures) (length
+    (st .args .out .now)) (refined (length (st .args .out .now)) (sampler-of st) (st .args .range)) refl (refined-enough (sampler-of st)
+    (st .args .range) _ (c .before .before .before .before .before .before .before .before .before .before .before .bisect-range .ensures) _
+    (c .before .before .before .before .before .before .before .listed .given .1) (c .before .before .before .before .if1 .left)) _ _
+    (c .before .before .settle3 .ensures .0) (c .before .before .settle3 .ensures .1)
 
 pub refine-spec : {M : Type 1} → statement M
 refine-spec =
