@@ -1,14 +1,14 @@
--- What is known of the tables, the edge and the options once they are accepted. Assumes nothing.
+-- What is known of the tables, the edge and the options once they are accepted; and which numbers a refusal has. Assumes nothing.
 use mathlib.Core.Path.{_≡_, refl, sym, ap, _∙_}
 use mathlib.Core.Bool.{Bool, true, false, cond, not, _&&_, _||_}
 use mathlib.Core.List.{List}
-use Prim.Native.Nat.{ℕ, _+_, _*_, _<_, _≤_}
+use Prim.Native.Nat.{ℕ, _+_, _*_, _/_, _<_, _≤_}
 use native.Mathlib.Omega.{arith}
 use lib.ListN.{length, getD}
-use lib.Dec.{T, ltb, leb}
+use lib.Dec.{T, ltb, leb, eqb}
 use lib.Ieee.{Float, nan, le, neg}
 use lib.Ieee.Scale.{finite}
-use borrow.Author.Tests.{ltb-false, leb-false}
+use borrow.Author.Tests.{ltb-false, leb-false, eqb-true}
 use Rattle.math.specs.declared.Interval.{Interval}
 use Rattle.brep.specs.declared.Curve.{Curve}
 use Rattle.brep.specs.declared.Curve.the-variants.{Trimmed, Composite}
@@ -38,6 +38,9 @@ pub record Checked (t : Tables) (e : Edge) (o : Options) : Type 0 where
   pub pointsAtMost : pointCount t ≤ 65536
   pub curvesAtMost : curveCount t ≤ 4096
   pub segmentsAtMost : segmentCount t ≤ 4096
+  -- the two slices of a table have as many rows
+  pub realsAsMany : length (t .reals) / 2 ≡ curveCount t
+  pub rangesAsMany : length (t .ranges) / 2 ≡ segmentCount t
   -- every float is finite and at most 1e9 in magnitude; lo, hi and scale where they are finite
   pub pointsBounded : AllBounded (t .points)
   pub realsBounded : AllBounded (t .reals)
@@ -68,6 +71,10 @@ differ h = let z : _≡_ {A = ℕ} 0 1 = cc in omega arith
 never : (n : ℕ) → Refused n ≡ Accepted → ⊥
 never n h = let z : _≡_ {A = ℕ} 0 1 = cc in omega arith
 
+holds-not : (b : Bool) → not b ≡ false → b ≡ true
+holds-not true h = refl
+holds-not false h = absurd (differ h)
+
 passed : (b : Bool) (n : ℕ) (v : Verdict) → cond b (Refused n) v ≡ Accepted → (b ≡ false) × (v ≡ Accepted)
 passed true n v h = absurd (never n h)
 passed false n v h = (refl, h)
@@ -86,6 +93,11 @@ six a b c d e f h =
     let he = passed e 5 v6 (hd .1) in
     let hf = passed f 6 Accepted (he .1) in
     (ha .0, hb .0, hc .0, hd .0, he .0, hf .0)
+
+-- a refusal has one of the numbers that the tests are for
+numbered : (b : Bool) (k n : ℕ) (v : Verdict) → cond b (Refused k) v ≡ Refused n → 1 ≤ k → k ≤ 6 → (v ≡ Refused n → (1 ≤ n) × (n ≤ 6)) → (1 ≤ n) × (n ≤ 6)
+numbered true k n v h p q f = let e : k ≡ n = cc in (omega arith, omega arith)
+numbered false k n v h p q f = f h
 
 -- ---- cause 2
 both-hold : (a b : Bool) → not (a && b) ≡ false → T a × T b
@@ -129,6 +141,18 @@ module _ (t : Tables) (e : Edge) (o : Options) where
   options-of h = three (beyond (o .deflection)) (beyond (o .angle .0)) (finiteBeyond (o .scale)) h
 
   -- ---- cause 3
+  even-slices : illFormed t e o ≡ false → (length (t .reals) / 2 ≡ curveCount t) × (length (t .ranges) / 2 ≡ segmentCount t)
+  unfolding illFormed uneven
+  even-slices h =
+      let reals = not (eqb (length (t .reals) / 2) (curveCount t)) in
+      let ranges = not (eqb (length (t .ranges) / 2) (segmentCount t)) in
+      let r = someBelow (curveCount t) (malformedRow t) || someBelow (segmentCount t) (malformedSegment t) in
+      let w = ltb 1 (e .sense) || ltb 1 (o .relative) in
+      let k = neither reals ranges (neither (broken t) (reals || ranges) (neither (broken t || (reals || ranges)) (r || w) h .0) .1) in (
+        eqb-true (length (t .reals) / 2) (curveCount t) (holds-not (eqb (length (t .reals) / 2) (curveCount t)) (k .0)),
+        eqb-true (length (t .ranges) / 2) (segmentCount t) (holds-not (eqb (length (t .ranges) / 2) (segmentCount t)) (k .1)),
+      )
+
   forms-of : illFormed t e o ≡ false → (someBelow (curveCount t) (malformedRow t) ≡ false) × (someBelow (segmentCount t) (malformedSegment t) ≡ false)
   unfolding illFormed
   forms-of h =
@@ -173,9 +197,29 @@ module _ (t : Tables) (e : Edge) (o : Options) where
       let l = four (leb n (e .start)) (leb n (e .end)) (leb n (e .low)) (leb n (e .high)) (k .1) in
       (leb-false (curveCount t) (e .curve) (k .0), leb-false n (e .start) (l .0), leb-false n (e .end) (l .1), leb-false n (e .low) (l .2), leb-false n (e .high) (l .3))
 
-  causes-of : verdict t e o ≡ Accepted → (oversize t ≡ false) × (unbounded (t .points) (t .reals) (t .ranges) e o ≡ false) × (illFormed t e o ≡ false) × (unordered t ≡ false) × (tooDeep t ≡ false) × (missing t e ≡ false)
+  -- none of the six applies exactly where the verdict is that they are accepted
+  pub causes-of : verdict t e o ≡ Accepted → (oversize t ≡ false) × (unbounded (t .points) (t .reals) (t .ranges) e o ≡ false) × (illFormed t e o ≡ false) × (unordered t ≡ false) × (tooDeep t ≡ false) × (missing t e ≡ false)
   unfolding verdict
   causes-of h = six (oversize t) (unbounded (t .points) (t .reals) (t .ranges) e o) (illFormed t e o) (unordered t) (tooDeep t) (missing t e) h
+
+  pub no-cause : oversize t ≡ false → unbounded (t .points) (t .reals) (t .ranges) e o ≡ false → illFormed t e o ≡ false → unordered t ≡ false → tooDeep t ≡ false → missing t e ≡ false → verdict t e o ≡ Accepted
+  unfolding verdict
+  no-cause a b c d f g = rw (a, b, c, d, f, g)
+
+  pub verdict-numbers : (n : ℕ) → verdict t e o ≡ Refused n → (1 ≤ n) × (n ≤ 6)
+  unfolding verdict
+  verdict-numbers n h =
+      let v6 = cond (missing t e) (Refused 6) Accepted in
+      let v5 = cond (tooDeep t) (Refused 5) v6 in
+      let v4 = cond (unordered t) (Refused 4) v5 in
+      let v3 = cond (illFormed t e o) (Refused 3) v4 in
+      let v2 = cond (unbounded (t .points) (t .reals) (t .ranges) e o) (Refused 2) v3 in
+      numbered (oversize t) 1 n v2 h (omega arith) (omega arith) λ h2.
+      numbered (unbounded (t .points) (t .reals) (t .ranges) e o) 2 n v3 h2 (omega arith) (omega arith) λ h3.
+      numbered (illFormed t e o) 3 n v4 h3 (omega arith) (omega arith) λ h4.
+      numbered (unordered t) 4 n v5 h4 (omega arith) (omega arith) λ h5.
+      numbered (tooDeep t) 5 n v6 h5 (omega arith) (omega arith) λ h6.
+      numbered (missing t e) 6 n Accepted h6 (omega arith) (omega arith) λ h7. absurd (never n (sym h7))
 
   sizes-at : oversize t ≡ false → (pointCount t ≤ 65536) × (curveCount t ≤ 4096) × (segmentCount t ≤ 4096)
   sizes-at h = let k = sizes t h in (omega arith, omega arith, omega arith)
@@ -187,12 +231,15 @@ module _ (t : Tables) (e : Edge) (o : Options) where
       let b = bounds-of (c .1) in
       let be = edge-of (b .3) in
       let bo = options-of (b .4) in
+      let s = even-slices (c .2) in
       let f = forms-of (c .2) in
       let x = indexes-of (c .5) in
       record {
         pointsAtMost = z .0;
         curvesAtMost = z .1;
         segmentsAtMost = z .2;
+        realsAsMany = s .0;
+        rangesAsMany = s .1;
         pointsBounded = all-bounded (t .points) (b .0);
         realsBounded = all-bounded (t .reals) (b .1);
         rangesBounded = all-bounded (t .ranges) (b .2);

@@ -8,11 +8,12 @@ use native.Mathlib.Nat.{mul-pos, mul-le-mul-right, mul-le-mul-left}
 use native.Mathlib.Omega.{arith}
 use lib.Dec.{T, lt→ltb}
 use lib.Pow.{pow-mono, pow-lt}
-use lib.Ieee.{Float, binary64, fits, le, neg}
+use lib.Ieee.{Float, nan, inf, fin, binary64, fits, le, neg}
 use lib.Ieee.Scale.{finite}
 use lib.Ieee.Positive.{den, den-pos}
 use lib.Ieee.Fits.{add-fits}
 use Rattle.arith.specs.Notation.{_⊕_, _⊖_, _⊗_}
+use Rattle.arith.specs.Pick.{absOf}
 use Rattle.math.specs.declared.Interval.{Interval}
 use Rattle.math.specs.Math.{at}
 use Rattle.order.proofs.Signed.{plus, neg', ring, le→, le←, le-trans, neg-le}
@@ -47,6 +48,15 @@ size-grows k j x h s =
 
 pub size-good : (k : ℕ) (x : Float) → k ≤ 60 → T (fits binary64 x) → Size k x → Good x
 size-good k x h F s = record { fits64 = F; modest = size-grows k 60 x h s }
+
+-- the sign taken off
+pub abs-size : (k : ℕ) (x : Float) → Size k x → Size k (absOf x)
+unfolding neg
+abs-size k nan s = s
+abs-size k (inf true) s = absurd (size-finite k (inf true) s)
+abs-size k (inf false) s = s
+abs-size k (fin false m e) s = s
+abs-size k (fin true m e) s = (neg-le (fin true m e) (big k false) (s .1), neg-le (big k true) (fin true m e) (s .0))
 
 -- one of two ends
 pub good-either : (t : Bool) (x y : Float) → Good x → Good y → Good (cond t x y)

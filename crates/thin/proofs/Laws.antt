@@ -1,4 +1,4 @@
--- A law of `thinned`: some samples are left out, never the first nor the last. Assumes nothing.
+-- Laws of `thinned`: some samples are left out, never the first nor the last, and 9 is the only refusal. Assumes nothing.
 use mathlib.Core.Path.{_≡_, refl, sym, ap, subst, _∙_}
 use mathlib.Core.Bool.{Bool, true, false, cond, not, _||_}
 use mathlib.Core.List.{List, [], _∷_, _++_, dropLast}
@@ -9,14 +9,16 @@ use lib.Seq.{getD-set-same}
 use lib.Dec.{ltb}
 use lib.Ieee.{Float, lt}
 use Rattle.arith.specs.Notation.{nought}
-use Rattle.lists.specs.Result.{Result, refused, got, each}
+use Rattle.lists.specs.Result.{Result, refused, got, each, both}
 use Rattle.lists.specs.Sub.{Sub, end, keep, skip}
 use Rattle.math.specs.declared.Vec3.{Vec3}
 use Rattle.samples.specs.declared.Sample.{Sample}
 use Rattle.samples.specs.Chain.{lastOf, pointOf}
 use Rattle.samples.proofs.Shorter.{Shorter, shorter-same, dropLast-last}
+use Rattle.span.specs.declared.Decision.{Decision}
+use Rattle.span.specs.declared.Decision.the-variants.{Leave, Split, Refuse}
 use Rattle.span.specs.Span.{decision}
-use Rattle.spans.specs.Spans.{kept, marks, flagged}
+use Rattle.spans.specs.Spans.{bySplit, keptIn, kept, marks, flagged}
 use Rattle.thin.specs.Thin.{count, evens, restored, floored, retained, thinned}
 use Rattle.thin.proofs.Loops.{length-marks}
 
@@ -126,3 +128,43 @@ unfolding thinned
 thin-shorter tolerance angle floor [] m h e = absurd (omega arith)
 thin-shorter tolerance angle floor (p ∷ []) m h e = absurd (omega arith)
 thin-shorter tolerance angle floor (p ∷ q ∷ l) m h e = some-left tolerance angle floor p q l m (ltb (length (p ∷ q ∷ l)) 3 || not (lt nought tolerance)) e
+
+-- ---- 9 is the only refusal
+kept-refused : (decide : ℕ → ℕ → Decision) (n a b k : ℕ) → keptIn decide n a b ≡ refused k → k ≡ 9
+unfolding keptIn
+kept-refused decide zero a b k e = absurd (let z : _≡_ {A = ℕ} 0 1 = cc in omega arith)
+kept-refused decide (suc n) a b k e =
+    go (decide a b) (λ w j. kept-refused decide n a w j) (λ w j. kept-refused decide n w b j) e
+  where
+    parts : (w : ℕ) (x y : Result (List ℕ)) → ((j : ℕ) → x ≡ refused j → j ≡ 9) → ((j : ℕ) → y ≡ refused j → j ≡ 9)
+        → both (λ l r. w ∷ l ++ r) x y ≡ refused k → k ≡ 9
+    parts w (refused i) y f g q = f k q
+    parts w (got l) (refused i) f g q = g k q
+    parts w (got l) (got r) f g q = absurd (let z : _≡_ {A = ℕ} 0 1 = cc in omega arith)
+
+    go : (d : Decision) → ((w j : ℕ) → keptIn decide n a w ≡ refused j → j ≡ 9) → ((w j : ℕ) → keptIn decide n w b ≡ refused j → j ≡ 9)
+        → bySplit d (λ w. both (λ l r. w ∷ l ++ r) (keptIn decide n a w) (keptIn decide n w b)) ≡ refused k → k ≡ 9
+    go Leave f g q = absurd (let z : _≡_ {A = ℕ} 0 1 = cc in omega arith)
+    go (Split w) f g q = parts w (keptIn decide n a w) (keptIn decide n w b) (f w) (g w) q
+    go Refuse f g q = cc
+
+-- a refusal is not changed on its way
+each-refused : {A B : Type 0} (f : A → B) (r : Result A) (k : ℕ) → each f r ≡ refused k → r ≡ refused k
+each-refused f (refused i) k e = cc
+each-refused f (got a) k e = absurd (let z : _≡_ {A = ℕ} 0 1 = cc in omega arith)
+
+pub thin-refused : (tolerance angle : Float) (floor : ℕ) (l : List Sample) (k : ℕ) → thinned tolerance angle floor l ≡ refused k → k ≡ 9
+unfolding thinned flagged
+thin-refused tolerance angle floor l k = go (ltb (length l) 3 || not (lt nought tolerance))
+  where
+    decide : ℕ → ℕ → Decision
+    decide = decision (pointOf l) tolerance angle
+
+    go : (b : Bool) → cond b (got l) (each (λ keep. retained (floored floor keep) l) (flagged (pointOf l) tolerance angle (length l))) ≡ refused k → k ≡ 9
+    go true e = absurd (let z : _≡_ {A = ℕ} 0 1 = cc in omega arith)
+    go false e =
+        let n = length l in
+        let flags = flagged (pointOf l) tolerance angle n in
+        kept-refused decide (n - 1 - 0) 0 (n - 1) k
+        (each-refused (marks (set (set (replicate n false) 0 true) (n - 1) true)) (kept decide 0 (n - 1)) k
+        (each-refused (λ keep. retained (floored floor keep) l) flags k e))

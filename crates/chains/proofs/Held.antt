@@ -1,0 +1,65 @@
+-- The chain as the buffers hold it, and demand 3 of that: what a proof of `draw` cites. Assumes nothing but what its statements say.
+use mathlib.Core.Path.{_≡_, refl, sym, ap, _∙_}
+use mathlib.Core.Bool.{Bool, true, false, cond}
+use mathlib.Core.List.{List, []}
+use Prim.Native.Nat.{ℕ, _*_, _-_, _≤_}
+use native.Mathlib.Omega.{arith}
+use lib.ListN.{length, replicate}
+use lib.Ieee.{Float, binary64, ofBits}
+use Rattle.lists.specs.Result.{Result, refused, got}
+use Rattle.lists.specs.Room.{filled}
+use Rattle.brep.specs.declared.Edge.{Edge}
+use Rattle.brep.specs.Rows.{Tables}
+use Rattle.options.specs.declared.Options.{Options}
+use Rattle.samples.specs.Chain.{width, flat, samples}
+use Rattle.samples.proofs.Laws.{reads}
+use Rattle.merge.specs.Merge.{mergeFloor}
+use Rattle.chains.specs.declared.Way.{Way}
+use Rattle.chains.specs.declared.Drawn.{Drawn}
+use Rattle.chains.specs.declared.Drawn.the-variants.{Refused, Chain}
+use Rattle.chains.specs.Repair.{Got}
+use Rattle.chains.specs.Draw.{localOptions, roomOf, drawn, answerOf, inFirst, firstAfter, secondAfter, chainIn, Sound, Outcome}
+use Rattle.chains.proofs.Sound.{Binary, drawn-sound, drawn-fits}
+
+-- ---- the chain of the answer is read back from the buffer that holds it
+pub held : (first second : List Float) (g : Got) → chainIn (firstAfter first (got g)) (secondAfter second (got g)) (answerOf (got g)) ≡ g .chain
+unfolding chainIn firstAfter secondAfter answerOf
+held first second g = go (inFirst (g .way))
+  where
+    read : (n : ℕ) → samples (length (g .chain)) (filled n (flat (g .chain))) ≡ g .chain
+    read n = reads (g .chain) (replicate (n - length (flat (g .chain))) (ofBits binary64 0))
+
+    go : (b : Bool)
+        → samples (length (g .chain)) (cond b (filled (length first) (cond b (flat (g .chain)) [])) (filled (length second) (cond b [] (flat (g .chain))))) ≡ g .chain
+    go true = read (length first)
+    go false = read (length second)
+
+-- ---- the chain fits either buffer, so both are as long afterwards as before
+module _ (t : Tables) (e : Edge) (o : Options) (first second : List Float) where
+  module _ (g : Got) (q : drawn t e o (length first) (length second) ≡ got g) where
+    pub fits-first : width * length (g .chain) ≤ length first
+    unfolding roomOf
+    fits-first = omega (arith, drawn-fits t e o (length first) (length second) g q)
+
+    pub fits-second : width * length (g .chain) ≤ length second
+    unfolding roomOf
+    fits-second = omega (arith, drawn-fits t e o (length first) (length second) g q)
+
+  -- ---- demand 3, of what the buffers hold
+  module _ (answer : Drawn) (first' second' : List Float)
+      (answered : answer ≡ answerOf (drawn t e o (length first) (length second)))
+      (firstHolds : first' ≡ firstAfter first (drawn t e o (length first) (length second)))
+      (secondHolds : second' ≡ secondAfter second (drawn t e o (length first) (length second))) where
+    held-sound : Binary t e → (way : Way) (n : ℕ) → answer ≡ Chain way n → Sound t e (mergeFloor (e .tolerance) (localOptions t e o .sag)) (chainIn first' second' answer)
+    unfolding answerOf
+    held-sound b way n is = go (drawn t e o (length first) (length second)) refl (sym answered ∙ is)
+      where
+        go : (r : Result Got) → drawn t e o (length first) (length second) ≡ r → answerOf (drawn t e o (length first) (length second)) ≡ Chain way n
+            → Sound t e (mergeFloor (e .tolerance) (localOptions t e o .sag)) (chainIn first' second' answer)
+        go (refused k) q z = absurd (let w : Refused k ≡ Chain way n = sym (ap answerOf q) ∙ z in let x : _≡_ {A = ℕ} 0 1 = cc in omega arith)
+        go (got g) q z =
+            rw (answered, firstHolds, secondHolds, q, held first second g) (drawn-sound t e o (length first) (length second) g b q)
+
+    -- the outcome whole
+    pub outcome : Binary t e → Outcome t e o first second answer first' second'
+    outcome b = record { answered = answered; firstHolds = firstHolds; secondHolds = secondHolds; sound = held-sound b }
