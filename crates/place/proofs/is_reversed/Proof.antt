@@ -1,0 +1,69 @@
+-- `is_reversed` meets its contract: by the sense where the ends are degenerate, else by the curve's points at the first and the last parameter. Assumes nothing.
+use mathlib.Core.Path.{sym, _∙_}
+use denote.Ref.{now}
+use Rattle.brep.specs.Rows.{lent}
+use Rattle.place.proofs.Laws.{back-by-sense, back-by-ends}
+use borrow.Author.Needs.{needs}
+use Rattle.place.proofs.is_reversed.Statement.{statement}
+use Rattle.place.proofs.is_reversed.Tie as tie
+
+degenerate-ends-requires : tie.Need-degenerate-ends-requires
+degenerate-ends-requires c κs = search needs
+
+returns : tie.Need-returns
+returns c = let a = c .before .before .before .before .before .before .before .before .before .args in back-by-sense (lent (a .points) (a .curves) (a .reals) (a .parts) (a .ranges)) (a .edge) (now (a .params)) (sym (c .before .before .degenerate-ends .ensures) ∙ c .before .if1 .taken)
+
+point-requires : tie.Need-point-requires
+point-requires c κs = search needs
+
+shared-slice-read-first : tie.Need-shared-slice-read-first
+shared-slice-read-first c = search needs
+
+sub-last : tie.Need-sub-last
+sub-last c = search needs
+
+mul-last : tie.Need-mul-last
+mul-last c = search needs
+
+shared-slice-read-last : tie.Need-shared-slice-read-last
+shared-slice-read-last c = search needs
+
+point-at-requires : tie.Need-point-at-requires
+point-at-requires c κs = search needs
+
+point-at-requires-2 : tie.Need-point-at-requires-2
+point-at-requires-2 c κs = search needs
+
+sub-requires : tie.Need-sub-requires
+sub-requires c κs = search needs
+
+length-squared-requires : tie.Need-length-squared-requires
+length-squared-requires c κs = search needs
+
+sub-requires-2 : tie.Need-sub-requires-2
+sub-requires-2 c κs = search needs
+
+length-squared-requires-2 : tie.Need-length-squared-requires-2
+length-squared-requires-2 c κs = search needs
+
+returns-2 : tie.Need-returns-2
+returns-2 c = let a = c .before .before .before .before .before .before .before .before .before .before .before .before .before .before .before .before .before .args in simp (c .length-squared2 .ensures, c .before .sub2 .ensures, c .before .before .length-squared .ensures, c .before .before .before .sub .ensures, c .before .before .before .before .point-at2 .ensures, c .before .before .before .before .before .point-at .ensures, c .before .before .before .before .before .before .before .before .point .ensures) (back-by-ends (lent (a .points) (a .curves) (a .reals) (a .parts) (a .ranges)) (a .edge) (now (a .params)) (sym (c .before .before .before .before .before .before .before .before .before .before .degenerate-ends .ensures) ∙ c .before .before .before .before .before .before .before .before .before .if1 .left))
+
+pub is-reversed-spec : {M : Type 1} → statement M
+is-reversed-spec =
+    tie.close
+    (tie.spec
+    degenerate-ends-requires
+    returns
+    point-requires
+    shared-slice-read-first
+    sub-last
+    mul-last
+    shared-slice-read-last
+    point-at-requires
+    point-at-requires-2
+    sub-requires
+    length-squared-requires
+    sub-requires-2
+    length-squared-requires-2
+    returns-2)

@@ -1,0 +1,44 @@
+-- `record_at` meets its contract, by the tests that decide the record. Assumes nothing.
+use Rattle.place.proofs.Laws.{record-first, record-last, record-between}
+use denote.Ref.{now}
+use Rattle.brep.specs.Rows.{lent}
+use borrow.Author.Needs.{needs}
+use Rattle.place.proofs.record_at.Statement.{statement}
+use Rattle.place.proofs.record_at.Tie as tie
+
+param-at-requires : tie.Need-param-at-requires
+param-at-requires c κs = search needs
+
+point-requires : tie.Need-point-requires
+point-requires c κs = search needs
+
+returns : tie.Need-returns
+returns c = let a = c .before .before .before .before .before .before .before .before .before .args in record-first (lent (a .points) (a .curves) (a .reals) (a .parts) (a .ranges)) (a .edge) (now (a .params)) (a .reversed) (a .i) _ _ (c .before .before .param-at .ensures) (c .before .if1 .taken) (c .point .ensures)
+
+sub-if2 : tie.Need-sub-if2
+sub-if2 c = search needs
+
+point-requires-2 : tie.Need-point-requires-2
+point-requires-2 c κs = search needs
+
+returns-2 : tie.Need-returns-2
+returns-2 c = let a = c .before .before .before .before .before .before .before .before .before .before .args in record-last (lent (a .points) (a .curves) (a .reals) (a .parts) (a .ranges)) (a .edge) (now (a .params)) (a .reversed) (a .i) _ _ (c .before .before .before .param-at .ensures) (c .before .before .if1 .left) (c .before .if2 .taken) (c .point2 .ensures)
+
+point-at-requires : tie.Need-point-at-requires
+point-at-requires c κs = search needs
+
+returns-3 : tie.Need-returns-3
+returns-3 c = let a = c .before .before .before .before .before .before .before .before .before .before .args in record-between (lent (a .points) (a .curves) (a .reals) (a .parts) (a .ranges)) (a .edge) (now (a .params)) (a .reversed) (a .i) _ _ (c .before .before .before .param-at .ensures) (c .before .before .if1 .left) (c .before .if2 .left) (c .point-at .ensures)
+
+pub record-at-spec : {M : Type 1} → statement M
+record-at-spec =
+    tie.close
+    (tie.spec
+    param-at-requires
+    point-requires
+    returns
+    sub-if2
+    point-requires-2
+    returns-2
+    point-at-requires
+    returns-3)

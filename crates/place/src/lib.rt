@@ -1,0 +1,119 @@
+// The records of an edge's chain, from its parameters: in the edge's own direction, with both ends pinned to the vertices.
+use brep::Edge;
+use samples::Sample;
+ghost use mathlib.Core.Path.{_≡_};
+ghost use Prim.Native.Nat.{_*_, _<_, _≤_};
+ghost use lib.ListN.{length};
+ghost use lib.Seq.{sets};
+ghost use Rattle.brep.specs.Rows.{lent};
+ghost use Rattle.samples.specs.Chain.{width, flat};
+ghost use Rattle.chains.specs.Edge.{degenerateEnds, placed};
+ghost use Rattle.place.specs.Place.{ofPoints, runsBack, paramAt, recordAt};
+
+// Whether the vertices are too near each other to tell the direction.
+fn degenerate_ends(points: &[f64], edge: Edge) -> bool
+    ensures { λ r. ⌜ r ≡ degenerateEnds (ofPoints (now (points .entry))) edge ⌝ }
+{
+    let start = brep::point(points, edge.start);
+    let end = brep::point(points, edge.end);
+    let near = edge.tolerance * 10.0;
+    end.sub(start).length_squared() <= near * near
+}
+
+// Whether the chain runs against its parameters. The ends are evaluated only where they decide it.
+fn is_reversed(
+    points: &[f64],
+    curves: &[u32],
+    reals: &[f64],
+    parts: &[u32],
+    ranges: &[f64],
+    edge: Edge,
+    params: &[f64],
+) -> bool
+    requires { ⌜ 2 ≤ length (now params) ⌝ }
+    ensures { λ r. ⌜ r ≡ runsBack (lent (points .entry) (curves .entry) (reals .entry) (parts .entry) (ranges .entry)) edge (now (params .entry)) ⌝ }
+{
+    if degenerate_ends(points, edge) {
+        return edge.sense == 0;
+    }
+    let start = brep::point(points, edge.start);
+    let first = params[0];
+    let last = params[params.len() - 1];
+    let head = curve::point_at(points, curves, reals, parts, ranges, edge.curve, first);
+    let tail = curve::point_at(points, curves, reals, parts, ranges, edge.curve, last);
+    tail.sub(start).length_squared() < head.sub(start).length_squared()
+}
+
+// Parameter i, counted from the end where the chain runs against them.
+fn param_at(params: &[f64], reversed: bool, i: usize) -> f64
+    requires { ⌜ i < length (now params) ⌝ }
+    ensures { λ r. ⌜ r ≡ paramAt (now (params .entry)) reversed i ⌝ }
+{
+    if reversed {
+        return params[params.len() - 1 - i];
+    }
+    params[i]
+}
+
+// Record i: a vertex at either end, the curve's own point between.
+fn record_at(
+    points: &[f64],
+    curves: &[u32],
+    reals: &[f64],
+    parts: &[u32],
+    ranges: &[f64],
+    edge: Edge,
+    params: &[f64],
+    reversed: bool,
+    i: usize,
+) -> Sample
+    requires { ⌜ i < length (now params) ⌝ }
+    ensures { λ r. ⌜ r ≡ recordAt (lent (points .entry) (curves .entry) (reals .entry) (parts .entry) (ranges .entry)) edge (now (params .entry)) reversed i ⌝ }
+{
+    let param = param_at(params, reversed, i);
+    if i == 0 {
+        let start = brep::point(points, edge.start);
+        return Sample {
+            point: start,
+            param,
+        };
+    }
+    if i == params.len() - 1 {
+        let end = brep::point(points, edge.end);
+        return Sample { point: end, param };
+    }
+    let point = curve::point_at(points, curves, reals, parts, ranges, edge.curve, param);
+    Sample { point, param }
+}
+
+// Writes a record for each parameter, from the chain's start.
+pub fn place(
+    points: &[f64],
+    curves: &[u32],
+    reals: &[f64],
+    parts: &[u32],
+    ranges: &[f64],
+    edge: Edge,
+    params: &[f64],
+    chain: &mut [f64],
+)
+    requires { ⌜ (2 ≤ length (now params)) × (width * length (now params) ≤ length (now chain)) ⌝ }
+    ensures { λ _. ⌜ now (chain .exit) ≡ sets (now (chain .entry)) 0 (flat (placed (lent (points .entry) (curves .entry) (reals .entry) (parts .entry) (ranges .entry)) edge (now (params .entry)))) ⌝ }
+{
+    let reversed = is_reversed(points, curves, reals, parts, ranges, edge, params);
+    let n = params.len();
+    for i in 0..n {
+        let s = record_at(
+            points,
+            curves,
+            reals,
+            parts,
+            ranges,
+            edge,
+            params,
+            reversed,
+            i,
+        );
+        samples::put(chain, i, s);
+    }
+}
