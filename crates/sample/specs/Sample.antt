@@ -2,7 +2,7 @@
 use mathlib.Core.List.{List, [], _∷_}
 use Prim.Native.Nat.{ℕ}
 use lib.Ieee.{Float, le}
-use Rattle.lists.specs.Result.{Result}
+use Rattle.lists.specs.Result.{Result, refused, got}
 use Rattle.arith.specs.Notation.{nought, half}
 use Rattle.arith.specs.Pick.{maxOf}
 use Rattle.math.specs.declared.Interval.{Interval}
@@ -39,3 +39,8 @@ sampler c range r = record {
 -- sample_params: the parameters, or refusal 8 where a list passes the room
 unfoldable pub sampled : ℕ → CurveTree → Interval → Resolved → Result (List Float)
 sampled room c range r = sampleParams room (sampler c range r) range
+
+-- the parameters of an answer; none of a refusal
+abbrev pub listOf : Result (List Float) → List Float
+listOf (refused n) = []
+listOf (got l) = l

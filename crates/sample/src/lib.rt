@@ -1,1 +1,356 @@
 // sample_params of edge.rs, on rows.
+use bisect::End;
+use knots::Knots;
+use listed::Listed;
+use math::Interval;
+use math::Vec3;
+use options::Resolved;
+use params::Closed;
+ghost use mathlib.Core.Path.{_≡_};
+ghost use mathlib.Core.List.{_++_};
+ghost use Prim.Native.Nat.{_≤_};
+ghost use lib.ListN.{length, getD, take};
+ghost use lib.Ieee.{nan, le};
+ghost use Rattle.arith.specs.Notation.{nought};
+ghost use Rattle.lists.specs.Room.{filled};
+ghost use Rattle.brep.specs.Rows.{lent};
+ghost use Rattle.brep.specs.Tree.{tree};
+ghost use Rattle.curve.specs.Eval.{pointAt};
+ghost use Rattle.params.specs.Params.{subdivided, unlessHi, bisected, refined};
+ghost use Rattle.listed.specs.Held.{Held, Behind};
+ghost use Rattle.knots.specs.Knots.{curveKnots};
+ghost use Rattle.thin_breaks.specs.Thin.{keptBreaks};
+ghost use Rattle.bisect.specs.Bisect.{endAt, withinBudget};
+ghost use Rattle.sample.specs.Sample.{missOf, worstMiss, sampler, sampled};
+ghost use Rattle.sample.specs.Answered.{Answered, countOf, stops};
+
+// How far the curve of a row, whose points at a and b are pa and pb, lies from the chord's middle at theirs.
+fn miss_of(
+    points: &[f64],
+    curves: &[u32],
+    reals: &[f64],
+    parts: &[u32],
+    ranges: &[f64],
+    row: u32,
+    a: f64,
+    b: f64,
+    pa: Vec3,
+    pb: Vec3,
+) -> f64
+    requires { ⌜ (pa ≡ pointAt (tree (lent points curves reals parts ranges) row) a) × (pb ≡ pointAt (tree (lent points curves reals parts ranges) row) b) ⌝ }
+    ensures { λ w. ⌜ w ≡ missOf (tree (lent (points .entry) (curves .entry) (reals .entry) (parts .entry) (ranges .entry)) row) a b ⌝ }
+{
+    let m = curve::point_at(points, curves, reals, parts, ranges, row, 0.5 * (a + b));
+    m.sub(pa.add(pb).scale(0.5)).length()
+}
+
+// The largest miss between parameters that follow each other. Each point is evaluated once.
+fn worst_miss(
+    points: &[f64],
+    curves: &[u32],
+    reals: &[f64],
+    parts: &[u32],
+    ranges: &[f64],
+    row: u32,
+    params: &[f64],
+) -> f64
+    ensures { λ w. ⌜ w ≡ worstMiss (tree (lent (points .entry) (curves .entry) (reals .entry) (parts .entry) (ranges .entry)) row) nought (now (params .entry)) ⌝ }
+{
+    let mut worst = 0.0;
+    if params.len() == 0 {
+        return worst;
+    }
+    let mut a = params[0];
+    let mut pa = curve::point_at(points, curves, reals, parts, ranges, row, a);
+    let mut i = 1usize;
+    while i < params.len() {
+        let b = params[i];
+        let pb = curve::point_at(points, curves, reals, parts, ranges, row, b);
+        worst = arith::max(
+            worst,
+            miss_of(points, curves, reals, parts, ranges, row, a, b, pa, pb),
+        );
+        a = b;
+        pa = pb;
+        i += 1;
+    }
+    worst
+}
+
+// Whether the chords between the first n parameters stay within the sag.
+fn meets(
+    points: &[f64],
+    curves: &[u32],
+    reals: &[f64],
+    parts: &[u32],
+    ranges: &[f64],
+    row: u32,
+    out: &[f64],
+    n: usize,
+    sag: f64,
+) -> bool
+    requires { ⌜ n ≤ length (now out) ⌝ }
+    ensures { λ w. ⌜ w ≡ le (worstMiss (tree (lent (points .entry) (curves .entry) (reals .entry) (parts .entry) (ranges .entry)) row) nought (take n (now (out .entry)))) sag ⌝ }
+{
+    let params = &out[..n];
+    worst_miss(points, curves, reals, parts, ranges, row, params) <= sag
+}
+
+// Stop number i of the walk. The breaks are read backwards where the range runs down.
+fn stop_at(range: Interval, breaks: &[f64], i: usize) -> f64
+    requires { ⌜ i ≤ length (now breaks) ⌝ }
+    ensures { λ w. ⌜ w ≡ getD (stops range (now (breaks .entry))) i nan ⌝ }
+{
+    let n = breaks.len();
+    if i == n {
+        return range.hi;
+    }
+    if range.hi < range.lo {
+        breaks[n - 1 - i]
+    } else {
+        breaks[i]
+    }
+}
+
+// A span of the walk: what bisection puts inside it, then its end, unless that is range.hi, which stands once at the list's end.
+fn step(
+    points: &[f64],
+    curves: &[u32],
+    reals: &[f64],
+    parts: &[u32],
+    ranges: &[f64],
+    row: u32,
+    range: Interval,
+    r: Resolved,
+    left: End,
+    right: End,
+    out: &mut [f64],
+    k: usize,
+) -> Listed
+    requires { ⌜ (left ≡ endAt (tree (lent points curves reals parts ranges) row) (left .t)) × (right ≡ endAt (tree (lent points curves reals parts ranges) row) (right .t)) × (k ≤ length (now out)) ⌝ }
+    ensures { λ w. ⌜ Behind (now (out .entry)) k (subdivided (withinBudget (tree (lent (points .entry) (curves .entry) (reals .entry) (parts .entry) (ranges .entry)) row) r) (r .depth) (left .t) (right .t) ++ unlessHi range (right .t)) w (now (out .exit)) ⌝ }
+{
+    let inside = bisect::subdivide(
+        points,
+        curves,
+        reals,
+        parts,
+        ranges,
+        row,
+        r,
+        left,
+        right,
+        r.depth,
+        out,
+        k,
+    );
+    let Listed::Count(n) = inside else {
+        return Listed::Refused;
+    };
+    if right.t != range.hi {
+        return listed::push(out, n, right.t);
+    }
+    Listed::Count(n)
+}
+
+// range.lo, the spans between the stops, range.hi.
+fn walk(
+    points: &[f64],
+    curves: &[u32],
+    reals: &[f64],
+    parts: &[u32],
+    ranges: &[f64],
+    row: u32,
+    range: Interval,
+    r: Resolved,
+    breaks: &[f64],
+    out: &mut [f64],
+) -> Listed
+    requires { ⌜ now breaks ≡ keptBreaks (tree (lent points curves reals parts ranges) row) (range .lo) (range .hi) (r .sag) ⌝ }
+    ensures { λ w. ⌜ Held (now (out .entry)) (bisected (sampler (tree (lent (points .entry) (curves .entry) (reals .entry) (parts .entry) (ranges .entry)) row) range r) range) w (now (out .exit)) ⌝ }
+{
+    let pushed = listed::push(out, 0, range.lo);
+    let Listed::Count(first) = pushed else {
+        return Listed::Refused;
+    };
+    let mut k = first;
+    let mut left = bisect::end_at(points, curves, reals, parts, ranges, row, range.lo);
+    let mut i = 0usize;
+    while i <= breaks.len() {
+        let b = stop_at(range, breaks, i);
+        let right = bisect::end_at(points, curves, reals, parts, ranges, row, b);
+        let stepped = step(
+            points,
+            curves,
+            reals,
+            parts,
+            ranges,
+            row,
+            range,
+            r,
+            left,
+            right,
+            out,
+            k,
+        );
+        let Listed::Count(n) = stepped else {
+            return Listed::Refused;
+        };
+        k = n;
+        left = right;
+        i += 1;
+    }
+    listed::push(out, k, range.hi)
+}
+
+// The walk over the breaks of a curve that has knots.
+fn walk_breaks(
+    points: &[f64],
+    curves: &[u32],
+    reals: &[f64],
+    parts: &[u32],
+    ranges: &[f64],
+    row: u32,
+    range: Interval,
+    r: Resolved,
+    out: &mut [f64],
+) -> Listed
+    requires { ⌜ length (curveKnots (tree (lent points curves reals parts ranges) row)) ≤ 8192 ⌝ }
+    ensures { λ w. ⌜ Held (now (out .entry)) (bisected (sampler (tree (lent (points .entry) (curves .entry) (reals .entry) (parts .entry) (ranges .entry)) row) range r) range) w (now (out .exit)) ⌝ }
+{
+    let mut breaks = [0.0; 8192];
+    let kept = thin_breaks::kept_breaks(
+        points,
+        curves,
+        reals,
+        parts,
+        ranges,
+        row,
+        range.lo,
+        range.hi,
+        r.sag,
+        &mut breaks,
+    );
+    let Knots::Count(m) = kept else {
+        return Listed::Refused;
+    };
+    walk(
+        points,
+        curves,
+        reals,
+        parts,
+        ranges,
+        row,
+        range,
+        r,
+        &breaks[..m],
+        out,
+    )
+}
+
+// Bisection between the breaks; most curves have none, and need no room for them.
+fn bisect_range(
+    points: &[f64],
+    curves: &[u32],
+    reals: &[f64],
+    parts: &[u32],
+    ranges: &[f64],
+    row: u32,
+    range: Interval,
+    r: Resolved,
+    out: &mut [f64],
+) -> Listed
+    requires { ⌜ length (curveKnots (tree (lent points curves reals parts ranges) row)) ≤ 8192 ⌝ }
+    ensures { λ w. ⌜ Held (now (out .entry)) (bisected (sampler (tree (lent (points .entry) (curves .entry) (reals .entry) (parts .entry) (ranges .entry)) row) range r) range) w (now (out .exit)) ⌝ }
+{
+    if knots::knot_count(points, curves, reals, parts, ranges, row) == 0 {
+        let none = [0.0; 1];
+        return walk(
+            points,
+            curves,
+            reals,
+            parts,
+            ranges,
+            row,
+            range,
+            r,
+            &none[..0],
+            out,
+        );
+    }
+    walk_breaks(points, curves, reals, parts, ranges, row, range, r, out)
+}
+
+// +0.0 behind the list, or everywhere where it was refused.
+fn settle(listed: Listed, out: &mut [f64]) -> Listed
+    requires { ⌜ countOf listed ≤ length (now out) ⌝ }
+    ensures { λ w. ⌜ (w ≡ listed) × (now (out .exit) ≡ filled (length (now (out .entry))) (take (countOf listed) (now (out .entry)))) ⌝ }
+{
+    match listed {
+        Listed::Count(n) => {
+            lists::clear_from(out, n);
+            Listed::Count(n)
+        }
+        Listed::Refused => {
+            lists::clear_from(out, 0);
+            Listed::Refused
+        }
+    }
+}
+
+// Bisection, then the segment floor: even steps where the list has fewer segments.
+fn refine(
+    points: &[f64],
+    curves: &[u32],
+    reals: &[f64],
+    parts: &[u32],
+    ranges: &[f64],
+    row: u32,
+    range: Interval,
+    r: Resolved,
+    out: &mut [f64],
+) -> Listed
+    requires { ⌜ length (curveKnots (tree (lent points curves reals parts ranges) row)) ≤ 8192 ⌝ }
+    ensures { λ w. ⌜ Answered (length (now (out .entry))) (refined (length (now (out .entry))) (sampler (tree (lent (points .entry) (curves .entry) (reals .entry) (parts .entry) (ranges .entry)) row) range r) range) w (now (out .exit)) ⌝ }
+{
+    let listed = bisect_range(points, curves, reals, parts, ranges, row, range, r, out);
+    let Listed::Count(n) = listed else {
+        return settle(listed, out);
+    };
+    if (n as u64) - 1 < r.segments {
+        let even = listed::evenly(range, r.segments, out);
+        return settle(even, out);
+    }
+    settle(listed, out)
+}
+
+// The parameters of the curve of a row over a range, from the start of out, and +0.0 behind them; refusal 8, and +0.0 everywhere,
+// where a list is longer than out. A closed form gives even steps, but only where it is given the right radius: it is checked
+// against the sag, and where it misses that the curve is bisected.
+pub fn sample_params(
+    points: &[f64],
+    curves: &[u32],
+    reals: &[f64],
+    parts: &[u32],
+    ranges: &[f64],
+    row: u32,
+    range: Interval,
+    r: Resolved,
+    out: &mut [f64],
+) -> Listed
+    requires { ⌜ length (curveKnots (tree (lent points curves reals parts ranges) row)) ≤ 8192 ⌝ }
+    ensures { λ w. ⌜ Answered (length (now (out .entry))) (sampled (length (now (out .entry))) (tree (lent (points .entry) (curves .entry) (reals .entry) (parts .entry) (ranges .entry)) row) range r) w (now (out .exit)) ⌝ }
+{
+    let closed = usable::analytic_segments(points, curves, reals, parts, ranges, row, range, r);
+    let Closed::Segments(n) = closed else {
+        return refine(points, curves, reals, parts, ranges, row, range, r, out);
+    };
+    let even = listed::evenly(range, n, out);
+    let Listed::Count(m) = even else {
+        return settle(even, out);
+    };
+    if meets(points, curves, reals, parts, ranges, row, out, m, r.sag) {
+        return settle(even, out);
+    }
+    refine(points, curves, reals, parts, ranges, row, range, r, out)
+}

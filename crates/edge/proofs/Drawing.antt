@@ -1,0 +1,137 @@
+-- The ways through `draw_range` and `discretise`. Assumes nothing.
+use mathlib.Core.Path.{_≡_, refl, sym, ap, subst, _∙_}
+use mathlib.Core.List.{List, [], _∷_, _++_}
+use Prim.Native.Nat.{ℕ, _+_, _*_, _≤_}
+use native.Mathlib.Omega.{arith}
+use lib.ListN.{length, take, drop, length-append, take-append-drop}
+use lib.Seq.{sets, length-sets, length-take-le}
+use lib.Ieee.{Float}
+use Rattle.lists.specs.Result.{Result, refused, got, bind, each}
+use Rattle.lists.specs.Room.{filled}
+use Rattle.lists.proofs.Filled.{filled-length, filled-front}
+use Rattle.math.specs.declared.Interval.{Interval}
+use Rattle.brep.specs.declared.Edge.{Edge}
+use Rattle.brep.specs.Rows.{Tables}
+use Rattle.brep.specs.Tree.{CurveTree}
+use Rattle.options.specs.declared.Resolved.{Resolved}
+use Rattle.listed.specs.declared.Listed.{Listed}
+use Rattle.listed.specs.declared.Listed.the-variants as listed
+use Rattle.listed.specs.Held.{said}
+use Rattle.samples.specs.declared.Sample.{Sample}
+use Rattle.samples.specs.declared.Counted.{Counted}
+use Rattle.samples.specs.declared.Counted.the-variants.{Refused, Count}
+use Rattle.samples.specs.Chain.{width, most, flat, samples, answerOf}
+use Rattle.usable.specs.declared.Usable.{Usable}
+use Rattle.usable.specs.declared.Usable.the-variants.{Range, Unusable}
+use Rattle.usable.specs.Usable.{usableRange}
+use Rattle.sample.specs.Sample.{sampled}
+use Rattle.sample.specs.Answered.{Answered}
+use Rattle.sample.proofs.Laws.{sampled-two, sampled-room}
+use Rattle.chains.specs.Edge.{edgeCurve, atLeastTwo, chordOf, placed, finished, discretised}
+use Rattle.chains.specs.Draw.{roomOf}
+use Rattle.place.proofs.Laws.{placed-length}
+use Rattle.edge.specs.Discretised.{chainOf, thinnedMerged, overRange}
+use Rattle.edge.proofs.Thinning.{read-back}
+
+-- w and g are what a function answers and leaves in a chain buffer of n floats, by D
+abbrev pub Drew : ℕ → Result (List Sample) → Counted → List Float → Type 0
+Drew n D w g = (w ≡ answerOf D) × (g ≡ filled n (flat (chainOf D)))
+
+drew : (n m : ℕ) (D E : Result (List Sample)) {w : Counted} {g : List Float} → n ≡ m → D ≡ E → Drew n D w g → Drew m E w g
+drew n m D E k e p = (p .0 ∙ ap answerOf e, p .1 ∙ ap (λ (i : ℕ). filled i (flat (chainOf D))) k ∙ ap (λ (x : Result (List Sample)). filled m (flat (chainOf x))) e)
+
+-- ---- `draw_range`
+two-or-more : (range : Interval) (l : List Float) → 2 ≤ length l → atLeastTwo range l ≡ l
+unfolding atLeastTwo
+two-or-more range [] h = absurd (omega arith)
+two-or-more range (t ∷ []) h = absurd (omega arith)
+two-or-more range (t ∷ u ∷ l) h = refl
+
+-- out is the buffer after sample_params, which counted n parameters
+pub record Sampling (room : ℕ) (S : Result (List Float)) (n : ℕ) (out : List Float) : Type 0 where
+  pub params : List Float
+  pub is : S ≡ got params
+  pub size : length params ≡ n
+  pub two : 2 ≤ n
+  pub fits : n ≤ room
+  pub floats : out ≡ filled room params
+
+pub sampling-some : (room : ℕ) (c : CurveTree) (range : Interval) (r : Resolved) (w : Listed) (n : ℕ) (out : List Float)
+    → Answered room (sampled room c range r) w out → w ≡ listed.Count n → Sampling room (sampled room c range r) n out
+sampling-some room c range r w n out p e = go (sampled room c range r) (λ l q. sampled-two room c range r l q) (λ l q. sampled-room room c range r l q) p
+  where
+    go : (S : Result (List Float)) → ((l : List Float) → S ≡ got l → 2 ≤ length l) → ((l : List Float) → S ≡ got l → length l ≤ room)
+        → Answered room S w out → Sampling room S n out
+    go (refused x) f g a = let q : got n ≡ refused x = ap said (sym e) ∙ a .0 in let z : _≡_ {A = ℕ} 0 1 = cc in absurd (omega arith)
+    go (got l) f g a =
+        let q : got n ≡ got (length l) = ap said (sym e) ∙ a .0 in
+        let k : n ≡ length l = cc in
+        record { params = l; is = refl; size = sym k; two = omega (arith, f l refl); fits = omega (arith, g l refl); floats = a .1 }
+
+module _ {room : ℕ} {S : Result (List Float)} {n : ℕ} {out : List Float} (s : Sampling room S n out) where
+  pub part-room : n ≤ length out
+  part-room = omega (arith, s .fits, s .size, ap length (s .floats), filled-length room (s .params) (omega (arith, s .fits, s .size)))
+
+  pub part-length : length (take n out) ≡ n
+  part-length = length-take-le n out part-room
+
+  part : take n out ≡ s .params
+  part = ap (take n) (s .floats) ∙ ap (λ (k : ℕ). take k (filled room (s .params))) (sym (s .size)) ∙ filled-front room (s .params)
+
+module _ {room : ℕ} (T : Tables) (e : Edge) (r : Resolved) (range : Interval) {n : ℕ} {out : List Float} (s : Sampling room (sampled room (edgeCurve T e) range r) n out)
+    (chain d : List Float) (fits : width * n ≤ length chain) (p : d ≡ sets chain 0 (flat (placed T e (take n out)))) where
+  pub placed-room : width * n ≤ length d
+  placed-room = omega (arith, ap length p, length-sets chain 0 (flat (placed T e (take n out))))
+
+  reads-placed : samples n d ≡ placed T e (s .params)
+  reads-placed =
+      let P = placed T e (s .params) in
+      let k : length P ≡ n = placed-length T e (s .params) (omega (arith, s .two, s .size)) ∙ s .size in
+      ap (λ (i : ℕ). samples i d) (sym k) ∙ ap (samples (length P)) (p ∙ ap (λ (l : List Float). sets chain 0 (flat (placed T e l))) (part s)) ∙ read-back chain P (omega arith)
+
+  over-some : thinnedMerged T e r (samples n d) ≡ overRange room T e r range
+  unfolding finished
+  over-some =
+      ap (thinnedMerged T e r) reads-placed
+      ∙ ap (finished T e r) (sym (two-or-more range (s .params) (omega (arith, s .two, s .size))))
+      ∙ ap (λ (x : Result (List Float)). bind x (λ params. finished T e r (atLeastTwo range params))) (sym (s .is))
+
+  pub drew-some : (w : Counted) (g : List Float) → Drew (length d) (thinnedMerged T e r (samples n d)) w g → Drew (length chain) (overRange room T e r range) w g
+  drew-some w g = drew (length d) (length chain) _ _ (ap length p ∙ length-sets chain 0 (flat (placed T e (take n out)))) over-some
+
+pub drew-none : (S : Result (List Float)) (f : List Float → Result (List Sample)) (w : Listed) (chain g : List Float) → said w ≡ each length S → w ≡ listed.Refused
+    → g ≡ filled (length chain) (take 0 chain) → Drew (length chain) (bind S f) (Refused 8) g
+unfolding flat
+drew-none (refused n) f w chain g a e b = let q : refused 8 ≡ refused n = ap said (sym e) ∙ a in (cc, b)
+drew-none (got l) f w chain g a e b = let q : refused 8 ≡ got (length l) = ap said (sym e) ∙ a in let z : _≡_ {A = ℕ} 0 1 = cc in absurd (omega arith)
+
+-- ---- `discretise`
+-- n is the room that both buffers give, and scratch's first n floats are lent
+pub record Lent (first n : ℕ) (scratch : List Float) : Type 0 where
+  pub few : n ≤ most
+  pub fits : width * n ≤ first
+  pub inside : n ≤ length scratch
+  pub size : length (take n scratch) ≡ n
+
+pub lent-part : (first n : ℕ) (scratch : List Float) → n ≡ roomOf first (length scratch) → Lent first n scratch
+unfolding roomOf
+lent-part first n scratch e =
+    let h : n ≤ length scratch = omega arith in
+    record { few = omega arith; fits = omega arith; inside = h; size = length-take-le n scratch h }
+
+-- scratch afterwards, with what was left in that part, has its length
+pub whole-length : (n : ℕ) (left scratch : List Float) → length left ≡ length (take n scratch) → length (left ++ drop n scratch) ≡ length scratch
+whole-length n left scratch h =
+    length-append left (drop n scratch) ∙ ap (λ (k : ℕ). k + length (drop n scratch)) h
+    ∙ sym (length-append (take n scratch) (drop n scratch)) ∙ ap length (take-append-drop n scratch)
+
+module _ (room : ℕ) (T : Tables) (e : Edge) (r : Resolved) (k : ℕ) {w : Counted} {g : List Float} (u : Usable) (own : u ≡ usableRange (edgeCurve T e) (e .range)) where
+  pub drew-range : (range : Interval) (j : ℕ) → u ≡ Range range → j ≡ room → Drew k (overRange j T e r range) w g → Drew k (discretised room T e r) w g
+  unfolding discretised
+  drew-range range j q h =
+      let s : overRange room T e r range ≡ discretised room T e r = rw (sym own ∙ q, discretised) in
+      drew k k _ _ refl (ap (λ (i : ℕ). overRange i T e r range) h ∙ s)
+
+  pub drew-chord : u ≡ Unusable → w ≡ Count 2 → g ≡ filled k (flat (chordOf T e (e .range .lo) (e .range .hi))) → Drew k (discretised room T e r) w g
+  unfolding discretised
+  drew-chord q a b = rw (sym own ∙ q, discretised) (a, b)

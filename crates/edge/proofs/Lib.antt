@@ -1,0 +1,2 @@
+pub mod Thinning
+pub mod Drawing

@@ -1,0 +1,107 @@
+-- `discretise` meets its contract, by what the edge's range is. Assumes nothing.
+use mathlib.Core.Path.{refl, sym, ap, _∙_}
+use mathlib.Core.List.{[]}
+use Prim.Native.Nat.{ℕ}
+use native.Mathlib.Omega.{arith}
+use denote.Ref.{now}
+use lib.ListN.{length}
+use Rattle.lists.specs.Room.{filled}
+use Rattle.brep.specs.Rows.{Tables, lent}
+use Rattle.chains.specs.Draw.{roomOf}
+use Rattle.edge.proofs.Drawing.{Lent, lent-part, whole-length, drew-range, drew-chord}
+use borrow.Author.Needs.{needs}
+use Rattle.edge.proofs.discretise.Statement.{statement}
+use Rattle.edge.proofs.discretise.Tie as tie
+
+-- the tables as they are lent, and the room that both buffers give
+abbrev tables-of : tie.Start → Tables
+tables-of st = let a = st .args in lent (a .points) (a .curves) (a .reals) (a .parts) (a .ranges)
+
+abbrev room-of : tie.Start → ℕ
+room-of st = roomOf (length (now (st .args .chain))) (length (now (st .args .scratch)))
+
+-- the part of scratch that is lent
+told : (f : tie.After-room) → let st = f .before .before .before .before .before .before .before .before .before .before .before .before in
+    Lent (length (now (st .args .chain))) (f .room .result) (now (st .args .scratch))
+told f = lent-part _ _ _ (f .room .ensures)
+
+usable-range-requires : tie.Need-usable-range-requires
+usable-range-requires c κs = search needs
+
+enum-known-usable : tie.Need-enum-known-usable
+enum-known-usable c = search needs
+
+enum-told : tie.Need-enum-told
+enum-told c = search needs
+
+chord-requires : tie.Need-chord-requires
+chord-requires c κs = search needs
+
+clear-from-requires : tie.Need-clear-from-requires
+clear-from-requires c κs = search needs
+
+same-length : tie.Need-same-length
+same-length c = search needs
+
+same-length-2 : tie.Need-same-length-2
+same-length-2 c = search needs
+
+returns : tie.Need-returns
+returns c =
+    let st = c .before .before .before .before .before .before .before .before .before .before .before .before .before .before .before .before .before .before in
+    let z = drew-chord (room-of st) (tables-of st) (st .args .edge) (st .args .r) (length (now (st .args .chain))) _ (c .before .before .before .before .before .before .before .before .before .before .usable-range .ensures) (c .before .before .before .before .before .before .before .before .enum-told .given .1) refl (c .before .before .before .before .before .before .chord .ensures) in
+    (z .0, z .1, c .before .before .clear-from .ensures)
+
+room-requires : tie.Need-room-requires
+room-requires c κs = search needs
+
+slice-relend-prefix-part : tie.Need-slice-relend-prefix-part
+slice-relend-prefix-part c = told c .inside
+
+slice-aggregate-part : tie.Need-slice-aggregate-part
+slice-aggregate-part c = sym (told (c .before) .size)
+
+draw-range-requires : tie.Need-draw-range-requires
+draw-range-requires c κs =
+    let l = told (c .before .before) in
+    (omega (arith, l .few, l .size), omega (arith, l .fits, l .size), c .before .before .before .before .before .before .before .before .before .before .before .before .before .before .pre .2)
+
+clear-from-requires-2 : tie.Need-clear-from-requires-2
+clear-from-requires-2 c κs = search needs
+
+same-length-3 : tie.Need-same-length-3
+same-length-3 c = search needs
+
+same-length-4 : tie.Need-same-length-4
+same-length-4 c = search needs
+
+returns-2 : tie.Need-returns-2
+returns-2 c =
+    let st = c .before .before .before .before .before .before .before .before .before .before .before .before .before .before .before .before .before .before .before .before .before .before .before in
+    let n = c .before .before .before .before .before .before .before .before .before .before .before .room in
+    let d = c .before .before .before .before .before .before .before .before .draw-range in
+    let z =
+    drew-range (room-of st) (tables-of st) (st .args .edge) (st .args .r) (length (now (st .args .chain))) _ (c .before .before .before .before .before .before .before .before .before .before .before .before .before .before .before .usable-range .ensures) _ _ (c .before .before .before .before .before .before .before .before .before .before .before .before .before .usable .given .1)
+    (told (c .before .before .before .before .before .before .before .before .before .before .before) .size ∙ n .ensures) (d .ensures .0, d .ensures .1) in
+    (z .0, z .1, c .before .before .clear-from2 .ensures ∙ ap (λ (i : ℕ). filled i []) (whole-length (n .result) (d .last .1 .1 .1 .1 .1 .1 .1 .1 .1 .0) (now (st .args .scratch)) (c .before .before .before .before .before .before .before .scratch2 .given .0)))
+
+pub discretise-spec : {M : Type 1} → statement M
+discretise-spec =
+    tie.close
+    (tie.spec
+    usable-range-requires
+    enum-known-usable
+    enum-told
+    chord-requires
+    clear-from-requires
+    same-length
+    same-length-2
+    returns
+    room-requires
+    slice-relend-prefix-part
+    slice-aggregate-part
+    draw-range-requires
+    clear-from-requires-2
+    same-length-3
+    same-length-4
+    returns-2)

@@ -1,0 +1,106 @@
+-- `draw_range` meets its contract: the parameters that scratch holds are placed and finished. Assumes nothing.
+use mathlib.Core.List.{List}
+use mathlib.Core.Path.{sym}
+use native.Mathlib.Omega.{arith}
+use denote.Ref.{now}
+use lib.Ieee.{Float}
+use lib.ListN.{length}
+use borrow.Author.Needs.{needs}
+use Rattle.sample.specs.Sample.{sampled}
+use Rattle.chains.specs.Edge.{edgeCurve}
+use Rattle.brep.specs.Rows.{Tables, lent}
+use Rattle.lists.specs.Result.{Result}
+use Rattle.edge.proofs.Drawing.{Sampling, sampling-some, part-room, part-length, placed-room, drew-some, drew-none}
+use Rattle.edge.proofs.draw_range.Statement.{statement}
+use Rattle.edge.proofs.draw_range.Tie as tie
+
+-- the tables as they are lent
+abbrev tables-of : tie.Start → Tables
+tables-of st = let a = st .args in lent (a .points) (a .curves) (a .reals) (a .parts) (a .ranges)
+
+-- what sampling the range gives
+abbrev sampling : tie.Start → Result (List Float)
+sampling st = sampled (length (now (st .args .scratch))) (edgeCurve (tables-of st) (st .args .edge)) (st .args .range) (st .args .r)
+
+-- scratch then, where it does not refuse
+told : (f : tie.After-listed) → let st = f .before .before .before .before .before .before .before .before .before .before .before .before .before in
+    Sampling (length (now (st .args .scratch))) (sampling st) (f .listed .given .0 .0) (f .before .before .before .before .sample-params .last .1 .1 .1 .1 .1 .1 .1 .1 .0)
+told f =
+    let st = f .before .before .before .before .before .before .before .before .before .before .before .before .before in
+    let a = st .args in
+    let t = f .before .before .before .before .sample-params in
+    sampling-some (length (now (a .scratch))) (edgeCurve (tables-of st) (a .edge)) (a .range) (a .r) (t .result) (f .listed .given .0 .0) _ (t .ensures) (f .listed .given .1)
+
+sample-params-requires : tie.Need-sample-params-requires
+sample-params-requires c κs = c .before .before .before .before .before .before .before .before .pre .2
+
+enum-known-listed : tie.Need-enum-known-listed
+enum-known-listed c = search needs
+
+enum-told : tie.Need-enum-told
+enum-told c = search needs
+
+clear-from-requires : tie.Need-clear-from-requires
+clear-from-requires c κs = search needs
+
+same-length : tie.Need-same-length
+same-length c = search needs
+
+same-length-2 : tie.Need-same-length-2
+same-length-2 c = search needs
+
+returns : tie.Need-returns
+returns c =
+    let a = c .before .before .before .before .before .before .before .before .before .before .before .before .before .before .before .before .before .args in
+    let p = c .before .before .before .before .before .before .before .before .sample-params .ensures in
+    let d = drew-none (sampling (c .before .before .before .before .before .before .before .before .before .before .before .before .before .before .before .before .before)) _ _ (now (a .chain)) _ (p .0) (c .before .before .before .before .enum-told .given .1) (c .before .before .clear-from .ensures) in
+    (d .0, d .1, p .1)
+
+slice-reshare-prefix-place : tie.Need-slice-reshare-prefix-place
+slice-reshare-prefix-place c = part-room (told (c .before))
+
+slice-aggregate-place : tie.Need-slice-aggregate-place
+slice-aggregate-place c = sym (part-length (told (c .before .before)))
+
+place-requires : tie.Need-place-requires
+place-requires c κs =
+    let s = told (c .before .before .before) in
+    (omega (arith, s .two, part-length s), omega (arith, s .fits, part-length s, c .before .before .before .before .before .before .before .before .before .before .before .before .before .before .before .before .pre .1))
+
+finish-requires : tie.Need-finish-requires
+finish-requires c κs =
+    let s = told (c .before .before .before .before .before .before .before) in
+    let a = c .before .before .before .before .before .before .before .before .before .before .before .before .before .before .before .before .before .before .before .before .args in
+    (s .two, omega (arith, s .fits, c .before .before .before .before .before .before .before .before .before .before .before .before .before .before .before .before .before .before .before .before .pre .0), placed-room (tables-of (c .before .before .before .before .before .before .before .before .before .before .before .before .before .before .before .before .before .before .before .before)) (a .edge) (a .r) (a .range) s (now (a .chain)) _ (omega (arith, s .fits, c .before .before .before .before .before .before .before .before .before .before .before .before .before .before .before .before .before .before .before .before .pre .1)) (c .before .before .before .place .ensures))
+
+same-length-3 : tie.Need-same-length-3
+same-length-3 c = search needs
+
+same-length-4 : tie.Need-same-length-4
+same-length-4 c = search needs
+
+returns-2 : tie.Need-returns-2
+returns-2 c =
+    let s = told (c .before .before .before .before .before .before .before .before .before .before) in
+    let a = c .before .before .before .before .before .before .before .before .before .before .before .before .before .before .before .before .before .before .before .before .before .before .before .args in
+    let d = drew-some (tables-of (c .before .before .before .before .before .before .before .before .before .before .before .before .before .before .before .before .before .before .before .before .before .before .before)) (a .edge) (a .r) (a .range) s (now (a .chain)) _ (omega (arith, s .fits, c .before .before .before .before .before .before .before .before .before .before .before .before .before .before .before .before .before .before .before .before .before .before .before .pre .1)) (c .before .before .before .before .before .before .place .ensures) _ _ (c .before .before .finish .ensures) in
+    (d .0, d .1, c .before .before .before .before .before .before .before .before .before .before .before .before .before .before .sample-params .ensures .1)
+
+pub draw-range-spec : {M : Type 1} → statement M
+draw-range-spec =
+    tie.close
+    (tie.spec
+    sample-params-requires
+    enum-known-listed
+    enum-told
+    clear-from-requires
+    same-length
+    same-length-2
+    returns
+    slice-reshare-prefix-place
+    slice-aggregate-place
+    place-requires
+    finish-requires
+    same-length-3
+    same-length-4
+    returns-2)

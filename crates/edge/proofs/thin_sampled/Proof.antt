@@ -1,0 +1,40 @@
+-- `thin_sampled` meets its contract: `thin` with a floor that says as much as the segments, or nothing done. Assumes nothing.
+use native.Mathlib.Omega.{arith}
+use denote.Ref.{now}
+use borrow.Author.Needs.{needs}
+use Rattle.edge.proofs.Thinning.{passed-thinned, passed-over}
+use Rattle.edge.proofs.thin_sampled.Statement.{statement}
+use Rattle.edge.proofs.thin_sampled.Tie as tie
+
+is-sampled-requires : tie.Need-is-sampled-requires
+is-sampled-requires c κs = search needs
+
+least-requires : tie.Need-least-requires
+least-requires c κs = search needs
+
+add-floor : tie.Need-add-floor
+add-floor c = search needs
+
+thin-requires : tie.Need-thin-requires
+thin-requires c κs = search needs
+
+same-length : tie.Need-same-length
+same-length c = search needs
+
+returns : tie.Need-returns
+returns c = let a = c .before .before .before .before .before .before .before .before .before .before .before .before .before .before .args in passed-thinned (a .r) (now (a .chain)) (a .n) _ _ (c .before .before .before .before .before .before .before .is-sampled .ensures) _ _ _ (c .before .before .before .before .before .before .if1 .taken) (omega arith) (c .before .before .before .before .before .least .ensures) (c .before .before .thin .ensures)
+
+returns-2 : tie.Need-returns-2
+returns-2 c = let a = c .before .before .before .before .before .before .before .before .args in passed-over (a .r) (now (a .chain)) (a .n) _ _ (c .before .is-sampled .ensures) (c .if1 .left)
+
+pub thin-sampled-spec : {M : Type 1} → statement M
+thin-sampled-spec =
+    tie.close
+    (tie.spec
+    is-sampled-requires
+    least-requires
+    add-floor
+    thin-requires
+    same-length
+    returns
+    returns-2)

@@ -1,0 +1,87 @@
+// edge_extent of edge.rs, on rows.
+use brep::Edge;
+use math::Aabb;
+use math::Interval;
+use math::Vec3;
+use usable::Usable;
+ghost use mathlib.Core.Path.{_≡_};
+ghost use mathlib.Core.Bool.{cond};
+ghost use Rattle.math.specs.Math.{vFinite, addPoint};
+ghost use Rattle.brep.specs.Rows.{lent};
+ghost use Rattle.brep.specs.Tree.{tree};
+ghost use Rattle.chains.specs.Edge.{probed, extentBox, edgeExtent};
+
+// A point that is not finite leaves the box as it is.
+fn add_finite(b: Aabb, p: Vec3) -> Aabb
+    ensures { λ r. ⌜ r ≡ cond (vFinite p) (addPoint b p) b ⌝ }
+{
+    if p.is_finite() {
+        return b.add_point(p);
+    }
+    b
+}
+
+// The box with the curve's points at each eighth of a range.
+fn probe(
+    points: &[f64],
+    curves: &[u32],
+    reals: &[f64],
+    parts: &[u32],
+    ranges: &[f64],
+    row: u32,
+    range: Interval,
+    b: Aabb,
+) -> Aabb
+    ensures { λ r. ⌜ r ≡ probed (tree (lent (points .entry) (curves .entry) (reals .entry) (parts .entry) (ranges .entry)) row) range b 9 ⌝ }
+{
+    let mut found = b;
+    let mut i: u32 = 0;
+    while i < 9 {
+        let t = range.at(i as f64 / 8.0);
+        let p = curve::point_at(points, curves, reals, parts, ranges, row, t);
+        found = add_finite(found, p);
+        i += 1;
+    }
+    found
+}
+
+// A curve with no usable range is not probed: the vertices are all there is.
+fn extent_box(
+    points: &[f64],
+    curves: &[u32],
+    reals: &[f64],
+    parts: &[u32],
+    ranges: &[f64],
+    row: u32,
+    usable: Usable,
+    b: Aabb,
+) -> Aabb
+    ensures { λ r. ⌜ r ≡ extentBox (tree (lent (points .entry) (curves .entry) (reals .entry) (parts .entry) (ranges .entry)) row) usable b ⌝ }
+{
+    match usable {
+        Usable::Range(range) => probe(points, curves, reals, parts, ranges, row, range, b),
+        Usable::Unusable => b,
+    }
+}
+
+// The longest side of the box of the vertices and the probes.
+pub fn edge_extent(
+    points: &[f64],
+    curves: &[u32],
+    reals: &[f64],
+    parts: &[u32],
+    ranges: &[f64],
+    edge: Edge,
+) -> f64
+    ensures { λ r. ⌜ r ≡ edgeExtent (lent (points .entry) (curves .entry) (reals .entry) (parts .entry) (ranges .entry)) edge ⌝ }
+{
+    let start = brep::point(points, edge.start);
+    let end = brep::point(points, edge.end);
+    let vertices = Aabb::empty().add_point(start).add_point(end);
+    let row = edge.curve;
+    let range = edge.range;
+    let found = usable::usable_range(points, curves, reals, parts, ranges, row, range);
+    let b = extent_box(points, curves, reals, parts, ranges, row, found, vertices);
+    let size = b.size();
+    arith::max(arith::max(size.x, size.y), size.z)
+}

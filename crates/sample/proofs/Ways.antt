@@ -1,0 +1,87 @@
+-- The ways through sample_params: no closed form, one that is refused, one that meets the sag or misses it. Assumes nothing.
+use mathlib.Core.Path.{_≡_, refl, sym, ap, subst, _∙_}
+use mathlib.Core.Bool.{Bool, true, false}
+use mathlib.Core.List.{List}
+use Prim.Native.Nat.{ℕ}
+use native.Mathlib.Omega.{arith}
+use lib.ListN.{length, take}
+use lib.Ieee.{Float, le}
+use Rattle.arith.specs.Notation.{nought}
+use Rattle.lists.specs.Result.{Result, refused, got, each, bind}
+use Rattle.math.specs.declared.Interval.{Interval}
+use Rattle.brep.specs.Tree.{CurveTree}
+use Rattle.options.specs.declared.Resolved.{Resolved}
+use Rattle.params.specs.declared.Closed.{Closed}
+use Rattle.params.specs.declared.Closed.the-variants.{Unknown, Segments}
+use Rattle.params.specs.Params.{evenly, fitting, refined, sampleParams}
+use Rattle.listed.specs.declared.Listed.{Listed}
+use Rattle.listed.specs.declared.Listed.the-variants.{Count, Refused}
+use Rattle.listed.specs.Held.{said, Held}
+use Rattle.listed.proofs.Held.{fitting-fits, held-counted, held-list}
+use Rattle.usable.specs.Usable.{analyticSegments}
+use Rattle.sample.specs.Sample.{worstMiss, sampler, sampled}
+use Rattle.sample.specs.Answered.{Answered}
+
+-- an answer of refine, whose buffer came from another call
+pub answered-as : (w : Listed) (last : List Float) (n room : ℕ) → n ≡ room → (f : ℕ → Result (List Float)) (s : Result (List Float)) → f room ≡ s
+    → Answered n (f n) w last → Answered room s w last
+answered-as w last n room e f s is a =
+    subst (λ (x : Result (List Float)). Answered room x w last) is (subst (λ (m : ℕ). Answered m (f m) w last) e a)
+
+module _ (room : ℕ) (c : CurveTree) (range : Interval) (r : Resolved) where
+  -- a closed form's list, by whether it meets the sag
+  checked : List Float → Bool → Result (List Float)
+  checked l t = elim t [ true ↦ got l | false ↦ refined room (sampler c range r) range ]
+
+  by-form : (x : Closed) → Result (List Float)
+  by-form x = elim x [
+    | Unknown ↦ refined room (sampler c range r) range
+    | Segments n ↦ bind (fitting room (evenly range n)) (λ l. checked l (le (worstMiss c nought l) (r .sag)))
+  ]
+
+  form-of : (x : Closed) → x ≡ analyticSegments c range r → by-form x ≡ sampled room c range r
+  unfolding by-form checked sampled sampleParams sampler
+  form-of x e = ap by-form e
+
+  pub no-form : (x : Closed) → x ≡ analyticSegments c range r → x ≡ Unknown → refined room (sampler c range r) range ≡ sampled room c range r
+  unfolding by-form
+  no-form x is e = form-of Unknown (sym e ∙ is)
+
+  module _ (x : Closed) (is : x ≡ analyticSegments c range r) (n : ℕ) (e : x ≡ Segments n) where
+    form : bind (fitting room (evenly range n)) (λ l. checked l (le (worstMiss c nought l) (r .sag))) ≡ sampled room c range r
+    unfolding by-form
+    form = form-of (Segments n) (sym e ∙ is)
+
+    module _ {out mid : List Float} (long : length out ≡ room) (v : Listed) (h : Held out (evenly range n) v mid) where
+      answer : said v ≡ each length (fitting room (evenly range n))
+      answer = h .answer ∙ ap (λ (m : ℕ). each length (fitting m (evenly range n))) long
+
+      pub form-refused : v ≡ Refused → fitting room (evenly range n) ≡ sampled room c range r
+      form-refused z =
+          go (fitting room (evenly range n)) (λ l. checked l (le (worstMiss c nought l) (r .sag))) (ap said (sym z) ∙ answer) ∙ form
+        where
+          go : (y : Result (List Float)) (f : List Float → Result (List Float)) → refused 8 ≡ each length y → y ≡ bind y f
+          go (refused k) f p = refl
+          go (got l) f p = let o : _≡_ {A = ℕ} 0 1 = cc in absurd (omega arith)
+
+      module _ (m : ℕ) (z : v ≡ Count m) where
+        held : Held out (evenly range n) (Count m) mid
+        held = subst (λ (q : Listed). Held out (evenly range n) q mid) z h
+
+        fits : fitting room (evenly range n) ≡ got (evenly range n)
+        fits = fitting-fits room (evenly range n) (omega (arith, held-counted held .fits))
+
+        -- t is what meets answered
+        form-checked : (t : Bool) → le (worstMiss c nought (take m mid)) (r .sag) ≡ t → checked (evenly range n) t ≡ sampled room c range r
+        form-checked t p =
+            ap (checked (evenly range n)) (sym p ∙ ap (λ (l : List Float). le (worstMiss c nought l) (r .sag)) (held-list held))
+            ∙ ap (λ (y : Result (List Float)). bind y (λ l. checked l (le (worstMiss c nought l) (r .sag)))) (sym fits) ∙ form
+
+        module _ (t : Bool) (of : t ≡ le (worstMiss c nought (take m mid)) (r .sag)) where
+          pub form-meets : t ≡ true → fitting room (evenly range n) ≡ sampled room c range r
+          unfolding checked
+          form-meets p = fits ∙ form-checked true (sym of ∙ p)
+
+          pub form-misses : t ≡ false → refined room (sampler c range r) range ≡ sampled room c range r
+          unfolding checked
+          form-misses p = form-checked false (sym of ∙ p)

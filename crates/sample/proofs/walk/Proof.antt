@@ -1,0 +1,118 @@
+use Rattle.listed.proofs.Held.{behind-room}
+use mathlib.Core.Path.{_∙_}
+use Rattle.sample.proofs.Walking.{Walking, end-own, low-refused, low-then, walking-start, walking-room, walking-refused, walking-next, walking-done}
+use Rattle.brep.specs.Tree.{CurveTree, tree}
+use Rattle.brep.specs.Rows.{tables}
+use lib.ListN.{length}
+use Prim.Native.Nat.{_+_, _-_, _≤_}
+use native.Mathlib.Omega.{arith}
+use borrow.Author.Needs.{needs}
+use Rattle.sample.proofs.walk.Statement.{statement}
+use Rattle.sample.proofs.walk.Tie as tie
+use Rattle.sample.proofs.walk.Reads as reads
+use Rattle.sample.proofs.walk.Lts as lts
+use Rattle.bisect.proofs.end_at.Reads as end-at-reads
+use Rattle.listed.proofs.push.Reads as push-reads
+use Rattle.sample.proofs.step.Reads as step-reads
+use Rattle.sample.proofs.stop_at.Reads as stop-at-reads
+
+abbrev Inv-loop : tie.InvT-loop
+Inv-loop points curves reals parts ranges row range r breaks out₀ first k₀ left₀ i₀ out k left i =
+    (i ≤ length breaks + 1)
+    × Walking (tree (tables points curves reals parts ranges) row) range r breaks out₀ k₀ out left k i
+
+abbrev μ-loop : tie.MeasureT-loop
+μ-loop points curves reals parts ranges row range r breaks out₀ first k₀ left₀ i₀ out k left i = length breaks + 1 - i
+
+-- the curve that is read
+abbrev curve-of : tie.Start Inv-loop μ-loop → CurveTree
+curve-of st =
+    let a = st .args in
+    tree (tables (a .points .now) (a .curves .now) (a .reals .now) (a .parts .now) (a .ranges .now)) (a .row)
+
+push-requires : tie.Need-push-requires Inv-loop μ-loop
+push-requires c κs = search needs
+
+enum-known-pushed : tie.Need-enum-known-pushed Inv-loop μ-loop
+enum-known-pushed c = search needs
+
+enum-told : tie.Need-enum-told Inv-loop μ-loop
+enum-told c = search needs
+
+same-length : tie.Need-same-length Inv-loop μ-loop
+same-length c = search needs
+
+returns : tie.Need-returns Inv-loop μ-loop
+returns c = low-refused (curve-of (c .before .before .before .before .before .before .before .before .before .before .before .before .before)) (c .before .before .before .before .before .before .before .before .before .before .before .before .before .args .range) (c .before .before .before .before .before .before .before .before .before .before .before .before .before .args .r) (c .before .before .before .before .before .before .before .before .before .before .before .before .before .args .breaks .now) (c .before .before .before .before .before .before .before .before .before .before .before .before .before .pre) (c .before .before .before .before .before .before .before .before .before .before .before .before .before .args .out .now) _ (c .before .before .before .before .push .ensures) (c .enum-told .given .1)
+
+end-at-requires : tie.Need-end-at-requires Inv-loop μ-loop
+end-at-requires c κs = search needs
+
+loop-holds : tie.Need-loop-holds Inv-loop μ-loop
+loop-holds c = (omega arith, walking-start (curve-of (c .before .before .before .before .before .before .before .before .before .before .before .before .before .before .before)) (c .before .before .before .before .before .before .before .before .before .before .before .before .before .before .before .args .range) (c .before .before .before .before .before .before .before .before .before .before .before .before .before .before .before .args .r) (c .before .before .before .before .before .before .before .before .before .before .before .before .before .before .before .args .breaks .now) _ _ (behind-room (c .before .before .before .before .before .before .before .before .before .before .before .before .before .before .before .args .out .now) 0 _ _ (c .before .before .before .before .before .before .push .ensures) _ (c .before .before .pushed .given .1)) _ (c .end-at .ensures))
+
+stop-at-requires : tie.Need-stop-at-requires Inv-loop μ-loop
+stop-at-requires c κs = search needs
+
+end-at-requires-2 : tie.Need-end-at-requires-2 Inv-loop μ-loop
+end-at-requires-2 c κs = search needs
+
+step-requires : tie.Need-step-requires Inv-loop μ-loop
+step-requires c κs = let s = c .before .before .before .before .loop .inv .1 in (s .own, end-own (curve-of (c .before .before .before .before .before .before .before .before .before .before .before .before .before .before .before .before .before .before .before .before)) _ _ (c .before .end-at2 .ensures), walking-room (curve-of (c .before .before .before .before .before .before .before .before .before .before .before .before .before .before .before .before .before .before .before .before)) (c .before .before .before .before .before .before .before .before .before .before .before .before .before .before .before .before .before .before .before .before .args .range) (c .before .before .before .before .before .before .before .before .before .before .before .before .before .before .before .before .before .before .before .before .args .r) (c .before .before .before .before .before .before .before .before .before .before .before .before .before .before .before .before .before .before .before .before .args .breaks .now) s)
+
+enum-known-stepped : tie.Need-enum-known-stepped Inv-loop μ-loop
+enum-known-stepped c = search needs
+
+enum-told-2 : tie.Need-enum-told-2 Inv-loop μ-loop
+enum-told-2 c = search needs
+
+same-length-2 : tie.Need-same-length-2 Inv-loop μ-loop
+same-length-2 c = c .before .before .before .out2 .given ∙ c .before .before .before .before .before .before .before .before .before .loop .inv .1 .same-length ∙ c .before .before .before .before .before .before .before .before .before .before .before .before .before .before .before .out .given
+
+returns-2 : tie.Need-returns-2 Inv-loop μ-loop
+returns-2 c = low-then (curve-of (c .before .before .before .before .before .before .before .before .before .before .before .before .before .before .before .before .before .before .before .before .before .before .before .before .before)) (c .before .before .before .before .before .before .before .before .before .before .before .before .before .before .before .before .before .before .before .before .before .before .before .before .before .args .range) (c .before .before .before .before .before .before .before .before .before .before .before .before .before .before .before .before .before .before .before .before .before .before .before .before .before .args .r) (c .before .before .before .before .before .before .before .before .before .before .before .before .before .before .before .before .before .before .before .before .before .before .before .before .before .args .breaks .now) (c .before .before .before .before .before .before .before .before .before .before .before .before .before .before .before .before .before .before .before .before .before .before .before .before .before .pre) (c .before .before .before .before .before .before .before .before .before .before .before .before .before .before .before .before .before .before .before .before .before .before .before .before .before .args .out .now) _ (c .before .before .before .before .before .before .before .before .before .before .before .before .before .before .before .before .push .ensures) _ (c .before .before .before .before .before .before .before .before .before .before .before .before .pushed .given .1) (walking-refused (curve-of (c .before .before .before .before .before .before .before .before .before .before .before .before .before .before .before .before .before .before .before .before .before .before .before .before .before)) (c .before .before .before .before .before .before .before .before .before .before .before .before .before .before .before .before .before .before .before .before .before .before .before .before .before .args .range) (c .before .before .before .before .before .before .before .before .before .before .before .before .before .before .before .before .before .before .before .before .before .before .before .before .before .args .r) (c .before .before .before .before .before .before .before .before .before .before .before .before .before .before .before .before .before .before .before .before .before .before .before .before .before .args .breaks .now) (c .before .before .before .before .before .before .before .before .before .loop .inv .1) (c .before .before .before .before .before .before .before .before .loop-test .taken) _ (c .before .before .before .before .before .before .before .stop-at .ensures) _ (c .before .before .before .before .before .before .end-at2 .ensures) _ (c .before .before .before .before .step .ensures) (c .enum-told2 .given .1))
+
+add-i : tie.Need-add-i Inv-loop μ-loop
+add-i c = omega (arith, c .before .before .before .before .before .before .before .before .before .loop-test .taken, c .before .before .before .before .before .before .before .before .before .before .before .before .before .before .before .before .before .before .before .before .before .before .before .before .before .before .good .1 .1 .1 .1 .1 .1 .1 .1 .0 .1)
+
+loop-less : tie.Need-loop-less Inv-loop μ-loop
+loop-less c = search needs
+
+loop-again : tie.Need-loop-again Inv-loop μ-loop
+loop-again c = (omega (arith, c .before .before .before .before .before .before .before .before .before .loop-test .taken), walking-next (curve-of (c .before .before .before .before .before .before .before .before .before .before .before .before .before .before .before .before .before .before .before .before .before .before .before .before .before .before)) (c .before .before .before .before .before .before .before .before .before .before .before .before .before .before .before .before .before .before .before .before .before .before .before .before .before .before .args .range) (c .before .before .before .before .before .before .before .before .before .before .before .before .before .before .before .before .before .before .before .before .before .before .before .before .before .before .args .r) (c .before .before .before .before .before .before .before .before .before .before .before .before .before .before .before .before .before .before .before .before .before .before .before .before .before .before .args .breaks .now) (c .before .before .before .before .before .before .before .before .before .before .loop .inv .1) (c .before .before .before .before .before .before .before .before .before .loop-test .taken) _ (c .before .before .before .before .before .before .before .before .stop-at .ensures) _ (c .before .before .before .before .before .before .before .end-at2 .ensures) _ (c .before .before .before .before .before .step .ensures) _ (c .before .stepped .given .1))
+
+push-requires-2 : tie.Need-push-requires-2 Inv-loop μ-loop
+push-requires-2 c κs = walking-room (curve-of (c .before .before .before .before .before .before .before .before .before .before .before .before .before .before .before .before .before .before)) (c .before .before .before .before .before .before .before .before .before .before .before .before .before .before .before .before .before .before .args .range) (c .before .before .before .before .before .before .before .before .before .before .before .before .before .before .before .before .before .before .args .r) (c .before .before .before .before .before .before .before .before .before .before .before .before .before .before .before .before .before .before .args .breaks .now) (c .before .before .loop .inv .1)
+
+same-length-3 : tie.Need-same-length-3 Inv-loop μ-loop
+same-length-3 c = c .before .out3 .given ∙ c .before .before .before .before .before .loop .inv .1 .same-length ∙ c .before .before .before .before .before .before .before .before .before .before .before .out .given
+
+returns-3 : tie.Need-returns-3 Inv-loop μ-loop
+returns-3 c = low-then (curve-of (c .before .before .before .before .before .before .before .before .before .before .before .before .before .before .before .before .before .before .before .before .before)) (c .before .before .before .before .before .before .before .before .before .before .before .before .before .before .before .before .before .before .before .before .before .args .range) (c .before .before .before .before .before .before .before .before .before .before .before .before .before .before .before .before .before .before .before .before .before .args .r) (c .before .before .before .before .before .before .before .before .before .before .before .before .before .before .before .before .before .before .before .before .before .args .breaks .now) (c .before .before .before .before .before .before .before .before .before .before .before .before .before .before .before .before .before .before .before .before .before .pre) (c .before .before .before .before .before .before .before .before .before .before .before .before .before .before .before .before .before .before .before .before .before .args .out .now) _ (c .before .before .before .before .before .before .before .before .before .before .before .before .push .ensures) _ (c .before .before .before .before .before .before .before .before .pushed .given .1) (walking-done (curve-of (c .before .before .before .before .before .before .before .before .before .before .before .before .before .before .before .before .before .before .before .before .before)) (c .before .before .before .before .before .before .before .before .before .before .before .before .before .before .before .before .before .before .before .before .before .args .range) (c .before .before .before .before .before .before .before .before .before .before .before .before .before .before .before .before .before .before .before .before .before .args .r) (c .before .before .before .before .before .before .before .before .before .before .before .before .before .before .before .before .before .before .before .before .before .args .breaks .now) (c .before .before .before .before .before .loop .inv .1) (c .before .before .before .before .loop-test .left) _ (c .before .before .push2 .ensures))
+
+pub walk-spec : {M : Type 1} → statement M
+walk-spec =
+    tie.close
+    (tie.spec
+    Inv-loop
+    μ-loop
+    push-requires
+    enum-known-pushed
+    enum-told
+    same-length
+    returns
+    end-at-requires
+    loop-holds
+    stop-at-requires
+    end-at-requires-2
+    step-requires
+    enum-known-stepped
+    enum-told-2
+    same-length-2
+    returns-2
+    add-i
+    loop-less
+    loop-again
+    push-requires-2
+    same-length-3
+    returns-3)
