@@ -22,6 +22,7 @@ ghost use Rattle.chains.specs.Draw.{roomOf};
 ghost use Rattle.place.specs.Place.{ofPoints};
 ghost use Rattle.edge.specs.Discretised.{chainOf, thinnedMerged, overRange};
 
+// The smaller of two.
 fn least(a: usize, b: usize) -> usize
     ensures { λ r. ⌜ r ≡ min a b ⌝ }
 {

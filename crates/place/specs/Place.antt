@@ -5,7 +5,6 @@ use Prim.Native.Nat.{ℕ, _-_}
 use lib.ListN.{length, getD}
 use lib.Dec.{eqb}
 use lib.Ieee.{Float, nan}
-use Rattle.math.specs.declared.Vec3.{Vec3}
 use Rattle.brep.specs.declared.Edge.{Edge}
 use Rattle.brep.specs.Rows.{Tables, tables}
 use Rattle.curve.specs.Eval.{pointAt}

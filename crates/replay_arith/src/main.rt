@@ -1,11 +1,7 @@
 // Reads lines `NAME BITS..` from standard input and writes a line of 16 hex digits for each: the
 // answer's bits, of a NaN 7ff8000000000000; `?` for a malformed line. One space between, floats by
 // their bits as 16 lowercase hex digits, clamp's operands in the order x, lower, upper.
-ghost use mathlib.Core.Path.{_≡_};
-ghost use Prim.Native.Nat.{_+_, _≤_, _<_};
-ghost use lib.Ieee.{binary64, toBits};
 use libc::STDIN_FILENO;
-use libc::STDOUT_FILENO;
 use text::Num;
 
 // Names as numbers: their letters in base 256, behind a 1.
@@ -150,80 +146,22 @@ fn answer_to(buffer: &[u8], n: usize) -> Answer {
     }
 }
 
-// The bits of x, with one pattern for every NaN.
-fn bits(x: f64) -> u64
-    ensures { λ r. ⌜ r ≡ toBits binary64 x ⌝ }
-{
-    if x != x {
-        0x7FF8000000000000
-    } else {
-        f64::to_bits(x)
-    }
-}
-
-// Sixteen hex digits of v, and a newline.
-fn put_bits(v: u64, out: &mut [u8; 4096], at: usize)
-    requires { ⌜ at + 17 ≤ 4096 ⌝ }
-{
-    let mut rest = v;
-    let mut i = 16usize;
-    while 0 < i {
-        i -= 1;
-        out[at + i] = text::char_of((rest % 16) as u8);
-        rest = rest / 16;
-    }
-    out[at + 16] = b'\n';
-}
-
 // The answer's line at a place of the output; answers the place behind it.
-fn put(answer: Answer, out: &mut [u8; 4096], at: usize) -> usize
-    requires { ⌜ at + 17 ≤ 4096 ⌝ }
-    ensures { λ r. ⌜ r ≤ 4096 ⌝ }
-{
+fn put(answer: Answer, out: &mut [u8; 4096], at: usize) -> usize {
     match answer {
-        Answer::Value(x) => {
-            put_bits(bits(x), out, at);
-            at + 17
-        }
-        Answer::Malformed => {
-            out[at] = b'?';
-            out[at + 1] = b'\n';
-            at + 2
-        }
+        Answer::Value(x) => replay_text::float_then(out, at, x, b'\n'),
+        Answer::Malformed => replay_text::word(out, at, b"?\n"),
     }
-}
-
-// The first n bytes of a buffer, written.
-fn write(buffer: &[u8], n: usize) {
-    if n <= buffer.len() {
-        io::write_all(STDOUT_FILENO, &buffer[..n]);
-    }
-}
-
-// The output written where a further line might not fit; answers how many bytes still wait.
-fn flushed(out: &[u8; 4096], waiting: usize) -> usize
-    requires { ⌜ waiting ≤ 4096 ⌝ }
-    ensures { λ r. ⌜ r + 17 ≤ 4096 ⌝ }
-{
-    if waiting <= 4079 {
-        return waiting;
-    }
-    write(out, waiting);
-    0
 }
 
 // One byte more of the input; a newline puts the line's answer into the output. No line of more
 // than 56 bytes is well formed, so the first 64 are enough to keep.
-fn step(b: u8, line: &mut [u8; 64], out: &mut [u8; 4096], kept: Kept) -> Kept
-    requires { ⌜ (kept .line ≤ 64) × (kept .out ≤ 4096) ⌝ }
-    ensures { λ r. ⌜ (r .line ≤ 64) × (r .out ≤ 4096) ⌝ }
-{
+fn step(b: u8, line: &mut [u8; 64], out: &mut [u8; 4096], kept: Kept) -> Kept {
     let n = kept.line;
     if b == b'\n' {
-        let at = flushed(out, kept.out);
         return Kept {
             line: 0,
-            out: put(answer_to(line, n), out, at),
+            out: put(answer_to(line, n), out, kept.out),
         };
     }
     if n < 64 {
@@ -236,10 +174,7 @@ fn step(b: u8, line: &mut [u8; 64], out: &mut [u8; 4096], kept: Kept) -> Kept
     kept
 }
 
-fn feed(chunk: &[u8], line: &mut [u8; 64], out: &mut [u8; 4096], start: Kept) -> Kept
-    requires { ⌜ (start .line ≤ 64) × (start .out ≤ 4096) ⌝ }
-    ensures { λ r. ⌜ (r .line ≤ 64) × (r .out ≤ 4096) ⌝ }
-{
+fn feed(chunk: &[u8], line: &mut [u8; 64], out: &mut [u8; 4096], start: Kept) -> Kept {
     let mut kept = start;
     let mut i = 0usize;
     while i < chunk.len() {
@@ -250,14 +185,12 @@ fn feed(chunk: &[u8], line: &mut [u8; 64], out: &mut [u8; 4096], start: Kept) ->
 }
 
 // What the input left: a last line that no newline ended, and the output that waits.
-fn finish(line: &mut [u8; 64], out: &mut [u8; 4096], kept: Kept)
-    requires { ⌜ (kept .line ≤ 64) × (kept .out ≤ 4096) ⌝ }
-{
+fn finish(line: &mut [u8; 64], out: &mut [u8; 4096], kept: Kept) {
     if kept.line == 0 {
-        write(out, kept.out);
+        replay_text::flush(out, kept.out);
     } else {
         let all = step(b'\n', line, out, kept);
-        write(out, all.out);
+        replay_text::flush(out, all.out);
     }
 }
 

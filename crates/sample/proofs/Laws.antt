@@ -15,7 +15,7 @@ use Rattle.options.specs.declared.Resolved.{Resolved}
 use Rattle.options.specs.Options.{segmentsForArc}
 use Rattle.params.specs.declared.Closed.{Closed}
 use Rattle.params.specs.declared.Closed.the-variants.{Unknown, Segments}
-use Rattle.params.specs.Params.{Sampler, steps, evenly, fitting, bisected, floored, refined, sampleParams}
+use Rattle.params.specs.Params.{Sampler, evenly, fitting, bisected, floored, refined, sampleParams}
 use Rattle.params.proofs.Lists.{Outcome, list, eight, outcome-got, steps-length, sampled-length}
 use Rattle.usable.specs.Usable.{analyticSegments}
 use Rattle.sample.specs.Sample.{sampler, sampled}
@@ -28,7 +28,7 @@ at-least m n e = let p : max m 1 ≡ n = cc in omega arith
 formless : (n : ℕ) → Unknown ≡ Segments n → 1 ≤ n
 formless n e = let z : _≡_ {A = ℕ} 0 1 = cc in absurd (omega arith)
 
-pub form-some : (c : CurveTree) (range : Interval) (r : Resolved) (n : ℕ) → analyticSegments c range r ≡ Segments n → 1 ≤ n
+form-some : (c : CurveTree) (range : Interval) (r : Resolved) (n : ℕ) → analyticSegments c range r ≡ Segments n → 1 ≤ n
 unfolding analyticSegments segmentsForArc
 form-some (line o d) range r n e = at-least _ n e
 form-some (circle f radius) range r n e = at-least _ n e

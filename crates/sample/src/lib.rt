@@ -24,7 +24,7 @@ ghost use Rattle.bisect.specs.Bisect.{endAt, withinBudget};
 ghost use Rattle.sample.specs.Sample.{missOf, worstMiss, sampler, sampled};
 ghost use Rattle.sample.specs.Answered.{Answered, countOf, stops};
 
-// How far the curve of a row, whose points at a and b are pa and pb, lies from the chord's middle at theirs.
+// How far the middle of the curve of a row lies from the middle of the chord from a to b; pa and pb are its points there.
 fn miss_of(
     points: &[f64],
     curves: &[u32],
@@ -231,6 +231,7 @@ fn walk_breaks(
         r.sag,
         &mut breaks,
     );
+    // Never else: the knots fit.
     let Knots::Count(m) = kept else {
         return Listed::Refused;
     };
@@ -248,7 +249,7 @@ fn walk_breaks(
     )
 }
 
-// Bisection between the breaks; most curves have none, and need no room for them.
+// Bisection between the breaks. Most curves have no knots, and need no room for breaks.
 fn bisect_range(
     points: &[f64],
     curves: &[u32],

@@ -28,7 +28,12 @@ same-length : tie.Need-same-length
 same-length c = search needs
 
 returns : tie.Need-returns
-returns c = let a = c .before .before .before .before .before .before .before .before .before .before .before .before .before .before .before .before .args in chord-held (ofPoints (now (a .points))) (a .edge) (a .a) (a .b) (now (a .chain)) _ _ _ _ _ (c .before .before .before .before .before .before .before .before .before .before .before .before .before .before .before .before .pre) (c .before .before .before .before .before .before .before .before .before .before .before .before .before .point .ensures) (c .before .before .before .before .before .before .before .before .before .before .before .before .point2 .ensures) (c .before .before .before .before .before .before .before .before .before .before .put .ensures) (c .before .before .before .before .before .before .put2 .ensures) (c .before .before .clear-from .ensures)
+returns c =
+    let a = c .before .before .before .before .before .before .before .before .before .before .before .before .before .before .before .before .args in
+    chord-held (ofPoints (now (a .points))) (a .edge) (a .a) (a .b) (now (a .chain)) _ _ _ _ _ (c .before .before .before .before .before .before .before .before .before .before .before .before .before .before .before .before .pre)
+    (c .before .before .before .before .before .before .before .before .before .before .before .before .before .point .ensures)
+    (c .before .before .before .before .before .before .before .before .before .before .before .before .point2 .ensures) (c .before .before .before .before .before .before .before .before .before .before .put .ensures)
+    (c .before .before .before .before .before .before .put2 .ensures) (c .before .before .clear-from .ensures)
 
 pub chord-spec : {M : Type 1} → statement M
 chord-spec =

@@ -51,9 +51,11 @@ same-length-2 c = search needs
 
 returns : tie.Need-returns
 returns c =
-    let a = c .before .before .before .before .before .before .before .before .before .before .before .before .before .before .before .before .before .args in
+    let st = c .before .before .before .before .before .before .before .before .before .before .before .before .before .before .before .before .before in
     let p = c .before .before .before .before .before .before .before .before .sample-params .ensures in
-    let d = drew-none (sampling (c .before .before .before .before .before .before .before .before .before .before .before .before .before .before .before .before .before)) _ _ (now (a .chain)) _ (p .0) (c .before .before .before .before .enum-told .given .1) (c .before .before .clear-from .ensures) in
+    let d =
+    drew-none (sampling st) _ _
+    (now (st .args .chain)) _ (p .0) (c .before .before .before .before .enum-told .given .1) (c .before .before .clear-from .ensures) in
     (d .0, d .1, p .1)
 
 slice-reshare-prefix-place : tie.Need-slice-reshare-prefix-place
@@ -70,8 +72,8 @@ place-requires c κs =
 finish-requires : tie.Need-finish-requires
 finish-requires c κs =
     let s = told (c .before .before .before .before .before .before .before) in
-    let a = c .before .before .before .before .before .before .before .before .before .before .before .before .before .before .before .before .before .before .before .before .args in
-    (s .two, omega (arith, s .fits, c .before .before .before .before .before .before .before .before .before .before .before .before .before .before .before .before .before .before .before .before .pre .0), placed-room (tables-of (c .before .before .before .before .before .before .before .before .before .before .before .before .before .before .before .before .before .before .before .before)) (a .edge) (a .r) (a .range) s (now (a .chain)) _ (omega (arith, s .fits, c .before .before .before .before .before .before .before .before .before .before .before .before .before .before .before .before .before .before .before .before .pre .1)) (c .before .before .before .place .ensures))
+    let st = c .before .before .before .before .before .before .before .before .before .before .before .before .before .before .before .before .before .before .before .before in
+    (s .two, omega (arith, s .fits, st .pre .0), placed-room (tables-of st) (st .args .edge) (st .args .r) (st .args .range) s (now (st .args .chain)) _ (omega (arith, s .fits, st .pre .1)) (c .before .before .before .place .ensures))
 
 same-length-3 : tie.Need-same-length-3
 same-length-3 c = search needs
@@ -82,8 +84,11 @@ same-length-4 c = search needs
 returns-2 : tie.Need-returns-2
 returns-2 c =
     let s = told (c .before .before .before .before .before .before .before .before .before .before) in
-    let a = c .before .before .before .before .before .before .before .before .before .before .before .before .before .before .before .before .before .before .before .before .before .before .before .args in
-    let d = drew-some (tables-of (c .before .before .before .before .before .before .before .before .before .before .before .before .before .before .before .before .before .before .before .before .before .before .before)) (a .edge) (a .r) (a .range) s (now (a .chain)) _ (omega (arith, s .fits, c .before .before .before .before .before .before .before .before .before .before .before .before .before .before .before .before .before .before .before .before .before .before .before .pre .1)) (c .before .before .before .before .before .before .place .ensures) _ _ (c .before .before .finish .ensures) in
+    let st = c .before .before .before .before .before .before .before .before .before .before .before .before .before .before .before .before .before .before .before .before .before .before .before in
+    let d =
+    drew-some (tables-of st)
+    (st .args .edge) (st .args .r) (st .args .range) s (now (st .args .chain)) _ (omega (arith, s .fits, st .pre .1))
+    (c .before .before .before .before .before .before .place .ensures) _ _ (c .before .before .finish .ensures) in
     (d .0, d .1, c .before .before .before .before .before .before .before .before .before .before .before .before .before .before .sample-params .ensures .1)
 
 pub draw-range-spec : {M : Type 1} → statement M

@@ -43,7 +43,8 @@ merge-requires : tie.Need-merge-requires
 merge-requires c κs = thin-room (told (c .before .before .before))
 
 mul-clear-from : tie.Need-mul-clear-from
-mul-clear-from c = omega (arith, merged-few (told (c .before .before .before .before .before .before .before)) (c .before .before .before .before .before .merge-floor .result) _ (c .before .before .before .before .before .merge-floor .ensures) (c .before .before .before .merge .ensures), c .before .before .before .before .before .before .before .before .before .before .before .before .before .before .before .before .before .before .before .good .1 .1 .1 .1 .1 .1 .1 .0 .1)
+mul-clear-from c =
+    omega (arith, merged-few (told (c .before .before .before .before .before .before .before)) (c .before .before .before .before .before .merge-floor .result) _ (c .before .before .before .before .before .merge-floor .ensures) (c .before .before .before .merge .ensures), c .before .before .before .before .before .before .before .before .before .before .before .before .before .before .before .before .before .before .before .good .1 .1 .1 .1 .1 .1 .1 .0 .1)
 
 clear-from-requires : tie.Need-clear-from-requires
 clear-from-requires c κs = merged-room (told (c .before .before .before .before .before .before .before)) (c .before .before .before .before .before .merge-floor .result) _ (c .before .before .before .before .before .merge-floor .ensures) (c .before .before .before .merge .ensures)
@@ -58,13 +59,20 @@ same-length : tie.Need-same-length
 same-length c = search needs
 
 returns : tie.Need-returns
-returns c = finished-some (told (c .before .before .before .before .before .before .before .before .before .before)) (c .before .before .before .before .before .before .before .before .merge-floor .result) _ (c .before .before .before .before .before .before .before .before .merge-floor .ensures) (c .before .before .before .before .before .before .merge .ensures) _ (c .before .before .clear-from .ensures)
+returns c =
+    finished-some (told (c .before .before .before .before .before .before .before .before .before .before)) (c .before .before .before .before .before .before .before .before .merge-floor .result) _
+    (c .before .before .before .before .before .before .before .before .merge-floor .ensures) (c .before .before .before .before .before .before .merge .ensures) _
+    (c .before .before .clear-from .ensures)
 
 same-length-2 : tie.Need-same-length-2
 same-length-2 c = search needs
 
 returns-2 : tie.Need-returns-2
-returns-2 c = let a = c .before .before .before .before .before .before .before .before .before .before .before .before .before .before .before .before .before .args in finished-none (now (a .chain)) (thinning (c .before .before .before .before .before .before .before .before .before .before .before .before .before .before .before .before .before)) (mergeFloor (a .edge .tolerance) (a .r .sag)) _ _ _ _ (c .before .before .before .before .before .before .before .before .before .thin-sampled .ensures) (c .before .before .before .before .before .thinned2 .given .1) (c .before .before .clear-from2 .ensures)
+returns-2 c =
+    let a = c .before .before .before .before .before .before .before .before .before .before .before .before .before .before .before .before .before .args in
+    finished-none (now (a .chain)) (thinning (c .before .before .before .before .before .before .before .before .before .before .before .before .before .before .before .before .before))
+    (mergeFloor (a .edge .tolerance) (a .r .sag)) _ _ _ _ (c .before .before .before .before .before .before .before .before .before .thin-sampled .ensures)
+    (c .before .before .before .before .before .thinned2 .given .1) (c .before .before .clear-from2 .ensures)
 
 pub finish-spec : {M : Type 1} → statement M
 finish-spec =

@@ -22,7 +22,11 @@ same-length : tie.Need-same-length
 same-length c = search needs
 
 returns : tie.Need-returns
-returns c = let a = c .before .before .before .before .before .before .before .before .before .before .before .before .before .before .args in passed-thinned (a .r) (now (a .chain)) (a .n) _ _ (c .before .before .before .before .before .before .before .is-sampled .ensures) _ _ _ (c .before .before .before .before .before .before .if1 .taken) (omega arith) (c .before .before .before .before .before .least .ensures) (c .before .before .thin .ensures)
+returns c =
+    let a = c .before .before .before .before .before .before .before .before .before .before .before .before .before .before .args in
+    passed-thinned (a .r) (now (a .chain)) (a .n) _ _ (c .before .before .before .before .before .before .before .is-sampled .ensures) _ _ _
+    (c .before .before .before .before .before .before .if1 .taken) (omega arith) (c .before .before .before .before .before .least .ensures)
+    (c .before .before .thin .ensures)
 
 returns-2 : tie.Need-returns-2
 returns-2 c = let a = c .before .before .before .before .before .before .before .before .args in passed-over (a .r) (now (a .chain)) (a .n) _ _ (c .before .is-sampled .ensures) (c .if1 .left)

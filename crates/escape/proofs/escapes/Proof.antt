@@ -5,7 +5,7 @@ use Rattle.math.specs.Math.{vLength}
 use borrow.Author.Needs.{needs}
 use native.Mathlib.Omega.{arith}
 use Prim.Native.Nat.{_≤_, _-_}
-use mathlib.Core.Path.{_≡_, refl, sym, ap, _∙_}
+use mathlib.Core.Path.{_≡_, refl, _∙_}
 use Rattle.escape.proofs.escapes.Statement.{statement}
 use Rattle.escape.proofs.escapes.Tie as tie
 

@@ -3,7 +3,7 @@ use Rattle.escape.proofs.Sweep.{nearer-new, nearer-old}
 use Rattle.escape.proofs.Roots.{root-not-below}
 use Rattle.roots.specs.Root.{rootOf}
 use lib.Ieee.{lt}
-use mathlib.Core.Path.{_≡_, sym, ap, _∙_}
+use mathlib.Core.Path.{sym, ap, _∙_}
 use borrow.Author.Needs.{needs}
 use Rattle.escape.proofs.nearer.Statement.{statement}
 use Rattle.escape.proofs.nearer.Tie as tie

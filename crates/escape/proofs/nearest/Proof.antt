@@ -6,7 +6,7 @@ use Rattle.brep.specs.Rows.{tables}
 use borrow.Author.Needs.{needs}
 use native.Mathlib.Omega.{arith}
 use Prim.Native.Nat.{_≤_, _-_}
-use mathlib.Core.Path.{_≡_, refl, sym, ap, _∙_}
+use mathlib.Core.Path.{_≡_}
 use Rattle.escape.proofs.nearest.Statement.{statement}
 use Rattle.escape.proofs.nearest.Tie as tie
 

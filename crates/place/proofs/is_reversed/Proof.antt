@@ -47,7 +47,10 @@ length-squared-requires-2 : tie.Need-length-squared-requires-2
 length-squared-requires-2 c κs = search needs
 
 returns-2 : tie.Need-returns-2
-returns-2 c = let a = c .before .before .before .before .before .before .before .before .before .before .before .before .before .before .before .before .before .args in simp (c .length-squared2 .ensures, c .before .sub2 .ensures, c .before .before .length-squared .ensures, c .before .before .before .sub .ensures, c .before .before .before .before .point-at2 .ensures, c .before .before .before .before .before .point-at .ensures, c .before .before .before .before .before .before .before .before .point .ensures) (back-by-ends (lent (a .points) (a .curves) (a .reals) (a .parts) (a .ranges)) (a .edge) (now (a .params)) (sym (c .before .before .before .before .before .before .before .before .before .before .degenerate-ends .ensures) ∙ c .before .before .before .before .before .before .before .before .before .if1 .left))
+returns-2 c =
+    let a = c .before .before .before .before .before .before .before .before .before .before .before .before .before .before .before .before .before .args in
+    simp (c .length-squared2 .ensures, c .before .sub2 .ensures, c .before .before .length-squared .ensures, c .before .before .before .sub .ensures, c .before .before .before .before .point-at2 .ensures, c .before .before .before .before .before .point-at .ensures, c .before .before .before .before .before .before .before .before .point .ensures)
+    (back-by-ends (lent (a .points) (a .curves) (a .reals) (a .parts) (a .ranges)) (a .edge) (now (a .params)) (sym (c .before .before .before .before .before .before .before .before .before .before .degenerate-ends .ensures) ∙ c .before .before .before .before .before .before .before .before .before .if1 .left))
 
 pub is-reversed-spec : {M : Type 1} → statement M
 is-reversed-spec =

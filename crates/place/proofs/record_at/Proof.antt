@@ -13,7 +13,10 @@ point-requires : tie.Need-point-requires
 point-requires c κs = search needs
 
 returns : tie.Need-returns
-returns c = let a = c .before .before .before .before .before .before .before .before .before .args in record-first (lent (a .points) (a .curves) (a .reals) (a .parts) (a .ranges)) (a .edge) (now (a .params)) (a .reversed) (a .i) _ _ (c .before .before .param-at .ensures) (c .before .if1 .taken) (c .point .ensures)
+returns c =
+    let a = c .before .before .before .before .before .before .before .before .before .args in
+    record-first (lent (a .points) (a .curves) (a .reals) (a .parts) (a .ranges)) (a .edge) (now (a .params)) (a .reversed) (a .i) _ _
+    (c .before .before .param-at .ensures) (c .before .if1 .taken) (c .point .ensures)
 
 sub-if2 : tie.Need-sub-if2
 sub-if2 c = search needs
@@ -22,13 +25,19 @@ point-requires-2 : tie.Need-point-requires-2
 point-requires-2 c κs = search needs
 
 returns-2 : tie.Need-returns-2
-returns-2 c = let a = c .before .before .before .before .before .before .before .before .before .before .args in record-last (lent (a .points) (a .curves) (a .reals) (a .parts) (a .ranges)) (a .edge) (now (a .params)) (a .reversed) (a .i) _ _ (c .before .before .before .param-at .ensures) (c .before .before .if1 .left) (c .before .if2 .taken) (c .point2 .ensures)
+returns-2 c =
+    let a = c .before .before .before .before .before .before .before .before .before .before .args in
+    record-last (lent (a .points) (a .curves) (a .reals) (a .parts) (a .ranges)) (a .edge) (now (a .params)) (a .reversed) (a .i) _ _
+    (c .before .before .before .param-at .ensures) (c .before .before .if1 .left) (c .before .if2 .taken) (c .point2 .ensures)
 
 point-at-requires : tie.Need-point-at-requires
 point-at-requires c κs = search needs
 
 returns-3 : tie.Need-returns-3
-returns-3 c = let a = c .before .before .before .before .before .before .before .before .before .before .args in record-between (lent (a .points) (a .curves) (a .reals) (a .parts) (a .ranges)) (a .edge) (now (a .params)) (a .reversed) (a .i) _ _ (c .before .before .before .param-at .ensures) (c .before .before .if1 .left) (c .before .if2 .left) (c .point-at .ensures)
+returns-3 c =
+    let a = c .before .before .before .before .before .before .before .before .before .before .args in
+    record-between (lent (a .points) (a .curves) (a .reals) (a .parts) (a .ranges)) (a .edge) (now (a .params)) (a .reversed)
+    (a .i) _ _ (c .before .before .before .param-at .ensures) (c .before .before .if1 .left) (c .before .if2 .left) (c .point-at .ensures)
 
 pub record-at-spec : {M : Type 1} → statement M
 record-at-spec =

@@ -1,4 +1,4 @@
--- `replay_arith::feed` meets its contract: every byte keeps the bounds. Assumes nothing.
+-- `replay_arith::feed` meets its contract. Assumes nothing.
 use Prim.Native.Nat.{_-_, _≤_}
 use lib.ListN.{length}
 use borrow.Author.Needs.{needs}
@@ -6,7 +6,7 @@ use Rattle.replay_arith.proofs.feed.Statement.{statement}
 use Rattle.replay_arith.proofs.feed.Tie as tie
 
 abbrev Inv-loop : tie.InvT-loop
-Inv-loop chunk line₀ out₀ kept₀ i₀ line out kept i = (i ≤ length chunk) × (kept .line ≤ 64) × (kept .out ≤ 4096)
+Inv-loop chunk line₀ out₀ kept₀ i₀ line out kept i = i ≤ length chunk
 
 abbrev μ-loop : tie.MeasureT-loop
 μ-loop chunk line₀ out₀ kept₀ i₀ line out kept i = length chunk - i

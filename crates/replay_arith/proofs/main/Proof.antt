@@ -1,14 +1,13 @@
--- `replay_arith::main` meets its contract: a chunk keeps the bounds, and the turns run out. Assumes nothing.
+-- `replay_arith::main` meets its contract: a chunk keeps its length, and the turns run out. Assumes nothing.
 use borrow.Author.Needs.{needs}
 use mathlib.Core.Path.{_≡_}
-use Prim.Native.Nat.{_≤_}
 use lib.ListN.{length}
 use Rattle.replay_arith.proofs.main.Statement.{statement}
 use Rattle.replay_arith.proofs.main.Tie as tie
 
 abbrev Inv-loop : tie.InvT-loop
 Inv-loop chunk₀ line₀ out₀ kept₀ turns₀ chunk line out kept turns =
-    (65536 ≡ length chunk) × (kept .line ≤ 64) × (kept .out ≤ 4096)
+    65536 ≡ length chunk
 
 abbrev μ-loop : tie.MeasureT-loop
 μ-loop chunk₀ line₀ out₀ kept₀ turns₀ chunk line out kept turns = turns

@@ -1,15 +1,15 @@
+-- `sample::meets` meets its contract. Assumes nothing.
+use mathlib.Core.Path.{sym, ap}
 use lib.Ieee.{Float, le}
 use lib.Seq.{length-take-le}
-use mathlib.Core.Path.{sym, ap}
 use borrow.Author.Needs.{needs}
 use Rattle.sample.proofs.meets.Statement.{statement}
 use Rattle.sample.proofs.meets.Tie as tie
-use Rattle.sample.proofs.meets.Reads as reads
-use Rattle.sample.proofs.meets.Lts as lts
-use Rattle.sample.proofs.worst_miss.Reads as worst-miss-reads
 
 slice-aggregate-params : tie.Need-slice-aggregate-params
-slice-aggregate-params c = sym (length-take-le (c .before .before .before .before .before .before .before .args .n) (c .before .before .before .before .before .before .before .args .out .now) (c .before .before .before .before .before .before .before .pre))
+slice-aggregate-params c =
+    let st = c .before .before .before .before .before .before .before in
+    sym (length-take-le (st .args .n) (st .args .out .now) (st .pre))
 
 worst-miss-requires : tie.Need-worst-miss-requires
 worst-miss-requires c κs = search needs

@@ -1,14 +1,8 @@
-use Rattle.sample.specs.Sample.{missOf}
+-- `sample::miss_of` meets its contract. Assumes nothing.
 use borrow.Author.Needs.{needs}
+use Rattle.sample.specs.Sample.{missOf}
 use Rattle.sample.proofs.miss_of.Statement.{statement}
 use Rattle.sample.proofs.miss_of.Tie as tie
-use Rattle.sample.proofs.miss_of.Reads as reads
-use Rattle.sample.proofs.miss_of.Lts as lts
-use Rattle.curve.proofs.point_at.Reads as point-at-reads
-use Rattle.math.proofs.Vec3.add.Reads as add-reads
-use Rattle.math.proofs.Vec3.length.Reads as length-reads
-use Rattle.math.proofs.Vec3.scale.Reads as scale-reads
-use Rattle.math.proofs.Vec3.sub.Reads as sub-reads
 
 point-at-requires : tie.Need-point-at-requires
 point-at-requires c κs = search needs

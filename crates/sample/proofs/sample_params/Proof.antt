@@ -1,21 +1,15 @@
-use Rattle.brep.specs.Tree.{CurveTree, tree}
-use Rattle.brep.specs.Rows.{tables}
-use Rattle.sample.proofs.Ways.{answered-as, no-form, form-refused, form-meets, form-misses}
-use Rattle.sample.proofs.Settled.{settle-room, settled}
-use Rattle.sample.specs.Sample.{sampler, sampled}
-use Rattle.params.specs.Params.{refined}
-use lib.ListN.{length}
+-- `sample::sample_params` meets its contract. Assumes nothing.
 use mathlib.Core.Path.{refl}
+use lib.ListN.{length}
 use borrow.Author.Needs.{needs}
+use Rattle.brep.specs.Rows.{tables}
+use Rattle.brep.specs.Tree.{CurveTree, tree}
+use Rattle.params.specs.Params.{refined}
+use Rattle.sample.specs.Sample.{sampler, sampled}
+use Rattle.sample.proofs.Settled.{settle-room, settled}
+use Rattle.sample.proofs.Ways.{answered-as, no-form, form-refused, form-meets, form-misses}
 use Rattle.sample.proofs.sample_params.Statement.{statement}
 use Rattle.sample.proofs.sample_params.Tie as tie
-use Rattle.sample.proofs.sample_params.Reads as reads
-use Rattle.sample.proofs.sample_params.Lts as lts
-use Rattle.listed.proofs.evenly.Reads as evenly-reads
-use Rattle.sample.proofs.meets.Reads as meets-reads
-use Rattle.sample.proofs.refine.Reads as refine-reads
-use Rattle.sample.proofs.settle.Reads as settle-reads
-use Rattle.usable.proofs.analytic_segments.Reads as analytic-segments-reads
 
 -- the curve that is read
 abbrev curve-of : tie.Start → CurveTree
@@ -39,7 +33,13 @@ same-length : tie.Need-same-length
 same-length c = search needs
 
 returns : tie.Need-returns
-returns c = answered-as (c .before .before .refine .result) _ _ _ refl (λ n. refined n (sampler (curve-of (c .before .before .before .before .before .before .before .before .before .before .before .before .before)) (c .before .before .before .before .before .before .before .before .before .before .before .before .before .args .range) (c .before .before .before .before .before .before .before .before .before .before .before .before .before .args .r)) (c .before .before .before .before .before .before .before .before .before .before .before .before .before .args .range)) (sampled (length (c .before .before .before .before .before .before .before .before .before .before .before .before .before .args .out .now)) (curve-of (c .before .before .before .before .before .before .before .before .before .before .before .before .before)) (c .before .before .before .before .before .before .before .before .before .before .before .before .before .args .range) (c .before .before .before .before .before .before .before .before .before .before .before .before .before .args .r)) (no-form (length (c .before .before .before .before .before .before .before .before .before .before .before .before .before .args .out .now)) (curve-of (c .before .before .before .before .before .before .before .before .before .before .before .before .before)) (c .before .before .before .before .before .before .before .before .before .before .before .before .before .args .range) (c .before .before .before .before .before .before .before .before .before .before .before .before .before .args .r) _ (c .before .before .before .before .before .before .analytic-segments .ensures) (c .before .before .before .before .enum-told .given .1)) (c .before .before .refine .ensures)
+returns c =
+    let st = c .before .before .before .before .before .before .before .before .before .before .before .before .before in
+    answered-as (c .before .before .refine .result) _ _ _ refl (λ n. refined n (sampler (curve-of st) (st .args .range) (st .args .r))
+    (st .args .range)) (sampled (length (st .args .out .now)) (curve-of st) (st .args .range) (st .args .r)) (no-form
+    (length (st .args .out .now)) (curve-of st) (st .args .range) (st .args .r) _
+    (c .before .before .before .before .before .before .analytic-segments .ensures)
+    (c .before .before .before .before .enum-told .given .1)) (c .before .before .refine .ensures)
 
 evenly-requires : tie.Need-evenly-requires
 evenly-requires c κs = search needs
@@ -57,19 +57,43 @@ same-length-2 : tie.Need-same-length-2
 same-length-2 c = search needs
 
 returns-2 : tie.Need-returns-2
-returns-2 c = settled _ _ refl (c .before .before .before .before .before .before .before .before .evenly .ensures) (length (c .before .before .before .before .before .before .before .before .before .before .before .before .before .before .before .before .before .before .before .before .args .out .now)) (sampled (length (c .before .before .before .before .before .before .before .before .before .before .before .before .before .before .before .before .before .before .before .before .args .out .now)) (curve-of (c .before .before .before .before .before .before .before .before .before .before .before .before .before .before .before .before .before .before .before .before)) (c .before .before .before .before .before .before .before .before .before .before .before .before .before .before .before .before .before .before .before .before .args .range) (c .before .before .before .before .before .before .before .before .before .before .before .before .before .before .before .before .before .before .before .before .args .r)) refl (form-refused (length (c .before .before .before .before .before .before .before .before .before .before .before .before .before .before .before .before .before .before .before .before .args .out .now)) (curve-of (c .before .before .before .before .before .before .before .before .before .before .before .before .before .before .before .before .before .before .before .before)) (c .before .before .before .before .before .before .before .before .before .before .before .before .before .before .before .before .before .before .before .before .args .range) (c .before .before .before .before .before .before .before .before .before .before .before .before .before .before .before .before .before .before .before .before .args .r) _ (c .before .before .before .before .before .before .before .before .before .before .before .before .before .analytic-segments .ensures) _ (c .before .before .before .before .before .before .before .before .before .before .before .closed .given .1) refl _ (c .before .before .before .before .before .before .before .before .evenly .ensures) (c .before .before .before .before .enum-told2 .given .1)) _ _ (c .before .before .settle .ensures .0) (c .before .before .settle .ensures .1)
+returns-2 c =
+    let st = c .before .before .before .before .before .before .before .before .before .before .before .before .before .before .before .before .before .before .before .before in
+    settled _ _ refl (c .before .before .before .before .before .before .before .before .evenly .ensures) (length (st .args .out .now))
+    (sampled (length (st .args .out .now)) (curve-of st) (st .args .range) (st .args .r)) refl (form-refused (length (st .args .out .now))
+    (curve-of st) (st .args .range) (st .args .r) _
+    (c .before .before .before .before .before .before .before .before .before .before .before .before .before .analytic-segments .ensures)
+    _ (c .before .before .before .before .before .before .before .before .before .before .before .closed .given .1) refl _
+    (c .before .before .before .before .before .before .before .before .evenly .ensures)
+    (c .before .before .before .before .enum-told2 .given .1)) _ _ (c .before .before .settle .ensures .0)
+    (c .before .before .settle .ensures .1)
 
 meets-requires : tie.Need-meets-requires
-meets-requires c κs = settle-room _ _ (c .before .before .even .given .1) (c .before .before .before .before .before .before .evenly .ensures)
+meets-requires c κs =
+    settle-room _ _ (c .before .before .even .given .1) (c .before .before .before .before .before .before .evenly .ensures)
 
 settle-requires-2 : tie.Need-settle-requires-2
-settle-requires-2 c κs = settle-room _ _ (c .before .before .before .before .before .even .given .1) (c .before .before .before .before .before .before .before .before .before .evenly .ensures)
+settle-requires-2 c κs =
+    settle-room _ _ (c .before .before .before .before .before .even .given .1)
+    (c .before .before .before .before .before .before .before .before .before .evenly .ensures)
 
 same-length-3 : tie.Need-same-length-3
 same-length-3 c = search needs
 
 returns-3 : tie.Need-returns-3
-returns-3 c = settled _ _ (c .before .before .before .before .before .before .before .before .even .given .1) (c .before .before .before .before .before .before .before .before .before .before .before .before .evenly .ensures) (length (c .before .before .before .before .before .before .before .before .before .before .before .before .before .before .before .before .before .before .before .before .before .before .before .before .args .out .now)) (sampled (length (c .before .before .before .before .before .before .before .before .before .before .before .before .before .before .before .before .before .before .before .before .before .before .before .before .args .out .now)) (curve-of (c .before .before .before .before .before .before .before .before .before .before .before .before .before .before .before .before .before .before .before .before .before .before .before .before)) (c .before .before .before .before .before .before .before .before .before .before .before .before .before .before .before .before .before .before .before .before .before .before .before .before .args .range) (c .before .before .before .before .before .before .before .before .before .before .before .before .before .before .before .before .before .before .before .before .before .before .before .before .args .r)) refl (form-meets (length (c .before .before .before .before .before .before .before .before .before .before .before .before .before .before .before .before .before .before .before .before .before .before .before .before .args .out .now)) (curve-of (c .before .before .before .before .before .before .before .before .before .before .before .before .before .before .before .before .before .before .before .before .before .before .before .before)) (c .before .before .before .before .before .before .before .before .before .before .before .before .before .before .before .before .before .before .before .before .before .before .before .before .args .range) (c .before .before .before .before .before .before .before .before .before .before .before .before .before .before .before .before .before .before .before .before .before .before .before .before .args .r) _ (c .before .before .before .before .before .before .before .before .before .before .before .before .before .before .before .before .before .analytic-segments .ensures) _ (c .before .before .before .before .before .before .before .before .before .before .before .before .before .before .before .closed .given .1) refl _ (c .before .before .before .before .before .before .before .before .before .before .before .before .evenly .ensures) _ (c .before .before .before .before .before .before .before .before .even .given .1) _ (c .before .before .before .before .before .meets .ensures) (c .before .before .before .before .if1 .taken)) _ _ (c .before .before .settle2 .ensures .0) (c .before .before .settle2 .ensures .1)
+returns-3 c =
+    let st = c .before .before .before .before .before .before .before .before .before .before .before .before .before .before .before .before .before .before .before .before .before .before .before .before in
+    settled _ _ (c .before .before .before .before .before .before .before .before .even .given .1)
+    (c .before .before .before .before .before .before .before .before .before .before .before .before .evenly .ensures) (length
+    (st .args .out .now)) (sampled (length (st .args .out .now)) (curve-of st) (st .args .range) (st .args .r)) refl (form-meets
+    (length (st .args .out .now)) (curve-of st) (st .args .range) (st .args .r) _
+    (c .before .before .before .before .before .before .before .before .before .before .before .before .before .before .before .before .before .analytic-segments .ensures)
+    _
+    (c .before .before .before .before .before .before .before .before .before .before .before .before .before .before .before .closed .given .1)
+    refl _ (c .before .before .before .before .before .before .before .before .before .before .before .before .evenly .ensures) _
+    (c .before .before .before .before .before .before .before .before .even .given .1) _
+    (c .before .before .before .before .before .meets .ensures) (c .before .before .before .before .if1 .taken)) _ _
+    (c .before .before .settle2 .ensures .0) (c .before .before .settle2 .ensures .1)
 
 refine-requires-2 : tie.Need-refine-requires-2
 refine-requires-2 c κs = search needs
@@ -78,7 +102,19 @@ same-length-4 : tie.Need-same-length-4
 same-length-4 c = search needs
 
 returns-4 : tie.Need-returns-4
-returns-4 c = answered-as (c .before .before .refine2 .result) _ _ _ (c .before .before .before .before .before .before .before .before .before .before .before .out2 .given) (λ n. refined n (sampler (curve-of (c .before .before .before .before .before .before .before .before .before .before .before .before .before .before .before .before .before .before .before .before .before .before .before .before)) (c .before .before .before .before .before .before .before .before .before .before .before .before .before .before .before .before .before .before .before .before .before .before .before .before .args .range) (c .before .before .before .before .before .before .before .before .before .before .before .before .before .before .before .before .before .before .before .before .before .before .before .before .args .r)) (c .before .before .before .before .before .before .before .before .before .before .before .before .before .before .before .before .before .before .before .before .before .before .before .before .args .range)) (sampled (length (c .before .before .before .before .before .before .before .before .before .before .before .before .before .before .before .before .before .before .before .before .before .before .before .before .args .out .now)) (curve-of (c .before .before .before .before .before .before .before .before .before .before .before .before .before .before .before .before .before .before .before .before .before .before .before .before)) (c .before .before .before .before .before .before .before .before .before .before .before .before .before .before .before .before .before .before .before .before .before .before .before .before .args .range) (c .before .before .before .before .before .before .before .before .before .before .before .before .before .before .before .before .before .before .before .before .before .before .before .before .args .r)) (form-misses (length (c .before .before .before .before .before .before .before .before .before .before .before .before .before .before .before .before .before .before .before .before .before .before .before .before .args .out .now)) (curve-of (c .before .before .before .before .before .before .before .before .before .before .before .before .before .before .before .before .before .before .before .before .before .before .before .before)) (c .before .before .before .before .before .before .before .before .before .before .before .before .before .before .before .before .before .before .before .before .before .before .before .before .args .range) (c .before .before .before .before .before .before .before .before .before .before .before .before .before .before .before .before .before .before .before .before .before .before .before .before .args .r) _ (c .before .before .before .before .before .before .before .before .before .before .before .before .before .before .before .before .before .analytic-segments .ensures) _ (c .before .before .before .before .before .before .before .before .before .before .before .before .before .before .before .closed .given .1) refl _ (c .before .before .before .before .before .before .before .before .before .before .before .before .evenly .ensures) _ (c .before .before .before .before .before .before .before .before .even .given .1) _ (c .before .before .before .before .before .meets .ensures) (c .before .before .before .before .if1 .left)) (c .before .before .refine2 .ensures)
+returns-4 c =
+    let st = c .before .before .before .before .before .before .before .before .before .before .before .before .before .before .before .before .before .before .before .before .before .before .before .before in
+    answered-as (c .before .before .refine2 .result) _ _ _
+    (c .before .before .before .before .before .before .before .before .before .before .before .out2 .given) (λ n. refined n
+    (sampler (curve-of st) (st .args .range) (st .args .r)) (st .args .range)) (sampled (length (st .args .out .now)) (curve-of st)
+    (st .args .range) (st .args .r)) (form-misses (length (st .args .out .now)) (curve-of st) (st .args .range) (st .args .r) _
+    (c .before .before .before .before .before .before .before .before .before .before .before .before .before .before .before .before .before .analytic-segments .ensures)
+    _
+    (c .before .before .before .before .before .before .before .before .before .before .before .before .before .before .before .closed .given .1)
+    refl _ (c .before .before .before .before .before .before .before .before .before .before .before .before .evenly .ensures) _
+    (c .before .before .before .before .before .before .before .before .even .given .1) _
+    (c .before .before .before .before .before .meets .ensures) (c .before .before .before .before .if1 .left))
+    (c .before .before .refine2 .ensures)
 
 pub sample-params-spec : {M : Type 1} → statement M
 sample-params-spec =

@@ -1,20 +1,15 @@
-use Rattle.listed.proofs.Held.{behind-room}
+-- `sample::walk` meets its contract: behind range.lo stands what the stops before number i pushed. Assumes nothing.
 use mathlib.Core.Path.{_∙_}
-use Rattle.sample.proofs.Walking.{Walking, end-own, low-refused, low-then, walking-start, walking-room, walking-refused, walking-next, walking-done}
-use Rattle.brep.specs.Tree.{CurveTree, tree}
-use Rattle.brep.specs.Rows.{tables}
-use lib.ListN.{length}
 use Prim.Native.Nat.{_+_, _-_, _≤_}
 use native.Mathlib.Omega.{arith}
+use lib.ListN.{length}
 use borrow.Author.Needs.{needs}
+use Rattle.brep.specs.Rows.{tables}
+use Rattle.brep.specs.Tree.{CurveTree, tree}
+use Rattle.listed.proofs.Held.{behind-room}
+use Rattle.sample.proofs.Walking.{Walking, end-own, low-refused, low-then, walking-start, walking-room, walking-refused, walking-next, walking-done}
 use Rattle.sample.proofs.walk.Statement.{statement}
 use Rattle.sample.proofs.walk.Tie as tie
-use Rattle.sample.proofs.walk.Reads as reads
-use Rattle.sample.proofs.walk.Lts as lts
-use Rattle.bisect.proofs.end_at.Reads as end-at-reads
-use Rattle.listed.proofs.push.Reads as push-reads
-use Rattle.sample.proofs.step.Reads as step-reads
-use Rattle.sample.proofs.stop_at.Reads as stop-at-reads
 
 abbrev Inv-loop : tie.InvT-loop
 Inv-loop points curves reals parts ranges row range r breaks out₀ first k₀ left₀ i₀ out k left i =
@@ -43,13 +38,22 @@ same-length : tie.Need-same-length Inv-loop μ-loop
 same-length c = search needs
 
 returns : tie.Need-returns Inv-loop μ-loop
-returns c = low-refused (curve-of (c .before .before .before .before .before .before .before .before .before .before .before .before .before)) (c .before .before .before .before .before .before .before .before .before .before .before .before .before .args .range) (c .before .before .before .before .before .before .before .before .before .before .before .before .before .args .r) (c .before .before .before .before .before .before .before .before .before .before .before .before .before .args .breaks .now) (c .before .before .before .before .before .before .before .before .before .before .before .before .before .pre) (c .before .before .before .before .before .before .before .before .before .before .before .before .before .args .out .now) _ (c .before .before .before .before .push .ensures) (c .enum-told .given .1)
+returns c =
+    let st = c .before .before .before .before .before .before .before .before .before .before .before .before .before in
+    low-refused (curve-of st) (st .args .range) (st .args .r) (st .args .breaks .now) (st .pre) (st .args .out .now) _
+    (c .before .before .before .before .push .ensures) (c .enum-told .given .1)
 
 end-at-requires : tie.Need-end-at-requires Inv-loop μ-loop
 end-at-requires c κs = search needs
 
 loop-holds : tie.Need-loop-holds Inv-loop μ-loop
-loop-holds c = (omega arith, walking-start (curve-of (c .before .before .before .before .before .before .before .before .before .before .before .before .before .before .before)) (c .before .before .before .before .before .before .before .before .before .before .before .before .before .before .before .args .range) (c .before .before .before .before .before .before .before .before .before .before .before .before .before .before .before .args .r) (c .before .before .before .before .before .before .before .before .before .before .before .before .before .before .before .args .breaks .now) _ _ (behind-room (c .before .before .before .before .before .before .before .before .before .before .before .before .before .before .before .args .out .now) 0 _ _ (c .before .before .before .before .before .before .push .ensures) _ (c .before .before .pushed .given .1)) _ (c .end-at .ensures))
+loop-holds c =
+    let st = c .before .before .before .before .before .before .before .before .before .before .before .before .before .before .before in (
+      omega arith,
+      walking-start (curve-of st) (st .args .range) (st .args .r) (st .args .breaks .now) _ _
+          (behind-room (st .args .out .now) 0 _ _ (c .before .before .before .before .before .before .push .ensures) _ (c .before .before .pushed .given .1))
+          _ (c .end-at .ensures),
+    )
 
 stop-at-requires : tie.Need-stop-at-requires Inv-loop μ-loop
 stop-at-requires c κs = search needs
@@ -58,7 +62,14 @@ end-at-requires-2 : tie.Need-end-at-requires-2 Inv-loop μ-loop
 end-at-requires-2 c κs = search needs
 
 step-requires : tie.Need-step-requires Inv-loop μ-loop
-step-requires c κs = let s = c .before .before .before .before .loop .inv .1 in (s .own, end-own (curve-of (c .before .before .before .before .before .before .before .before .before .before .before .before .before .before .before .before .before .before .before .before)) _ _ (c .before .end-at2 .ensures), walking-room (curve-of (c .before .before .before .before .before .before .before .before .before .before .before .before .before .before .before .before .before .before .before .before)) (c .before .before .before .before .before .before .before .before .before .before .before .before .before .before .before .before .before .before .before .before .args .range) (c .before .before .before .before .before .before .before .before .before .before .before .before .before .before .before .before .before .before .before .before .args .r) (c .before .before .before .before .before .before .before .before .before .before .before .before .before .before .before .before .before .before .before .before .args .breaks .now) s)
+step-requires c κs =
+    let st = c .before .before .before .before .before .before .before .before .before .before .before .before .before .before .before .before .before .before .before .before in
+    let s = c .before .before .before .before .loop .inv .1 in (
+      s .own,
+      end-own (curve-of st) _ _ (c .before .end-at2 .ensures),
+      walking-room (curve-of st) (st .args .range) (st .args .r)
+          (st .args .breaks .now) s,
+    )
 
 enum-known-stepped : tie.Need-enum-known-stepped Inv-loop μ-loop
 enum-known-stepped c = search needs
@@ -67,28 +78,66 @@ enum-told-2 : tie.Need-enum-told-2 Inv-loop μ-loop
 enum-told-2 c = search needs
 
 same-length-2 : tie.Need-same-length-2 Inv-loop μ-loop
-same-length-2 c = c .before .before .before .out2 .given ∙ c .before .before .before .before .before .before .before .before .before .loop .inv .1 .same-length ∙ c .before .before .before .before .before .before .before .before .before .before .before .before .before .before .before .out .given
+same-length-2 c =
+    c .before .before .before .out2 .given ∙
+    c .before .before .before .before .before .before .before .before .before .loop .inv .1 .same-length ∙
+    c .before .before .before .before .before .before .before .before .before .before .before .before .before .before .before .out .given
 
 returns-2 : tie.Need-returns-2 Inv-loop μ-loop
-returns-2 c = low-then (curve-of (c .before .before .before .before .before .before .before .before .before .before .before .before .before .before .before .before .before .before .before .before .before .before .before .before .before)) (c .before .before .before .before .before .before .before .before .before .before .before .before .before .before .before .before .before .before .before .before .before .before .before .before .before .args .range) (c .before .before .before .before .before .before .before .before .before .before .before .before .before .before .before .before .before .before .before .before .before .before .before .before .before .args .r) (c .before .before .before .before .before .before .before .before .before .before .before .before .before .before .before .before .before .before .before .before .before .before .before .before .before .args .breaks .now) (c .before .before .before .before .before .before .before .before .before .before .before .before .before .before .before .before .before .before .before .before .before .before .before .before .before .pre) (c .before .before .before .before .before .before .before .before .before .before .before .before .before .before .before .before .before .before .before .before .before .before .before .before .before .args .out .now) _ (c .before .before .before .before .before .before .before .before .before .before .before .before .before .before .before .before .push .ensures) _ (c .before .before .before .before .before .before .before .before .before .before .before .before .pushed .given .1) (walking-refused (curve-of (c .before .before .before .before .before .before .before .before .before .before .before .before .before .before .before .before .before .before .before .before .before .before .before .before .before)) (c .before .before .before .before .before .before .before .before .before .before .before .before .before .before .before .before .before .before .before .before .before .before .before .before .before .args .range) (c .before .before .before .before .before .before .before .before .before .before .before .before .before .before .before .before .before .before .before .before .before .before .before .before .before .args .r) (c .before .before .before .before .before .before .before .before .before .before .before .before .before .before .before .before .before .before .before .before .before .before .before .before .before .args .breaks .now) (c .before .before .before .before .before .before .before .before .before .loop .inv .1) (c .before .before .before .before .before .before .before .before .loop-test .taken) _ (c .before .before .before .before .before .before .before .stop-at .ensures) _ (c .before .before .before .before .before .before .end-at2 .ensures) _ (c .before .before .before .before .step .ensures) (c .enum-told2 .given .1))
+returns-2 c =
+    let st = c .before .before .before .before .before .before .before .before .before .before .before .before .before .before .before .before .before .before .before .before .before .before .before .before .before in
+    low-then (curve-of st) (st .args .range) (st .args .r) (st .args .breaks .now) (st .pre) (st .args .out .now) _
+    (c .before .before .before .before .before .before .before .before .before .before .before .before .before .before .before .before .push .ensures)
+    _ (c .before .before .before .before .before .before .before .before .before .before .before .before .pushed .given .1) (walking-refused
+    (curve-of st) (st .args .range) (st .args .r) (st .args .breaks .now)
+    (c .before .before .before .before .before .before .before .before .before .loop .inv .1)
+    (c .before .before .before .before .before .before .before .before .loop-test .taken) _
+    (c .before .before .before .before .before .before .before .stop-at .ensures) _
+    (c .before .before .before .before .before .before .end-at2 .ensures) _ (c .before .before .before .before .step .ensures)
+    (c .enum-told2 .given .1))
 
 add-i : tie.Need-add-i Inv-loop μ-loop
-add-i c = omega (arith, c .before .before .before .before .before .before .before .before .before .loop-test .taken, c .before .before .before .before .before .before .before .before .before .before .before .before .before .before .before .before .before .before .before .before .before .before .before .before .before .before .good .1 .1 .1 .1 .1 .1 .1 .1 .0 .1)
+add-i c =
+    omega (
+      arith,
+      c .before .before .before .before .before .before .before .before .before .loop-test .taken,
+      c .before .before .before .before .before .before .before .before .before .before .before .before .before .before .before .before .before .before .before .before .before .before .before .before .before .before .good .1 .1 .1 .1 .1 .1 .1 .1 .0 .1,
+    )
 
 loop-less : tie.Need-loop-less Inv-loop μ-loop
 loop-less c = search needs
 
 loop-again : tie.Need-loop-again Inv-loop μ-loop
-loop-again c = (omega (arith, c .before .before .before .before .before .before .before .before .before .loop-test .taken), walking-next (curve-of (c .before .before .before .before .before .before .before .before .before .before .before .before .before .before .before .before .before .before .before .before .before .before .before .before .before .before)) (c .before .before .before .before .before .before .before .before .before .before .before .before .before .before .before .before .before .before .before .before .before .before .before .before .before .before .args .range) (c .before .before .before .before .before .before .before .before .before .before .before .before .before .before .before .before .before .before .before .before .before .before .before .before .before .before .args .r) (c .before .before .before .before .before .before .before .before .before .before .before .before .before .before .before .before .before .before .before .before .before .before .before .before .before .before .args .breaks .now) (c .before .before .before .before .before .before .before .before .before .before .loop .inv .1) (c .before .before .before .before .before .before .before .before .before .loop-test .taken) _ (c .before .before .before .before .before .before .before .before .stop-at .ensures) _ (c .before .before .before .before .before .before .before .end-at2 .ensures) _ (c .before .before .before .before .before .step .ensures) _ (c .before .stepped .given .1))
+loop-again c =
+    let st = c .before .before .before .before .before .before .before .before .before .before .before .before .before .before .before .before .before .before .before .before .before .before .before .before .before .before in (
+      omega (arith, c .before .before .before .before .before .before .before .before .before .loop-test .taken),
+      walking-next (curve-of st)
+          (st .args .range) (st .args .r) (st .args .breaks .now)
+          (c .before .before .before .before .before .before .before .before .before .before .loop .inv .1)
+          (c .before .before .before .before .before .before .before .before .before .loop-test .taken) _
+          (c .before .before .before .before .before .before .before .before .stop-at .ensures) _
+          (c .before .before .before .before .before .before .before .end-at2 .ensures) _
+          (c .before .before .before .before .before .step .ensures) _ (c .before .stepped .given .1),
+    )
 
 push-requires-2 : tie.Need-push-requires-2 Inv-loop μ-loop
-push-requires-2 c κs = walking-room (curve-of (c .before .before .before .before .before .before .before .before .before .before .before .before .before .before .before .before .before .before)) (c .before .before .before .before .before .before .before .before .before .before .before .before .before .before .before .before .before .before .args .range) (c .before .before .before .before .before .before .before .before .before .before .before .before .before .before .before .before .before .before .args .r) (c .before .before .before .before .before .before .before .before .before .before .before .before .before .before .before .before .before .before .args .breaks .now) (c .before .before .loop .inv .1)
+push-requires-2 c κs =
+    let st = c .before .before .before .before .before .before .before .before .before .before .before .before .before .before .before .before .before .before in
+    walking-room (curve-of st) (st .args .range) (st .args .r) (st .args .breaks .now) (c .before .before .loop .inv .1)
 
 same-length-3 : tie.Need-same-length-3 Inv-loop μ-loop
-same-length-3 c = c .before .out3 .given ∙ c .before .before .before .before .before .loop .inv .1 .same-length ∙ c .before .before .before .before .before .before .before .before .before .before .before .out .given
+same-length-3 c =
+    c .before .out3 .given ∙ c .before .before .before .before .before .loop .inv .1 .same-length ∙
+    c .before .before .before .before .before .before .before .before .before .before .before .out .given
 
 returns-3 : tie.Need-returns-3 Inv-loop μ-loop
-returns-3 c = low-then (curve-of (c .before .before .before .before .before .before .before .before .before .before .before .before .before .before .before .before .before .before .before .before .before)) (c .before .before .before .before .before .before .before .before .before .before .before .before .before .before .before .before .before .before .before .before .before .args .range) (c .before .before .before .before .before .before .before .before .before .before .before .before .before .before .before .before .before .before .before .before .before .args .r) (c .before .before .before .before .before .before .before .before .before .before .before .before .before .before .before .before .before .before .before .before .before .args .breaks .now) (c .before .before .before .before .before .before .before .before .before .before .before .before .before .before .before .before .before .before .before .before .before .pre) (c .before .before .before .before .before .before .before .before .before .before .before .before .before .before .before .before .before .before .before .before .before .args .out .now) _ (c .before .before .before .before .before .before .before .before .before .before .before .before .push .ensures) _ (c .before .before .before .before .before .before .before .before .pushed .given .1) (walking-done (curve-of (c .before .before .before .before .before .before .before .before .before .before .before .before .before .before .before .before .before .before .before .before .before)) (c .before .before .before .before .before .before .before .before .before .before .before .before .before .before .before .before .before .before .before .before .before .args .range) (c .before .before .before .before .before .before .before .before .before .before .before .before .before .before .before .before .before .before .before .before .before .args .r) (c .before .before .before .before .before .before .before .before .before .before .before .before .before .before .before .before .before .before .before .before .before .args .breaks .now) (c .before .before .before .before .before .loop .inv .1) (c .before .before .before .before .loop-test .left) _ (c .before .before .push2 .ensures))
+returns-3 c =
+    let st = c .before .before .before .before .before .before .before .before .before .before .before .before .before .before .before .before .before .before .before .before .before in
+    low-then (curve-of st) (st .args .range) (st .args .r) (st .args .breaks .now) (st .pre) (st .args .out .now) _
+    (c .before .before .before .before .before .before .before .before .before .before .before .before .push .ensures) _
+    (c .before .before .before .before .before .before .before .before .pushed .given .1) (walking-done (curve-of st) (st .args .range)
+    (st .args .r) (st .args .breaks .now) (c .before .before .before .before .before .loop .inv .1)
+    (c .before .before .before .before .loop-test .left) _ (c .before .before .push2 .ensures))
 
 pub walk-spec : {M : Type 1} → statement M
 walk-spec =

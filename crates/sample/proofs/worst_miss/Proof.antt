@@ -1,19 +1,15 @@
-use native.Mathlib.Omega.{arith}
-use Rattle.brep.specs.Tree.{CurveTree, tree}
-use Rattle.brep.specs.Rows.{tables}
-use Rattle.sample.proofs.Miss.{Missing, no-params, first-param, next-param, last-param}
-use Rattle.curve.specs.Eval.{pointAt}
-use lib.ListN.{length}
-use Prim.Native.Nat.{_-_}
+-- `sample::worst_miss` meets its contract: pa is the point of a, and what is left to measure, from the worst so far, is the whole. Assumes nothing.
 use mathlib.Core.Path.{_≡_, refl}
+use Prim.Native.Nat.{_-_}
+use native.Mathlib.Omega.{arith}
+use lib.ListN.{length}
 use borrow.Author.Needs.{needs}
+use Rattle.brep.specs.Rows.{tables}
+use Rattle.brep.specs.Tree.{CurveTree, tree}
+use Rattle.curve.specs.Eval.{pointAt}
+use Rattle.sample.proofs.Miss.{Missing, no-params, first-param, next-param, last-param}
 use Rattle.sample.proofs.worst_miss.Statement.{statement}
 use Rattle.sample.proofs.worst_miss.Tie as tie
-use Rattle.sample.proofs.worst_miss.Reads as reads
-use Rattle.sample.proofs.worst_miss.Lts as lts
-use Rattle.arith.proofs.max.Reads as max-reads
-use Rattle.curve.proofs.point_at.Reads as point-at-reads
-use Rattle.sample.proofs.miss_of.Reads as miss-of-reads
 
 abbrev Inv-loop : tie.InvT-loop
 Inv-loop points curves reals parts ranges row params worst₀ a₀ pa₀ i₀ worst a pa i =
@@ -30,7 +26,9 @@ curve-of st =
     tree (tables (a .points .now) (a .curves .now) (a .reals .now) (a .parts .now) (a .ranges .now)) (a .row)
 
 returns : tie.Need-returns Inv-loop μ-loop
-returns c = no-params (curve-of (c .before .before .before .before .before .before .before)) (c .before .before .before .before .before .before .before .args .params .now) (c .if1 .taken)
+returns c =
+    let st = c .before .before .before .before .before .before .before in
+    no-params (curve-of st) (st .args .params .now) (c .if1 .taken)
 
 shared-slice-read-a : tie.Need-shared-slice-read-a Inv-loop μ-loop
 shared-slice-read-a c = search needs
@@ -39,7 +37,9 @@ point-at-requires : tie.Need-point-at-requires Inv-loop μ-loop
 point-at-requires c κs = search needs
 
 loop-holds : tie.Need-loop-holds Inv-loop μ-loop
-loop-holds c = (c .point-at .ensures, first-param (curve-of (c .before .before .before .before .before .before .before .before .before)) (c .before .before .before .before .before .before .before .before .before .args .params .now) (c .before .before .if1 .left))
+loop-holds c =
+    let st = c .before .before .before .before .before .before .before .before .before in
+    (c .point-at .ensures, first-param (curve-of st) (st .args .params .now) (c .before .before .if1 .left))
 
 mul-b : tie.Need-mul-b Inv-loop μ-loop
 mul-b c = search needs
@@ -57,16 +57,32 @@ max-requires : tie.Need-max-requires Inv-loop μ-loop
 max-requires c κs = search needs
 
 add-i : tie.Need-add-i Inv-loop μ-loop
-add-i c = let l = c .before .before .before .before .before .loop in omega (arith, c .before .before .before .before .loop-test .taken, c .before .before .before .before .before .before .before .before .before .before .before .before .before .before .before .good .1 .1 .1 .1 .1 .1 .0 .1)
+add-i c =
+    let l = c .before .before .before .before .before .loop in
+    omega (
+      arith,
+      c .before .before .before .before .loop-test .taken,
+      c .before .before .before .before .before .before .before .before .before .before .before .before .before .before .before .good .1 .1 .1 .1 .1 .1 .0 .1,
+    )
 
 loop-less : tie.Need-loop-less Inv-loop μ-loop
 loop-less c = search needs
 
 loop-again : tie.Need-loop-again Inv-loop μ-loop
-loop-again c = let l = c .before .before .before .before .before .loop in (c .before .before .point-at2 .ensures, next-param (curve-of (c .before .before .before .before .before .before .before .before .before .before .before .before .before .before .before)) (c .before .before .before .before .before .before .before .before .before .before .before .before .before .before .before .args .params .now) (l .worst) (l .a) (l .i) (l .inv .1) (c .max .result) (c .before .miss-of .result) _ (c .before .before .before .before .loop-test .taken) refl (c .before .miss-of .ensures) (c .max .ensures))
+loop-again c =
+    let st = c .before .before .before .before .before .before .before .before .before .before .before .before .before .before .before in
+    let l = c .before .before .before .before .before .loop in (
+      c .before .before .point-at2 .ensures,
+      next-param (curve-of st) (st .args .params .now) (l .worst) (l .a) (l .i) (l .inv .1)
+          (c .max .result) (c .before .miss-of .result) _ (c .before .before .before .before .loop-test .taken) refl (c .before .miss-of .ensures)
+          (c .max .ensures),
+    )
 
 returns-2 : tie.Need-returns-2 Inv-loop μ-loop
-returns-2 c = let l = c .before .loop in last-param (curve-of (c .before .before .before .before .before .before .before .before .before .before .before)) (c .before .before .before .before .before .before .before .before .before .before .before .args .params .now) (l .worst) (l .a) (l .i) (l .inv .1) (c .loop-test .left)
+returns-2 c =
+    let st = c .before .before .before .before .before .before .before .before .before .before .before in
+    let l = c .before .loop in
+    last-param (curve-of st) (st .args .params .now) (l .worst) (l .a) (l .i) (l .inv .1) (c .loop-test .left)
 
 pub worst-miss-spec : {M : Type 1} → statement M
 worst-miss-spec =

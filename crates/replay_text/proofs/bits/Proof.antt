@@ -1,11 +1,11 @@
--- `replay_arith::bits` meets its contract: what differs from itself is the NaN. Assumes nothing.
+-- `replay_text::bits` meets its contract: what differs from itself is the NaN. Assumes nothing.
 use mathlib.Core.Path.{sym, ap}
 use lib.Ieee.{binary64, toBits}
 use lib.Ieee.Compare.{differs-from-itself}
 use Rattle.arith.proofs.Cmp.{ne-self, holds}
 use borrow.Author.Needs.{needs}
-use Rattle.replay_arith.proofs.bits.Statement.{statement}
-use Rattle.replay_arith.proofs.bits.Tie as tie
+use Rattle.replay_text.proofs.bits.Statement.{statement}
+use Rattle.replay_text.proofs.bits.Tie as tie
 
 float-to-bits-result : tie.Need-float-to-bits-result
 float-to-bits-result c = rw (← ne-self, c .if1 .left) tt

@@ -1,0 +1,159 @@
+-- The ways through repair_runaway, by the tests that lead there. Assumes nothing.
+use mathlib.Core.Path.{_≡_, refl, sym, ap, _∙_}
+use mathlib.Core.Bool.{Bool, true, false, cond, not, _&&_}
+use mathlib.Core.List.{List}
+use Prim.Native.Nat.{ℕ}
+use lib.Ieee.{Float, lt, le}
+use lib.Ieee.Scale.{finite}
+use Rattle.arith.specs.Notation.{_⊕_, nought}
+use Rattle.lists.specs.Result.{Result, got, bind}
+use Rattle.math.specs.Math.{interval, spanOf, isEmpty, diagonal}
+use Rattle.math.specs.declared.Interval.{Interval}
+use Rattle.brep.specs.declared.Edge.{Edge}
+use Rattle.brep.specs.Rows.{Tables}
+use Rattle.curve.specs.declared.Repeats.{Repeats}
+use Rattle.curve.specs.Eval.{naturalRange, period}
+use Rattle.options.specs.declared.Resolved.{Resolved}
+use Rattle.samples.specs.declared.Sample.{Sample}
+use Rattle.chains.specs.declared.Way.the-variants.{Complement, ShortArc}
+use Rattle.chains.specs.Edge.{edgeCurve, edgeStart, edgeEnd, discretised}
+use Rattle.chains.specs.Repair.{Got, by, withRange, reference, escapes, reaches, nearest, runaway, arcOrChord, byShortArc, byComplement, byPeriod, repaired}
+use Rattle.place.specs.Place.{ofPoints}
+use Rattle.repair.specs.Redrawn.{stays, isShortArc, shortRange, drawnShort, drawnComplement}
+
+-- ---- the range of the short arc
+module _ (T : Tables) (e : Edge) where
+  module _ (a b : Float) (p : a ≡ nearest (edgeCurve T e) (edgeStart T e)) (q : b ≡ nearest (edgeCurve T e) (edgeEnd T e)) where
+    pub short-rising : le a b ≡ true → interval a b ≡ shortRange T e
+    unfolding shortRange
+    short-rising h = sym (ap (λ (t : Bool). cond t (interval a b) (interval b a)) h) ∙ rw (p, q)
+
+    pub short-falling : le a b ≡ false → interval b a ≡ shortRange T e
+    unfolding shortRange
+    short-falling h = sym (ap (λ (t : Bool). cond t (interval a b) (interval b a)) h) ∙ rw (p, q)
+
+  -- whether it is drawn
+  abbrev pub hasShort : Bool
+  hasShort = finite (spanOf (naturalRange (edgeCurve T e))) && (lt nought (spanOf (naturalRange (edgeCurve T e))) && lt nought (spanOf (shortRange T e)))
+
+  module _ {natural : Interval} {span : Float} {bounded : Bool} (p : natural ≡ naturalRange (edgeCurve T e)) (q : span ≡ spanOf natural) (b : bounded ≡ finite span) where
+    natural-finite : finite (spanOf (naturalRange (edgeCurve T e))) ≡ bounded
+    natural-finite = cc
+
+    natural-long : lt nought (spanOf (naturalRange (edgeCurve T e))) ≡ lt nought span
+    natural-long = cc
+
+    pub short-endless : bounded ≡ false → hasShort ≡ false
+    short-endless h = rw (natural-finite, h)
+
+    pub short-flat : bounded ≡ true → lt nought span ≡ false → hasShort ≡ false
+    short-flat h k = rw (natural-finite, h, natural-long, k)
+
+    pub short-span : {short : Interval} {width : Float} (v : Bool) → short ≡ shortRange T e → width ≡ spanOf short → bounded ≡ true → lt nought span ≡ true → lt nought width ≡ v
+        → hasShort ≡ v
+    short-span v f g h k l =
+        let w : lt nought (spanOf (shortRange T e)) ≡ v = cc in
+        rw (natural-finite, h, natural-long, k) w
+
+-- ---- what the tests decide
+module _ (T : Tables) (e : Edge) (r : Resolved) where
+  -- ---- the short arc: the points are all that is asked of the tables
+  pub arc-kept : (arc : List Sample) → isShortArc (ofPoints (T .points)) e r arc ≡ true → got (by ShortArc arc) ≡ got (arcOrChord (ofPoints (T .points)) e r arc)
+  unfolding isShortArc arcOrChord
+  arc-kept arc h = sym (ap (λ (b : Bool). got (cond b (by ShortArc arc) (runaway T e))) h)
+
+  pub arc-chord : (arc : List Sample) → isShortArc (ofPoints (T .points)) e r arc ≡ false → got (runaway (ofPoints (T .points)) e) ≡ got (arcOrChord (ofPoints (T .points)) e r arc)
+  unfolding isShortArc arcOrChord
+  arc-chord arc h = sym (ap (λ (b : Bool). got (cond b (by ShortArc arc) (runaway T e))) h)
+
+  pub arc-points : (arc : List Sample) → got (arcOrChord (ofPoints (T .points)) e r arc) ≡ got (arcOrChord T e r arc)
+  unfolding arcOrChord
+  arc-points arc = refl
+
+  -- ---- a chain drawn over another range
+  pub short-drawn : (short : Interval) (room : ℕ) (arc : List Sample) → discretised room T (withRange e short) r ≡ got arc → got (arcOrChord T e r arc) ≡ drawnShort T e r short room
+  unfolding drawnShort
+  short-drawn short room arc q = sym (ap (λ (X : Result (List Sample)). bind X (λ arc. got (arcOrChord T e r arc))) q)
+
+  module _ (complement : Interval) (room : ℕ) where
+    -- what becomes of the complementary arc
+    abbrev pub complementTo : List Sample → Result Got
+    complementTo arc = elim (escapes (reference T e) r arc) [ true ↦ byShortArc room T e r | false ↦ got (by Complement arc) ]
+
+    complement-drawn : (arc : List Sample) → discretised room T (withRange e complement) r ≡ got arc → drawnComplement T e r complement room ≡ complementTo arc
+    unfolding drawnComplement
+    complement-drawn arc q = ap (λ (X : Result (List Sample)). bind X complementTo) q
+
+    pub complement-escapes : (arc : List Sample) → discretised room T (withRange e complement) r ≡ got arc → escapes (reference T e) r arc ≡ true
+        → byShortArc room T e r ≡ drawnComplement T e r complement room
+    complement-escapes arc q h = sym (complement-drawn arc q ∙ ap (λ (b : Bool). elim b [ true ↦ byShortArc room T e r | false ↦ got (by Complement arc) ]) h)
+
+    pub complement-stays : (arc : List Sample) → discretised room T (withRange e complement) r ≡ got arc → escapes (reference T e) r arc ≡ false
+        → got (by Complement arc) ≡ drawnComplement T e r complement room
+    complement-stays arc q h = sym (complement-drawn arc q ∙ ap (λ (b : Bool). elim b [ true ↦ byShortArc room T e r | false ↦ got (by Complement arc) ]) h)
+
+  pub short-bind : (short : Interval) (room : ℕ) → drawnShort T e r short room ≡ bind (discretised room T (withRange e short) r) (λ arc. got (arcOrChord T e r arc))
+  unfolding drawnShort
+  short-bind short room = refl
+
+  pub complement-bind : (complement : Interval) (room : ℕ) → drawnComplement T e r complement room ≡ bind (discretised room T (withRange e complement) r) (complementTo complement room)
+  unfolding drawnComplement
+  complement-bind complement room = refl
+
+  -- ---- which way
+  pub by-short : (short : Interval) (room : ℕ) → short ≡ shortRange T e → hasShort T e ≡ true → drawnShort T e r short room ≡ byShortArc room T e r
+  unfolding byShortArc drawnShort shortRange
+  by-short short room q h =
+      ap (λ (s : Interval). drawnShort T e r s room) q
+      ∙ sym (ap (λ (b : Bool). elim b [ true ↦ drawnShort T e r (shortRange T e) room | false ↦ got (runaway T e) ]) h)
+
+  pub by-chord : (room : ℕ) → hasShort T e ≡ false → got (runaway (ofPoints (T .points)) e) ≡ byShortArc room T e r
+  unfolding byShortArc drawnShort shortRange
+  by-chord room h = sym (ap (λ (b : Bool). elim b [ true ↦ drawnShort T e r (shortRange T e) room | false ↦ got (runaway T e) ]) h)
+
+  module _ (p : Float) (room : ℕ) where
+    abbrev pub complementOf : Interval
+    complementOf = interval (e .range .hi) (e .range .lo ⊕ p)
+
+    pub by-complement : lt nought (spanOf complementOf) ≡ true → drawnComplement T e r complementOf room ≡ byComplement room T e r p
+    unfolding byComplement drawnComplement
+    by-complement h = sym (ap (λ (b : Bool). elim b [ true ↦ drawnComplement T e r complementOf room | false ↦ byShortArc room T e r ]) h)
+
+    pub by-other : lt nought (spanOf complementOf) ≡ false → byShortArc room T e r ≡ byComplement room T e r p
+    unfolding byComplement drawnComplement
+    by-other h = sym (ap (λ (b : Bool). elim b [ true ↦ drawnComplement T e r complementOf room | false ↦ byShortArc room T e r ]) h)
+
+  module _ (g : Got) (room : ℕ) where
+    pub repaired-kept : stays (ofPoints (T .points)) e r (g .chain) ≡ true → repaired room T e r g ≡ got g
+    unfolding repaired stays
+    repaired-kept h = ap (λ (b : Bool). elim b [ true ↦ got g | false ↦ byPeriod room T e r (period (edgeCurve T e)) ]) h
+
+    pub repaired-by : (p : Repeats) → p ≡ period (edgeCurve T e) → stays (ofPoints (T .points)) e r (g .chain) ≡ false → byPeriod room T e r p ≡ repaired room T e r g
+    unfolding repaired stays
+    repaired-by p q h = ap (byPeriod room T e r) q ∙ sym (ap (λ (b : Bool). elim b [ true ↦ got g | false ↦ byPeriod room T e r (period (edgeCurve T e)) ]) h)
+
+  -- ---- the tests
+  module _ (chain : List Sample) where
+    pub stays-empty : isEmpty (reference T e) ≡ true → true ≡ stays T e r chain
+    unfolding stays
+    stays-empty h = rw h
+
+    pub stays-flat : isEmpty (reference T e) ≡ false → lt nought (diagonal (reference T e)) ≡ false → true ≡ stays T e r chain
+    unfolding stays
+    stays-flat h k = rw (h, k)
+
+    pub stays-inside : isEmpty (reference T e) ≡ false → lt nought (diagonal (reference T e)) ≡ true → not (escapes (reference T e) r chain) ≡ stays T e r chain
+    unfolding stays
+    stays-inside h k = rw (h, k)
+
+    pub arc-outside : escapes (reference T e) r chain ≡ true → false ≡ isShortArc T e r chain
+    unfolding isShortArc
+    arc-outside h = rw h
+
+    pub arc-start : escapes (reference T e) r chain ≡ false → reaches e r (edgeStart T e) chain ≡ false → reaches e r (edgeStart T e) chain ≡ isShortArc T e r chain
+    unfolding isShortArc
+    arc-start h k = rw (h, k)
+
+    pub arc-end : escapes (reference T e) r chain ≡ false → reaches e r (edgeStart T e) chain ≡ true → reaches e r (edgeEnd T e) chain ≡ isShortArc T e r chain
+    unfolding isShortArc
+    arc-end h k = rw (h, k)

@@ -1,0 +1,63 @@
+use Rattle.repair.proofs.Ways.{arc-outside, arc-end, arc-start}
+use Rattle.samples.specs.Chain.{samples}
+use Rattle.place.specs.Place.{ofPoints}
+use denote.Ref.{now}
+use borrow.Author.Needs.{needs}
+use Rattle.repair.proofs.is_short_arc.Statement.{statement}
+use Rattle.repair.proofs.is_short_arc.Tie as tie
+use Rattle.repair.proofs.is_short_arc.Reads as reads
+use Rattle.repair.proofs.is_short_arc.Lts as lts
+use Rattle.brep.proofs.point.Reads as point-reads
+use Rattle.escape.proofs.escapes.Reads as escapes-reads
+use Rattle.escape.proofs.reaches.Reads as reaches-reads
+use Rattle.repair.proofs.reference.Reads as reference-reads
+
+reference-requires : tie.Need-reference-requires
+reference-requires c κs = search needs
+
+escapes-requires : tie.Need-escapes-requires
+escapes-requires c κs = search needs
+
+returns : tie.Need-returns
+returns c =
+    let a = c .before .before .before .before .before .args in
+    let T = ofPoints (now (a .points)) in
+    arc-outside T (a .edge) (a .r) _ (cc)
+
+point-requires : tie.Need-point-requires
+point-requires c κs = search needs
+
+point-requires-2 : tie.Need-point-requires-2
+point-requires-2 c κs = search needs
+
+reaches-requires : tie.Need-reaches-requires
+reaches-requires c κs = search needs
+
+reaches-requires-2 : tie.Need-reaches-requires-2
+reaches-requires-2 c κs = search needs
+
+returns-2 : tie.Need-returns-2
+returns-2 c =
+    let a = c .before .before .before .before .before .before .before .before .before .before .args in
+    let T = ofPoints (now (a .points)) in
+    cc (arc-end T (a .edge) (a .r) (samples (a .n) (now (a .chain))) (cc) (cc))
+
+returns-3 : tie.Need-returns-3
+returns-3 c =
+    let a = c .before .before .before .before .before .before .before .before .before .args in
+    let T = ofPoints (now (a .points)) in
+    cc (arc-start T (a .edge) (a .r) (samples (a .n) (now (a .chain))) (cc) (cc))
+
+pub is-short-arc-spec : {M : Type 1} → statement M
+is-short-arc-spec =
+    tie.close
+    (tie.spec
+    reference-requires
+    escapes-requires
+    returns
+    point-requires
+    point-requires-2
+    reaches-requires
+    reaches-requires-2
+    returns-2
+    returns-3)

@@ -1,0 +1,18 @@
+use borrow.Author.Needs.{needs}
+use Rattle.repair.proofs.reference.Statement.{statement}
+use Rattle.repair.proofs.reference.Tie as tie
+use Rattle.repair.proofs.reference.Reads as reads
+use Rattle.repair.proofs.reference.Lts as lts
+use Rattle.brep.proofs.point.Reads as point-reads
+
+point-requires : tie.Need-point-requires
+point-requires c κs = search needs
+
+point-requires-2 : tie.Need-point-requires-2
+point-requires-2 c κs = search needs
+
+returns : tie.Need-returns
+returns c = cc
+
+pub reference-spec : {M : Type 1} → statement M
+reference-spec = tie.close (tie.spec point-requires point-requires-2 returns)

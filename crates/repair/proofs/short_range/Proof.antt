@@ -1,0 +1,34 @@
+use Rattle.repair.proofs.Ways.{short-rising, short-falling}
+use Rattle.brep.specs.Rows.{lent}
+use borrow.Author.Needs.{needs}
+use Rattle.repair.proofs.short_range.Statement.{statement}
+use Rattle.repair.proofs.short_range.Tie as tie
+use Rattle.repair.proofs.short_range.Reads as reads
+use Rattle.repair.proofs.short_range.Lts as lts
+use Rattle.brep.proofs.point.Reads as point-reads
+use Rattle.escape.proofs.nearest.Reads as nearest-reads
+
+point-requires : tie.Need-point-requires
+point-requires c κs = search needs
+
+point-requires-2 : tie.Need-point-requires-2
+point-requires-2 c κs = search needs
+
+nearest-requires : tie.Need-nearest-requires
+nearest-requires c κs = search needs
+
+returns : tie.Need-returns
+returns c =
+    let a = c .before .before .before .before .before .before .before .before .before .before .args in
+    let T = lent (a .points) (a .curves) (a .reals) (a .parts) (a .ranges) in
+    short-rising T (a .edge) _ _ (cc) (cc) (c .if1 .taken)
+
+returns-2 : tie.Need-returns-2
+returns-2 c =
+    let a = c .before .before .before .before .before .before .before .before .before .before .args in
+    let T = lent (a .points) (a .curves) (a .reals) (a .parts) (a .ranges) in
+    short-falling T (a .edge) _ _ (cc) (cc) (c .if1 .left)
+
+pub short-range-spec : {M : Type 1} → statement M
+short-range-spec =
+    tie.close (tie.spec point-requires point-requires-2 nearest-requires returns returns-2)

@@ -1,0 +1,55 @@
+use Rattle.repair.proofs.Ways.{stays-empty, stays-inside, stays-flat}
+use Rattle.samples.specs.Chain.{samples}
+use Rattle.place.specs.Place.{ofPoints}
+use denote.Ref.{now}
+use borrow.Author.Needs.{needs}
+use Rattle.repair.proofs.stays.Statement.{statement}
+use Rattle.repair.proofs.stays.Tie as tie
+use Rattle.repair.proofs.stays.Reads as reads
+use Rattle.repair.proofs.stays.Lts as lts
+use Rattle.escape.proofs.escapes.Reads as escapes-reads
+use Rattle.math.proofs.Aabb.diagonal.Reads as diagonal-reads
+use Rattle.math.proofs.Aabb.is_empty.Reads as is-empty-reads
+use Rattle.repair.proofs.reference.Reads as reference-reads
+
+reference-requires : tie.Need-reference-requires
+reference-requires c κs = search needs
+
+is-empty-requires : tie.Need-is-empty-requires
+is-empty-requires c κs = search needs
+
+returns : tie.Need-returns
+returns c =
+    let a = c .before .before .before .before .before .args in
+    let T = ofPoints (now (a .points)) in
+    stays-empty T (a .edge) (a .r) _ (cc)
+
+diagonal-requires : tie.Need-diagonal-requires
+diagonal-requires c κs = search needs
+
+escapes-requires : tie.Need-escapes-requires
+escapes-requires c κs = search needs
+
+returns-2 : tie.Need-returns-2
+returns-2 c =
+    let a = c .before .before .before .before .before .before .before .before .args in
+    let T = ofPoints (now (a .points)) in
+    cc (stays-inside T (a .edge) (a .r) (samples (a .n) (now (a .chain))) (cc) (cc))
+
+returns-3 : tie.Need-returns-3
+returns-3 c =
+    let a = c .before .before .before .before .before .before .before .args in
+    let T = ofPoints (now (a .points)) in
+    stays-flat T (a .edge) (a .r) _ (cc) (cc)
+
+pub stays-spec : {M : Type 1} → statement M
+stays-spec =
+    tie.close
+    (tie.spec
+    reference-requires
+    is-empty-requires
+    returns
+    diagonal-requires
+    escapes-requires
+    returns-2
+    returns-3)

@@ -1,0 +1,377 @@
+// repair_runaway of edge.rs: a chain that leaves the reference box is drawn another way, into the second buffer.
+use brep::Edge;
+use chains::Drawn;
+use chains::Way;
+use curve::Repeats;
+use math::Aabb;
+use math::Interval;
+use options::Resolved;
+use samples::Counted;
+ghost use mathlib.Core.Path.{_≡_};
+ghost use mathlib.Core.Bool.{true};
+ghost use mathlib.Core.List.{[]};
+ghost use Prim.Native.Nat.{_*_, _≤_};
+ghost use lib.ListN.{length};
+ghost use Rattle.lists.specs.Result.{got};
+ghost use Rattle.lists.specs.Room.{filled};
+ghost use Rattle.brep.specs.Rows.{lent};
+ghost use Rattle.brep.specs.Tree.{tree};
+ghost use Rattle.knots.specs.Knots.{curveKnots};
+ghost use Rattle.samples.specs.Chain.{width, flat, samples};
+ghost use Rattle.chains.specs.Edge.{discretised};
+ghost use Rattle.chains.specs.Repair.{by, withRange, reference, runaway, arcOrChord, byShortArc, byComplement, byPeriod, repaired};
+ghost use Rattle.chains.specs.Draw.{roomOf, inFirst, answerOf, firstAfter, secondAfter};
+ghost use Rattle.place.specs.Place.{ofPoints};
+ghost use Rattle.repair.specs.Redrawn.{Redrawn, Redrew, stays, isShortArc, shortRange, drawnShort, drawnComplement};
+
+// The edge with another range.
+fn with_range(edge: Edge, range: Interval) -> Edge
+    ensures { λ d. ⌜ d ≡ withRange edge range ⌝ }
+{
+    Edge {
+        curve: edge.curve,
+        start: edge.start,
+        end: edge.end,
+        sense: edge.sense,
+        range,
+        tolerance: edge.tolerance,
+        low: edge.low,
+        high: edge.high,
+    }
+}
+
+// The box that the caller gives.
+fn reference(points: &[f64], edge: Edge) -> Aabb
+    ensures { λ b. ⌜ b ≡ reference (ofPoints (now (points .entry))) edge ⌝ }
+{
+    Aabb {
+        min: brep::point(points, edge.low),
+        max: brep::point(points, edge.high),
+    }
+}
+
+// The chord of the vertices in the second buffer. Its parameters are lo twice: it runs through nothing of the curve.
+fn runaway(points: &[f64], edge: Edge, first: &mut [f64], second: &mut [f64]) -> Drawn
+    requires { ⌜ (8 ≤ length (now first)) × (8 ≤ length (now second)) ⌝ }
+    ensures { λ w. ⌜ Redrawn (λ _. got (runaway (ofPoints (now (points .entry))) edge)) (now (first .entry)) (now (second .entry)) w (now (first .exit)) (now (second .exit)) ⌝ }
+{
+    lists::clear_from(first, 0);
+    edge::chord(points, edge, edge.range.lo, edge.range.lo, second);
+    Drawn::Chain(Way::Runaway, 2)
+}
+
+// Whether an arc stays inside and reaches both vertices.
+fn is_short_arc(points: &[f64], edge: Edge, r: Resolved, chain: &[f64], n: usize) -> bool
+    requires { ⌜ width * n ≤ length (now chain) ⌝ }
+    ensures { λ b. ⌜ b ≡ isShortArc (ofPoints (now (points .entry))) edge r (samples n (now (chain .entry))) ⌝ }
+{
+    if escape::escapes(reference(points, edge), r, chain, n) {
+        return false;
+    }
+    let start = brep::point(points, edge.start);
+    let end = brep::point(points, edge.end);
+    escape::reaches(edge, r, start, chain, n) && escape::reaches(edge, r, end, chain, n)
+}
+
+// The arc in the second buffer where it serves, else the chord.
+fn arc_or_chord(
+    points: &[f64],
+    edge: Edge,
+    r: Resolved,
+    n: usize,
+    first: &mut [f64],
+    second: &mut [f64],
+) -> Drawn
+    requires { ⌜ (8 ≤ length (now first)) × (8 ≤ length (now second)) × (width * n ≤ length (now second)) × (now second ≡ filled (length (now second)) (flat (samples n (now second)))) × (now first ≡ filled (length (now first)) []) ⌝ }
+    ensures { λ w. ⌜ Redrawn (λ _. got (arcOrChord (ofPoints (now (points .entry))) edge r (samples n (now (second .entry))))) (now (first .entry)) (now (second .entry)) w (now (first .exit)) (now (second .exit)) ⌝ }
+{
+    if is_short_arc(points, edge, r, second, n) {
+        return Drawn::Chain(Way::ShortArc, n);
+    }
+    runaway(points, edge, first, second)
+}
+
+// From the parameter nearest to one vertex to that nearest to the other.
+fn short_range(
+    points: &[f64],
+    curves: &[u32],
+    reals: &[f64],
+    parts: &[u32],
+    ranges: &[f64],
+    edge: Edge,
+) -> Interval
+    ensures { λ i. ⌜ i ≡ shortRange (lent (points .entry) (curves .entry) (reals .entry) (parts .entry) (ranges .entry)) edge ⌝ }
+{
+    let start = brep::point(points, edge.start);
+    let end = brep::point(points, edge.end);
+    let w = escape::nearest(points, curves, reals, parts, ranges, edge.curve, start, end);
+    if w.start <= w.end {
+        return Interval {
+            lo: w.start,
+            hi: w.end,
+        };
+    }
+    Interval {
+        lo: w.end,
+        hi: w.start,
+    }
+}
+
+// The edge over another range, drawn into the second buffer.
+fn redraw(
+    points: &[f64],
+    curves: &[u32],
+    reals: &[f64],
+    parts: &[u32],
+    ranges: &[f64],
+    edge: Edge,
+    r: Resolved,
+    range: Interval,
+    first: &mut [f64],
+    second: &mut [f64],
+) -> Counted
+    requires { ⌜ (8 ≤ length (now first)) × (8 ≤ length (now second)) × (length (curveKnots (tree (lent points curves reals parts ranges) (edge .curve))) ≤ 8192) ⌝ }
+    ensures { λ w. ⌜ Redrew (λ room. discretised room (lent (points .entry) (curves .entry) (reals .entry) (parts .entry) (ranges .entry)) (withRange edge range) r) (now (first .entry)) (now (second .entry)) w (now (first .exit)) (now (second .exit)) ⌝ }
+{
+    let d = with_range(edge, range);
+    edge::discretise(points, curves, reals, parts, ranges, d, r, second, first)
+}
+
+fn draw_short(
+    points: &[f64],
+    curves: &[u32],
+    reals: &[f64],
+    parts: &[u32],
+    ranges: &[f64],
+    edge: Edge,
+    r: Resolved,
+    short: Interval,
+    first: &mut [f64],
+    second: &mut [f64],
+) -> Drawn
+    requires { ⌜ (8 ≤ length (now first)) × (8 ≤ length (now second)) × (length (curveKnots (tree (lent points curves reals parts ranges) (edge .curve))) ≤ 8192) ⌝ }
+    ensures { λ w. ⌜ Redrawn (drawnShort (lent (points .entry) (curves .entry) (reals .entry) (parts .entry) (ranges .entry)) edge r short) (now (first .entry)) (now (second .entry)) w (now (first .exit)) (now (second .exit)) ⌝ }
+{
+    let drawn = redraw(
+        points,
+        curves,
+        reals,
+        parts,
+        ranges,
+        edge,
+        r,
+        short,
+        first,
+        second,
+    );
+    match drawn {
+        Counted::Refused(cause) => Drawn::Refused(cause),
+        Counted::Count(n) => arc_or_chord(points, edge, r, n, first, second),
+    }
+}
+
+fn by_short_arc(
+    points: &[f64],
+    curves: &[u32],
+    reals: &[f64],
+    parts: &[u32],
+    ranges: &[f64],
+    edge: Edge,
+    r: Resolved,
+    first: &mut [f64],
+    second: &mut [f64],
+) -> Drawn
+    requires { ⌜ (8 ≤ length (now first)) × (8 ≤ length (now second)) × (length (curveKnots (tree (lent points curves reals parts ranges) (edge .curve))) ≤ 8192) ⌝ }
+    ensures { λ w. ⌜ Redrawn (λ room. byShortArc room (lent (points .entry) (curves .entry) (reals .entry) (parts .entry) (ranges .entry)) edge r) (now (first .entry)) (now (second .entry)) w (now (first .exit)) (now (second .exit)) ⌝ }
+{
+    let natural = curve::natural_range(points, curves, reals, parts, ranges, edge.curve);
+    let span = natural.span();
+    if arith::is_finite(span) && 0.0 < span {
+        let short = short_range(points, curves, reals, parts, ranges, edge);
+        if 0.0 < short.span() {
+            return draw_short(
+                points,
+                curves,
+                reals,
+                parts,
+                ranges,
+                edge,
+                r,
+                short,
+                first,
+                second,
+            );
+        }
+    }
+    runaway(points, edge, first, second)
+}
+
+fn draw_complement(
+    points: &[f64],
+    curves: &[u32],
+    reals: &[f64],
+    parts: &[u32],
+    ranges: &[f64],
+    edge: Edge,
+    r: Resolved,
+    complement: Interval,
+    first: &mut [f64],
+    second: &mut [f64],
+) -> Drawn
+    requires { ⌜ (8 ≤ length (now first)) × (8 ≤ length (now second)) × (length (curveKnots (tree (lent points curves reals parts ranges) (edge .curve))) ≤ 8192) ⌝ }
+    ensures { λ w. ⌜ Redrawn (drawnComplement (lent (points .entry) (curves .entry) (reals .entry) (parts .entry) (ranges .entry)) edge r complement) (now (first .entry)) (now (second .entry)) w (now (first .exit)) (now (second .exit)) ⌝ }
+{
+    let drawn = redraw(
+        points,
+        curves,
+        reals,
+        parts,
+        ranges,
+        edge,
+        r,
+        complement,
+        first,
+        second,
+    );
+    match drawn {
+        Counted::Refused(cause) => Drawn::Refused(cause),
+        Counted::Count(n) => {
+            if escape::escapes(reference(points, edge), r, second, n) {
+                return by_short_arc(points, curves, reals, parts, ranges, edge, r, first, second);
+            }
+            Drawn::Chain(Way::Complement, n)
+        }
+    }
+}
+
+// The complement runs from where the arc ends back round to where it began.
+fn by_complement(
+    points: &[f64],
+    curves: &[u32],
+    reals: &[f64],
+    parts: &[u32],
+    ranges: &[f64],
+    edge: Edge,
+    r: Resolved,
+    p: f64,
+    first: &mut [f64],
+    second: &mut [f64],
+) -> Drawn
+    requires { ⌜ (8 ≤ length (now first)) × (8 ≤ length (now second)) × (length (curveKnots (tree (lent points curves reals parts ranges) (edge .curve))) ≤ 8192) ⌝ }
+    ensures { λ w. ⌜ Redrawn (λ room. byComplement room (lent (points .entry) (curves .entry) (reals .entry) (parts .entry) (ranges .entry)) edge r p) (now (first .entry)) (now (second .entry)) w (now (first .exit)) (now (second .exit)) ⌝ }
+{
+    let complement = Interval {
+        lo: edge.range.hi,
+        hi: edge.range.lo + p,
+    };
+    if 0.0 < complement.span() {
+        return draw_complement(
+            points,
+            curves,
+            reals,
+            parts,
+            ranges,
+            edge,
+            r,
+            complement,
+            first,
+            second,
+        );
+    }
+    by_short_arc(points, curves, reals, parts, ranges, edge, r, first, second)
+}
+
+fn by_period(
+    points: &[f64],
+    curves: &[u32],
+    reals: &[f64],
+    parts: &[u32],
+    ranges: &[f64],
+    edge: Edge,
+    r: Resolved,
+    period: Repeats,
+    first: &mut [f64],
+    second: &mut [f64],
+) -> Drawn
+    requires { ⌜ (8 ≤ length (now first)) × (8 ≤ length (now second)) × (length (curveKnots (tree (lent points curves reals parts ranges) (edge .curve))) ≤ 8192) ⌝ }
+    ensures { λ w. ⌜ Redrawn (λ room. byPeriod room (lent (points .entry) (curves .entry) (reals .entry) (parts .entry) (ranges .entry)) edge r period) (now (first .entry)) (now (second .entry)) w (now (first .exit)) (now (second .exit)) ⌝ }
+{
+    match period {
+        Repeats::Every(p) => by_complement(
+            points,
+            curves,
+            reals,
+            parts,
+            ranges,
+            edge,
+            r,
+            p,
+            first,
+            second,
+        ),
+        Repeats::Never => by_short_arc(
+            points,
+            curves,
+            reals,
+            parts,
+            ranges,
+            edge,
+            r,
+            first,
+            second,
+        ),
+    }
+}
+
+// Whether a chain stays: a box of no extent cannot say that anything ran away from it.
+fn stays(points: &[f64], edge: Edge, r: Resolved, chain: &[f64], n: usize) -> bool
+    requires { ⌜ width * n ≤ length (now chain) ⌝ }
+    ensures { λ b. ⌜ b ≡ stays (ofPoints (now (points .entry))) edge r (samples n (now (chain .entry))) ⌝ }
+{
+    let b = reference(points, edge);
+    if b.is_empty() {
+        return true;
+    }
+    if 0.0 < b.diagonal() {
+        return !escape::escapes(b, r, chain, n);
+    }
+    true
+}
+
+// The first buffer holds the first n records of a chain that was got in this way, and +0.0 behind them; the second +0.0.
+pub fn repair_runaway(
+    points: &[f64],
+    curves: &[u32],
+    reals: &[f64],
+    parts: &[u32],
+    ranges: &[f64],
+    edge: Edge,
+    r: Resolved,
+    way: Way,
+    n: usize,
+    first: &mut [f64],
+    second: &mut [f64],
+) -> Drawn
+    requires { ⌜ (8 ≤ length (now first)) × (8 ≤ length (now second)) × (length (curveKnots (tree (lent points curves reals parts ranges) (edge .curve))) ≤ 8192)
+        × (width * n ≤ length (now first)) × (now first ≡ filled (length (now first)) (flat (samples n (now first)))) × (now second ≡ filled (length (now second)) []) × (inFirst way ≡ true) ⌝ }
+    ensures { λ w. ⌜ (w ≡ answerOf (repaired (roomOf (length (now (first .entry))) (length (now (second .entry)))) (lent (points .entry) (curves .entry) (reals .entry) (parts .entry) (ranges .entry)) edge r (by way (samples n (now (first .entry))))))
+        × (now (first .exit) ≡ firstAfter (now (first .entry)) (repaired (roomOf (length (now (first .entry))) (length (now (second .entry)))) (lent (points .entry) (curves .entry) (reals .entry) (parts .entry) (ranges .entry)) edge r (by way (samples n (now (first .entry))))))
+        × (now (second .exit) ≡ secondAfter (now (second .entry)) (repaired (roomOf (length (now (first .entry))) (length (now (second .entry)))) (lent (points .entry) (curves .entry) (reals .entry) (parts .entry) (ranges .entry)) edge r (by way (samples n (now (first .entry)))))) ⌝ }
+{
+    if stays(points, edge, r, first, n) {
+        return Drawn::Chain(way, n);
+    }
+    let period = curve::period(points, curves, reals, parts, ranges, edge.curve);
+    by_period(
+        points,
+        curves,
+        reals,
+        parts,
+        ranges,
+        edge,
+        r,
+        period,
+        first,
+        second,
+    )
+}

@@ -1,0 +1,55 @@
+-- `replay_options::begun` meets its contract: the line's second and fourth whole numbers have 32 bits. Assumes nothing.
+use mathlib.Core.List.{List}
+use Prim.Native.Nat.{ℕ}
+use native.Mathlib.Omega.{arith}
+use Rattle.formats.specs.Bytes.{bytes}
+use Rattle.formats.specs.Format.{_before_}
+use Rattle.formats.specs.Table.{fields, line}
+use Rattle.layout.specs.Letters.{fieldOf, shapeOf}
+use Rattle.layout.proofs.Columns.{shape-law}
+use Rattle.layout.proofs.Rows.{row-read}
+use Rattle.ends.proofs.Singles.{options-narrow}
+use borrow.Author.Needs.{needs}
+use Rattle.replay_options.proofs.begun.Statement.{statement}
+use Rattle.replay_options.proofs.begun.Tie as tie
+
+abbrev shape : List ℕ
+shape = bytes "ffwlwf"
+
+slice-aggregate-line : tie.Need-slice-aggregate-line
+slice-aggregate-line c = search needs
+
+line-requires : tie.Need-line-requires
+line-requires c κs = search needs
+
+options-of-requires : tie.Need-options-of-requires
+unfolding bytes fields fieldOf _before_
+options-of-requires c κs =
+    let told = c .before .before .before .line in
+    let s = c .before .before .before .before .before .before .args .line .now in
+    let r = row-read s (line (shapeOf shape)) (shape-law shape) 0 (told .result) (omega arith) (told .ensures) (c .before .before .if1 .taken) in
+    rw (r .numbers-are) (options-narrow (r .list) (shape-law shape .was _ (r .list) _ (r .is .is) .right))
+
+options-of-requires-2 : tie.Need-options-of-requires-2
+options-of-requires-2 c κs = search needs
+
+resolve-requires : tie.Need-resolve-requires
+resolve-requires c κs = search needs
+
+returns : tie.Need-returns
+returns c = search needs
+
+returns-2 : tie.Need-returns-2
+returns-2 c = search needs
+
+pub begun-spec : {M : Type 1} → statement M
+begun-spec =
+    tie.close
+    (tie.spec
+    slice-aggregate-line
+    line-requires
+    options-of-requires
+    options-of-requires-2
+    resolve-requires
+    returns
+    returns-2)

@@ -1,0 +1,60 @@
+-- `replay_text::word` meets its contract: what the rest of the word adds to what waits stays the same. Assumes nothing.
+use mathlib.Core.Path.{_≡_, sym, ap, _∙_}
+use Prim.Native.Nat.{_+_, _-_, _≤_}
+use native.Mathlib.Omega.{arith}
+use lib.ListN.{length, drop}
+use lib.Seq.{drop-length}
+use borrow.Author.Needs.{needs}
+use Rattle.replay_text.specs.Waiting.{waits, puts}
+use Rattle.replay_text.proofs.Places.{puts-from}
+use Rattle.replay_text.proofs.word.Statement.{statement}
+use Rattle.replay_text.proofs.word.Tie as tie
+
+abbrev Inv-loop : tie.InvT-loop
+Inv-loop out₀ at w n₀ i₀ out n i = (i ≤ length w) × (puts (drop i w) (waits out n) ≡ puts w (waits out₀ at))
+
+abbrev μ-loop : tie.MeasureT-loop
+μ-loop out₀ at w n₀ i₀ out n i = length w - i
+
+loop-holds : tie.Need-loop-holds Inv-loop μ-loop
+loop-holds c = search needs
+
+shared-slice-read-put : tie.Need-shared-slice-read-put Inv-loop μ-loop
+shared-slice-read-put c = search needs
+
+put-requires : tie.Need-put-requires Inv-loop μ-loop
+put-requires c κs = search needs
+
+add-i : tie.Need-add-i Inv-loop μ-loop
+add-i c = search needs
+
+loop-less : tie.Need-loop-less Inv-loop μ-loop
+loop-less c = search needs
+
+loop-again : tie.Need-loop-again Inv-loop μ-loop
+loop-again c =
+    let l = c .before .before .before .before .loop in
+    let a = c .before .before .before .before .before .before .args in
+    (search needs, ap (puts (drop (l .i + 1) (a .w .now))) (c .put .ensures) ∙ sym (puts-from (a .w .now) (l .i) (waits (l .out) (l .n)) (omega arith)) ∙ l .inv .1)
+
+returns : tie.Need-returns Inv-loop μ-loop
+unfolding puts
+returns c =
+    let l = c .before .loop in
+    let a = c .before .before .before .args in
+    let e : l .i ≡ length (a .w .now) = omega arith in
+    sym (ap (λ k. puts k (waits (l .out) (l .n))) (ap (λ i. drop i (a .w .now)) e ∙ drop-length (a .w .now))) ∙ l .inv .1
+
+pub word-spec : {M : Type 1} → statement M
+word-spec =
+    tie.close
+    (tie.spec
+    Inv-loop
+    μ-loop
+    loop-holds
+    shared-slice-read-put
+    put-requires
+    add-i
+    loop-less
+    loop-again
+    returns)
