@@ -34,8 +34,14 @@ by way chain = record { way = way; chain = chain }
 -- Edge { range, ..edge.clone() }
 abbrev pub withRange : Edge → Interval → Edge
 withRange e range = record {
-  curve = e .curve; start = e .start; end = e .end; sense = e .sense; range = range;
-  tolerance = e .tolerance; low = e .low; high = e .high;
+  curve = e .curve;
+  start = e .start;
+  end = e .end;
+  sense = e .sense;
+  range = range;
+  tolerance = e .tolerance;
+  low = e .low;
+  high = e .high;
 }
 
 -- the reference box, as the caller gives it

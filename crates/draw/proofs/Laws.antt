@@ -39,7 +39,7 @@ use Rattle.chains.proofs.Outcome.{outcome-got, outcome-refused}
 use Rattle.chains.proofs.Discretised.{Chained, Room, discretised-outcome}
 use Rattle.chains.proofs.Repaired.{drawn-in-outcome}
 use Rattle.chains.proofs.Sound.{Binary}
-use Rattle.chains.proofs.Accepted.{inRoom, given, by-tables, by-buffers, refused-so}
+use Rattle.chains.proofs.Accepted.{given, by-tables, by-buffers, refused-so}
 use Rattle.chains.proofs.Held.{outcome}
 use Rattle.edge.specs.Discretised.{chainOf}
 use Rattle.draw.specs.Part.{liesInFirst, floatsOf}
@@ -158,8 +158,8 @@ module _ (t : Tables) (e : Edge) (r : Resolved) (first second : List Float) (p :
             let long : length f ≡ length first = ap length g ∙ filled-length (length first) (flat l) m in
             let short : length s ≡ length second = ap length s-is ∙ filled-length (length second) [] (omega arith) in
             let read : samples n f ≡ l =
-                ap (λ (x : List Float). samples n x) g ∙ ap (λ (x : ℕ). samples x (filled (length first) (flat l))) k
-                ∙ reads l (replicate (length first - length (flat l)) (ofBits binary64 0)) in
+            ap (λ (x : List Float). samples n x) g ∙ ap (λ (x : ℕ). samples x (filled (length first) (flat l))) k
+            ∙ reads l (replicate (length first - length (flat l)) (ofBits binary64 0)) in
             record {
               is = h ∙ ap got (sym read);
               first-long = long;
@@ -210,9 +210,11 @@ module _ (t : Tables) (e : Edge) (o : Options) (first second : List Float) where
   by-length a b = refused-outcome 7 (refused-so t e o (length first) (length second) 7 (by-buffers a b refl)) (omega arith)
 
   pub by-drawing : verdict t e o ≡ verdicts.Accepted → tooShort (length first) (length second) ≡ false → Binary t e
-      → (answer : Drawn) (f s : List Float) → Ended (inRoom t e o (length first) (length second)) first second answer f s → Outcome t e o first second answer f s
-  by-drawing a b k answer f s h =
-      let d = sym (given t e o (length first) (length second) verdicts.Accepted false a b) in
+      → (r : Resolved) → r ≡ localOptions t e o
+      → (answer : Drawn) (f s : List Float) → Ended (drawnIn (roomOf (length first) (length second)) t e r) first second answer f s
+      → Outcome t e o first second answer f s
+  by-drawing a b k r is answer f s h =
+      let d = ap (drawnIn (roomOf (length first) (length second)) t e) is ∙ sym (given t e o (length first) (length second) verdicts.Accepted false a b) in
       outcome t e o first second answer f s (h .0 ∙ ap draw.answerOf d) (h .1 ∙ ap (firstAfter first) d) (h .2 ∙ ap (secondAfter second) d) k
 
 -- ---- the lengths that draw_checked looks at

@@ -10,21 +10,18 @@ use options::Resolved;
 use samples::Counted;
 use usable::Usable;
 ghost use mathlib.Core.Path.{_≡_};
-ghost use mathlib.Core.Bool.{true, cond};
-ghost use mathlib.Core.List.{[]};
+ghost use mathlib.Core.Bool.{cond};
 ghost use Prim.Native.Nat.{_*_, _≤_};
 ghost use denote.Ref.{ptr};
 ghost use lib.ListN.{length, take};
 ghost use lib.Dec.{T};
 ghost use lib.Ieee.{binary64, fits};
-ghost use Rattle.lists.specs.Room.{filled};
 ghost use Rattle.brep.specs.Rows.{lent};
 ghost use Rattle.brep.specs.Tree.{tree};
 ghost use Rattle.causes.specs.declared.Verdict.the-variants.{Accepted};
 ghost use Rattle.causes.specs.Causes.{verdict};
 ghost use Rattle.knots.specs.Knots.{curveKnots};
-ghost use Rattle.samples.specs.Chain.{width, flat, samples};
-ghost use Rattle.chains.specs.Repair.{by, repaired};
+ghost use Rattle.samples.specs.Chain.{width};
 ghost use Rattle.chains.specs.Draw.{firstWay, localOptions, drawnIn, roomOf, answerOf, firstAfter, secondAfter, inFirst, Outcome};
 ghost use Rattle.draw.specs.Part.{Fitting, liesInFirst, floatsOf};
 
@@ -50,8 +47,7 @@ fn fitting(s: &[f64])
 // The same of a range's ends.
 fn fitting_ends(range: Interval)
     ensures { λ _. ⌜ T (fits binary64 (range .lo)) × T (fits binary64 (range .hi)) ⌝ }
-{
-}
+{}
 
 // The options for an edge of this size.
 fn local_options(
@@ -67,29 +63,6 @@ fn local_options(
 {
     let extent = extent::edge_extent(points, curves, reals, parts, ranges, edge);
     options.resolve().for_extent(extent)
-}
-
-fn repair_runaway(
-    points: &[f64],
-    curves: &[u32],
-    reals: &[f64],
-    parts: &[u32],
-    ranges: &[f64],
-    edge: Edge,
-    r: Resolved,
-    way: Way,
-    n: usize,
-    first: &mut [f64],
-    second: &mut [f64],
-) -> Drawn
-    requires { ⌜ (8 ≤ length (now first)) × (8 ≤ length (now second)) × (length (curveKnots (tree (lent points curves reals parts ranges) (edge .curve))) ≤ 8192)
-        × (width * n ≤ length (now first)) × (now first ≡ filled (length (now first)) (flat (samples n (now first))))
-        × (now second ≡ filled (length (now second)) []) × (inFirst way ≡ true) ⌝ }
-    ensures { λ w. ⌜ (w ≡ answerOf (repaired (roomOf (length (now (first .entry))) (length (now (second .entry)))) (lent (points .entry) (curves .entry) (reals .entry) (parts .entry) (ranges .entry)) edge r (by way (samples n (now (first .entry))))))
-        × (now (first .exit) ≡ firstAfter (now (first .entry)) (repaired (roomOf (length (now (first .entry))) (length (now (second .entry)))) (lent (points .entry) (curves .entry) (reals .entry) (parts .entry) (ranges .entry)) edge r (by way (samples n (now (first .entry))))))
-        × (now (second .exit) ≡ secondAfter (now (second .entry)) (repaired (roomOf (length (now (first .entry))) (length (now (second .entry)))) (lent (points .entry) (curves .entry) (reals .entry) (parts .entry) (ranges .entry)) edge r (by way (samples n (now (first .entry)))))) ⌝ }
-{
-    Drawn::Refused(8)
 }
 
 // The closure inside discretise_all: discretise, then repair_runaway.
@@ -113,9 +86,29 @@ fn drawn_in(
     match counted {
         Counted::Refused(n) => Drawn::Refused(n),
         Counted::Count(n) => {
-            let usable = usable::usable_range(points, curves, reals, parts, ranges, edge.curve, edge.range);
+            let usable = usable::usable_range(
+                points,
+                curves,
+                reals,
+                parts,
+                ranges,
+                edge.curve,
+                edge.range,
+            );
             let way = first_way(usable);
-            repair_runaway(points, curves, reals, parts, ranges, edge, r, way, n, first, second)
+            repair::repair_runaway(
+                points,
+                curves,
+                reals,
+                parts,
+                ranges,
+                edge,
+                r,
+                way,
+                n,
+                first,
+                second,
+            )
         }
     }
 }
@@ -163,7 +156,17 @@ pub fn draw(
     let verdict = causes::check(points, curves, reals, parts, ranges, edge, options);
     match verdict {
         Verdict::Refused(n) => Drawn::Refused(n),
-        Verdict::Accepted => draw_checked(points, curves, reals, parts, ranges, edge, options, first, second),
+        Verdict::Accepted => draw_checked(
+            points,
+            curves,
+            reals,
+            parts,
+            ranges,
+            edge,
+            options,
+            first,
+            second,
+        ),
     }
 }
 

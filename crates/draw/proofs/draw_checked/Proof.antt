@@ -1,15 +1,12 @@
 -- `draw::draw_checked` meets its contract. Assumes nothing.
-use mathlib.Core.Path.{subst}
 use mathlib.Core.Logic.{inl, inr}
 use native.Mathlib.Omega.{arith}
 use lib.ListN.{length}
 use borrow.Author.Tests.{ltb-true, ltb-false}
 use Rattle.brep.specs.Rows.{lent}
-use Rattle.options.specs.declared.Resolved.{Resolved}
 use Rattle.causes.proofs.Checked.{checked}
-use Rattle.chains.specs.Draw.{drawnIn, roomOf}
 use Rattle.draw.proofs.Few.{knots-fit}
-use Rattle.draw.proofs.Laws.{Ended, by-length, by-drawing, first-short, second-short, neither-short}
+use Rattle.draw.proofs.Laws.{by-length, by-drawing, first-short, second-short, neither-short}
 use borrow.Author.Needs.{needs}
 use Rattle.draw.proofs.draw_checked.Statement.{statement}
 use Rattle.draw.proofs.draw_checked.Tie as tie
@@ -45,7 +42,7 @@ same-length-2 : tie.Need-same-length-2
 same-length-2 c = search needs
 
 returns-2 : tie.Need-returns-2
-returns-2 c = let a = c .before .before .before .before .before .before .before .before .before .before .before .before .before .before .before .before .before .before .before .before .args in by-drawing (lent (a .points) (a .curves) (a .reals) (a .parts) (a .ranges)) (a .edge) (a .options) (a .first .now) (a .second .now) (c .before .before .before .before .before .before .before .before .before .before .before .before .before .before .before .before .before .before .before .before .pre) (neither-short (length (a .first .now)) (length (a .second .now)) (c .before .before .before .before .before .before .before .before .before .before .before .before .if1 .left) (ltb-false (length (a .second .now)) 8 (c .before .before .before .before .before .before .before .before .before .before .before .if2 .left))) (record { reals = c .before .before .before .before .before .before .before .before .before .before .fitting .ensures; ranges = c .before .before .before .before .before .before .before .before .before .fitting2 .ensures; lo = c .before .before .before .before .before .before .before .before .fitting-ends .ensures .0; hi = c .before .before .before .before .before .before .before .before .fitting-ends .ensures .1 }) _ _ _ (subst (λ (r : Resolved). Ended (drawnIn (roomOf (length (a .first .now)) (length (a .second .now))) (lent (a .points) (a .curves) (a .reals) (a .parts) (a .ranges)) (a .edge) r) (a .first .now) (a .second .now) _ _ _) (c .before .before .before .before .before .before .before .local-options .ensures) (c .before .before .before .before .drawn-in .ensures))
+returns-2 c = let a = c .before .before .before .before .before .before .before .before .before .before .before .before .before .before .before .before .before .before .before .before .args in by-drawing (lent (a .points) (a .curves) (a .reals) (a .parts) (a .ranges)) (a .edge) (a .options) (a .first .now) (a .second .now) (c .before .before .before .before .before .before .before .before .before .before .before .before .before .before .before .before .before .before .before .before .pre) (neither-short (length (a .first .now)) (length (a .second .now)) (c .before .before .before .before .before .before .before .before .before .before .before .before .if1 .left) (ltb-false (length (a .second .now)) 8 (c .before .before .before .before .before .before .before .before .before .before .before .if2 .left))) (record { reals = c .before .before .before .before .before .before .before .before .before .before .fitting .ensures; ranges = c .before .before .before .before .before .before .before .before .before .fitting2 .ensures; lo = c .before .before .before .before .before .before .before .before .fitting-ends .ensures .0; hi = c .before .before .before .before .before .before .before .before .fitting-ends .ensures .1 }) _ (c .before .before .before .before .before .before .before .local-options .ensures) _ _ _ (c .before .before .before .before .drawn-in .ensures)
 
 pub draw-checked-spec : {M : Type 1} → statement M
 draw-checked-spec =

@@ -10,7 +10,7 @@ use Rattle.draw.proofs.drawn_in.Reads as reads
 use Rattle.draw.proofs.drawn_in.Lts as lts
 use Rattle.edge.proofs.discretise.Reads as discretise-reads
 use Rattle.draw.proofs.first_way.Reads as first-way-reads
-use Rattle.draw.proofs.repair_runaway.Reads as repair-runaway-reads
+use Rattle.repair.proofs.repair_runaway.Reads as repair-runaway-reads
 use Rattle.usable.proofs.usable_range.Reads as usable-range-reads
 
 discretise-requires : tie.Need-discretise-requires
