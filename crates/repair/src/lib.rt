@@ -137,6 +137,7 @@ fn redraw(
     edge::discretise(points, curves, reals, parts, ranges, d, r, second, first)
 }
 
+// The short arc, drawn and tried.
 fn draw_short(
     points: &[f64],
     curves: &[u32],
@@ -170,6 +171,7 @@ fn draw_short(
     }
 }
 
+// Where the range itself ran away: the arc between the parameters at which the vertices sit, else the chord.
 fn by_short_arc(
     points: &[f64],
     curves: &[u32],
@@ -206,6 +208,7 @@ fn by_short_arc(
     runaway(points, edge, first, second)
 }
 
+// The complementary arc, drawn and tried; where it escapes too, the short arc.
 fn draw_complement(
     points: &[f64],
     curves: &[u32],
@@ -281,6 +284,7 @@ fn by_complement(
     by_short_arc(points, curves, reals, parts, ranges, edge, r, first, second)
 }
 
+// Only a periodic curve has a complementary arc.
 fn by_period(
     points: &[f64],
     curves: &[u32],

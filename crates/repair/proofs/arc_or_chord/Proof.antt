@@ -1,3 +1,4 @@
+-- `repair::arc_or_chord` meets its contract: the arc stays in the second buffer, or the chord takes its place. Assumes nothing.
 use Rattle.repair.proofs.Held.{redrawn-is, redrawn-kept}
 use Rattle.repair.proofs.Ways.{arc-kept, arc-chord}
 use Rattle.chains.specs.declared.Way.the-variants.{ShortArc}
@@ -7,10 +8,6 @@ use mathlib.Core.Path.{refl}
 use borrow.Author.Needs.{needs}
 use Rattle.repair.proofs.arc_or_chord.Statement.{statement}
 use Rattle.repair.proofs.arc_or_chord.Tie as tie
-use Rattle.repair.proofs.arc_or_chord.Reads as reads
-use Rattle.repair.proofs.arc_or_chord.Lts as lts
-use Rattle.repair.proofs.is_short_arc.Reads as is-short-arc-reads
-use Rattle.repair.proofs.runaway.Reads as runaway-reads
 
 is-short-arc-requires : tie.Need-is-short-arc-requires
 is-short-arc-requires c κs = search needs

@@ -1,3 +1,4 @@
+-- `repair::by_complement` meets its contract, by the test of the span. Assumes nothing.
 use Rattle.repair.proofs.Held.{redrawn-is}
 use Rattle.repair.proofs.Ways.{by-complement, by-other}
 use Rattle.arith.specs.Notation.{nought}
@@ -7,11 +8,6 @@ use mathlib.Core.Path.{sym, ap, _∙_}
 use borrow.Author.Needs.{needs}
 use Rattle.repair.proofs.by_complement.Statement.{statement}
 use Rattle.repair.proofs.by_complement.Tie as tie
-use Rattle.repair.proofs.by_complement.Reads as reads
-use Rattle.repair.proofs.by_complement.Lts as lts
-use Rattle.math.proofs.Interval.span.Reads as span-reads
-use Rattle.repair.proofs.by_short_arc.Reads as by-short-arc-reads
-use Rattle.repair.proofs.draw_complement.Reads as draw-complement-reads
 
 span-requires : tie.Need-span-requires
 span-requires c κs = search needs

@@ -1,3 +1,4 @@
+-- `repair::by_period` meets its contract, by what the period is. Assumes nothing.
 use Rattle.repair.proofs.Held.{redrawn-is}
 use Rattle.chains.specs.Repair.{byPeriod}
 use Rattle.brep.specs.Rows.{lent}
@@ -5,10 +6,6 @@ use mathlib.Core.Path.{sym, ap}
 use borrow.Author.Needs.{needs}
 use Rattle.repair.proofs.by_period.Statement.{statement}
 use Rattle.repair.proofs.by_period.Tie as tie
-use Rattle.repair.proofs.by_period.Reads as reads
-use Rattle.repair.proofs.by_period.Lts as lts
-use Rattle.repair.proofs.by_complement.Reads as by-complement-reads
-use Rattle.repair.proofs.by_short_arc.Reads as by-short-arc-reads
 
 enum-known-period : tie.Need-enum-known-period
 enum-known-period c = search needs

@@ -1,3 +1,4 @@
+-- `repair::by_short_arc` meets its contract, by the tests of the two spans. Assumes nothing.
 use Rattle.repair.proofs.Held.{redrawn-is}
 use Rattle.repair.proofs.Ways.{by-short, by-chord, short-span, short-endless, short-flat}
 use mathlib.Core.Logic.{⊎-elim}
@@ -6,14 +7,6 @@ use mathlib.Core.Bool.{true, false}
 use borrow.Author.Needs.{needs}
 use Rattle.repair.proofs.by_short_arc.Statement.{statement}
 use Rattle.repair.proofs.by_short_arc.Tie as tie
-use Rattle.repair.proofs.by_short_arc.Reads as reads
-use Rattle.repair.proofs.by_short_arc.Lts as lts
-use Rattle.arith.proofs.is_finite.Reads as is-finite-reads
-use Rattle.curve.proofs.natural_range.Reads as natural-range-reads
-use Rattle.math.proofs.Interval.span.Reads as span-reads
-use Rattle.repair.proofs.draw_short.Reads as draw-short-reads
-use Rattle.repair.proofs.runaway.Reads as runaway-reads
-use Rattle.repair.proofs.short_range.Reads as short-range-reads
 
 natural-range-requires : tie.Need-natural-range-requires
 natural-range-requires c κs = search needs
@@ -43,8 +36,11 @@ returns : tie.Need-returns
 returns c =
     let a = c .before .before .before .before .before .before .before .before .before .before .before .before .before .before .before .before .before .before .before .before .before .before .args in
     let T = lent (a .points) (a .curves) (a .reals) (a .parts) (a .ranges) in
-    redrawn-is (c .before .before .before .before .draw-short .ensures)
-    _ (by-short T (a .edge) (a .r) _ _ (c .before .before .before .before .before .before .before .before .before .short-range .ensures) (short-span T (a .edge) (c .before .before .before .before .before .before .before .before .before .before .before .before .before .before .natural-range .ensures) (c .before .before .before .before .before .before .before .before .before .before .before .before .before .span .ensures) (c .before .before .before .before .before .before .before .before .before .before .before .before .is-finite .ensures) true (c .before .before .before .before .before .before .before .before .before .short-range .ensures) (c .before .before .before .before .before .before .before .before .span2 .ensures) (c .before .before .before .before .before .before .before .before .before .before .before .if1 .taken) (c .before .before .before .before .before .before .before .before .before .before .if2 .taken) (c .before .before .before .before .before .before .before .if3 .taken)))
+    let s = c .before .before .before .before .before .before .before .before in
+    let f = s .before .before .before .before in
+    redrawn-is (c .before .before .before .before .draw-short .ensures) _
+    (by-short T (a .edge) (a .r) _ _ (s .before .short-range .ensures)
+    (short-span T (a .edge) (f .before .before .natural-range .ensures) (f .before .span .ensures) (f .is-finite .ensures) true (s .before .short-range .ensures) (s .span2 .ensures) (s .before .before .before .if1 .taken) (s .before .before .if2 .taken) (c .before .before .before .before .before .before .before .if3 .taken)))
 
 runaway-requires : tie.Need-runaway-requires
 runaway-requires c κs = search needs
@@ -59,11 +55,15 @@ returns-2 : tie.Need-returns-2
 returns-2 c =
     let a = c .before .before .before .before .before .before .before .before .before .before .before .before .before .before .before .before .before .before .args in
     let T = lent (a .points) (a .curves) (a .reals) (a .parts) (a .ranges) in
-    redrawn-is (c .before .before .before .before .runaway .ensures)
-    _ (by-chord T (a .edge) (a .r) _
-    (⊎-elim (λ w. short-span T (a .edge) (c .before .before .before .before .before .before .before .before .before .before .natural-range .ensures) (c .before .before .before .before .before .before .before .before .before .span .ensures) (c .before .before .before .before .before .before .before .before .is-finite .ensures) false (w .2 .ensures) (w .3 .ensures) (w .0 .taken) (w .1 .taken) (w .4 .left))
-    (λ w. ⊎-elim (λ v. short-flat T (a .edge) (c .before .before .before .before .before .before .before .before .before .before .natural-range .ensures) (c .before .before .before .before .before .before .before .before .before .span .ensures) (c .before .before .before .before .before .before .before .before .is-finite .ensures) (v .0 .taken) (v .1 .left))
-    (λ v. short-endless T (a .edge) (c .before .before .before .before .before .before .before .before .before .before .natural-range .ensures) (c .before .before .before .before .before .before .before .before .before .span .ensures) (c .before .before .before .before .before .before .before .before .is-finite .ensures) (v .left)) (w .came)) (c .before .before .before .before .before .before .before .if1 .came)))
+    let f = c .before .before .before .before .before .before .before .before in
+    let n = f .before .before .natural-range .ensures in
+    let s = f .before .span .ensures in
+    let i = f .is-finite .ensures in
+    redrawn-is (c .before .before .before .before .runaway .ensures) _
+    (by-chord T (a .edge) (a .r) _
+    (⊎-elim (λ w. short-span T (a .edge) n s i false (w .2 .ensures) (w .3 .ensures) (w .0 .taken) (w .1 .taken) (w .4 .left))
+    (λ w. ⊎-elim (λ v. short-flat T (a .edge) n s i (v .0 .taken) (v .1 .left)) (λ v. short-endless T (a .edge) n s i (v .left)) (w .came))
+    (c .before .before .before .before .before .before .before .if1 .came)))
 
 pub by-short-arc-spec : {M : Type 1} → statement M
 by-short-arc-spec =

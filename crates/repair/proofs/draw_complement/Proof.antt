@@ -1,3 +1,4 @@
+-- `repair::draw_complement` meets its contract: the records in the second buffer are the arc that was drawn. Assumes nothing.
 use Rattle.repair.proofs.Held.{drew, drew-room, drew-own, drew-reads, drew-escapes, redrawn-refused, redrawn-is, redrawn-from, redrawn-kept}
 use Rattle.repair.proofs.Ways.{complement-bind, complement-escapes, complement-stays}
 use Rattle.chains.specs.Repair.{by}
@@ -12,12 +13,6 @@ use mathlib.Core.Path.{refl, ap, _∙_}
 use borrow.Author.Needs.{needs}
 use Rattle.repair.proofs.draw_complement.Statement.{statement}
 use Rattle.repair.proofs.draw_complement.Tie as tie
-use Rattle.repair.proofs.draw_complement.Reads as reads
-use Rattle.repair.proofs.draw_complement.Lts as lts
-use Rattle.escape.proofs.escapes.Reads as escapes-reads
-use Rattle.repair.proofs.by_short_arc.Reads as by-short-arc-reads
-use Rattle.repair.proofs.redraw.Reads as redraw-reads
-use Rattle.repair.proofs.reference.Reads as reference-reads
 
 redraw-requires : tie.Need-redraw-requires
 redraw-requires c κs = search needs
@@ -35,7 +30,9 @@ escapes-requires : tie.Need-escapes-requires
 escapes-requires c κs = omega (arith, drew-room (drew (c .before .before .before .before .before .before .before .before .before .redraw .ensures) _ (c .before .before .before .drawn2 .given .1) (search needs)))
 
 by-short-arc-requires : tie.Need-by-short-arc-requires
-by-short-arc-requires c κs = (omega (arith, c .before .before .before .before .before .before .before .before .before .before .before .before .before .before .before .before .before .before .before .before .before .before .before .pre .0), omega (arith, c .before .before .before .before .before .before .before .before .before .before .before .before .before .before .before .before .before .before .before .before .before .before .before .pre .1), c .before .before .before .before .before .before .before .before .before .before .before .before .before .before .before .before .before .before .before .before .before .before .before .pre .2)
+by-short-arc-requires c κs =
+    let p = c .before .before .before .before .before .before .before .before .before .before .before .before .before .before .before .before .before .before .before .before .before .before .before .pre in
+    (omega (arith, p .0), omega (arith, p .1), p .2)
 
 same-length : tie.Need-same-length
 same-length c = search needs
@@ -47,9 +44,11 @@ returns : tie.Need-returns
 returns c =
     let a = c .before .before .before .before .before .before .before .before .before .before .before .before .before .before .before .before .before .before .before .before .before .before .before .before .before .before .before .before .args in
     let T = lent (a .points) (a .curves) (a .reals) (a .parts) (a .ranges) in
+    let e = c .before .before .before .before .before .before .before .before .before in
     let d = drew (c .before .before .before .before .before .before .before .before .before .before .before .before .before .before .before .before .before .before .redraw .ensures) _ (c .before .before .before .before .before .before .before .before .before .before .before .before .drawn2 .given .1) (search needs) in
-    redrawn-is (redrawn-from (c .before .before .before .before .by-short-arc .ensures) (now (a .first)) (now (a .second)) (search needs) (search needs))
-    _ (complement-escapes T (a .edge) (a .r) (a .complement) _ (d .chain) (d .is) (drew-escapes d (a .r) _ _ _ _ (c .before .before .before .before .before .before .before .before .before .before .reference .ensures) (c .before .before .before .before .before .before .before .before .escapes .ensures) (c .before .before .before .before .before .before .before .if1 .taken)))
+    redrawn-is (redrawn-from (c .before .before .before .before .by-short-arc .ensures) (now (a .first)) (now (a .second)) (search needs) (search needs)) _
+    (complement-escapes T (a .edge) (a .r) (a .complement) _ (d .chain) (d .is)
+    (drew-escapes d (a .r) _ _ _ _ (e .before .reference .ensures) (c .before .before .before .before .before .before .before .before .escapes .ensures) (c .before .before .before .before .before .before .before .if1 .taken)))
 
 same-length-3 : tie.Need-same-length-3
 same-length-3 c = search needs
@@ -73,9 +72,10 @@ returns-3 : tie.Need-returns-3
 returns-3 c =
     let a = c .before .before .before .before .before .before .before .before .before .before .before .before .before .before .before .before .before .before .before .before .before .args in
     let T = lent (a .points) (a .curves) (a .reals) (a .parts) (a .ranges) in
-    let d = drew (c .before .before .before .before .before .before .before .before .before .before .before .redraw .ensures) _ (c .before .before .before .before .before .drawn2 .given .1) (search needs) in
-    redrawn-is (redrawn-kept Complement _ (now (a .first)) (now (a .second)) _ _ refl (search needs) (c .before .before .before .before .before .before .before .before .before .before .before .redraw .ensures .firstHolds) (drew-own d))
-    _ (ap (λ (l : List Sample). got (by Complement l)) (drew-reads d)
+    let w = c .before .before .before .before .before .before .before .before .before .before .before .redraw .ensures in
+    let d = drew w _ (c .before .before .before .before .before .drawn2 .given .1) (search needs) in
+    redrawn-is (redrawn-kept Complement _ (now (a .first)) (now (a .second)) _ _ refl (search needs) (w .firstHolds) (drew-own d)) _
+    (ap (λ (l : List Sample). got (by Complement l)) (drew-reads d)
     ∙ complement-stays T (a .edge) (a .r) (a .complement) _ (d .chain) (d .is) (drew-escapes d (a .r) _ _ _ _ (c .before .before .before .reference .ensures) (c .before .escapes .ensures) (c .if1 .left)))
 
 pub draw-complement-spec : {M : Type 1} → statement M

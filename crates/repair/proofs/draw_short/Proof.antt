@@ -1,3 +1,4 @@
+-- `repair::draw_short` meets its contract: the records in the second buffer are the arc that was drawn. Assumes nothing.
 use Rattle.repair.proofs.Held.{drew, drew-room, drew-own, drew-reads, redrew-first, redrawn-refused, redrawn-is, redrawn-from}
 use Rattle.repair.proofs.Ways.{arc-points, short-bind, short-drawn}
 use Rattle.chains.specs.Repair.{arcOrChord}
@@ -10,10 +11,6 @@ use mathlib.Core.Path.{ap, _∙_}
 use borrow.Author.Needs.{needs}
 use Rattle.repair.proofs.draw_short.Statement.{statement}
 use Rattle.repair.proofs.draw_short.Tie as tie
-use Rattle.repair.proofs.draw_short.Reads as reads
-use Rattle.repair.proofs.draw_short.Lts as lts
-use Rattle.repair.proofs.arc_or_chord.Reads as arc-or-chord-reads
-use Rattle.repair.proofs.redraw.Reads as redraw-reads
 
 redraw-requires : tie.Need-redraw-requires
 redraw-requires c κs = search needs
@@ -26,8 +23,9 @@ enum-known-drawn-2 c = search needs
 
 arc-or-chord-requires : tie.Need-arc-or-chord-requires
 arc-or-chord-requires c κs =
-    let d = drew (c .before .before .before .before .before .before .before .before .before .redraw .ensures) _ (c .before .before .before .drawn2 .given .1) (search needs) in
-    (search needs, search needs, drew-room d, drew-own d, redrew-first (c .before .before .before .before .before .before .before .before .before .redraw .ensures) (search needs))
+    let w = c .before .before .before .before .before .before .before .before .before .redraw .ensures in
+    let d = drew w _ (c .before .before .before .drawn2 .given .1) (search needs) in
+    (search needs, search needs, drew-room d, drew-own d, redrew-first w (search needs))
 
 same-length : tie.Need-same-length
 same-length c = search needs

@@ -1,3 +1,4 @@
+-- `repair::is_short_arc` meets its contract, by the test that decides it. Assumes nothing.
 use Rattle.repair.proofs.Ways.{arc-outside, arc-end, arc-start}
 use Rattle.samples.specs.Chain.{samples}
 use Rattle.place.specs.Place.{ofPoints}
@@ -5,12 +6,6 @@ use denote.Ref.{now}
 use borrow.Author.Needs.{needs}
 use Rattle.repair.proofs.is_short_arc.Statement.{statement}
 use Rattle.repair.proofs.is_short_arc.Tie as tie
-use Rattle.repair.proofs.is_short_arc.Reads as reads
-use Rattle.repair.proofs.is_short_arc.Lts as lts
-use Rattle.brep.proofs.point.Reads as point-reads
-use Rattle.escape.proofs.escapes.Reads as escapes-reads
-use Rattle.escape.proofs.reaches.Reads as reaches-reads
-use Rattle.repair.proofs.reference.Reads as reference-reads
 
 reference-requires : tie.Need-reference-requires
 reference-requires c κs = search needs

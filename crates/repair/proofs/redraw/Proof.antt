@@ -1,13 +1,10 @@
+-- `repair::redraw` meets its contract: the room is that of both buffers, whichever is named first. Assumes nothing.
 use Rattle.repair.proofs.Held.{redrew}
 use Rattle.brep.specs.Rows.{lent}
 use denote.Ref.{now}
 use borrow.Author.Needs.{needs}
 use Rattle.repair.proofs.redraw.Statement.{statement}
 use Rattle.repair.proofs.redraw.Tie as tie
-use Rattle.repair.proofs.redraw.Reads as reads
-use Rattle.repair.proofs.redraw.Lts as lts
-use Rattle.edge.proofs.discretise.Reads as discretise-reads
-use Rattle.repair.proofs.with_range.Reads as with-range-reads
 
 with-range-requires : tie.Need-with-range-requires
 with-range-requires c κs = search needs

@@ -1,9 +1,7 @@
+-- `repair::reference` meets its contract. Assumes nothing.
 use borrow.Author.Needs.{needs}
 use Rattle.repair.proofs.reference.Statement.{statement}
 use Rattle.repair.proofs.reference.Tie as tie
-use Rattle.repair.proofs.reference.Reads as reads
-use Rattle.repair.proofs.reference.Lts as lts
-use Rattle.brep.proofs.point.Reads as point-reads
 
 point-requires : tie.Need-point-requires
 point-requires c κs = search needs

@@ -1,3 +1,4 @@
+-- `repair::repair_runaway` meets its contract: no refusal is below 8, so that one leaves both buffers all +0.0. Assumes nothing.
 use Rattle.repair.proofs.Held.{kept-after, redrawn-is, redrawn-after}
 use Rattle.repair.proofs.Ways.{repaired-kept, repaired-by}
 use Rattle.chains.specs.Repair.{by, repaired}
@@ -8,11 +9,6 @@ use mathlib.Core.Path.{sym, _∙_}
 use borrow.Author.Needs.{needs}
 use Rattle.repair.proofs.repair_runaway.Statement.{statement}
 use Rattle.repair.proofs.repair_runaway.Tie as tie
-use Rattle.repair.proofs.repair_runaway.Reads as reads
-use Rattle.repair.proofs.repair_runaway.Lts as lts
-use Rattle.curve.proofs.period.Reads as period-reads
-use Rattle.repair.proofs.by_period.Reads as by-period-reads
-use Rattle.repair.proofs.stays.Reads as stays-reads
 
 stays-requires : tie.Need-stays-requires
 stays-requires c κs = search needs

@@ -1,13 +1,10 @@
+-- `repair::runaway` meets its contract. Assumes nothing.
 use Rattle.repair.proofs.Held.{redrawn-runaway}
 use Rattle.place.specs.Place.{ofPoints}
 use denote.Ref.{now}
 use borrow.Author.Needs.{needs}
 use Rattle.repair.proofs.runaway.Statement.{statement}
 use Rattle.repair.proofs.runaway.Tie as tie
-use Rattle.repair.proofs.runaway.Reads as reads
-use Rattle.repair.proofs.runaway.Lts as lts
-use Rattle.edge.proofs.chord.Reads as chord-reads
-use Rattle.lists.proofs.clear_from.Reads as clear-from-reads
 
 clear-from-requires : tie.Need-clear-from-requires
 clear-from-requires c κs = search needs

@@ -1,12 +1,9 @@
+-- `repair::short_range` meets its contract. Assumes nothing.
 use Rattle.repair.proofs.Ways.{short-rising, short-falling}
 use Rattle.brep.specs.Rows.{lent}
 use borrow.Author.Needs.{needs}
 use Rattle.repair.proofs.short_range.Statement.{statement}
 use Rattle.repair.proofs.short_range.Tie as tie
-use Rattle.repair.proofs.short_range.Reads as reads
-use Rattle.repair.proofs.short_range.Lts as lts
-use Rattle.brep.proofs.point.Reads as point-reads
-use Rattle.escape.proofs.nearest.Reads as nearest-reads
 
 point-requires : tie.Need-point-requires
 point-requires c κs = search needs

@@ -1,3 +1,4 @@
+-- `repair::stays` meets its contract, by the test that decides it. Assumes nothing.
 use Rattle.repair.proofs.Ways.{stays-empty, stays-inside, stays-flat}
 use Rattle.samples.specs.Chain.{samples}
 use Rattle.place.specs.Place.{ofPoints}
@@ -5,12 +6,6 @@ use denote.Ref.{now}
 use borrow.Author.Needs.{needs}
 use Rattle.repair.proofs.stays.Statement.{statement}
 use Rattle.repair.proofs.stays.Tie as tie
-use Rattle.repair.proofs.stays.Reads as reads
-use Rattle.repair.proofs.stays.Lts as lts
-use Rattle.escape.proofs.escapes.Reads as escapes-reads
-use Rattle.math.proofs.Aabb.diagonal.Reads as diagonal-reads
-use Rattle.math.proofs.Aabb.is_empty.Reads as is-empty-reads
-use Rattle.repair.proofs.reference.Reads as reference-reads
 
 reference-requires : tie.Need-reference-requires
 reference-requires c κs = search needs
