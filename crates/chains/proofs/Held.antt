@@ -18,8 +18,9 @@ use Rattle.chains.specs.declared.Way.{Way}
 use Rattle.chains.specs.declared.Drawn.{Drawn}
 use Rattle.chains.specs.declared.Drawn.the-variants.{Refused, Chain}
 use Rattle.chains.specs.Repair.{Got}
-use Rattle.chains.specs.Draw.{localOptions, roomOf, drawn, answerOf, inFirst, firstAfter, secondAfter, chainIn, Sound, Outcome}
+use Rattle.chains.specs.Draw.{localOptions, roomOf, drawn, answerOf, inFirst, firstAfter, secondAfter, chainIn, Sound, Applies, Outcome}
 use Rattle.chains.proofs.Sound.{Binary, drawn-sound, drawn-fits}
+use Rattle.chains.proofs.Table.{lowest, none-applies}
 
 -- ---- the chain of the answer is read back from the buffer that holds it
 pub held : (first second : List Float) (g : Got) → chainIn (firstAfter first (got g)) (secondAfter second (got g)) (answerOf (got g)) ≡ g .chain
@@ -60,6 +61,30 @@ module _ (t : Tables) (e : Edge) (o : Options) (first second : List Float) where
         go (got g) q z =
             rw (answered, firstHolds, secondHolds, q, held first second g) (drawn-sound t e o (length first) (length second) g b q)
 
+    -- the answer's own result
+    drawn-refused : (n : ℕ) → answer ≡ Refused n → drawn t e o (length first) (length second) ≡ refused n
+    unfolding answerOf
+    drawn-refused n is = go (drawn t e o (length first) (length second)) refl
+      where
+        go : (r : Result Got) → drawn t e o (length first) (length second) ≡ r → drawn t e o (length first) (length second) ≡ refused n
+        go (refused k) q = let w : Refused k ≡ Refused n = sym (ap answerOf q) ∙ sym answered ∙ is in let z : k ≡ n = cc in q ∙ ap refused z
+        go (got g) q = absurd (let w = sym (ap answerOf q) ∙ sym answered ∙ is in let x : _≡_ {A = ℕ} 0 1 = cc in omega arith)
+
+    drawn-got : (way : Way) (n : ℕ) → answer ≡ Chain way n → (m : ℕ) → Applies t e o (length first) (length second) m → ⊥
+    unfolding answerOf
+    drawn-got way n is = go (drawn t e o (length first) (length second)) refl
+      where
+        go : (r : Result Got) → drawn t e o (length first) (length second) ≡ r → (m : ℕ) → Applies t e o (length first) (length second) m → ⊥
+        go (refused k) q = absurd (let w : Refused k ≡ Chain way n = sym (ap answerOf q) ∙ sym answered ∙ is in let x : _≡_ {A = ℕ} 0 1 = cc in omega arith)
+        go (got g) q = none-applies t e o (length first) (length second) g q
+
     -- the outcome whole
     pub outcome : Binary t e → Outcome t e o first second answer first' second'
-    outcome b = record { answered = answered; firstHolds = firstHolds; secondHolds = secondHolds; sound = held-sound b }
+    outcome b = record {
+      answered = answered;
+      firstHolds = firstHolds;
+      secondHolds = secondHolds;
+      refuses = λ n is. lowest t e o (length first) (length second) n (drawn-refused n is);
+      accepts = drawn-got;
+      sound = held-sound b;
+    }

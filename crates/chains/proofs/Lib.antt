@@ -6,4 +6,5 @@ pub mod Discretised
 pub mod Repaired
 pub mod Accepted
 pub mod Sound
+pub mod Table
 pub mod Held

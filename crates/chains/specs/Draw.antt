@@ -2,7 +2,7 @@
 use mathlib.Core.Path.{_≡_}
 use mathlib.Core.Bool.{Bool, true, false, cond, _||_}
 use mathlib.Core.List.{List, [], _∷_, map, dropLast}
-use Prim.Native.Nat.{ℕ, _≤_, _-_, _/_, min}
+use Prim.Native.Nat.{ℕ, _<_, _≤_, _-_, _/_, min}
 use lib.ListN.{length}
 use lib.Dec.{ltb, leb}
 use lib.Ieee.{Float, lt}
@@ -18,7 +18,9 @@ use Rattle.options.specs.declared.Resolved.{Resolved}
 use Rattle.options.specs.Options.{resolve, forExtent}
 use Rattle.causes.specs.declared.Verdict.{Verdict}
 use Rattle.causes.specs.declared.Verdict.the-variants as verdicts
-use Rattle.causes.specs.Causes.{verdict}
+use Rattle.bounds.specs.Bounds.{unbounded}
+use Rattle.forms.specs.Forms.{illFormed}
+use Rattle.causes.specs.Causes.{oversize, unordered, tooDeep, missing, verdict}
 use Rattle.params.specs.OneWay.{OneWay}
 use Rattle.samples.specs.declared.Sample.{Sample}
 use Rattle.samples.specs.Chain.{width, most, flat, samples, pointOf, between}
@@ -112,10 +114,40 @@ pub record Sound (T : Tables) (e : Edge) (floor : Float) (chain : List Sample) :
   -- where the merge floor is above zero, each point but the last is further than it from the one before
   pub apart : lt nought floor ≡ true → Apart floor (dropLast chain)
 
+-- ---- the table of causes
+-- cause n applies, whether or not a lower one does
+pub data Applies (T : Tables) (e : Edge) (o : Options) (first second : ℕ) : ℕ → Type 0 where
+  -- a table above its size
+  one : oversize T ≡ true → Applies T e o first second 1
+  -- a float not finite, or above 1e9 in magnitude
+  two : unbounded (T .points) (T .reals) (T .ranges) e o ≡ true → Applies T e o first second 2
+  -- what does not follow the tables' form
+  three : illFormed T e o ≡ true → Applies T e o first second 3
+  -- a reference that does not fall
+  four : unordered T ≡ true → Applies T e o first second 4
+  -- nested deeper than 8
+  five : tooDeep T ≡ true → Applies T e o first second 5
+  -- the edge's curve, start, end, low or high outside its table
+  six : missing T e ≡ true → Applies T e o first second 6
+  -- a chain buffer shorter than 8 floats
+  seven : tooShort first second ≡ true → Applies T e o first second 7
+  -- on the reference's way, what comes first: a parameter list longer than the room
+  eight : drawnIn (roomOf first second) T e (localOptions T e o) ≡ refused 8 → Applies T e o first second 8
+  -- or a span that the reference splits for ever
+  nine : drawnIn (roomOf first second) T e (localOptions T e o) ≡ refused 9 → Applies T e o first second 9
+
+-- cause n applies, and none of 1 to 7 that is lower
+pub record Lowest (T : Tables) (e : Edge) (o : Options) (first second n : ℕ) : Type 0 where
+  pub applies : Applies T e o first second n
+  pub lowest : (m : ℕ) → m ≤ 7 → m < n → Applies T e o first second m → ⊥
+
 -- the outcome of drawing: answer and buffers by the definition, and demand 3 of the chain that the buffers hold
 pub record Outcome (T : Tables) (e : Edge) (o : Options) (first second : List Float) (answer : Drawn) (first' second' : List Float) : Type 0 where
   pub answered : answer ≡ answerOf (drawn T e o (length first) (length second))
   pub firstHolds : first' ≡ firstAfter first (drawn T e o (length first) (length second))
   pub secondHolds : second' ≡ secondAfter second (drawn T e o (length first) (length second))
+  -- a refusal is that of a cause that applies, the lowest; a chain is answered exactly where none applies
+  pub refuses : (n : ℕ) → answer ≡ Refused n → Lowest T e o (length first) (length second) n
+  pub accepts : (way : Way) (n : ℕ) → answer ≡ Chain way n → (m : ℕ) → Applies T e o (length first) (length second) m → ⊥
   pub sound : (way : Way) (n : ℕ) → answer ≡ Chain way n
       → Sound T e (mergeFloor (e .tolerance) (localOptions T e o .sag)) (chainIn first' second' answer)

@@ -34,12 +34,13 @@ use Rattle.chains.specs.declared.Drawn.the-variants.{Refused, Chain}
 use Rattle.chains.specs.Edge.{edgeCurve, discretised}
 use Rattle.chains.specs.Repair.{Got, by, repaired}
 use Rattle.chains.specs.Draw as draw
-use Rattle.chains.specs.Draw.{firstWay, localOptions, drawnIn, roomOf, tooShort, drawn, Outcome, inFirst, afterRefusal, firstAfter, secondAfter}
+use Rattle.chains.specs.Draw.{firstWay, localOptions, drawnIn, roomOf, tooShort, drawn, Lowest, Outcome, inFirst, afterRefusal, firstAfter, secondAfter}
 use Rattle.chains.proofs.Outcome.{outcome-got, outcome-refused}
 use Rattle.chains.proofs.Discretised.{Chained, Room, discretised-outcome}
 use Rattle.chains.proofs.Repaired.{drawn-in-outcome}
 use Rattle.chains.proofs.Sound.{Binary}
 use Rattle.chains.proofs.Accepted.{given, by-tables, by-buffers, refused-so}
+use Rattle.chains.proofs.Table.{lowest}
 use Rattle.chains.proofs.Held.{outcome}
 use Rattle.edge.specs.Discretised.{chainOf}
 use Rattle.draw.specs.Part.{liesInFirst, floatsOf}
@@ -200,6 +201,8 @@ module _ (t : Tables) (e : Edge) (o : Options) (first second : List Float) where
     answered = rw q;
     firstHolds = rw (q, le-leb n 7 h);
     secondHolds = rw (q, le-leb n 7 h);
+    refuses = λ m is. let z : n ≡ m = cc in subst (Lowest t e o (length first) (length second)) z (lowest t e o (length first) (length second) n q);
+    accepts = λ way m is. absurd (let z : _≡_ {A = ℕ} 0 1 = cc in omega arith);
     sound = λ way m is. absurd (let z : _≡_ {A = ℕ} 0 1 = cc in omega arith);
   }
 
