@@ -20,7 +20,8 @@ use Rattle.params.proofs.Ends.{size-grows, size-good}
 use Rattle.merge.specs.Merge.{mergeFloor}
 use Rattle.chains.specs.Repair.{Got}
 use Rattle.chains.specs.Draw.{localOptions, drawnIn, roomOf, tooShort, drawn, Sound}
-use Rattle.chains.proofs.Tame.{Fitting, bounded-size, tree-tame}
+use Rattle.chains.specs.Binary.{Fitting}
+use Rattle.chains.proofs.Tame.{bounded-size, tree-tame}
 use Rattle.chains.proofs.Accepted.{Refuses, by-tables, by-buffers, by-drawing, accepts, refuses}
 use Rattle.chains.proofs.Outcome.{Outcome, outcome-got, outcome-refused}
 use Rattle.chains.proofs.Discretised.{Chained, Room}

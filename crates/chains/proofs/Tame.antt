@@ -29,17 +29,14 @@ use Rattle.bounds.specs.Bounds.{largest}
 use Rattle.forms.specs.Forms.{pointCount, curveCount, segmentCount, room}
 use Rattle.options.specs.declared.Options.{Options}
 use Rattle.causes.proofs.Checked.{Bounded, Checked}
+use Rattle.chains.specs.Binary.{Fitting}
 use Rattle.curve.specs.declared.Repeats.the-variants.{Every, Never}
 use Rattle.curve.specs.Eval.{tau, naturalRange, closes, everySpan, period}
 use Rattle.curve.proofs.Laws.{count-segments}
 use Rattle.knots.specs.Knots.{segmentKnots, curveKnots}
 use Rattle.params.proofs.Ends.{Size, size-grows, sub-size}
 
--- every float of a list is a binary64, as every float of a lent slice is
-abbrev pub Fitting : List Float → Type 0
-Fitting l = (i : ℕ) → T (fits binary64 (getD l i nan))
-
--- a slice that has none
+-- a slice that has no floats
 pub fitting-none : (l : List Float) → length l ≡ 0 → Fitting l
 unfolding fits
 fitting-none [] h i = tt

@@ -1,8 +1,8 @@
 -- Drawing an edge: the answer, what both chain buffers hold afterwards, and what holds of every chain. Definitions only.
 use mathlib.Core.Path.{_≡_}
 use mathlib.Core.Bool.{Bool, true, false, cond, _||_}
-use mathlib.Core.List.{List, [], _∷_, map, dropLast}
-use Prim.Native.Nat.{ℕ, _<_, _≤_, _-_, _/_, min}
+use mathlib.Core.List.{List, [], map, dropLast}
+use Prim.Native.Nat.{ℕ, _<_, _≤_, _-_, _*_, _/_, min}
 use lib.ListN.{length}
 use lib.Dec.{ltb, leb}
 use lib.Ieee.{Float, lt}
@@ -16,7 +16,6 @@ use Rattle.curve.specs.Eval.{pointAt}
 use Rattle.options.specs.declared.Options.{Options}
 use Rattle.options.specs.declared.Resolved.{Resolved}
 use Rattle.options.specs.Options.{resolve, forExtent}
-use Rattle.causes.specs.declared.Verdict.{Verdict}
 use Rattle.causes.specs.declared.Verdict.the-variants as verdicts
 use Rattle.bounds.specs.Bounds.{unbounded}
 use Rattle.forms.specs.Forms.{illFormed}
@@ -81,6 +80,15 @@ inFirst Chord = true
 inFirst Complement = false
 inFirst ShortArc = false
 inFirst Runaway = false
+
+-- the same of an answer, the empty chain of a refusal counting as lying in the first; and how many floats its chain has
+abbrev pub liesInFirst : Drawn → Bool
+liesInFirst (Refused n) = true
+liesInFirst (Chain way n) = inFirst way
+
+abbrev pub floatsOf : Drawn → ℕ
+floatsOf (Refused n) = 0
+floatsOf (Chain way n) = width * n
 
 -- 1 to 7 leave a buffer as before, 8 and 9 leave it all +0.0
 abbrev pub afterRefusal : ℕ → List Float → List Float

@@ -1,4 +1,5 @@
 // The distance of a point to a chord. A chord is a point and a vector; its length is worked out once by the caller.
+use math::Interval;
 use math::Vec3;
 ghost use mathlib.Core.Path.{_≡_};
 ghost use Rattle.chord.specs.Chord.{footOf, chordOffset, chordDistance, spanOffset, spanDistance, bisectionDistance};
@@ -10,7 +11,11 @@ const SHORTEST_CHORD: f64 = 1e-300;
 fn foot(pa: Vec3, axis: Vec3, divisor: f64, p: Vec3) -> f64
     ensures { λ r. ⌜ r ≡ footOf pa axis divisor p ⌝ }
 {
-    arith::clamp(p.sub(pa).dot(axis) / divisor, 0.0, 1.0)
+    arith::clamp(
+        p.sub(pa).dot(axis) / divisor,
+        Interval::UNIT.lo,
+        Interval::UNIT.hi,
+    )
 }
 
 // From the chord to p.
@@ -31,7 +36,7 @@ pub fn chord_distance(pa: Vec3, axis: Vec3, has_length: bool, divisor: f64, p: V
     chord_offset(pa, axis, has_length, divisor, p).length()
 }
 
-// For thinning; len2 is the chord's squared length. The offset serves a caller that compares squares.
+// For thinning; len2 is the chord's squared length.
 pub fn span_offset(pa: Vec3, axis: Vec3, len2: f64, p: Vec3) -> Vec3
     ensures { λ r. ⌜ r ≡ spanOffset pa axis len2 p ⌝ }
 {

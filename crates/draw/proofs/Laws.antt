@@ -11,7 +11,7 @@ use lib.Ieee.{Float, binary64, ofBits}
 use borrow.Author.Tests.{lt-ltb, le-ltb, le-leb, lt-leb}
 use Rattle.lists.specs.Result.{Result, refused, got}
 use Rattle.lists.specs.Room.{filled}
-use Rattle.lists.proofs.Filled.{filled-length}
+use Rattle.lists.proofs.Filled.{filled-length, filled-front}
 use Rattle.brep.specs.declared.Edge.{Edge}
 use Rattle.brep.specs.Rows.{Tables}
 use Rattle.options.specs.declared.Options.{Options}
@@ -41,9 +41,9 @@ use Rattle.chains.proofs.Repaired.{drawn-in-outcome}
 use Rattle.chains.proofs.Sound.{Binary}
 use Rattle.chains.proofs.Accepted.{given, by-tables, by-buffers, refused-so}
 use Rattle.chains.proofs.Table.{lowest}
-use Rattle.chains.proofs.Held.{outcome}
+use Rattle.chains.proofs.Held.{held, outcome}
 use Rattle.edge.specs.Discretised.{chainOf}
-use Rattle.draw.specs.Part.{liesInFirst, floatsOf}
+use Rattle.chains.specs.Draw.{liesInFirst, floatsOf}
 
 -- ---- the room of buffers that are long enough
 room-fine : (first second : ℕ) → 8 ≤ first → 8 ≤ second → Room (roomOf first second)
@@ -244,3 +244,22 @@ module _ {A : Type 0} (d : Drawn) (way : Way) (n : ℕ) (is : d ≡ Chain way n)
 
 pub so-many : (d : Drawn) (way : Way) (n : ℕ) → d ≡ Chain way n → (l : List Float) → take (width * n) l ≡ take (floatsOf d) l
 so-many d way n is l = ap (λ (m : ℕ). take m l) (sym (ap floatsOf is))
+
+-- the part that chain_of returns of draw's own answer holds the chain's records
+pub part-is-chain : (t : Tables) (e : Edge) (o : Options) (first second : List Float) (answer : Drawn) (f s : List Float)
+    → Outcome t e o first second answer f s → take (floatsOf answer) (cond (liesInFirst answer) f s) ≡ flat (draw.chainIn f s answer)
+unfolding draw.answerOf firstAfter secondAfter draw.chainIn flat
+part-is-chain t e o first second answer f s h = go (drawn t e o (length first) (length second)) refl
+  where
+    lead : (n : ℕ) (l : List Sample) → take (width * length l) (filled n (flat l)) ≡ flat l
+    lead n l = ap (λ (m : ℕ). take m (filled n (flat l))) (sym (length-flat l)) ∙ filled-front n (flat l)
+
+    go : (d : Result Got) → drawn t e o (length first) (length second) ≡ d → take (floatsOf answer) (cond (liesInFirst answer) f s) ≡ flat (draw.chainIn f s answer)
+    go (refused n) q = rw (h .answered, q)
+    go (got g) q =
+        rw (h .answered, h .firstHolds, h .secondHolds, q, held first second g)
+        (at (inFirst (g .way)))
+      where
+        at : (b : Bool) → take (width * length (g .chain)) (cond b (filled (length first) (cond b (flat (g .chain)) [])) (filled (length second) (cond b [] (flat (g .chain))))) ≡ flat (g .chain)
+        at true = lead (length first) (g .chain)
+        at false = lead (length second) (g .chain)

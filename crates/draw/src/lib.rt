@@ -22,8 +22,8 @@ ghost use Rattle.causes.specs.declared.Verdict.the-variants.{Accepted};
 ghost use Rattle.causes.specs.Causes.{verdict};
 ghost use Rattle.knots.specs.Knots.{curveKnots};
 ghost use Rattle.samples.specs.Chain.{width};
-ghost use Rattle.chains.specs.Draw.{firstWay, localOptions, drawnIn, roomOf, answerOf, firstAfter, secondAfter, inFirst, Outcome};
-ghost use Rattle.draw.specs.Part.{Fitting, liesInFirst, floatsOf};
+ghost use Rattle.chains.specs.Draw.{firstWay, localOptions, drawnIn, roomOf, answerOf, firstAfter, secondAfter, inFirst, liesInFirst, floatsOf, Outcome};
+ghost use Rattle.chains.specs.Binary.{Fitting};
 
 // The way of the first drawing: the chord where the edge has no usable range.
 fn first_way(usable: Usable) -> Way
@@ -113,8 +113,7 @@ fn drawn_in(
     }
 }
 
-// Draws an edge whose tables, numbers and options passed `causes::check`: a caller who draws many edges of one part can
-// look at the tables once.
+// Draws an edge that `causes::check` has accepted with these tables and options, without looking at them again.
 pub fn draw_checked(
     points: &[f64],
     curves: &[u32],

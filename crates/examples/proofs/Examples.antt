@@ -46,6 +46,6 @@ hold =
     (more refl (more refl (more refl
     (more refl (more refl
     (more refl (more refl
-    (more refl (more refl
+    (more refl (more refl (more refl
     (more (ap (each outlineOf) (runs-away (localOptions boxed escaping close)))
-    (more refl none)))))))))))))
+    (more refl none))))))))))))))

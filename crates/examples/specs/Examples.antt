@@ -15,6 +15,7 @@ use Rattle.curve.specs.Eval.{pointAt}
 use Rattle.options.specs.declared.Options.{Options}
 use Rattle.options.specs.Options.{radians, resolve, forExtent}
 use Rattle.samples.specs.declared.Sample.{Sample}
+use Rattle.merge.specs.Merge.{mergeFloor}
 use Rattle.usable.specs.declared.Usable.the-variants.{Range}
 use Rattle.usable.specs.Usable.{usableRange}
 use Rattle.chains.specs.declared.Way.{Way}
@@ -26,6 +27,8 @@ use Rattle.chains.specs.Draw.{drawn}
 pub data Example : Type 0 where
   -- the sag of resolved options for an extent
   sag : Options → Float → Float → Example
+  -- the merge floor of a tolerance and a sag
+  floor : Float → Float → Float → Example
   -- the usable range of row 0 for an edge's range
   usable : Tables → Interval → Interval → Example
   -- row 0's point at a parameter
@@ -46,6 +49,7 @@ outlineOf g = record { way = g .way; params = map (λ (s : Sample). s .param) (g
 -- an example holds of the definitions
 unfoldable pub Holds : Example → Type 0
 Holds (sag o extent s) = forExtent (resolve o) extent .sag ≡ s
+Holds (floor tolerance s f) = mergeFloor tolerance s ≡ f
 Holds (usable T range used) = usableRange (tree T 0) range ≡ Range used
 Holds (point T t p) = pointAt (tree T 0) t ≡ p
 Holds (draws T e o way params) = each outlineOf (drawn T e o 8192 8192) ≡ got (record { way = way; params = params })
@@ -170,8 +174,10 @@ examples =
     ∷ draws line (along three three) (absolute one one 1 12) Chord (three ∷ three ∷ [])
     ∷ draws line (along five two) (absolute one one 1 12) Chord (five ∷ two ∷ [])
     ∷ usable parabola (interval one one) (interval (bits 0xC12E848000000000) (bits 0x412E848000000000))
+    -- 838861 / 8388608
     ∷ point uneven one (vec (bits 0x3FB9999A00000000) nought nought)
     ∷ draws corner round (absolute one narrow 1 1) AsDrawn (nought ∷ one ∷ two ∷ [])
+    ∷ floor (bits 0x3FD0000000000000) two one
     ∷ draws corner round (absolute two narrow 1 1) AsDrawn (nought ∷ two ∷ [])
     ∷ draws boxed escaping close Runaway (nought ∷ nought ∷ [])
     ∷ refuses flat (edgeOf 0 2 nought two nought 0 2) (absolute one narrow 1 1) 9

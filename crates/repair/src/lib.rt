@@ -342,7 +342,8 @@ fn stays(points: &[f64], edge: Edge, r: Resolved, chain: &[f64], n: usize) -> bo
     true
 }
 
-// The first buffer holds the first n records of a chain that was got in this way, and +0.0 behind them; the second +0.0.
+// Keeps the chain of n records that stands alone in the first buffer, or draws another way into the second and clears
+// the first.
 pub fn repair_runaway(
     points: &[f64],
     curves: &[u32],

@@ -16,7 +16,7 @@ pub enum Usable {
     Unusable,
 }
 
-// Only a real domain will do: a line's or a parabola's spans the whole of model space.
+// Only a real domain will do: a line's spans the whole of model space.
 fn own_range(natural: Interval) -> Usable
     ensures { λ r. ⌜ r ≡ ownRange natural ⌝ }
 {

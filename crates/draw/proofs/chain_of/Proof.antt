@@ -2,7 +2,7 @@
 use mathlib.Core.Path.{ap, _∙_}
 use denote.Ref.{ptr}
 use lib.ListN.{take}
-use Rattle.draw.specs.Part.{floatsOf}
+use Rattle.chains.specs.Draw.{floatsOf}
 use Rattle.draw.proofs.Laws.{in-the-first, in-the-second, so-many}
 use borrow.Author.Needs.{needs}
 use Rattle.draw.proofs.chain_of.Statement.{statement}
