@@ -15,7 +15,6 @@ use Rattle.math.specs.declared.Interval.{Interval}
 use Rattle.math.specs.Math.{interval, spanOf, isEmpty, diagonal}
 use Rattle.brep.specs.declared.Edge.{Edge}
 use Rattle.brep.specs.Rows.{Tables}
-use Rattle.brep.specs.Tree.{CurveTree}
 use Rattle.curve.specs.declared.Repeats.{Repeats}
 use Rattle.curve.specs.declared.Repeats.the-variants.{Every, Never}
 use Rattle.curve.specs.Eval.{naturalRange, period}
@@ -26,7 +25,6 @@ use Rattle.params.specs.declared.Closed.{Closed}
 use Rattle.params.specs.declared.Closed.the-variants.{Unknown, Segments}
 use Rattle.params.specs.Params.{Sampler, evenly, fitting, bisected, floored, refined, sampleParams}
 use Rattle.samples.specs.declared.Sample.{Sample}
-use Rattle.samples.specs.Chain.{width}
 use Rattle.usable.specs.declared.Usable.{Usable}
 use Rattle.usable.specs.declared.Usable.the-variants.{Range, Unusable}
 use Rattle.usable.specs.Usable.{usableRange}
@@ -161,29 +159,30 @@ module _ (room room' : ℕ) (more : room ≤ room') where
         let way = firstWay (usableRange (edgeCurve t e) (e .range)) in
         kept-bind (repairedAs t e r way room) (repairedAs t e r way room') (discretised-kept t e r) (λ chain. repaired-kept (by way chain))
 
--- a chain drawn in a room is drawn in every larger one
+-- a chain drawn in a room is drawn in every larger one, past the most records of a chain too: it is that of no bound at all
 pub roomier : (room room' : ℕ) (t : Tables) (e : Edge) (r : Resolved) (g : Got) → room ≤ room' → drawnIn room t e r ≡ got g → drawnIn room' t e r ≡ got g
 roomier room room' t e r g more = kept-got g (drawn-kept room room' more t e r)
 
--- ---- buffers
-room-grows : (first second first' second' : ℕ) → first ≤ first' → second ≤ second' → roomOf first second ≤ roomOf first' second'
-unfolding roomOf
-room-grows first second first' second' h k = omega arith
+-- ---- longer buffers
+module _ (first second first' second' : ℕ) (h : first ≤ first') (k : second ≤ second') where
+  room-grows : roomOf first second ≤ roomOf first' second'
+  unfolding roomOf
+  room-grows = omega arith
 
-long-grows : (first second first' second' : ℕ) → first ≤ first' → second ≤ second' → tooShort first second ≡ false → tooShort first' second' ≡ false
-long-grows first second first' second' h k q =
-    let s = neither (ltb first 8) (ltb second 8) q in
-    let p = ltb-false first 8 (s .0) in
-    let w = ltb-false second 8 (s .1) in
-    rw (le-ltb first' 8 (omega arith), le-ltb second' 8 (omega arith))
+  still-long : tooShort first second ≡ false → tooShort first' second' ≡ false
+  still-long q =
+      let s = neither (ltb first 8) (ltb second 8) q in
+      let p = ltb-false first 8 (s .0) in
+      let w = ltb-false second 8 (s .1) in
+      rw (le-ltb first' 8 (omega arith), le-ltb second' 8 (omega arith))
 
--- a chain answered with some buffers is answered with all that are no shorter
-pub drawn-roomier : (t : Tables) (e : Edge) (o : Options) (first second first' second' : ℕ) (g : Got) → first ≤ first' → second ≤ second'
-    → drawn t e o first second ≡ got g → drawn t e o first' second' ≡ got g
-drawn-roomier t e o first second first' second' g h k q =
+-- a chain answered with two buffers is answered with any two that are no shorter
+pub drawn-roomier : (t : Tables) (e : Edge) (o : Options) (first second first' second' : ℕ) (g : Got)
+    → drawn t e o first second ≡ got g → first ≤ first' → second ≤ second' → drawn t e o first' second' ≡ got g
+drawn-roomier t e o first second first' second' g q h k =
     let a = accepts t e o first second g q in
     accepted-so t e o first' second' g (record {
       accepted = a .accepted;
-      long = long-grows first second first' second' h k (a .long);
+      long = still-long first second first' second' h k (a .long);
       made = roomier (roomOf first second) (roomOf first' second') t e (localOptions t e o) g (room-grows first second first' second' h k) (a .made);
     })
