@@ -159,7 +159,7 @@ module _ (room room' : ℕ) (more : room ≤ room') where
         let way = firstWay (usableRange (edgeCurve t e) (e .range)) in
         kept-bind (repairedAs t e r way room) (repairedAs t e r way room') (discretised-kept t e r) (λ chain. repaired-kept (by way chain))
 
--- a chain drawn in a room is drawn in every larger one, past the most records of a chain too: it is that of no bound at all
+-- a chain drawn in a room is drawn in every larger one, with no limit to how large
 pub roomier : (room room' : ℕ) (t : Tables) (e : Edge) (r : Resolved) (g : Got) → room ≤ room' → drawnIn room t e r ≡ got g → drawnIn room' t e r ≡ got g
 roomier room room' t e r g more = kept-got g (drawn-kept room room' more t e r)
 
