@@ -5,6 +5,7 @@ pub mod Outcome
 pub mod Discretised
 pub mod Repaired
 pub mod Accepted
+pub mod Room
 pub mod Sound
 pub mod Table
 pub mod Held
