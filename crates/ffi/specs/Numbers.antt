@@ -1,7 +1,8 @@
 -- Edges, options and answers as the plain numbers that C hands over. Definitions only.
 use mathlib.Core.Path.{_≡_}
 use mathlib.Core.List.{List}
-use Prim.Native.Nat.{ℕ}
+use mathlib.Core.Logic.{_⊎_}
+use Prim.Native.Nat.{ℕ, _*_, _≤_}
 use lib.ListN.{length}
 use lib.Ieee.{Float}
 use Rattle.math.specs.Math.{interval}
@@ -16,7 +17,7 @@ use Rattle.chains.specs.declared.Way.the-variants.{AsDrawn, Chord, Complement, 
 use Rattle.chains.specs.declared.Drawn.{Drawn}
 use Rattle.chains.specs.declared.Drawn.the-variants.{Refused, Chain}
 use Rattle.chains.specs.Draw.{drawn, answerOf, Outcome}
-use Rattle.samples.specs.Chain.{row}
+use Rattle.samples.specs.Chain.{width, row}
 use Rattle.walker.specs.declared.Step.{Step}
 use Rattle.walker.specs.declared.Step.the-variants.{Point, Done}
 
@@ -76,11 +77,18 @@ unfoldable pub countOf : Drawn → ℕ
 countOf (Refused n) = 0
 countOf (Chain way n) = n
 
+-- what a caller may rely on: a number from 1 to 9 with no way and no points, or 0, a way from 1 to 5 and points that fit either buffer
+abbrev pub Numbered : ℕ → ℕ → ℕ → ℕ → ℕ → Type 0
+Numbered first second refusal way count =
+    ((1 ≤ refusal) × (refusal ≤ 9) × (way ≡ 0) × (count ≡ 0))
+    ⊎ ((refusal ≡ 0) × (1 ≤ way) × (way ≤ 5) × (width * count ≤ first) × (width * count ≤ second))
+
 -- what drawing returns and stores: the answer's three numbers, and buffers with all that `Outcome` says of them
 pub record Told (T : Tables) (e : Edge) (o : Options) (first second : List Float) (refusal way count : ℕ) (first' second' : List Float) : Type 0 where
   pub itsRefusal : refusal ≡ refusalOf (answerTo T e o first second)
   pub itsWay : way ≡ wayOf (answerTo T e o first second)
   pub itsCount : count ≡ countOf (answerTo T e o first second)
+  pub numbered : Numbered (length first) (length second) refusal way count
   pub outcome : Outcome T e o first second (answerTo T e o first second) first' second'
 
 -- 1 for a step that passed a point, else 0
