@@ -66,6 +66,10 @@ pub struct Edge {
 }
 
 /// An angle, made by [`Angle::degrees`] or [`Angle::radians`]: a bare number is none.
+///
+/// ```compile_fail,E0308
+/// let options = cornsunset::Options { angle: 8.0, ..Default::default() };
+/// ```
 #[derive(Debug, Clone, Copy, PartialEq, PartialOrd)]
 pub struct Angle(f64);
 
@@ -179,7 +183,7 @@ impl Refusal {
             7 => Refusal::ShortBuffer,
             8 => Refusal::NoRoom,
             9 => Refusal::Endless,
-            _ => unreachable!("refusals are numbered 1 to 9"),
+            _ => unreachable!("the library's refusals are proved to be 1 to 9"),
         }
     }
 }
@@ -227,7 +231,7 @@ impl Way {
             3 => Way::Complement,
             4 => Way::ShortArc,
             5 => Way::Runaway,
-            _ => unreachable!("ways are numbered 1 to 5"),
+            _ => unreachable!("the library's ways are proved to be 1 to 5"),
         }
     }
 
@@ -366,6 +370,7 @@ pub fn draw<'b>(
         return Err(Refusal::of(refusal));
     }
     let way = Way::of(way);
+    // The points are proved to fit.
     let buffer = if way.in_first() { first } else { second };
     Ok(Chain { floats: &buffer[..4 * count], way })
 }
