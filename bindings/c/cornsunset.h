@@ -1,0 +1,193 @@
+/* Cornsunset in C: an edge of a part becomes a chain of points. Link with target/staticlib/libffi.a (rt staticlib ffi).
+ *
+ * Every function is proved to answer as its definition says for any numbers and any contents of any lengths. What is left
+ * to the caller is what C leaves to every caller: a pointer is not NULL (not even with a length of 0), has so many elements
+ * as the length beside it says, and what is written (buffers, out values) overlaps nothing else that is handed over.
+ * No function keeps a pointer, allocates, prints or fails in another way than it says. All may be called from any thread. */
+#ifndef CORNSUNSET_H
+#define CORNSUNSET_H
+
+#include <stdbool.h>
+#include <stddef.h>
+#include <stdint.h>
+
+#ifdef __cplusplus
+extern "C" {
+#endif
+
+/* ---- angles: a type of its own, so that 8 degrees are not handed over as 8 radians */
+
+typedef struct {
+    double radians;
+} cs_angle;
+
+/* x degrees in radians: x times pi / 180. */
+double cs_degrees(double x);
+
+/* Whether drawing changes an angle of so many radians: below 1e-4 or above pi it is clamped. 8, meant as degrees, is. */
+bool cs_is_clamped(double radians);
+
+static inline cs_angle cs_angle_degrees(double x) {
+    cs_angle a = {cs_degrees(x)};
+    return a;
+}
+
+static inline cs_angle cs_angle_radians(double x) {
+    cs_angle a = {x};
+    return a;
+}
+
+static inline bool cs_angle_is_clamped(cs_angle a) { return cs_is_clamped(a.radians); }
+
+/* ---- tables, edge and options; coordinates, deflection and tolerance are in the part's own unit of length */
+
+typedef struct {
+    const double *points; /* x y z of each point; at most 65,536 points */
+    size_t points_len;    /* each length counts numbers, not rows */
+    const uint32_t *curves; /* kind first count of each curve row; at most 4,096 rows. Kinds: 1 line, 2 circle, 3 ellipse,
+                             * 4 parabola, 5 polyline, 6 trimmed, 7 composite. first is the first of count points (1: origin
+                             * direction; 2 to 4: origin axis ref_dir), the base row (6), or the first of count segments (7) */
+    size_t curves_len;
+    const double *reals; /* p q of each curve row: radius, semi-axes, focal distance, a trim's range; unused ones are 0 */
+    size_t reals_len;
+    const uint32_t *parts; /* curve sense of each segment of a composite; at most 4,096 segments; sense is 0 or 1 */
+    size_t parts_len;
+    const double *ranges; /* lo hi of each segment */
+    size_t ranges_len;
+} cs_tables;
+
+typedef struct {
+    uint32_t curve; /* curve row */
+    uint32_t start; /* point of the start vertex */
+    uint32_t end;   /* point of the end vertex */
+    uint32_t sense; /* 1 if the edge runs with its curve, 0 if against it */
+    double lo, hi;  /* range of the curve's parameter; may be NaN or infinite */
+    double tolerance;
+    uint32_t low, high; /* points that are the least and the greatest corner of the part's box */
+} cs_edge;
+
+typedef struct {
+    double deflection; /* largest distance of chord and curve; where relative is 1, as a fraction of scale */
+    cs_angle angle;    /* largest turn between two chords */
+    uint32_t relative; /* 0 or 1 */
+    uint64_t segments; /* least number of segments of an edge */
+    uint32_t depth;    /* largest depth of bisection, 1 to 24 */
+    double scale;      /* size of the part; not finite or not above 0: none */
+} cs_options;
+
+/* ---- refusals and ways */
+
+enum {
+    CS_DRAWN = 0,        /* no refusal */
+    CS_OVERSIZE = 1,     /* a table is above its size */
+    CS_UNBOUNDED = 2,    /* a float is not finite, or above 1e9 in magnitude (lo, hi and scale may be NaN or infinite) */
+    CS_ILL_FORMED = 3,   /* points not in threes, an unknown kind, a wrong count, an unused p or q that is not zero, a sense or
+                          * relative that is neither 0 nor 1, or a run, base or segment's curve outside its table */
+    CS_UNORDERED = 4,    /* a trim's base, or the curve of a composite's segment, is not in a lower row than its own */
+    CS_TOO_DEEP = 5,     /* trims and composites are nested deeper than 8 */
+    CS_MISSING = 6,      /* the edge's curve, start, end, low or high is outside its table */
+    CS_SHORT_BUFFER = 7, /* a chain buffer is shorter than 8 floats */
+    CS_NO_ROOM = 8,      /* a list of parameters is longer than the buffers have room for, or than 16,384 */
+    CS_ENDLESS = 9       /* a span would be split without end, since no distance in it is above zero */
+};
+
+enum {
+    CS_NO_CHAIN = 0,   /* refused */
+    CS_AS_DRAWN = 1,   /* as first drawn; in the first buffer */
+    CS_CHORD = 2,      /* the chord of the vertices, since the edge has no usable range; in the first buffer */
+    CS_COMPLEMENT = 3, /* the complementary arc of a periodic curve; in the second buffer */
+    CS_SHORT_ARC = 4,  /* the arc between the parameters nearest to the vertices; in the second buffer */
+    CS_RUNAWAY = 5     /* the chord of the vertices, since nothing on the curve stays near the box; in the second buffer */
+};
+
+/* A sentence for the number of a refusal. */
+static inline const char *cs_sentence(uint32_t refusal) {
+    switch (refusal) {
+    case CS_DRAWN: return "Nothing was refused.";
+    case CS_OVERSIZE: return "A table is above its size: 65,536 points, 4,096 curve rows, 4,096 segments.";
+    case CS_UNBOUNDED: return "A float is not finite, or above 1e9 in magnitude.";
+    case CS_ILL_FORMED: return "The tables, the edge or the options are not well formed.";
+    case CS_UNORDERED: return "A trim's base, or the curve of a composite's segment, is not in a lower row than its own.";
+    case CS_TOO_DEEP: return "Trims and composites are nested deeper than 8.";
+    case CS_MISSING: return "The edge's curve, or one of its points, is outside its table.";
+    case CS_SHORT_BUFFER: return "A chain buffer is shorter than 8 floats.";
+    case CS_NO_ROOM: return "A list of parameters is longer than the chain buffers have room for.";
+    case CS_ENDLESS: return "A span would be split without end, since no distance in it is above zero.";
+    default: return "There is no such refusal.";
+    }
+}
+
+/* ---- the functions over numbers: cs_draw_edge and the others below call them with the fields in order */
+
+/* Draws an edge into the two chain buffers: 0, or the number of the refusal that applies, the lowest from 1 to 7, else 8 or 9
+ * as drawing meets it. *way is the way in which the chain was got (0 for a refusal) and *count how many points it has (0).
+ * A chain is four doubles a point, x y z t, from the start of the buffer that its way names; every other double of both
+ * buffers is then +0.0. Refusals 1 to 7 leave both buffers as they were; 8 and 9 leave them all +0.0. */
+uint32_t cs_draw(
+    const double *points, size_t points_len, const uint32_t *curves, size_t curves_len, const double *reals, size_t reals_len,
+    const uint32_t *parts, size_t parts_len, const double *ranges, size_t ranges_len,
+    uint32_t curve, uint32_t start, uint32_t end, uint32_t sense, double lo, double hi, double tolerance, uint32_t low, uint32_t high,
+    double deflection, double radians, uint32_t relative, uint64_t segments, uint32_t depth, double scale,
+    double *first, size_t first_len, double *second, size_t second_len, uint32_t *way, size_t *count);
+
+/* The lowest of the refusals 1 to 6 that applies, or 0. */
+uint32_t cs_check(
+    const double *points, size_t points_len, const uint32_t *curves, size_t curves_len, const double *reals, size_t reals_len,
+    const uint32_t *parts, size_t parts_len, const double *ranges, size_t ranges_len,
+    uint32_t curve, uint32_t start, uint32_t end, uint32_t sense, double lo, double hi, double tolerance, uint32_t low, uint32_t high,
+    double deflection, double radians, uint32_t relative, uint64_t segments, uint32_t depth, double scale);
+
+/* The options of a preset, the angle in radians: 0.0004 of the scale and 8 degrees; 0.01 and 35, for a quick preview; 0.0001
+ * and 4, for close inspection. Each is relative, with 1 segment, depth 12 and no scale: set the scale before drawing. */
+void cs_default(double *deflection, double *radians, uint32_t *relative, uint64_t *segments, uint32_t *depth, double *scale);
+void cs_draft(double *deflection, double *radians, uint32_t *relative, uint64_t *segments, uint32_t *depth, double *scale);
+void cs_fine(double *deflection, double *radians, uint32_t *relative, uint64_t *segments, uint32_t *depth, double *scale);
+
+/* ---- walking a chain; chain_len counts doubles, and only whole points are walked */
+
+/* The place where a walk begins: before the first point, or behind the last. A place counts the points before it. */
+size_t cs_start(const double *chain, size_t chain_len, bool forward);
+
+/* A step from *at: 1, the point that it passed as x y z t, and *at behind it; or 0 where none is left, with nothing changed. */
+uint32_t cs_step(const double *chain, size_t chain_len, bool forward, size_t *at, double point[4]);
+
+/* ---- the same over the structs */
+
+static inline uint32_t cs_draw_edge(const cs_tables *t, const cs_edge *e, const cs_options *o, double *first, size_t first_len,
+                                    double *second, size_t second_len, uint32_t *way, size_t *count) {
+    return cs_draw(t->points, t->points_len, t->curves, t->curves_len, t->reals, t->reals_len, t->parts, t->parts_len, t->ranges,
+                   t->ranges_len, e->curve, e->start, e->end, e->sense, e->lo, e->hi, e->tolerance, e->low, e->high, o->deflection,
+                   o->angle.radians, o->relative, o->segments, o->depth, o->scale, first, first_len, second, second_len, way, count);
+}
+
+static inline uint32_t cs_check_edge(const cs_tables *t, const cs_edge *e, const cs_options *o) {
+    return cs_check(t->points, t->points_len, t->curves, t->curves_len, t->reals, t->reals_len, t->parts, t->parts_len, t->ranges,
+                    t->ranges_len, e->curve, e->start, e->end, e->sense, e->lo, e->hi, e->tolerance, e->low, e->high, o->deflection,
+                    o->angle.radians, o->relative, o->segments, o->depth, o->scale);
+}
+
+/* The buffer that holds a chain got in this way. */
+static inline double *cs_chain(uint32_t way, double *first, double *second) { return way <= CS_CHORD ? first : second; }
+
+static inline cs_options cs_options_default(void) {
+    cs_options o;
+    cs_default(&o.deflection, &o.angle.radians, &o.relative, &o.segments, &o.depth, &o.scale);
+    return o;
+}
+
+static inline cs_options cs_options_draft(void) {
+    cs_options o;
+    cs_draft(&o.deflection, &o.angle.radians, &o.relative, &o.segments, &o.depth, &o.scale);
+    return o;
+}
+
+static inline cs_options cs_options_fine(void) {
+    cs_options o;
+    cs_fine(&o.deflection, &o.angle.radians, &o.relative, &o.segments, &o.depth, &o.scale);
+    return o;
+}
+
+#ifdef __cplusplus
+}
+#endif
+#endif

@@ -1,0 +1,39 @@
+/* A hole of radius 2, drawn with the default options and an angle of 20 degrees, walked there and back. */
+#include "cornsunset.h"
+#include <stdio.h>
+
+int main(void) {
+    /* The circle's origin, axis and ref_dir; its vertex; the corners of the box. */
+    const double points[] = {0, 0, 0, 0, 0, 1, 1, 0, 0, 2, 0, 0, -2, -2, 0, 2, 2, 0};
+    const uint32_t curves[] = {2, 0, 3};
+    const double reals[] = {2, 0};
+    const uint32_t parts[1] = {0};
+    const double ranges[1] = {0};
+    const cs_tables tables = {points, 18, curves, 3, reals, 2, parts, 0, ranges, 0};
+    const cs_edge edge = {.curve = 0, .start = 3, .end = 3, .sense = 1, .lo = 0, .hi = 6.283185307179586, .low = 4, .high = 5};
+    cs_options options = cs_options_default();
+    options.scale = 4;
+    options.deflection = 0.02;
+    options.angle = cs_angle_degrees(20);
+
+    double first[4 * 256], second[4 * 256];
+    uint32_t way;
+    size_t count;
+    const uint32_t refusal = cs_draw_edge(&tables, &edge, &options, first, 4 * 256, second, 4 * 256, &way, &count);
+    if (refusal != CS_DRAWN) {
+        puts(cs_sentence(refusal));
+        return 1;
+    }
+    const double *chain = cs_chain(way, first, second);
+    printf("way %u, %zu points\n", way, count);
+    double point[4];
+    for (int forward = 1; forward >= 0; forward--) {
+        size_t at = cs_start(chain, 4 * count, forward);
+        while (cs_step(chain, 4 * count, forward, &at, point)) {
+            printf("%9.6f %9.6f %9.6f  t %.6f\n", point[0], point[1], point[2], point[3]);
+        }
+    }
+    options.angle = cs_angle_radians(8);
+    printf("8 radians are %s\n", cs_angle_is_clamped(options.angle) ? "clamped" : "kept");
+    return 0;
+}

@@ -1,0 +1,414 @@
+//! An edge of a part becomes a chain of points. The work is done by a library of which every function is proved to answer as
+//! its definition says, for any contents of any lengths, so nothing is checked here that it checks itself.
+//!
+//! ```
+//! use cornsunset::{draw, Angle, Edge, Options, Tables};
+//!
+//! // A circle's origin, axis and ref_dir; its vertex; the corners of the part's box.
+//! let points = [0., 0., 0., 0., 0., 1., 1., 0., 0., 2., 0., 0., -2., -2., 0., 2., 2., 0.];
+//! let tables =
+//!     Tables { points: &points, curves: &[2, 0, 3], reals: &[2.0, 0.0], parts: &[], ranges: &[] };
+//! let (lo, hi) = (0.0, std::f64::consts::TAU);
+//! let edge =
+//!     Edge { curve: 0, start: 3, end: 3, sense: 1, lo, hi, tolerance: 0.0, low: 4, high: 5 };
+//! let options =
+//!     Options { deflection: 0.02, angle: Angle::degrees(20.0), scale: 4.0, ..Options::default() };
+//!
+//! let (mut first, mut second) = ([0.0; 1024], [0.0; 1024]);
+//! match draw(&tables, &edge, &options, &mut first, &mut second) {
+//!     Ok(chain) => assert_eq!(chain.len(), 19),
+//!     Err(refusal) => panic!("{refusal}"),
+//! }
+//! ```
+
+mod raw;
+
+use std::error::Error;
+use std::fmt;
+use std::ops::Deref;
+
+/// Points, curve rows and segments as five lent slices. `bindings/c/cornsunset.h` says what a row holds.
+#[derive(Debug, Clone, Copy, Default)]
+pub struct Tables<'a> {
+    /// x y z of each point.
+    pub points: &'a [f64],
+    /// kind first count of each curve row.
+    pub curves: &'a [u32],
+    /// p q of each curve row.
+    pub reals: &'a [f64],
+    /// curve sense of each segment.
+    pub parts: &'a [u32],
+    /// lo hi of each segment.
+    pub ranges: &'a [f64],
+}
+
+/// An edge: rows of the tables, and a range of its curve.
+#[derive(Debug, Clone, Copy, PartialEq)]
+pub struct Edge {
+    /// Its curve row.
+    pub curve: u32,
+    /// The point of its start vertex.
+    pub start: u32,
+    /// The point of its end vertex.
+    pub end: u32,
+    /// 1 if it runs with its curve, 0 if against it.
+    pub sense: u32,
+    /// Where its range begins; may be NaN or infinite.
+    pub lo: f64,
+    /// Where its range ends; may be NaN or infinite.
+    pub hi: f64,
+    /// How near two points are taken for one.
+    pub tolerance: f64,
+    /// The point that is the least corner of the part's box.
+    pub low: u32,
+    /// The point that is its greatest corner.
+    pub high: u32,
+}
+
+/// An angle, made by [`Angle::degrees`] or [`Angle::radians`]: a bare number is none.
+///
+/// ```compile_fail,E0308
+/// let options = cornsunset::Options { angle: 8.0, ..Default::default() };
+/// ```
+#[derive(Debug, Clone, Copy, PartialEq, PartialOrd)]
+pub struct Angle(f64);
+
+impl Angle {
+    /// So many degrees.
+    pub fn degrees(x: f64) -> Angle {
+        // SAFETY: a number for a number.
+        Angle(unsafe { raw::cs_degrees(x) })
+    }
+
+    /// So many radians.
+    pub fn radians(x: f64) -> Angle {
+        Angle(x)
+    }
+
+    /// In radians.
+    pub fn to_radians(self) -> f64 {
+        self.0
+    }
+
+    /// Whether drawing changes it, as it does below 1e-4 and above π: a caller can warn.
+    pub fn is_clamped(self) -> bool {
+        // SAFETY: a bool for a number.
+        unsafe { raw::cs_is_clamped(self.0) }
+    }
+}
+
+/// How finely to draw.
+#[derive(Debug, Clone, Copy, PartialEq)]
+pub struct Options {
+    /// The largest distance between chord and curve, or that as a fraction of the scale where relative is 1.
+    pub deflection: f64,
+    /// The largest turn between two chords.
+    pub angle: Angle,
+    /// 0 or 1.
+    pub relative: u32,
+    /// The least number of segments.
+    pub segments: u64,
+    /// The largest depth of bisection, 1 to 24.
+    pub depth: u32,
+    /// The size of the part; not finite or not above zero, it is none.
+    pub scale: f64,
+}
+
+impl Options {
+    fn preset(store: raw::Preset) -> Options {
+        let mut o = Options { deflection: 0.0, angle: Angle(0.0), relative: 0, segments: 0, depth: 0, scale: 0.0 };
+        // SAFETY: six numbers of its own to write.
+        unsafe {
+            store(&mut o.deflection, &mut o.angle.0, &mut o.relative, &mut o.segments, &mut o.depth, &mut o.scale);
+        }
+        o
+    }
+
+    /// For a quick preview: 0.01 of the scale and 35 degrees.
+    pub fn draft() -> Options {
+        Options::preset(raw::cs_draft)
+    }
+
+    /// For close inspection: 0.0001 of the scale and 4 degrees.
+    pub fn fine() -> Options {
+        Options::preset(raw::cs_fine)
+    }
+}
+
+/// 0.0004 of the scale and 8 degrees.
+impl Default for Options {
+    fn default() -> Options {
+        Options::preset(raw::cs_default)
+    }
+}
+
+/// Why an edge was turned away. The first seven leave both buffers as they were, the last two leave them all +0.0.
+#[derive(Debug, Clone, Copy, PartialEq, Eq, Hash)]
+pub enum Refusal {
+    /// A table is above its size.
+    Oversize = 1,
+    /// A float is not finite, or above 1e9 in magnitude.
+    Unbounded = 2,
+    /// Points not in threes, an unknown kind, a wrong count, an unused p or q that is not zero, a sense or relative that is
+    /// neither 0 nor 1, or a run, base or segment's curve outside its table.
+    IllFormed = 3,
+    /// A row refers to its own or a higher one.
+    Unordered = 4,
+    /// Trims and composites are nested too deep.
+    TooDeep = 5,
+    /// The edge refers to a row that is not there.
+    Missing = 6,
+    /// A chain buffer is shorter than two points.
+    ShortBuffer = 7,
+    /// The buffers have no room for what drawing needs.
+    NoRoom = 8,
+    /// A span would be split without end.
+    Endless = 9,
+}
+
+impl Refusal {
+    /// Its number, 1 to 9.
+    pub fn number(self) -> u32 {
+        self as u32
+    }
+
+    fn of(number: u32) -> Refusal {
+        match number {
+            1 => Refusal::Oversize,
+            2 => Refusal::Unbounded,
+            3 => Refusal::IllFormed,
+            4 => Refusal::Unordered,
+            5 => Refusal::TooDeep,
+            6 => Refusal::Missing,
+            7 => Refusal::ShortBuffer,
+            8 => Refusal::NoRoom,
+            9 => Refusal::Endless,
+            _ => unreachable!("the library's refusals are proved to be 1 to 9"),
+        }
+    }
+}
+
+impl fmt::Display for Refusal {
+    fn fmt(&self, f: &mut fmt::Formatter<'_>) -> fmt::Result {
+        f.write_str(match self {
+            Refusal::Oversize => "A table is above its size: 65,536 points, 4,096 curve rows, 4,096 segments.",
+            Refusal::Unbounded => "A float is not finite, or above 1e9 in magnitude.",
+            Refusal::IllFormed => "The tables, the edge or the options are not well formed.",
+            Refusal::Unordered => {
+                "A trim's base, or the curve of a composite's segment, is not in a lower row than its own."
+            }
+            Refusal::TooDeep => "Trims and composites are nested deeper than 8.",
+            Refusal::Missing => "The edge's curve, or one of its points, is outside its table.",
+            Refusal::ShortBuffer => "A chain buffer is shorter than 8 floats.",
+            Refusal::NoRoom => "A list of parameters is longer than the chain buffers have room for.",
+            Refusal::Endless => "A span would be split without end, since no distance in it is above zero.",
+        })
+    }
+}
+
+impl Error for Refusal {}
+
+/// The way in which a chain was got.
+#[derive(Debug, Clone, Copy, PartialEq, Eq, Hash)]
+pub enum Way {
+    /// As it was first drawn.
+    AsDrawn = 1,
+    /// The chord of the vertices, since the edge has no usable range.
+    Chord = 2,
+    /// The complementary arc of a periodic curve.
+    Complement = 3,
+    /// The arc between the parameters that are nearest to the vertices.
+    ShortArc = 4,
+    /// The chord of the vertices, since nothing on the curve stays near the box.
+    Runaway = 5,
+}
+
+impl Way {
+    fn of(number: u32) -> Way {
+        match number {
+            1 => Way::AsDrawn,
+            2 => Way::Chord,
+            3 => Way::Complement,
+            4 => Way::ShortArc,
+            5 => Way::Runaway,
+            _ => unreachable!("the library's ways are proved to be 1 to 5"),
+        }
+    }
+
+    fn in_first(self) -> bool {
+        matches!(self, Way::AsDrawn | Way::Chord)
+    }
+}
+
+/// A chain: the part of the caller's buffer that holds it. It is a slice of points, x y z t each.
+#[derive(Debug, Clone, Copy)]
+pub struct Chain<'b> {
+    floats: &'b [f64],
+    way: Way,
+}
+
+impl<'b> Chain<'b> {
+    /// The way in which it was got.
+    pub fn way(&self) -> Way {
+        self.way
+    }
+
+    /// Its points.
+    pub fn points(&self) -> &'b [[f64; 4]] {
+        let whole = self.floats.len() / 4;
+        // SAFETY: an array lies as its floats do, and there are four times so many.
+        unsafe { std::slice::from_raw_parts(self.floats.as_ptr().cast(), whole) }
+    }
+
+    /// Its points as plain floats.
+    pub fn floats(&self) -> &'b [f64] {
+        self.floats
+    }
+
+    /// A walk from its start.
+    pub fn forwards(&self) -> Walk<'b> {
+        Walk::new(self.floats, true)
+    }
+
+    /// A walk from its end.
+    pub fn backwards(&self) -> Walk<'b> {
+        Walk::new(self.floats, false)
+    }
+}
+
+impl Deref for Chain<'_> {
+    type Target = [[f64; 4]];
+
+    fn deref(&self) -> &[[f64; 4]] {
+        self.points()
+    }
+}
+
+/// A walk over the whole points of a chain. A step with no point left keeps its place.
+#[derive(Debug, Clone)]
+pub struct Walk<'a> {
+    chain: &'a [f64],
+    at: usize,
+    forward: bool,
+}
+
+impl<'a> Walk<'a> {
+    /// A walk over floats that are read as points, from their start if forward, else from their end.
+    pub fn new(chain: &'a [f64], forward: bool) -> Walk<'a> {
+        // SAFETY: a slice is lent for the call.
+        let at = unsafe { raw::cs_start(chain.as_ptr(), chain.len(), forward) };
+        Walk { chain, at, forward }
+    }
+
+    /// Turns round: the next step passes the last point again.
+    pub fn turn(&mut self) {
+        self.forward = !self.forward;
+    }
+}
+
+impl Iterator for Walk<'_> {
+    type Item = [f64; 4];
+
+    fn next(&mut self) -> Option<[f64; 4]> {
+        let (chain, mut point) = (self.chain, [0.0; 4]);
+        // SAFETY: a slice is lent for the call, and two values of its own to write.
+        let passed = unsafe { raw::cs_step(chain.as_ptr(), chain.len(), self.forward, &mut self.at, &mut point) };
+        (passed == 1).then_some(point)
+    }
+}
+
+/// Draws an edge into one of two buffers, and returns the part that holds its chain.
+///
+/// Four floats make a point, so that a buffer of n floats has room for n / 4 points. The shorter buffer says what room there
+/// is, 16,384 points at most. Whatever of the buffers is not the chain is +0.0 afterwards.
+pub fn draw<'b>(
+    tables: &Tables,
+    edge: &Edge,
+    options: &Options,
+    first: &'b mut [f64],
+    second: &'b mut [f64],
+) -> Result<Chain<'b>, Refusal> {
+    let (mut way, mut count) = (0, 0);
+    // SAFETY: slices are lent for the call; those that are written are borrowed alone. The function is proved to write
+    // nothing else, whatever it is handed.
+    let refusal = unsafe {
+        raw::cs_draw(
+            tables.points.as_ptr(),
+            tables.points.len(),
+            tables.curves.as_ptr(),
+            tables.curves.len(),
+            tables.reals.as_ptr(),
+            tables.reals.len(),
+            tables.parts.as_ptr(),
+            tables.parts.len(),
+            tables.ranges.as_ptr(),
+            tables.ranges.len(),
+            edge.curve,
+            edge.start,
+            edge.end,
+            edge.sense,
+            edge.lo,
+            edge.hi,
+            edge.tolerance,
+            edge.low,
+            edge.high,
+            options.deflection,
+            options.angle.0,
+            options.relative,
+            options.segments,
+            options.depth,
+            options.scale,
+            first.as_mut_ptr(),
+            first.len(),
+            second.as_mut_ptr(),
+            second.len(),
+            &mut way,
+            &mut count,
+        )
+    };
+    if refusal != 0 {
+        return Err(Refusal::of(refusal));
+    }
+    let way = Way::of(way);
+    // The points are proved to fit.
+    let buffer = if way.in_first() { first } else { second };
+    Ok(Chain { floats: &buffer[..4 * count], way })
+}
+
+/// The lowest of the refusals 1 to 6 that applies to an edge: what drawing it looks at before it looks at its buffers.
+pub fn check(tables: &Tables, edge: &Edge, options: &Options) -> Result<(), Refusal> {
+    // SAFETY: slices are lent for the call.
+    let refusal = unsafe {
+        raw::cs_check(
+            tables.points.as_ptr(),
+            tables.points.len(),
+            tables.curves.as_ptr(),
+            tables.curves.len(),
+            tables.reals.as_ptr(),
+            tables.reals.len(),
+            tables.parts.as_ptr(),
+            tables.parts.len(),
+            tables.ranges.as_ptr(),
+            tables.ranges.len(),
+            edge.curve,
+            edge.start,
+            edge.end,
+            edge.sense,
+            edge.lo,
+            edge.hi,
+            edge.tolerance,
+            edge.low,
+            edge.high,
+            options.deflection,
+            options.angle.0,
+            options.relative,
+            options.segments,
+            options.depth,
+            options.scale,
+        )
+    };
+    match refusal {
+        0 => Ok(()),
+        number => Err(Refusal::of(number)),
+    }
+}

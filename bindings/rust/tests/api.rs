@@ -1,0 +1,157 @@
+//! The safe API by itself: refusals, buffers, NaN parameters, walks, angles and presets.
+use cornsunset::{check, draw, Angle, Edge, Options, Refusal, Tables, Walk, Way};
+
+/// What no drawing writes.
+const MARK: f64 = f64::from_bits(0x7ff4_dead_0000_beef);
+
+/// Origin 0 and direction (2, 0, 0), with vertices at x 0 and 10.
+const POINTS: [f64; 9] = [0.0, 0.0, 0.0, 2.0, 0.0, 0.0, 10.0, 0.0, 0.0];
+const LINE: Tables = Tables { points: &POINTS, curves: &[1, 0, 2], reals: &[0.0, 0.0], parts: &[], ranges: &[] };
+const EDGE: Edge = Edge { curve: 0, start: 0, end: 2, sense: 1, lo: 0.0, hi: 5.0, tolerance: 0.0, low: 0, high: 2 };
+
+fn options() -> Options {
+    Options { deflection: 1.0, angle: Angle::radians(1.0), relative: 0, segments: 4, ..Options::default() }
+}
+
+fn all(floats: &[f64], value: f64) -> bool {
+    floats.iter().all(|x| x.to_bits() == value.to_bits())
+}
+
+/// The refusal, and that the buffers are as it should leave them.
+fn refused(tables: &Tables, edge: &Edge, options: &Options, (m, n): (usize, usize)) -> u32 {
+    let (mut first, mut second) = (vec![MARK; m], vec![MARK; n]);
+    let refusal = draw(tables, edge, options, &mut first, &mut second).unwrap_err();
+    let left = if refusal.number() <= 7 { MARK } else { 0.0 };
+    assert!(all(&first, left) && all(&second, left), "{refusal}");
+    assert!(refusal.to_string().ends_with('.'));
+    if refusal.number() <= 6 {
+        assert_eq!(check(tables, edge, options), Err(refusal));
+    }
+    refusal.number()
+}
+
+#[test]
+fn a_line_is_drawn_into_the_first_buffer() {
+    let (mut first, mut second) = ([MARK; 30], [MARK; 41]);
+    let start = first.as_ptr();
+    let chain = draw(&LINE, &EDGE, &options(), &mut first, &mut second).unwrap();
+    assert_eq!((chain.way(), chain.len()), (Way::AsDrawn, 5));
+    assert_eq!(chain.floats().as_ptr(), start);
+    let expected: Vec<[f64; 4]> = (0..5).map(|i| [2.5 * i as f64, 0.0, 0.0, 1.25 * i as f64]).collect();
+    assert_eq!(chain.points(), expected);
+    assert!(all(&first[20..], 0.0) && all(&second, 0.0));
+}
+
+#[test]
+fn each_refusal_has_its_number_and_leaves_the_buffers() {
+    let o = options();
+    let points = vec![0.0; 3 * 65_536 + 1];
+    assert_eq!(refused(&Tables { points: &points, ..LINE }, &EDGE, &o, (80, 80)), 1);
+    let rows = vec![0; 3 * 4_096 + 1];
+    assert_eq!(refused(&Tables { curves: &rows, ..LINE }, &EDGE, &o, (80, 80)), 1);
+    assert_eq!(refused(&Tables { parts: &rows, ..LINE }, &EDGE, &o, (80, 80)), 1);
+    let floats = vec![0.0; 2 * 4_096 + 1];
+    assert_eq!(refused(&Tables { reals: &floats, ..LINE }, &EDGE, &o, (80, 80)), 1);
+    assert_eq!(refused(&Tables { ranges: &floats, ..LINE }, &EDGE, &o, (80, 80)), 1);
+    assert_eq!(refused(&LINE, &Edge { tolerance: f64::NAN, ..EDGE }, &o, (80, 80)), 2);
+    assert_eq!(refused(&Tables { points: &POINTS[..8], ..LINE }, &EDGE, &o, (80, 80)), 3);
+    assert_eq!(refused(&Tables { reals: &[0.0], ..LINE }, &EDGE, &o, (80, 80)), 3);
+    assert_eq!(refused(&Tables { curves: &[1, 0], ..LINE }, &EDGE, &o, (80, 80)), 3);
+    assert_eq!(refused(&LINE, &Edge { sense: 2, ..EDGE }, &o, (80, 80)), 3);
+    let trim = Tables { curves: &[6, 0, 1], reals: &[0.0, 1.0], ..LINE };
+    assert_eq!(refused(&trim, &EDGE, &o, (80, 80)), 4);
+    let curves: Vec<u32> = [[1, 0, 2]].into_iter().chain((0..9).map(|i| [6, i, 1])).flatten().collect();
+    let reals: Vec<f64> = [[0.0; 2]].into_iter().chain([[0.0, 5.0]; 9]).flatten().collect();
+    assert_eq!(refused(&Tables { curves: &curves, reals: &reals, ..LINE }, &EDGE, &o, (80, 80)), 5);
+    assert_eq!(refused(&LINE, &Edge { high: 3, ..EDGE }, &o, (80, 80)), 6);
+    assert_eq!(refused(&Tables::default(), &EDGE, &o, (80, 80)), 6);
+    assert_eq!(refused(&LINE, &EDGE, &o, (7, 80)), 7);
+    assert_eq!(refused(&LINE, &EDGE, &o, (80, 0)), 7);
+    assert_eq!(refused(&LINE, &EDGE, &o, (8, 8)), 8);
+    assert_eq!(refused(&LINE, &EDGE, &o, (80, 19)), 8);
+    assert_eq!(Refusal::ShortBuffer.to_string(), "A chain buffer is shorter than 8 floats.");
+}
+
+#[test]
+fn a_span_that_would_be_split_without_end_is_refused() {
+    let u = 2f64.powi(-23);
+    let x = 6e8;
+    let points = [x, x, 0.0, x + u, x, 0.0, x + 10.0 * u, x + 3.0 * u, 0.0];
+    let t = Tables { points: &points, curves: &[5, 0, 3], ..LINE };
+    let o = Options { angle: Angle::radians(0.14), segments: 1, depth: 1, ..options() };
+    assert_eq!(refused(&t, &Edge { hi: 2.0, ..EDGE }, &o, (80, 80)), 9);
+}
+
+#[test]
+fn the_most_room_is_16384_points() {
+    let draws = |segments, m, n| {
+        let (mut first, mut second) = (vec![MARK; m], vec![MARK; n]);
+        let o = Options { segments, ..options() };
+        draw(&LINE, &EDGE, &o, &mut first, &mut second).map(|chain| chain.len())
+    };
+    assert_eq!(draws(1, 8, 8), Ok(2));
+    assert_eq!(draws(1, 8, 65_536), Ok(2));
+    assert_eq!(draws(16_383, 65_536, 65_539), Ok(16_384));
+    assert_eq!(draws(16_384, 65_540, 70_000), Err(Refusal::NoRoom));
+}
+
+#[test]
+fn a_nan_parameter_keeps_its_bits() {
+    let (lo, hi) = (f64::from_bits(0x7ff8_0000_dead_beef), f64::from_bits(0xfffc_0123_4567_89ab));
+    for sense in [0, 1] {
+        let edge = Edge { lo, hi, sense, ..EDGE };
+        let (mut first, mut second) = ([MARK; 30], [MARK; 41]);
+        let chain = draw(&LINE, &edge, &options(), &mut first, &mut second).unwrap();
+        assert_eq!((chain.way(), chain.len()), (Way::Chord, 2));
+        let ends = [chain[0][3].to_bits(), chain[1][3].to_bits()];
+        let expected = [lo.to_bits(), hi.to_bits()];
+        assert!(ends == expected || ends == [expected[1], expected[0]], "{ends:x?}");
+    }
+}
+
+#[test]
+fn a_walk_goes_both_ways_over_whole_points() {
+    let floats: Vec<f64> = (0..15).map(f64::from).collect();
+    let there: Vec<f64> = Walk::new(&floats, true).map(|p| p[0]).collect();
+    assert_eq!(there, [0.0, 4.0, 8.0]);
+    let back: Vec<[f64; 4]> = Walk::new(&floats, false).collect();
+    assert_eq!(back, [[8.0, 9.0, 10.0, 11.0], [4.0, 5.0, 6.0, 7.0], [0.0, 1.0, 2.0, 3.0]]);
+    let mut walk = Walk::new(&floats, true);
+    assert_eq!(walk.by_ref().count(), 3);
+    assert_eq!(walk.next(), None);
+    walk.turn();
+    assert_eq!(walk.next().unwrap()[0], 8.0);
+    assert_eq!(Walk::new(&[], false).next(), None);
+
+    let (mut first, mut second) = ([0.0; 80], [0.0; 80]);
+    let chain = draw(&LINE, &EDGE, &options(), &mut first, &mut second).unwrap();
+    assert!(chain.forwards().eq(chain.iter().copied()));
+    assert!(chain.backwards().eq(chain.iter().rev().copied()));
+}
+
+#[test]
+fn angles_have_units() {
+    for x in [0.0, 4.0, 8.0, 35.0, -90.0, 1e300] {
+        assert_eq!(Angle::degrees(x).to_radians(), x.to_radians());
+    }
+    assert!(Angle::radians(8.0).is_clamped());
+    assert!(!Angle::degrees(8.0).is_clamped());
+    assert!(!Angle::radians(std::f64::consts::PI).is_clamped());
+    assert!(Angle::radians(9.9e-5).is_clamped());
+    assert!(!Angle::radians(f64::NAN).is_clamped());
+}
+
+#[test]
+fn presets() {
+    let preset = |deflection, degrees| Options {
+        deflection,
+        angle: Angle::degrees(degrees),
+        relative: 1,
+        segments: 1,
+        depth: 12,
+        scale: 0.0,
+    };
+    assert_eq!(Options::default(), preset(0.0004, 8.0));
+    assert_eq!(Options::draft(), preset(0.01, 35.0));
+    assert_eq!(Options::fine(), preset(0.0001, 4.0));
+}

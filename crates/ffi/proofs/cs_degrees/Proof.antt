@@ -1,0 +1,13 @@
+-- `ffi::cs_degrees` meets its contract. Assumes nothing.
+use borrow.Author.Needs.{needs}
+use Rattle.ffi.proofs.cs_degrees.Statement.{statement}
+use Rattle.ffi.proofs.cs_degrees.Tie as tie
+
+degrees-requires : tie.Need-degrees-requires
+degrees-requires c κs = search needs
+
+returns : tie.Need-returns
+returns c = cc
+
+pub cs-degrees-spec : {M : Type 1} → statement M
+cs-degrees-spec = tie.close (tie.spec degrees-requires returns)
