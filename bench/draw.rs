@@ -294,7 +294,7 @@ fn composite(name: &'static str, n: usize) -> Case {
     }
     let row = d.tables.push_row(Row { kind: COMPOSITE, first: 0, count: n as u32, p: 0.0, q: 0.0 });
     let e = d.edge(row, 0.0, n as f64, 1e5);
-    d.case(name, e, options(4e-4, 480.0))
+    d.case(name, e, Options { relative: 0, ..options(0.01, 480.0) })
 }
 
 /// A short arc of a circle, whose range in the file is the long way round: the complement serves.
@@ -550,6 +550,47 @@ fn others() {
     println!("zeroing 65,536 floats: {:.0} ns, a plain fill {:.0} ns", r[0], r[1]);
 }
 
+/// Cost against size: ns of one draw, or of one sort, and that by the size.
+fn sizes() {
+    println!("| what | size | ns | ns / size |");
+    println!("|---|---|---|---|");
+    let show = |what: &str, n: usize, ns: f64| println!("| {what} | {n} | {ns:.0} | {:.1} |", ns / n as f64);
+    let draw = |c: &Case| {
+        let n = least_floats(c);
+        let (mut a, mut b) = (vec![0.0; n], vec![0.0; n]);
+        let [ns] = least([&mut || {
+            black_box(ours(black_box(&c.tables), &c.edge, &c.options, &mut a, &mut b));
+        }]);
+        ns
+    };
+    for n in [25, 100, 400, 1600, 4000] {
+        show("circle, points", n, draw(&circle("circle", n)));
+    }
+    for n in [125, 500, 2000, 8000, 32000] {
+        show("polyline, its points", n, draw(&polyline("polyline", n)));
+    }
+    for n in [5, 20, 80, 320] {
+        show("composite, segments", n, draw(&composite("composite", n)));
+    }
+    for n in [4, 16, 64, 256, 1024, 4096] {
+        let mut c = line();
+        while c.tables.lent().row_count() < n {
+            c.tables.push_row(Row { kind: LINE, first: 0, count: 2, p: 0.0, q: 0.0 });
+        }
+        show("line, rows of the tables", n, draw(&c));
+    }
+    // multiplying by an odd number mixes the order
+    for n in [128usize, 512, 2048, 8192] {
+        let mixed: Vec<f64> = (0..n).map(|i| (i * 2_654_435_761 % n) as f64).collect();
+        let mut knots = mixed.clone();
+        let [ns] = least([&mut || {
+            knots.copy_from_slice(&mixed);
+            black_box(unsafe { cs_breaks(knots.as_mut_ptr(), n, -1.0, 1e4) });
+        }]);
+        show("breaks in mixed order", n, ns);
+    }
+}
+
 fn cases() -> Vec<Case> {
     vec![
         line(),
@@ -567,6 +608,9 @@ fn cases() -> Vec<Case> {
 
 fn main() {
     let wanted: Vec<String> = std::env::args().skip(1).collect();
+    if wanted == ["sizes"] {
+        return sizes();
+    }
     if let [one, times] = &wanted[..] {
         // one case over and over, for a profiler
         let c = cases().into_iter().find(|c| c.name.contains(one.as_str())).expect("a case of this name");
