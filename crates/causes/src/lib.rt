@@ -5,9 +5,11 @@ use brep::Edge;
 use options::Options;
 ghost use mathlib.Core.Path.{_≡_};
 ghost use Prim.Native.Nat.{_≤_};
-ghost use lib.ListN.{getD};
+ghost use mathlib.Core.List.{_++_};
+ghost use lib.ListN.{length, getD, drop};
 ghost use lib.Dec.{ltb};
 ghost use Rattle.brep.specs.Rows.{lent};
+ghost use Rattle.nest.specs.Nest.{nestings};
 ghost use Rattle.bounds.specs.Some.{someBelow};
 ghost use Rattle.causes.specs.Causes.{oversize, highSegment, unorderedRow, deepRow, deepAt, missing, verdict};
 
@@ -141,7 +143,25 @@ fn any_deep(nests: &[u32], rows: u32) -> bool
     false
 }
 
-// Cause 5, in the first rows rows. Each row's nesting is computed once.
+// Cause 5, in the first rows rows, with room for their nestings. Each row's nesting is computed once.
+fn deep_in(
+    points: &[f64],
+    curves: &[u32],
+    reals: &[f64],
+    parts: &[u32],
+    ranges: &[f64],
+    nests: &mut [u32],
+    rows: u32,
+) -> bool
+    requires { ⌜ rows ≤ length (now nests) ⌝ }
+    ensures { λ r. ⌜ (r ≡ someBelow rows (deepRow (lent (points .entry) (curves .entry) (reals .entry) (parts .entry) (ranges .entry))))
+        × (now (nests .exit) ≡ nestings (lent (points .entry) (curves .entry) (reals .entry) (parts .entry) (ranges .entry)) rows ++ drop rows (now (nests .entry))) ⌝ }
+{
+    nest::nest_table(points, curves, reals, parts, ranges, nests, rows);
+    any_deep(nests, rows)
+}
+
+// Cause 5. A small table needs little room, which is cleared at each call.
 fn too_deep(
     points: &[f64],
     curves: &[u32],
@@ -153,9 +173,12 @@ fn too_deep(
     requires { ⌜ rows ≤ 4096 ⌝ }
     ensures { λ r. ⌜ r ≡ someBelow rows (deepRow (lent (points .entry) (curves .entry) (reals .entry) (parts .entry) (ranges .entry))) ⌝ }
 {
+    if rows <= 32 {
+        let mut few = [0u32; 32];
+        return deep_in(points, curves, reals, parts, ranges, &mut few, rows);
+    }
     let mut nests = [0u32; 4096];
-    nest::nest_table(points, curves, reals, parts, ranges, &mut nests, rows);
-    any_deep(&nests, rows)
+    deep_in(points, curves, reals, parts, ranges, &mut nests, rows)
 }
 
 // Cause 6.

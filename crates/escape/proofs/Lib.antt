@@ -1,3 +1,2 @@
-pub mod Roots
 pub mod Search
 pub mod Sweep

@@ -5,10 +5,8 @@ use math::Interval;
 use math::Vec3;
 use options::Resolved;
 ghost use mathlib.Core.Path.{_≡_};
-ghost use mathlib.Core.Bool.{true};
 ghost use Prim.Native.Nat.{_*_, _≤_};
 ghost use lib.ListN.{length};
-ghost use lib.Ieee.{lt, le};
 ghost use Rattle.roots.specs.Root.{rootOf};
 ghost use Rattle.brep.specs.Rows.{lent};
 ghost use Rattle.brep.specs.Tree.{tree};
@@ -32,32 +30,6 @@ pub struct Ends {
     pub end: f64,
 }
 
-// Whether the root of s is above the limit. A cut whose own root is not answers for every s up to it, without a root.
-fn is_above(s: f64, limit: f64, cut: f64, has_cut: bool) -> bool
-    requires { ⌜ («has_cut» ≡ true → le (rootOf cut) limit ≡ true) ⌝ }
-    ensures { λ b. ⌜ b ≡ lt limit (rootOf s) ⌝ }
-{
-    if has_cut {
-        if s <= cut {
-            return false;
-        }
-    }
-    roots::root(s) > limit
-}
-
-// Whether the root of s is at most the limit. A cut whose own root is above it answers for every s from there on.
-fn is_within(s: f64, limit: f64, cut: f64, has_cut: bool) -> bool
-    requires { ⌜ («has_cut» ≡ true → lt limit (rootOf cut) ≡ true) ⌝ }
-    ensures { λ b. ⌜ b ≡ le (rootOf s) limit ⌝ }
-{
-    if has_cut {
-        if cut <= s {
-            return false;
-        }
-    }
-    roots::root(s) <= limit
-}
-
 // Whether a point of the chain lies further from the box's centre than its diagonal and 16 sags.
 pub fn escapes(reference: Aabb, r: Resolved, chain: &[f64], n: usize) -> bool
     requires { ⌜ width * n ≤ length (now chain) ⌝ }
@@ -69,7 +41,7 @@ pub fn escapes(reference: Aabb, r: Resolved, chain: &[f64], n: usize) -> bool
     let has_cut = roots::root(cut) <= limit;
     for i in 0..n {
         let p = samples::point_at(chain, i);
-        if is_above(p.sub(centre).length_squared(), limit, cut, has_cut) {
+        if cuts::is_above(p.sub(centre).length_squared(), limit, cut, has_cut) {
             return true;
         }
     }
@@ -87,7 +59,7 @@ pub fn reaches(edge: Edge, r: Resolved, p: Vec3, chain: &[f64], n: usize) -> boo
     let has_cut = limit < roots::root(cut);
     for i in 0..n {
         let q = samples::point_at(chain, i);
-        if is_within(q.sub(p).length_squared(), limit, cut, has_cut) {
+        if cuts::is_within(q.sub(p).length_squared(), limit, cut, has_cut) {
             return true;
         }
     }

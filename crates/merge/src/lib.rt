@@ -1,7 +1,12 @@
 // The merge block of `discretise`: points of a chain that lie too near the one before them go.
+use math::Vec3;
 ghost use mathlib.Core.Path.{_≡_};
+ghost use mathlib.Core.Bool.{true};
 ghost use Prim.Native.Nat.{_*_, _≤_};
 ghost use lib.ListN.{length};
+ghost use lib.Ieee.{lt};
+ghost use Rattle.roots.specs.Root.{rootOf};
+ghost use Rattle.math.specs.Math.{distance};
 ghost use Rattle.samples.specs.Chain.{width, samples, Stored};
 ghost use Rattle.merge.specs.Merge.{mergeFloor, merged};
 
@@ -20,17 +25,28 @@ pub fn merge_floor(tolerance: f64, sag: f64) -> f64
     )
 }
 
+// Whether two points are further apart than the floor. A cut whose root is above the floor spares most roots.
+fn is_apart(p: Vec3, q: Vec3, floor: f64, cut: f64, has_cut: bool) -> bool
+    requires { ⌜ («has_cut» ≡ true → lt floor (rootOf cut) ≡ true) ⌝ }
+    ensures { λ r. ⌜ r ≡ lt floor (distance p q) ⌝ }
+{
+    cuts::is_over(p.sub(q).length_squared(), floor, cut, has_cut)
+}
+
 // Merges the first n records in place. What is kept is moved to the buffer's start; answers how many there are.
 pub fn merge(chain: &mut [f64], n: usize, floor: f64) -> usize
     requires { ⌜ width * n ≤ length (now chain) ⌝ }
     ensures { λ r. ⌜ Stored (now (chain .entry)) (now (chain .exit)) r (merged floor (samples n (now (chain .entry)))) ⌝ }
 {
     if floor > 0.0 && n > 2 {
+        // A little above the square, so that the cut's root is above the floor.
+        let cut = floor * floor * 1.000001;
+        let has_cut = floor < roots::root(cut);
         let mut last = samples::point_at(chain, 0);
         let mut k = 1usize;
         for i in 1..n - 1 {
             let p = samples::sample_at(chain, i);
-            if math::distance(p.point, last) > floor {
+            if is_apart(p.point, last, floor, cut, has_cut) {
                 samples::put(chain, k, p);
                 last = p.point;
                 k += 1;

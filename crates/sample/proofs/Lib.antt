@@ -5,3 +5,4 @@ pub mod Settled
 pub mod Broken
 pub mod Ways
 pub mod Laws
+pub mod Squares

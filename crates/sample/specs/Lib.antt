@@ -1,2 +1,3 @@
 pub mod Sample
 pub mod Answered
+pub mod Worst

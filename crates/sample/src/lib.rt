@@ -13,6 +13,7 @@ ghost use lib.ListN.{length, getD, take};
 ghost use lib.Ieee.{nan, le};
 ghost use Rattle.arith.specs.Notation.{nought};
 ghost use Rattle.lists.specs.Room.{filled};
+ghost use Rattle.roots.specs.Root.{rootOf};
 ghost use Rattle.brep.specs.Rows.{lent};
 ghost use Rattle.brep.specs.Tree.{tree};
 ghost use Rattle.curve.specs.Eval.{pointAt};
@@ -21,11 +22,18 @@ ghost use Rattle.listed.specs.Held.{Held, Behind};
 ghost use Rattle.knots.specs.Knots.{curveKnots};
 ghost use Rattle.thin_breaks.specs.Thin.{keptBreaks};
 ghost use Rattle.bisect.specs.Bisect.{endAt, withinBudget};
-ghost use Rattle.sample.specs.Sample.{missOf, worstMiss, sampler, sampled};
+ghost use Rattle.sample.specs.Sample.{worstMiss, sampler, sampled};
+ghost use Rattle.sample.specs.Worst.{missSquare, largerOf};
 ghost use Rattle.sample.specs.Answered.{Answered, countOf, stops};
 
-// How far the middle of the curve of a row lies from the middle of the chord from a to b; pa and pb are its points there.
-fn miss_of(
+// A miss: its square and its root.
+struct Worst {
+    square: f64,
+    root: f64,
+}
+
+// How far the middle of the curve of a row lies from the middle of the chord from a to b, squared; pa and pb are its points there.
+fn miss_square(
     points: &[f64],
     curves: &[u32],
     reals: &[f64],
@@ -38,10 +46,24 @@ fn miss_of(
     pb: Vec3,
 ) -> f64
     requires { ⌜ (pa ≡ pointAt (tree (lent points curves reals parts ranges) row) a) × (pb ≡ pointAt (tree (lent points curves reals parts ranges) row) b) ⌝ }
-    ensures { λ w. ⌜ w ≡ missOf (tree (lent (points .entry) (curves .entry) (reals .entry) (parts .entry) (ranges .entry)) row) a b ⌝ }
+    ensures { λ w. ⌜ w ≡ missSquare (tree (lent (points .entry) (curves .entry) (reals .entry) (parts .entry) (ranges .entry)) row) a b ⌝ }
 {
     let m = curve::point_at(points, curves, reals, parts, ranges, row, 0.5 * (a + b));
-    m.sub(pa.add(pb).scale(0.5)).length()
+    m.sub(pa.add(pb).scale(0.5)).length_squared()
+}
+
+// The worst, or the miss of this square where its root is larger. Only where the square is can the root be.
+fn larger(worst: Worst, s: f64) -> Worst
+    requires { ⌜ worst .root ≡ rootOf (worst .square) ⌝ }
+    ensures { λ w. ⌜ w ≡ largerOf worst s ⌝ }
+{
+    if worst.square < s {
+        let root = roots::root(s);
+        if worst.root < root {
+            return Worst { square: s, root };
+        }
+    }
+    worst
 }
 
 // The largest miss between parameters that follow each other. Each point is evaluated once.
@@ -56,25 +78,26 @@ fn worst_miss(
 ) -> f64
     ensures { λ w. ⌜ w ≡ worstMiss (tree (lent (points .entry) (curves .entry) (reals .entry) (parts .entry) (ranges .entry)) row) nought (now (params .entry)) ⌝ }
 {
-    let mut worst = 0.0;
     if params.len() == 0 {
-        return worst;
+        return 0.0;
     }
+    let mut worst = Worst {
+        square: 0.0,
+        root: 0.0,
+    };
     let mut a = params[0];
     let mut pa = curve::point_at(points, curves, reals, parts, ranges, row, a);
     let mut i = 1usize;
     while i < params.len() {
         let b = params[i];
         let pb = curve::point_at(points, curves, reals, parts, ranges, row, b);
-        worst = arith::max(
-            worst,
-            miss_of(points, curves, reals, parts, ranges, row, a, b, pa, pb),
-        );
+        let s = miss_square(points, curves, reals, parts, ranges, row, a, b, pa, pb);
+        worst = larger(worst, s);
         a = b;
         pa = pb;
         i += 1;
     }
-    worst
+    worst.root
 }
 
 // Whether the chords between the first n parameters stay within the sag.

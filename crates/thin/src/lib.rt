@@ -1,9 +1,11 @@
 // `thin`: drops the points of a sampled polyline that it does not need, to a bounded deviation.
 use samples::Counted;
 ghost use mathlib.Core.Path.{_≡_};
-ghost use mathlib.Core.Bool.{false};
+ghost use mathlib.Core.Bool.{true, false};
 ghost use Prim.Native.Nat.{_*_, _<_, _≤_};
 ghost use lib.ListN.{length, replicate};
+ghost use lib.Ieee.{lt};
+ghost use Rattle.arith.specs.Notation.{nought};
 ghost use Rattle.lists.specs.Result.{each};
 ghost use Rattle.samples.specs.Chain.{width, most, pointAt, samples, answerOf, after, Stored};
 ghost use Rattle.spans.specs.Spans.{marks, flagged, flags};
@@ -72,7 +74,19 @@ fn retain(chain: &mut [f64], keep: &[bool]) -> usize
     k
 }
 
-// Thins the first n records in place. What is kept is moved to the buffer's start; a refusal leaves the buffer as it was.
+// Thins the records, of which there are as many as flags. What is kept is moved to the buffer's start; a refusal leaves the buffer as it was.
+fn thin_with(chain: &mut [f64], tolerance: f64, angle: f64, floor: usize, keep: &mut [bool]) -> Counted
+    requires { ⌜ (2 < length (now keep)) × (length (now keep) ≤ most) × (width * length (now keep) ≤ length (now chain)) × (now keep ≡ replicate (length (now keep)) false) × (lt nought tolerance ≡ true) ⌝ }
+    ensures { λ r. ⌜ (r ≡ answerOf (thinned tolerance angle floor (samples (length (now (keep .entry))) (now (chain .entry)))))
+        × (now (chain .exit) ≡ after (now (chain .entry)) (thinned tolerance angle floor (samples (length (now (keep .entry))) (now (chain .entry))))) ⌝ }
+{
+    if flag(chain, tolerance, angle, floor, keep) {
+        return Counted::Count(retain(chain, keep));
+    }
+    Counted::Refused(9)
+}
+
+// Thins the first n records in place. A short chain needs few flags, which are cleared at each call.
 pub fn thin(chain: &mut [f64], n: usize, tolerance: f64, angle: f64, floor: usize) -> Counted
     requires { ⌜ (n ≤ most) × (width * n ≤ length (now chain)) ⌝ }
     ensures { λ r. ⌜ (r ≡ answerOf (thinned tolerance angle floor (samples n (now (chain .entry)))))
@@ -81,9 +95,10 @@ pub fn thin(chain: &mut [f64], n: usize, tolerance: f64, angle: f64, floor: usiz
     if n < 3 || !(tolerance > 0.0) {
         return Counted::Count(n);
     }
-    let mut keep = [false; samples::MOST];
-    if flag(chain, tolerance, angle, floor, &mut keep[..n]) {
-        return Counted::Count(retain(chain, &keep[..n]));
+    if n <= 128 {
+        let mut few = [false; 128];
+        return thin_with(chain, tolerance, angle, floor, &mut few[..n]);
     }
-    Counted::Refused(9)
+    let mut keep = [false; samples::MOST];
+    thin_with(chain, tolerance, angle, floor, &mut keep[..n])
 }

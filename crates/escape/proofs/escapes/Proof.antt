@@ -1,5 +1,5 @@
 -- `escape::escapes` meets its contract. The invariant: the records from i on answer as the whole chain does. Assumes nothing.
-use Rattle.escape.proofs.Roots.{root-at-most}
+use Rattle.cuts.proofs.Roots.{root-at-most}
 use Rattle.escape.proofs.Search.{beyond, left, found, passed, none, escapes-whole}
 use Rattle.math.specs.Math.{vLength}
 use borrow.Author.Needs.{needs}

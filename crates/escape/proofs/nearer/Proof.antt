@@ -1,6 +1,6 @@
 -- `escape::nearer` meets its contract: where the square is not below the best one, neither is its root. Assumes nothing.
 use Rattle.escape.proofs.Sweep.{nearer-new, nearer-old}
-use Rattle.escape.proofs.Roots.{root-not-below}
+use Rattle.cuts.proofs.Roots.{root-not-below}
 use Rattle.roots.specs.Root.{rootOf}
 use lib.Ieee.{lt}
 use mathlib.Core.Path.{sym, ap, _∙_}

@@ -9,17 +9,21 @@ use lib.ListN.{length}
 use lib.Seq.{length-sets}
 use lib.Ieee.{lt, le}
 use borrow.Author.Tests.{ltb-true, ltb-false}
+use Rattle.cuts.proofs.Roots.{root-beyond}
 use Rattle.samples.specs.Chain.{width, row}
 use Rattle.merge.proofs.Loop.{Kept, kept-first, kept-push, kept-pass, as-it-was, no-floor, few, ended}
 use Rattle.merge.proofs.merge.Statement.{statement}
 use Rattle.merge.proofs.merge.Tie as tie
 
 abbrev Inv-loop : tie.InvT-loop
-Inv-loop chain₀ n floor last₀ k₀ i₀ i-end chain last k i =
+Inv-loop chain₀ n floor cut has-cut last₀ k₀ i₀ i-end chain last k i =
     (2 < n) × (1 ≤ k) × (k ≤ i) × (i ≤ n - 1) × (i-end ≡ n - 1) × (length chain ≡ length chain₀) × Kept chain₀ n floor chain last k i
 
 abbrev μ-loop : tie.MeasureT-loop
-μ-loop chain₀ n floor last₀ k₀ i₀ i-end chain last k i = n - i
+μ-loop chain₀ n floor cut has-cut last₀ k₀ i₀ i-end chain last k i = n - i
+
+root-requires : tie.Need-root-requires Inv-loop μ-loop
+root-requires c κs = search needs
 
 point-at-requires : tie.Need-point-at-requires Inv-loop μ-loop
 point-at-requires c κs = omega (arith, ltb-true)
@@ -29,15 +33,15 @@ sub-i-end c = omega (arith, ltb-true)
 
 loop-holds : tie.Need-loop-holds Inv-loop μ-loop
 loop-holds c =
-    let a = c .before .before .before .before .before .args in
+    let a = c .before .before .before .before .before .before .args in
     let h : 2 < a .n = omega (arith, ltb-true) in
     (h, omega arith, omega arith, omega arith, refl, refl, kept-first (a .chain .now) (a .n) (a .floor) (c .point-at .result) (c .point-at .ensures))
 
 sample-at-requires : tie.Need-sample-at-requires Inv-loop μ-loop
 sample-at-requires c κs = search needs
 
-distance-requires : tie.Need-distance-requires Inv-loop μ-loop
-distance-requires c κs = search needs
+is-apart-requires : tie.Need-is-apart-requires Inv-loop μ-loop
+is-apart-requires c κs = root-beyond _ (c .before .before .before .before .before .before .root .ensures)
 
 put-requires : tie.Need-put-requires Inv-loop μ-loop
 put-requires c κs = search needs
@@ -53,11 +57,10 @@ loop-less c = search needs
 
 loop-again : tie.Need-loop-again Inv-loop μ-loop
 loop-again c =
-    let a = c .before .before .before .before .before .before .before .before .before .before .before .args in
+    let a = c .before .before .before .before .before .before .before .before .before .before .before .before .args in
     let l = c .before .before .before .before .before .loop in
     let s = c .before .before .sample-at in
-    let d = c .before .distance in
-    let far = ap (lt (a .floor)) (sym (d .ensures)) in
+    let far = sym (c .before .is-apart .ensures) in
     ⊎-elim
     (λ w. (
       omega arith,
@@ -87,8 +90,8 @@ sub-sample-at c = search needs
 sample-at-requires-2 : tie.Need-sample-at-requires-2 Inv-loop μ-loop
 sample-at-requires-2 c κs = search needs
 
-distance-requires-2 : tie.Need-distance-requires-2 Inv-loop μ-loop
-distance-requires-2 c κs = search needs
+distance-requires : tie.Need-distance-requires Inv-loop μ-loop
+distance-requires c κs = search needs
 
 sub-k : tie.Need-sub-k Inv-loop μ-loop
 sub-k c = search needs
@@ -106,11 +109,11 @@ same-length c =
 
 returns : tie.Need-returns Inv-loop μ-loop
 returns c =
-    let a = c .before .before .before .before .before .before .before .before .before .before .before .before .before .before .before .before .args in
+    let a = c .before .before .before .before .before .before .before .before .before .before .before .before .before .before .before .before .before .args in
     let l = c .before .before .before .before .before .before .before .before .before .before .loop in
     let e = c .before .before .before .before .before .before .before .sample-at2 in
-    let above = c .before .before .before .before .before .before .before .before .before .before .before .before .before .before .if1 .taken in
-    let near = ap (λ d. le d (a .floor)) (sym (c .before .before .before .before .before .before .distance2 .ensures)) in
+    let above = c .before .before .before .before .before .before .before .before .before .before .before .before .before .before .before .if1 .taken in
+    let near = ap (λ d. le d (a .floor)) (sym (c .before .before .before .before .before .before .distance .ensures)) in
     ended (a .chain .now) (a .n) (a .floor) above (l .inv .0) (l .chain) (l .last) (l .k) (l .i) (l .inv .6) (omega arith) (omega arith) (e .result) (e .ensures) _ (c .before .before .before .before .before .if4 .k) (c .before .before .before .put2 .ensures)
     (⊎-elim
     (λ w. inl (near ∙ w .0 .taken, omega (arith, ltb-true), w .2))
@@ -129,11 +132,12 @@ merge-spec =
     (tie.spec
     Inv-loop
     μ-loop
+    root-requires
     point-at-requires
     sub-i-end
     loop-holds
     sample-at-requires
-    distance-requires
+    is-apart-requires
     put-requires
     add-k
     add-i
@@ -141,7 +145,7 @@ merge-spec =
     loop-again
     sub-sample-at
     sample-at-requires-2
-    distance-requires-2
+    distance-requires
     sub-k
     put-requires-2
     add-result

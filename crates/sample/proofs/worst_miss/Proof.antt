@@ -1,12 +1,17 @@
 -- `sample::worst_miss` meets its contract: pa is the point of a, and what is left to measure, from the worst so far, is the whole. Assumes nothing.
-use mathlib.Core.Path.{_≡_, refl}
+use mathlib.Core.Path.{_≡_, refl, sym, ap, subst, _∙_}
 use Prim.Native.Nat.{_-_}
 use native.Mathlib.Omega.{arith}
 use lib.ListN.{length}
 use borrow.Author.Needs.{needs}
+use Rattle.arith.specs.Pick.{maxOf}
+use Rattle.roots.specs.Root.{rootOf}
 use Rattle.brep.specs.Rows.{tables}
 use Rattle.brep.specs.Tree.{CurveTree, tree}
 use Rattle.curve.specs.Eval.{pointAt}
+use Rattle.sample.specs.declared.Worst.{Worst}
+use Rattle.sample.specs.Sample.{missOf}
+use Rattle.sample.proofs.Squares.{Rooted, rooted-first, miss-root, larger-max, larger-rooted}
 use Rattle.sample.proofs.Miss.{Missing, no-params, first-param, next-param, last-param}
 use Rattle.sample.proofs.worst_miss.Statement.{statement}
 use Rattle.sample.proofs.worst_miss.Tie as tie
@@ -14,7 +19,8 @@ use Rattle.sample.proofs.worst_miss.Tie as tie
 abbrev Inv-loop : tie.InvT-loop
 Inv-loop points curves reals parts ranges row params worst₀ a₀ pa₀ i₀ worst a pa i =
     (pa ≡ pointAt (tree (tables points curves reals parts ranges) row) a)
-    × Missing (tree (tables points curves reals parts ranges) row) params worst a i
+    × Missing (tree (tables points curves reals parts ranges) row) params (worst .root) a i
+    × Rooted worst
 
 abbrev μ-loop : tie.MeasureT-loop
 μ-loop points curves reals parts ranges row params worst₀ a₀ pa₀ i₀ worst a pa i = length params - i
@@ -39,7 +45,7 @@ point-at-requires c κs = search needs
 loop-holds : tie.Need-loop-holds Inv-loop μ-loop
 loop-holds c =
     let st = c .before .before .before .before .before .before .before .before .before in
-    (c .point-at .ensures, first-param (curve-of st) (st .args .params .now) (c .before .before .if1 .left))
+    (c .point-at .ensures, first-param (curve-of st) (st .args .params .now) (c .before .before .if1 .left), rooted-first)
 
 mul-b : tie.Need-mul-b Inv-loop μ-loop
 mul-b c = search needs
@@ -50,11 +56,11 @@ shared-slice-read-b c = search needs
 point-at-requires-2 : tie.Need-point-at-requires-2 Inv-loop μ-loop
 point-at-requires-2 c κs = search needs
 
-miss-of-requires : tie.Need-miss-of-requires Inv-loop μ-loop
-miss-of-requires c κs = (c .before .before .before .loop .inv .0, c .point-at2 .ensures)
+miss-square-requires : tie.Need-miss-square-requires Inv-loop μ-loop
+miss-square-requires c κs = (c .before .before .before .loop .inv .0, c .point-at2 .ensures)
 
-max-requires : tie.Need-max-requires Inv-loop μ-loop
-max-requires c κs = search needs
+larger-requires : tie.Need-larger-requires Inv-loop μ-loop
+larger-requires c κs = c .before .before .before .before .loop .inv .2 .own
 
 add-i : tie.Need-add-i Inv-loop μ-loop
 add-i c =
@@ -73,16 +79,17 @@ loop-again c =
     let st = c .before .before .before .before .before .before .before .before .before .before .before .before .before .before .before in
     let l = c .before .before .before .before .before .loop in (
       c .before .before .point-at2 .ensures,
-      next-param (curve-of st) (st .args .params .now) (l .worst) (l .a) (l .i) (l .inv .1)
-          (c .max .result) (c .before .miss-of .result) _ (c .before .before .before .before .loop-test .taken) refl (c .before .miss-of .ensures)
-          (c .max .ensures),
+      next-param (curve-of st) (st .args .params .now) (l .worst .root) (l .a) (l .i) (l .inv .1)
+          (c .larger .result .root) (missOf (curve-of st) (l .a) _) _ (c .before .before .before .before .loop-test .taken) refl refl
+          (ap (λ (w : Worst). w .root) (c .larger .ensures) ∙ larger-max (l .worst) _ (l .inv .2) ∙ ap (maxOf (l .worst .root)) (ap rootOf (c .before .miss-square .ensures) ∙ miss-root (curve-of st) (l .a) _)),
+      subst Rooted (sym (c .larger .ensures)) (larger-rooted (l .worst) _ (l .inv .2)),
     )
 
 returns-2 : tie.Need-returns-2 Inv-loop μ-loop
 returns-2 c =
     let st = c .before .before .before .before .before .before .before .before .before .before .before in
     let l = c .before .loop in
-    last-param (curve-of st) (st .args .params .now) (l .worst) (l .a) (l .i) (l .inv .1) (c .loop-test .left)
+    last-param (curve-of st) (st .args .params .now) (l .worst .root) (l .a) (l .i) (l .inv .1) (c .loop-test .left)
 
 pub worst-miss-spec : {M : Type 1} → statement M
 worst-miss-spec =
@@ -97,8 +104,8 @@ worst-miss-spec =
     mul-b
     shared-slice-read-b
     point-at-requires-2
-    miss-of-requires
-    max-requires
+    miss-square-requires
+    larger-requires
     add-i
     loop-less
     loop-again

@@ -1,19 +1,20 @@
--- `thin` meets its contract: a short chain or no tolerance leaves the chain as it is; else it is what the flags say. The flags are the first n
--- of a local array. Assumes nothing.
-use borrow.Author.Needs.{needs}
+-- `thin` meets its contract: a short chain or no tolerance leaves the chain as it is; else it is thinned with the first n flags of a local array. Assumes nothing.
 use borrow.Author.Tests.{not-true, not-false}
 use native.Mathlib.Omega.{arith}
 use mathlib.Core.Path.{sym, ap, _∙_}
-use mathlib.Core.Bool.{false}
 use mathlib.Core.Logic.{⊎-elim, inl, inr}
-use lib.ListN.{length, drop, replicate, length-append}
-use lib.Seq.{take-at}
+use Prim.Native.Nat.{ℕ}
 use lib.Ieee.{lt}
 use Rattle.arith.specs.Notation.{nought}
-use Rattle.samples.specs.Chain.{most}
-use Rattle.thin.proofs.Ways.{lent-length, lent-false, said-as-it-was, said-refused, said-thinned}
+use Rattle.samples.specs.Chain.{most, samples, answerOf, after}
+use Rattle.thin.specs.Thin.{thinned}
+use Rattle.thin.proofs.Ways.{lent-length, lent-false, said-as-it-was}
+use borrow.Author.Needs.{needs}
 use Rattle.thin.proofs.thin.Statement.{statement}
 use Rattle.thin.proofs.thin.Tie as tie
+use Rattle.thin.proofs.thin.Reads as reads
+use Rattle.thin.proofs.thin.Lts as lts
+use Rattle.thin.proofs.thin_with.Reads as thin-with-reads
 
 returns : tie.Need-returns
 returns c =
@@ -21,74 +22,62 @@ returns c =
     said-as-it-was (a .tolerance) (a .angle) (a .floor) (a .n) (a .chain .now)
     (⊎-elim (λ w. inl (w .taken)) (λ w. inr (not-true (lt nought (a .tolerance)) (w .1 .taken))) (c .if1 .came))
 
-array-borrow-prefix-keep : tie.Need-array-borrow-prefix-keep
-array-borrow-prefix-keep c = search needs
+array-borrow-prefix-few : tie.Need-array-borrow-prefix-few
+array-borrow-prefix-few c = search needs
 
-slice-aggregate-flag : tie.Need-slice-aggregate-flag
-slice-aggregate-flag c = sym (lent-length (c .before .before .before .before .before .args .n) most (omega arith))
+slice-aggregate-thin-with : tie.Need-slice-aggregate-thin-with
+slice-aggregate-thin-with c = sym (lent-length (c .before .before .before .before .before .before .args .n) 128 (omega arith))
 
-flag-requires : tie.Need-flag-requires
-flag-requires c κs =
-    let n = c .before .before .before .before .before .args .n in
-    let e = lent-length n most (omega arith) in
-    (omega arith, omega arith, omega arith, lent-false n most (omega arith))
-
-array-share-prefix-keep : tie.Need-array-share-prefix-keep
-array-share-prefix-keep c =
-    let n = c .before .before .before .before .before .before .before .before .before .args .n in
-    let f = c .before .before .before .flag in
-    let e = f .kept .1 .1 .1 .1 .0 ∙ lent-length n most (omega arith) in
-    omega (arith, length-append (f .last .1 .1 .1 .1 .0) (drop n (replicate most false)))
-
-slice-aggregate-retain : tie.Need-slice-aggregate-retain
-slice-aggregate-retain c =
-    let n = c .before .before .before .before .before .before .before .before .before .before .args .n in
-    let f = c .before .before .before .before .flag in
-    let e = f .kept .1 .1 .1 .1 .0 ∙ lent-length n most (omega arith) in
-    sym (ap length (take-at (f .last .1 .1 .1 .1 .0) (drop n (replicate most false)) n e) ∙ e)
-
-retain-requires : tie.Need-retain-requires
-retain-requires c κs =
-    let n = c .before .before .before .before .before .before .before .before .before .before .args .n in
-    let f = c .before .before .before .before .flag in
-    let e = f .kept .1 .1 .1 .1 .0 ∙ lent-length n most (omega arith) in
-    let g = ap length (take-at (f .last .1 .1 .1 .1 .0) (drop n (replicate most false)) n e) ∙ e in omega arith
+thin-with-requires : tie.Need-thin-with-requires
+thin-with-requires c κs =
+    let a = c .before .before .before .before .before .before .args in
+    let e = lent-length (a .n) 128 (omega arith) in
+    (omega arith, omega arith, omega arith, lent-false (a .n) 128 (omega arith), not-false (lt nought (a .tolerance)) (c .before .before .before .if2 .left))
 
 same-length : tie.Need-same-length
 same-length c = search needs
 
 returns-2 : tie.Need-returns-2
 returns-2 c =
-    let a = c .before .before .before .before .before .before .before .before .before .before .before .before .before .args in
-    let f = c .before .before .before .before .before .before .before .flag in
-    let r = c .before .before .retain in
+    let a = c .before .before .before .before .before .before .before .before .before .before .args in
+    let e = lent-length (a .n) 128 (omega arith) in
+    let w = c .before .before .before .thin-with .ensures in
+    (w .0 ∙ ap (λ (k : ℕ). answerOf (thinned (a .tolerance) (a .angle) (a .floor) (samples k (a .chain .now)))) e, w .1 ∙ ap (λ (k : ℕ). after (a .chain .now) (thinned (a .tolerance) (a .angle) (a .floor) (samples k (a .chain .now)))) e)
+
+array-borrow-prefix-keep : tie.Need-array-borrow-prefix-keep
+array-borrow-prefix-keep c = search needs
+
+slice-aggregate-thin-with-2 : tie.Need-slice-aggregate-thin-with-2
+slice-aggregate-thin-with-2 c = sym (lent-length (c .before .before .before .before .before .before .args .n) most (omega arith))
+
+thin-with-requires-2 : tie.Need-thin-with-requires-2
+thin-with-requires-2 c κs =
+    let a = c .before .before .before .before .before .before .args in
     let e = lent-length (a .n) most (omega arith) in
-    let g = f .kept .1 .1 .1 .1 .0 in
-    said-thinned (a .tolerance) (a .angle) (a .floor) (a .n) (a .chain .now) (not-false (lt nought (a .tolerance)) (c .before .before .before .before .before .before .before .before .before .before .if2 .left)) (c .before .before .before .before .before .before .before .before .before .before .before .if1 .left) _ e (f .result) _ (f .ensures) _ (r .result) _ (c .before .before .before .before .before .if3 .taken)
-    (take-at (f .last .1 .1 .1 .1 .0) (drop (a .n) (replicate most false)) (a .n) (g ∙ e)) g (r .ensures)
+    (omega arith, omega arith, omega arith, lent-false (a .n) most (omega arith), not-false (lt nought (a .tolerance)) (c .before .before .before .if2 .left))
 
 same-length-2 : tie.Need-same-length-2
 same-length-2 c = search needs
 
 returns-3 : tie.Need-returns-3
 returns-3 c =
-    let a = c .before .before .before .before .before .before .before .before .args in
-    let f = c .before .before .flag in
+    let a = c .before .before .before .before .before .before .before .before .before .before .args in
     let e = lent-length (a .n) most (omega arith) in
-    said-refused (a .tolerance) (a .angle) (a .floor) (a .n) (a .chain .now) (not-false (lt nought (a .tolerance)) (c .before .before .before .before .before .if2 .left)) (c .before .before .before .before .before .before .if1 .left) _ e (f .result) _ (f .ensures) (c .if3 .left)
+    let w = c .before .before .before .thin-with2 .ensures in
+    (w .0 ∙ ap (λ (k : ℕ). answerOf (thinned (a .tolerance) (a .angle) (a .floor) (samples k (a .chain .now)))) e, w .1 ∙ ap (λ (k : ℕ). after (a .chain .now) (thinned (a .tolerance) (a .angle) (a .floor) (samples k (a .chain .now)))) e)
 
 pub thin-spec : {M : Type 1} → statement M
 thin-spec =
     tie.close
     (tie.spec
     returns
-    array-borrow-prefix-keep
-    slice-aggregate-flag
-    flag-requires
-    array-share-prefix-keep
-    slice-aggregate-retain
-    retain-requires
+    array-borrow-prefix-few
+    slice-aggregate-thin-with
+    thin-with-requires
     same-length
     returns-2
+    array-borrow-prefix-keep
+    slice-aggregate-thin-with-2
+    thin-with-requires-2
     same-length-2
     returns-3)

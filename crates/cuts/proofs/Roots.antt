@@ -9,9 +9,14 @@ use Rattle.roots.specs.Root.{rootOf}
 use Rattle.roots.proofs.Laws.{root-over, root-reflects}
 
 -- a test that cannot hold
-refuted : (b : Bool) → (T b → ⊥) → false ≡ b
+pub refuted : (b : Bool) → (T b → ⊥) → false ≡ b
 refuted true h = absurd (h tt)
 refuted false h = refl
+
+-- a test that holds
+known : (b : Bool) → T b → true ≡ b
+known true h = refl
+known false h = absurd h
 
 -- a root and what it is
 pub root-at-most : {d e : Float} (limit : Float) → d ≡ e → le d limit ≡ true → le e limit ≡ true
@@ -22,8 +27,14 @@ module _ (s cut limit : Float) (F : T (fits binary64 s)) (G : T (fits binary64 c
   not-above h k = refuted (lt limit (rootOf s)) (λ (t : T (lt limit (rootOf s))).
       lt→nle cut s (root-reflects cut s G F (le-lt-trans (rootOf cut) limit (rootOf s) (holds h) t)) (holds k))
 
+  pub over : lt limit (rootOf cut) ≡ true → le cut s ≡ true → true ≡ lt limit (rootOf s)
+  over h k = known (lt limit (rootOf s)) (root-over s cut limit F G (holds h) (holds k))
+
   pub not-within : lt limit (rootOf cut) ≡ true → le cut s ≡ true → false ≡ le (rootOf s) limit
   not-within h k = refuted (le (rootOf s) limit) (lt→nle limit (rootOf s) (root-over s cut limit F G (holds h) (holds k)))
+
+pub root-beyond : {d e : Float} (limit : Float) → d ≡ e → lt limit d ≡ true → lt limit e ≡ true
+root-beyond limit q h = rw (sym q) h
 
 -- where s is not below b, neither is its root
 pub root-not-below : (s b : Float) → T (fits binary64 s) → T (fits binary64 b) → lt s b ≡ false → lt (rootOf s) (rootOf b) ≡ false

@@ -1,10 +1,10 @@
--- `escape::is_within` meets its contract: an s from the cut on has a root from the cut's on. Assumes nothing.
-use Rattle.escape.proofs.Roots.{not-within}
+-- `cuts::is_within` meets its contract: an s from the cut on has a root from the cut's on. Assumes nothing.
+use Rattle.cuts.proofs.Roots.{not-within}
 use lib.Ieee.{le}
 use mathlib.Core.Path.{ap}
 use borrow.Author.Needs.{needs}
-use Rattle.escape.proofs.is_within.Statement.{statement}
-use Rattle.escape.proofs.is_within.Tie as tie
+use Rattle.cuts.proofs.is_within.Statement.{statement}
+use Rattle.cuts.proofs.is_within.Tie as tie
 
 returns : tie.Need-returns
 returns c = not-within (c .before .before .args .s) (c .before .before .args .cut) (c .before .before .args .limit) (search needs) (search needs) (c .before .before .pre (c .before .if1 .taken)) (c .if2 .taken)

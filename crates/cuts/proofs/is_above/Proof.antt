@@ -1,10 +1,10 @@
--- `escape::is_above` meets its contract: an s up to the cut has a root up to the cut's. Assumes nothing.
-use Rattle.escape.proofs.Roots.{not-above}
+-- `cuts::is_above` meets its contract: an s up to the cut has a root up to the cut's. Assumes nothing.
+use Rattle.cuts.proofs.Roots.{not-above}
 use lib.Ieee.{lt}
 use mathlib.Core.Path.{ap}
 use borrow.Author.Needs.{needs}
-use Rattle.escape.proofs.is_above.Statement.{statement}
-use Rattle.escape.proofs.is_above.Tie as tie
+use Rattle.cuts.proofs.is_above.Statement.{statement}
+use Rattle.cuts.proofs.is_above.Tie as tie
 
 returns : tie.Need-returns
 returns c = not-above (c .before .before .args .s) (c .before .before .args .cut) (c .before .before .args .limit) (search needs) (search needs) (c .before .before .pre (c .before .if1 .taken)) (c .if2 .taken)

@@ -1,0 +1,631 @@
+// Times drawing: the library, the oracle (fixed steps) and the original (native functions), in one run.
+//
+// For each case the three draw the same edge from the same tables into buffers that just hold the chain. Before anything is
+// timed the library's and the oracle's answers and both buffers are compared bit for bit. The functions take turns, and each
+// figure is the least of many rounds, so that a busy machine does not show.
+use std::hint::black_box;
+use std::time::Instant;
+
+unsafe extern "C" {
+    fn cs_draw(
+        points: *const f64, points_n: usize, curves: *const u32, curves_n: usize, reals: *const f64, reals_n: usize,
+        parts: *const u32, parts_n: usize, ranges: *const f64, ranges_n: usize,
+        row: u32, start: u32, end: u32, sense: u32, lo: f64, hi: f64, tolerance: f64, low: u32, high: u32,
+        deflection: f64, angle: f64, relative: u32, segments: u64, depth: u32, scale: f64,
+        first: *mut f64, first_n: usize, second: *mut f64, second_n: usize, way: &mut u32, size: &mut usize,
+    );
+    fn cs_draw_checked(
+        points: *const f64, points_n: usize, curves: *const u32, curves_n: usize, reals: *const f64, reals_n: usize,
+        parts: *const u32, parts_n: usize, ranges: *const f64, ranges_n: usize,
+        row: u32, start: u32, end: u32, sense: u32, lo: f64, hi: f64, tolerance: f64, low: u32, high: u32,
+        deflection: f64, angle: f64, relative: u32, segments: u64, depth: u32, scale: f64,
+        first: *mut f64, first_n: usize, second: *mut f64, second_n: usize, way: &mut u32, size: &mut usize,
+    );
+    fn cs_check(
+        points: *const f64, points_n: usize, curves: *const u32, curves_n: usize, reals: *const f64, reals_n: usize,
+        parts: *const u32, parts_n: usize, ranges: *const f64, ranges_n: usize,
+        row: u32, start: u32, end: u32, sense: u32, lo: f64, hi: f64, tolerance: f64, low: u32, high: u32,
+        deflection: f64, angle: f64, relative: u32, segments: u64, depth: u32, scale: f64,
+    ) -> u32;
+    fn cs_point_at(
+        points: *const f64, points_n: usize, curves: *const u32, curves_n: usize, reals: *const f64, reals_n: usize,
+        parts: *const u32, parts_n: usize, ranges: *const f64, ranges_n: usize,
+        row: u32, t: f64, x: &mut f64, y: &mut f64, z: &mut f64,
+    );
+    fn cs_breaks(knots: *mut f64, n: usize, lo: f64, hi: f64) -> usize;
+    fn cs_clear(buffer: *mut f64, n: usize);
+}
+
+use ::fixed::tables::{CIRCLE, COMPOSITE, ELLIPSE, LINE, PARABOLA, POLYLINE, Row, Segment, TRIMMED};
+use ::fixed::{Edge, Options, OwnedTables};
+
+/// An answer: the way's number and the count of points, or 5 and the refusal's number.
+type Answer = (u32, usize);
+
+struct Case {
+    name: &'static str,
+    tables: OwnedTables,
+    edge: Edge,
+    options: Options,
+}
+
+macro_rules! call {
+    ($f:ident, $t:expr, $e:expr, $o:expr $(, $more:expr)*) => {
+        $f(
+            $t.points.as_ptr(), $t.points.len(), $t.curves.as_ptr(), $t.curves.len(), $t.reals.as_ptr(), $t.reals.len(),
+            $t.parts.as_ptr(), $t.parts.len(), $t.ranges.as_ptr(), $t.ranges.len(),
+            $e.curve, $e.start, $e.end, $e.sense, $e.lo, $e.hi, $e.tolerance, $e.low, $e.high,
+            $o.deflection, $o.angle, $o.relative, $o.segments, $o.depth, $o.scale $(, $more)*
+        )
+    };
+}
+
+fn ours(t: &OwnedTables, e: &Edge, o: &Options, first: &mut [f64], second: &mut [f64]) -> Answer {
+    let mut answer = (0, 0);
+    unsafe {
+        call!(cs_draw, t, e, o, first.as_mut_ptr(), first.len(), second.as_mut_ptr(), second.len(), &mut answer.0, &mut answer.1)
+    };
+    answer
+}
+
+/// The tables, the edge and the options have passed the check.
+fn ours_checked(t: &OwnedTables, e: &Edge, o: &Options, first: &mut [f64], second: &mut [f64]) -> Answer {
+    let mut answer = (0, 0);
+    unsafe {
+        call!(cs_draw_checked, t, e, o, first.as_mut_ptr(), first.len(), second.as_mut_ptr(), second.len(), &mut answer.0, &mut answer.1)
+    };
+    answer
+}
+
+fn check(t: &OwnedTables, e: &Edge, o: &Options) -> u32 {
+    unsafe { call!(cs_check, t, e, o) }
+}
+
+// The same for either build of the Rust, whose types are apart.
+macro_rules! rust {
+    ($name:ident) => {
+        mod $name {
+            use super::Answer;
+            use ::$name::draw::{draw, reference, resolved, room, solid};
+            use ::$name::{Drawn, Way};
+
+            pub fn tables(t: &super::OwnedTables) -> ::$name::OwnedTables {
+                ::$name::OwnedTables {
+                    points: t.points.clone(),
+                    curves: t.curves.clone(),
+                    reals: t.reals.clone(),
+                    parts: t.parts.clone(),
+                    ranges: t.ranges.clone(),
+                }
+            }
+
+            pub fn edge(e: &super::Edge) -> ::$name::Edge {
+                ::$name::Edge {
+                    curve: e.curve,
+                    start: e.start,
+                    end: e.end,
+                    sense: e.sense,
+                    lo: e.lo,
+                    hi: e.hi,
+                    tolerance: e.tolerance,
+                    low: e.low,
+                    high: e.high,
+                }
+            }
+
+            pub fn options(o: &super::Options) -> ::$name::Options {
+                ::$name::Options {
+                    deflection: o.deflection,
+                    angle: o.angle,
+                    relative: o.relative,
+                    segments: o.segments,
+                    depth: o.depth,
+                    scale: o.scale,
+                }
+            }
+
+            fn way(w: Way) -> u32 {
+                match w {
+                    Way::AsDrawn => 0,
+                    Way::ChordForWantOfARange => 1,
+                    Way::Complement => 2,
+                    Way::ShortArc => 3,
+                    Way::RunawayChord => 4,
+                }
+            }
+
+            /// The whole entry point.
+            pub fn drawing(c: &super::Case) -> impl Fn(&mut [f64], &mut [f64]) -> Answer + use<> {
+                let (t, e, o) = (tables(&c.tables), edge(&c.edge), options(&c.options));
+                move |first, second| match draw(&t.lent(), &e, &o, first, second) {
+                    Drawn::Refused(n) => (5, n as usize),
+                    Drawn::Chain(w, n) => (way(w), n),
+                }
+            }
+
+            /// `discretise_all` alone, on a solid that stands ready; how many points it gave.
+            pub fn road(c: &super::Case, floats: usize) -> impl Fn() -> usize + use<> {
+                let (t, e, o) = (tables(&c.tables), edge(&c.edge), options(&c.options));
+                let (solid, reference, resolved) = (solid(&t.lent(), &e), reference(&t.lent(), &e), resolved(&o));
+                move || {
+                    let chains = ::$name::discretise_all(&solid, &resolved, &reference, room(floats, floats));
+                    chains.map_or(0, |c| c.iter().map(|c| c.len()).sum())
+                }
+            }
+
+            /// The same for a part: a solid of all its edges.
+            pub fn part_road(c: &super::Case, edges: &[super::Edge], floats: usize) -> impl Fn() -> usize + use<> {
+                let (t, o) = (tables(&c.tables), options(&c.options));
+                let t = t.lent();
+                let all = edges.iter().map(|e| solid(&t, &edge(e)));
+                let mut whole = solid(&t, &edge(&c.edge));
+                whole.vertices.clear();
+                whole.edges.clear();
+                whole.curves = (0..t.row_count()).map(|i| t.curve(i as u32)).collect();
+                for (e, s) in edges.iter().zip(all) {
+                    let mut one = s.edges[0].clone();
+                    one.start.0 = whole.vertices.len() as _;
+                    whole.vertices.push(s.vertices[0]);
+                    one.end.0 = whole.vertices.len() as _;
+                    whole.vertices.push(s.vertices[1]);
+                    one.curve.0 = e.curve as _;
+                    whole.edges.push(one);
+                }
+                let (reference, resolved) = (reference(&t, &edge(&c.edge)), resolved(&o));
+                move || {
+                    let chains = ::$name::discretise_all(&whole, &resolved, &reference, room(floats, floats));
+                    chains.map_or(0, |c| c.iter().map(|c| c.len()).sum())
+                }
+            }
+
+            /// The point of a row's curve.
+            pub fn point_at(t: &super::OwnedTables, row: u32) -> impl Fn(f64) -> [f64; 3] + use<> {
+                let curve = tables(t).lent().curve(row);
+                move |t| {
+                    let p = curve.point_at(t);
+                    [p.x, p.y, p.z]
+                }
+            }
+        }
+    };
+}
+
+rust!(fixed);
+rust!(native);
+
+// ---- the cases
+
+const DEGREES: f64 = std::f64::consts::PI / 180.0;
+
+fn options(deflection: f64, scale: f64) -> Options {
+    Options { deflection, angle: 8.0 * DEGREES, relative: 1, segments: 1, depth: 12, scale }
+}
+
+struct Draft {
+    tables: OwnedTables,
+}
+
+impl Draft {
+    fn new() -> Draft {
+        Draft { tables: OwnedTables::default() }
+    }
+
+    fn row(&mut self, kind: u32, points: &[[f64; 3]], p: f64, q: f64) -> u32 {
+        let first = self.tables.points.len() as u32 / 3;
+        for x in points {
+            self.tables.push_point(*x);
+        }
+        self.tables.push_row(Row { kind, first, count: points.len() as u32, p, q })
+    }
+
+    fn frame(&mut self, kind: u32, origin: [f64; 3], p: f64, q: f64) -> u32 {
+        self.row(kind, &[origin, [0.0, 0.0, 1.0], [1.0, 0.0, 0.0]], p, q)
+    }
+
+    /// The edge over lo to hi, with vertices on the curve and a box about them.
+    fn edge(&mut self, row: u32, lo: f64, hi: f64, half: f64) -> Edge {
+        let at = fixed::point_at(&self.tables, row);
+        let (start, end) = (at(lo), at(hi));
+        self.edge_between(row, lo, hi, start, end, [-half; 3], [half; 3])
+    }
+
+    fn edge_between(&mut self, curve: u32, lo: f64, hi: f64, start: [f64; 3], end: [f64; 3], low: [f64; 3], high: [f64; 3]) -> Edge {
+        let t = &mut self.tables;
+        let (start, end) = (t.push_point(start), t.push_point(end));
+        let (low, high) = (t.push_point(low), t.push_point(high));
+        Edge { curve, start, end, sense: 1, lo, hi, tolerance: 1e-6, low, high }
+    }
+
+    fn case(self, name: &'static str, edge: Edge, options: Options) -> Case {
+        Case { name, tables: self.tables, edge, options }
+    }
+}
+
+fn line() -> Case {
+    let mut d = Draft::new();
+    let row = d.row(LINE, &[[0.0; 3], [1.0, 0.5, 0.0]], 0.0, 0.0);
+    let e = d.edge(row, 0.0, 50.0, 1e3);
+    d.case("line", e, options(4e-4, 480.0))
+}
+
+/// A whole circle of n points.
+fn circle(name: &'static str, n: usize) -> Case {
+    let mut d = Draft::new();
+    let row = d.frame(CIRCLE, [1.0, 2.0, 3.0], 50.0, 0.0);
+    let e = d.edge(row, 0.0, std::f64::consts::TAU, 1e4);
+    let angle = std::f64::consts::TAU / (n as f64 - 1.5);
+    d.case(name, e, Options { angle, deflection: 100.0 * angle * angle, relative: 0, ..options(0.0, 480.0) })
+}
+
+fn ellipse() -> Case {
+    let mut d = Draft::new();
+    let row = d.frame(ELLIPSE, [1.0, 2.0, 3.0], 40.0, 25.0);
+    let e = d.edge(row, 0.0, std::f64::consts::TAU, 1e4);
+    d.case("ellipse", e, options(4e-4, 480.0))
+}
+
+fn parabola() -> Case {
+    let mut d = Draft::new();
+    let row = d.frame(PARABOLA, [0.0; 3], 5.0, 0.0);
+    let e = d.edge(row, -4.0, 4.0, 1e4);
+    d.case("parabola, bisected", e, options(4e-4, 480.0))
+}
+
+/// An arc of n points as a polyline.
+fn polyline(name: &'static str, n: usize) -> Case {
+    let mut d = Draft::new();
+    let points: Vec<[f64; 3]> = (0..n)
+        .map(|i| {
+            let t = 2.0 * i as f64 / (n - 1) as f64;
+            [100.0 * t.cos(), 100.0 * t.sin(), 0.0]
+        })
+        .collect();
+    let row = d.row(POLYLINE, &points, 0.0, 0.0);
+    let e = d.edge(row, 0.0, (n - 1) as f64, 1e4);
+    d.case(name, e, options(4e-4, 480.0))
+}
+
+/// n arcs of half a turn, one after another, over one circle.
+fn composite(name: &'static str, n: usize) -> Case {
+    let mut d = Draft::new();
+    for i in 0..n {
+        let row = d.frame(CIRCLE, [20.0 * i as f64, 0.0, 0.0], 10.0, 0.0);
+        d.tables.push_segment(Segment { curve: row, lo: 0.0, hi: std::f64::consts::PI, sense: 0 });
+    }
+    let row = d.tables.push_row(Row { kind: COMPOSITE, first: 0, count: n as u32, p: 0.0, q: 0.0 });
+    let e = d.edge(row, 0.0, n as f64, 1e5);
+    d.case(name, e, Options { relative: 0, ..options(0.01, 480.0) })
+}
+
+/// A short arc of a circle, whose range in the file is the long way round: the complement serves.
+fn complement() -> Case {
+    let mut d = Draft::new();
+    let row = d.frame(CIRCLE, [0.0; 3], 100.0, 0.0);
+    let at = fixed::point_at(&d.tables, row);
+    let (start, end) = (at(0.0), at(0.2));
+    let e = d.edge_between(row, 0.2, std::f64::consts::TAU, end, start, [90.0, -5.0, -1.0], [105.0, 25.0, 1.0]);
+    d.case("repair: complement", e, options(4e-4, 480.0))
+}
+
+/// A polyline that runs away, and whose middle part joins the vertices.
+fn short_arc() -> Case {
+    let mut d = Draft::new();
+    let row = d.frame(PARABOLA, [0.0; 3], 5.0, 0.0);
+    let base = d.tables.push_row(Row { kind: TRIMMED, first: row, count: 1, p: -4.0, q: 4.0 });
+    let at = fixed::point_at(&d.tables, base);
+    let (start, end) = (at(-0.5), at(0.5));
+    let e = d.edge_between(base, -4.0, 4.0, start, end, [-2.0, -6.0, -1.0], [4.0, 6.0, 1.0]);
+    d.case("repair: short arc", e, options(4e-4, 480.0))
+}
+
+/// The vertices lie off the curve.
+fn runaway() -> Case {
+    let mut d = Draft::new();
+    let row = d.frame(PARABOLA, [0.0; 3], 5.0, 0.0);
+    let e = d.edge_between(row, -4.0, 4.0, [900.0, 0.0, 0.0], [901.0, 1.0, 0.0], [900.0, 0.0, 0.0], [901.0, 1.0, 1.0]);
+    d.case("repair: runaway chord", e, options(4e-4, 480.0))
+}
+
+/// A part: lines, arcs, ellipses and polylines of five points, 4,000 rows, and 10,000 edges over them.
+fn part() -> (Case, Vec<Edge>) {
+    let mut d = Draft::new();
+    let mut rows = vec![];
+    for i in 0..4000u32 {
+        let x = i as f64 * 0.25;
+        rows.push(match i % 4 {
+            0 => d.row(LINE, &[[x, 0.0, 0.0], [1.0, 0.5, 0.0]], 0.0, 0.0),
+            1 => d.frame(CIRCLE, [x, 1.0, 0.0], 2.0 + (i % 7) as f64, 0.0),
+            2 => d.frame(ELLIPSE, [x, 2.0, 0.0], 6.0, 4.0),
+            _ => d.row(POLYLINE, &[[x, 0.0, 0.0], [x + 1.0, 0.2, 0.0], [x + 2.0, 0.1, 0.0], [x + 3.0, 0.4, 0.0], [x + 4.0, 0.0, 0.0]], 0.0, 0.0),
+        });
+    }
+    let whole = d.edge(rows[0], 0.0, 1.0, 1e4);
+    let mut edges = vec![];
+    for i in 0..10_000usize {
+        let row = rows[(i * 7) % rows.len()];
+        let (lo, hi) = match ((i * 7) % rows.len()) % 4 {
+            0 => (0.0, 10.0),
+            3 => (0.0, 4.0),
+            _ => (0.1, 1.7),
+        };
+        // every edge shares the first edge's vertices and box: the road does not ask that they lie on the curve
+        edges.push(Edge { curve: row, lo, hi, ..whole });
+    }
+    (d.case("part of 10,000 edges, per edge", edges[0], options(4e-4, 480.0)), edges)
+}
+
+// ---- comparing and timing
+
+/// The least number of floats with which the edge is drawn as in large buffers.
+fn least_floats(c: &Case) -> usize {
+    let draw = fixed::drawing(c);
+    let answer = |n: usize| draw(&mut vec![0.0; n], &mut vec![0.0; n]);
+    let wanted = answer(65536);
+    assert!(wanted.0 < 5, "{}: {wanted:?}", c.name);
+    let (mut lo, mut hi) = (4, 65536);
+    while lo + 4 < hi {
+        let middle = (lo + hi) / 8 * 4;
+        if answer(middle) == wanted { hi = middle } else { lo = middle }
+    }
+    hi
+}
+
+/// Both buffers hold the same bits; the count of points.
+fn compare(c: &Case, n: usize) -> Answer {
+    let draw = fixed::drawing(c);
+    let (mut a, mut b, mut x, mut y) = (vec![7.0; n], vec![7.0; n], vec![7.0; n], vec![7.0; n]);
+    let answer = draw(&mut a, &mut b);
+    assert_eq!(answer, ours(&c.tables, &c.edge, &c.options, &mut x, &mut y), "{}", c.name);
+    let same = |p: &[f64], q: &[f64]| p.iter().zip(q).all(|(p, q)| p.to_bits() == q.to_bits());
+    assert!(same(&a, &x) && same(&b, &y), "{}: the buffers differ", c.name);
+    assert_eq!(answer, ours_checked(&c.tables, &c.edge, &c.options, &mut x, &mut y), "{}", c.name);
+    assert!(same(&a, &x) && same(&b, &y), "{}: the buffers differ", c.name);
+    answer
+}
+
+const ROUNDS: usize = 60;
+const ROUND: u128 = 400_000;
+
+/// Nanoseconds a call of each, by turns, the least over the rounds.
+fn least<const N: usize>(mut calls: [&mut dyn FnMut(); N]) -> [f64; N] {
+    let run = |call: &mut dyn FnMut(), times: u32| {
+        let start = Instant::now();
+        for _ in 0..times {
+            call();
+        }
+        start.elapsed().as_nanos()
+    };
+    let mut times = [1; N];
+    for (n, call) in times.iter_mut().zip(&mut calls) {
+        while run(call, *n) < ROUND && *n < 1 << 20 {
+            *n *= 2;
+        }
+    }
+    let mut best = [f64::INFINITY; N];
+    for _ in 0..ROUNDS {
+        for i in 0..N {
+            best[i] = best[i].min(run(calls[i], times[i]) as f64 / times[i] as f64);
+        }
+    }
+    best
+}
+
+fn row(name: &str, points: usize, way: u32, t: [f64; 6]) {
+    let [draw, checked, fixed_draw, fixed_road, native_draw, native_road] = t;
+    let ways = ["as drawn", "chord", "complement", "short arc", "runaway", "refused"];
+    println!(
+        "| {name} | {points} | {} | {draw:.0} | {checked:.0} | {fixed_draw:.0} | {fixed_road:.0} | {native_draw:.0} | {native_road:.0} | {:.2} | {:.2} | {:.2} | {:.2} |",
+        ways[way as usize],
+        fixed_draw / draw,
+        fixed_road / checked,
+        native_draw / draw,
+        native_road / checked
+    );
+}
+
+fn time(c: &Case) {
+    let n = least_floats(c);
+    let (way, size) = compare(c, n);
+    let (f, r) = (fixed::drawing(c), native::drawing(c));
+    let (froad, nroad) = (fixed::road(c, n), native::road(c, n));
+    let (mut a, mut b) = (vec![0.0; n], vec![0.0; n]);
+    let (mut a2, mut b2) = (vec![0.0; n], vec![0.0; n]);
+    let (mut a3, mut b3) = (vec![0.0; n], vec![0.0; n]);
+    let (mut a4, mut b4) = (vec![0.0; n], vec![0.0; n]);
+    let t = least([
+        &mut || {
+            black_box(ours(black_box(&c.tables), &c.edge, &c.options, &mut a, &mut b));
+        },
+        &mut || {
+            black_box(ours_checked(black_box(&c.tables), &c.edge, &c.options, &mut a2, &mut b2));
+        },
+        &mut || {
+            black_box(f(&mut a3, &mut b3));
+        },
+        &mut || {
+            black_box(froad());
+        },
+        &mut || {
+            black_box(r(&mut a4, &mut b4));
+        },
+        &mut || {
+            black_box(nroad());
+        },
+    ]);
+    row(c.name, size, way, t);
+}
+
+fn time_part() {
+    let (c, edges) = part();
+    let n = 4 * 128;
+    let (mut a, mut b) = (vec![0.0; n], vec![0.0; n]);
+    assert_eq!(check(&c.tables, &c.edge, &c.options), 0);
+    let total: usize = edges.iter().map(|e| ours_checked(&c.tables, e, &c.options, &mut a, &mut b).1).sum();
+    let (froad, nroad) = (fixed::part_road(&c, &edges, n), native::part_road(&c, &edges, n));
+    assert_eq!(total, froad());
+    let few = &edges[..20];
+    let t = least([
+        &mut || {
+            for e in few {
+                black_box(ours(black_box(&c.tables), e, &c.options, &mut a, &mut b));
+            }
+        },
+        &mut || {
+            let (mut a, mut b) = (vec![0.0; n], vec![0.0; n]);
+            for e in &edges {
+                black_box(ours_checked(black_box(&c.tables), e, &c.options, &mut a, &mut b));
+            }
+        },
+        &mut || {
+            black_box(froad());
+        },
+        &mut || {
+            black_box(nroad());
+        },
+    ]);
+    let k = edges.len() as f64;
+    row(c.name, total, 0, [t[0] / 20.0, t[1] / k, f64::NAN, t[2] / k, f64::NAN, t[3] / k]);
+}
+
+fn others() {
+    // point_at through two trims
+    let mut d = Draft::new();
+    let circle = d.frame(CIRCLE, [1.0, 2.0, 3.0], 10.0, 0.0);
+    let one = d.tables.push_row(Row { kind: TRIMMED, first: circle, count: 1, p: 0.0, q: 6.0 });
+    let two = d.tables.push_row(Row { kind: TRIMMED, first: one, count: 1, p: 0.0, q: 5.0 });
+    let t = d.tables;
+    let (f, n) = (fixed::point_at(&t, two), native::point_at(&t, two));
+    let ours = |u: f64| {
+        let mut p = [0.0; 3];
+        let [x, y, z] = &mut p;
+        unsafe {
+            cs_point_at(
+                t.points.as_ptr(), t.points.len(), t.curves.as_ptr(), t.curves.len(), t.reals.as_ptr(), t.reals.len(),
+                t.parts.as_ptr(), t.parts.len(), t.ranges.as_ptr(), t.ranges.len(), two, u, x, y, z,
+            )
+        };
+        p
+    };
+    let us: Vec<f64> = (0..500).map(|i| i as f64 * 0.01).collect();
+    assert!(us.iter().all(|&u| ours(u) == f(u)));
+    let (mut i, mut j, mut k) = (0, 0, 0);
+    let r = least([
+        &mut || {
+            i = (i + 1) % 500;
+            black_box(ours(us[i]));
+        },
+        &mut || {
+            j = (j + 1) % 500;
+            black_box(f(us[j]));
+        },
+        &mut || {
+            k = (k + 1) % 500;
+            black_box(n(us[k]));
+        },
+    ]);
+    println!("\npoint_at on a circle through two trims: {:.1} ns, oracle {:.1} ns, native {:.1} ns", r[0], r[1], r[2]);
+    // breaks
+    let up: Vec<f64> = (0..8192).map(|i| i as f64).collect();
+    let down: Vec<f64> = up.iter().rev().copied().collect();
+    let mut one = up.clone();
+    let mut two = up.clone();
+    let r = least([
+        &mut || {
+            one.copy_from_slice(&up);
+            black_box(unsafe { cs_breaks(one.as_mut_ptr(), 8192, -1.0, 1e4) });
+        },
+        &mut || {
+            two.copy_from_slice(&down);
+            black_box(unsafe { cs_breaks(two.as_mut_ptr(), 8192, -1.0, 1e4) });
+        },
+    ]);
+    println!("8,192 breaks: in order {:.0} ns, in reverse order {:.0} ns, ratio {:.1}", r[0], r[1], r[1] / r[0]);
+    // zeroing
+    let mut one = vec![1.0; 65536];
+    let mut two = one.clone();
+    let r = least([
+        &mut || unsafe { cs_clear(black_box(one.as_mut_ptr()), 65536) },
+        &mut || black_box(&mut two).fill(0.0),
+    ]);
+    println!("zeroing 65,536 floats: {:.0} ns, a plain fill {:.0} ns", r[0], r[1]);
+}
+
+/// Cost against size: ns of one draw, or of one sort, and that by the size.
+fn sizes() {
+    println!("| what | size | ns | ns / size |");
+    println!("|---|---|---|---|");
+    let show = |what: &str, n: usize, ns: f64| println!("| {what} | {n} | {ns:.0} | {:.1} |", ns / n as f64);
+    let draw = |c: &Case| {
+        let n = least_floats(c);
+        let (mut a, mut b) = (vec![0.0; n], vec![0.0; n]);
+        let [ns] = least([&mut || {
+            black_box(ours(black_box(&c.tables), &c.edge, &c.options, &mut a, &mut b));
+        }]);
+        ns
+    };
+    for n in [25, 100, 400, 1600, 4000] {
+        show("circle, points", n, draw(&circle("circle", n)));
+    }
+    for n in [125, 500, 2000, 8000, 32000] {
+        show("polyline, its points", n, draw(&polyline("polyline", n)));
+    }
+    for n in [5, 20, 80, 320] {
+        show("composite, segments", n, draw(&composite("composite", n)));
+    }
+    for n in [4, 16, 64, 256, 1024, 4096] {
+        let mut c = line();
+        while c.tables.lent().row_count() < n {
+            c.tables.push_row(Row { kind: LINE, first: 0, count: 2, p: 0.0, q: 0.0 });
+        }
+        show("line, rows of the tables", n, draw(&c));
+    }
+    // multiplying by an odd number mixes the order
+    for n in [128usize, 512, 2048, 8192] {
+        let mixed: Vec<f64> = (0..n).map(|i| (i * 2_654_435_761 % n) as f64).collect();
+        let mut knots = mixed.clone();
+        let [ns] = least([&mut || {
+            knots.copy_from_slice(&mixed);
+            black_box(unsafe { cs_breaks(knots.as_mut_ptr(), n, -1.0, 1e4) });
+        }]);
+        show("breaks in mixed order", n, ns);
+    }
+}
+
+fn cases() -> Vec<Case> {
+    vec![
+        line(),
+        circle("circle of 13 points", 13),
+        circle("circle of 2,000 points", 2000),
+        ellipse(),
+        parabola(),
+        polyline("polyline of 1,000 points", 1000),
+        composite("composite of 100 arcs", 100),
+        complement(),
+        short_arc(),
+        runaway(),
+    ]
+}
+
+fn main() {
+    let wanted: Vec<String> = std::env::args().skip(1).collect();
+    if wanted == ["sizes"] {
+        return sizes();
+    }
+    if let [one, times] = &wanted[..] {
+        // one case over and over, for a profiler
+        let c = cases().into_iter().find(|c| c.name.contains(one.as_str())).expect("a case of this name");
+        let n = least_floats(&c);
+        let (mut a, mut b) = (vec![0.0; n], vec![0.0; n]);
+        for _ in 0..times.parse().expect("a number") {
+            black_box(ours(&c.tables, &c.edge, &c.options, &mut a, &mut b));
+        }
+        return;
+    }
+    println!("| case | points | way | draw | draw_checked | oracle | its road | native | its road | oracle / draw | its road / checked | native / draw | its road / checked |");
+    println!("|---|---|---|---|---|---|---|---|---|---|---|---|---|");
+    for c in cases() {
+        time(&c);
+    }
+    time_part();
+    others();
+}
