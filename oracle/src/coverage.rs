@@ -31,6 +31,14 @@ pub fn table(seed: u64, count: u64) -> String {
     text
 }
 
+/// What one sheet meets, a line for each name.
+pub fn met(bytes: &[u8]) -> String {
+    let mut counts = Counts(names());
+    marks::take();
+    tally(&mut counts, bytes);
+    counts.0.iter().filter(|(_, met)| **met > 0).map(|(name, _)| format!("{name}\n")).collect()
+}
+
 /// Every name at zero, so that the table shows what was never met.
 fn names() -> BTreeMap<String, u64> {
     let refusals = [2, 3, 4, 5, 6, 8, 9, 10].map(|number| format!("answer: refusal {number}"));

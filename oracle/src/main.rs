@@ -37,6 +37,8 @@ fn run(words: &[&str], out: &mut impl Write) -> Option<Result<()>> {
         ["gen", seed, count, start] => {
             Some(sheets(out, number(seed)?, number(count)?, number(start)?))
         }
+        #[cfg(marked)]
+        ["marks"] => Some(marks(out)),
         ["coverage", seed, count] => Some(coverage(out, number(seed)?, number(count)?)),
         ["check", seed, count] => {
             Some(write!(out, "{}", check::report(number(seed)?, number(count)?)))
@@ -109,6 +111,13 @@ fn sheets(out: &mut impl Write, seed: u64, count: u64, start: u64) -> Result<()>
 #[cfg(marked)]
 fn coverage(out: &mut impl Write, seed: u64, count: u64) -> Result<()> {
     write!(out, "{}", oracle::coverage::table(seed, count))
+}
+
+/// For each sheet of a batch, what it meets.
+#[cfg(marked)]
+fn marks(out: &mut impl Write) -> Result<()> {
+    let bytes = input()?;
+    joined(out, split(&bytes).map(|one| oracle::coverage::met(one).into_bytes()))
 }
 
 /// The build beside this one has the marks.

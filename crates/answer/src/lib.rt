@@ -1,0 +1,129 @@
+// The answer to a sheet: its text in, the listing of its edge's chain or of a refusal out.
+ghost use mathlib.Core.Path.{_≡_};
+ghost use Prim.Native.Nat.{_+_, _*_, _≤_};
+ghost use lib.ListN.{length};
+ghost use lib.Seq.{sets};
+ghost use Rattle.brep.specs.Rows.{lent};
+ghost use Rattle.sheet.specs.Sheet.{leading};
+ghost use Rattle.chains.specs.Draw.{roomOf, chainIn, Outcome};
+ghost use Rattle.draw.specs.Part.{floatsOf};
+ghost use Rattle.answer.specs.Printed.{shown, Answered};
+use brep::Edge;
+use chains::Drawn;
+use chains::Way;
+use options::Options;
+use sheet::Sheet;
+
+// The listing of an answer, whose chain lies in the first buffer or in the second. `lo` and `hi` are the bits of the edge's
+// range: a NaN parameter is a copy of one of them.
+fn show(drawn: Drawn, first: &[f64], second: &[f64], lo: u64, hi: u64, out: &mut [u8]) -> usize
+    requires { ⌜ (floatsOf drawn ≤ length (now first)) × (floatsOf drawn ≤ length (now second)) × (29 + 17 * floatsOf drawn ≤ length (now out)) ⌝ }
+    ensures { λ r. ⌜ (r ≡ length (shown lo hi drawn (chainIn (now (first .entry)) (now (second .entry)) drawn)))
+        × (now (out .exit) ≡ sets (now (out .entry)) 0 (shown lo hi drawn (chainIn (now (first .entry)) (now (second .entry)) drawn))) ⌝ }
+{
+    match drawn {
+        Drawn::Refused(n) => listing::write_refusal(n, out),
+        Drawn::Chain(way, n) => match way {
+            Way::AsDrawn => listing::write_chain(first, n, lo, hi, out),
+            Way::Chord => listing::write_chain(first, n, lo, hi, out),
+            Way::Complement => listing::write_chain(second, n, lo, hi, out),
+            Way::ShortArc => listing::write_chain(second, n, lo, hi, out),
+            Way::Runaway => listing::write_chain(second, n, lo, lo, out),
+        },
+    }
+}
+
+// Draws the edge of a sheet whose tables are the leading rows of those lent: n points, m curves, k segments.
+fn draw_rows(
+    points: &[f64],
+    curves: &[u32],
+    reals: &[f64],
+    parts: &[u32],
+    ranges: &[f64],
+    n: usize,
+    m: usize,
+    k: usize,
+    edge: Edge,
+    options: Options,
+    first: &mut [f64],
+    second: &mut [f64],
+) -> Drawn
+    requires { ⌜ (3 * n ≤ length (now points)) × (3 * m ≤ length (now curves)) × (2 * m ≤ length (now reals)) × (2 * k ≤ length (now parts)) × (2 * k ≤ length (now ranges)) ⌝ }
+    ensures { λ r. ⌜ Outcome (leading n m k (lent (points .entry) (curves .entry) (reals .entry) (parts .entry) (ranges .entry))) edge options (now (first .entry)) (now (second .entry)) r (now (first .exit)) (now (second .exit)) ⌝ }
+{
+    let n3 = 3 * n;
+    let m3 = 3 * m;
+    let m2 = 2 * m;
+    let k2 = 2 * k;
+    draw::draw(
+        &points[..n3],
+        &curves[..m3],
+        &reals[..m2],
+        &parts[..k2],
+        &ranges[..k2],
+        edge,
+        options,
+        first,
+        second,
+    )
+}
+
+// The same, of the tables that a sheet was read into.
+fn draw_read(
+    points: &[f64; sheet::POINTS],
+    curves: &[u32; sheet::CURVES],
+    reals: &[f64; sheet::REALS],
+    parts: &[u32; sheet::PARTS],
+    ranges: &[f64; sheet::RANGES],
+    n: usize,
+    m: usize,
+    k: usize,
+    edge: Edge,
+    options: Options,
+    first: &mut [f64],
+    second: &mut [f64],
+) -> Drawn
+    requires { ⌜ (n ≤ 1285) × (m ≤ 1638) × (k ≤ 1724) ⌝ }
+    ensures { λ r. ⌜ Outcome (leading n m k (lent (points .entry) (curves .entry) (reals .entry) (parts .entry) (ranges .entry))) edge options (now (first .entry)) (now (second .entry)) r (now (first .exit)) (now (second .exit)) ⌝ }
+{
+    draw_rows(
+        points, curves, reals, parts, ranges, n, m, k, edge, options, first, second,
+    )
+}
+
+// THE ANSWER to a sheet: the bytes that the program prints, at the start of `out`, and how many they are.
+pub fn answer(text: &[u8], first: &mut [f64], second: &mut [f64], out: &mut [u8]) -> usize
+    requires { ⌜ 29 + 68 * roomOf (length (now first)) (length (now second)) ≤ length (now out) ⌝ }
+    ensures { λ r. ⌜ Answered (now (text .entry)) (now (first .entry)) (now (second .entry)) (now (out .entry)) r (now (first .exit)) (now (second .exit)) (now (out .exit)) ⌝ }
+{
+    let mut points = [0.0f64; sheet::POINTS];
+    let mut curves = [0u32; sheet::CURVES];
+    let mut reals = [0.0f64; sheet::REALS];
+    let mut parts = [0u32; sheet::PARTS];
+    let mut ranges = [0.0f64; sheet::RANGES];
+    let read = sheet::read(
+        text,
+        &mut points,
+        &mut curves,
+        &mut reals,
+        &mut parts,
+        &mut ranges,
+    );
+    match read {
+        Sheet::Refused(cause) => listing::write_refusal(cause, out),
+        Sheet::Read {
+            points: n,
+            curves: m,
+            segments: k,
+            edge,
+            options,
+            lo,
+            hi,
+        } => {
+            let drawn = draw_read(
+                &points, &curves, &reals, &parts, &ranges, n, m, k, edge, options, first, second,
+            );
+            show(drawn, first, second, lo, hi, out)
+        }
+    }
+}
