@@ -25,7 +25,7 @@ use Rattle.chains.specs.Repair.{Got}
 use Rattle.chains.specs.Draw.{roomOf, drawn, answerOf, inFirst, firstAfter, secondAfter, chainIn, Outcome}
 use Rattle.chains.proofs.Sound.{drawn-fits}
 use Rattle.chains.proofs.Held.{held}
-use Rattle.draw.specs.Part.{floatsOf}
+use Rattle.chains.specs.Draw.{floatsOf}
 use Rattle.answer.specs.Printed.{lastBits, shown, printedDrawn, drawnOf, printedRead, firstLeft, secondLeft, Answered}
 
 -- bytes at the start of a buffer, and how many they are

@@ -6,7 +6,7 @@ ghost use lib.Seq.{sets};
 ghost use Rattle.brep.specs.Rows.{lent};
 ghost use Rattle.sheet.specs.Sheet.{leading};
 ghost use Rattle.chains.specs.Draw.{roomOf, chainIn, Outcome};
-ghost use Rattle.draw.specs.Part.{floatsOf};
+ghost use Rattle.chains.specs.Draw.{floatsOf};
 ghost use Rattle.answer.specs.Printed.{shown, Answered};
 use brep::Edge;
 use chains::Drawn;

@@ -6,7 +6,7 @@ use Rattle.samples.specs.Chain.{width}
 use Rattle.chains.specs.declared.Way.{Way}
 use Rattle.chains.specs.declared.Way.the-variants.{AsDrawn, Chord, Complement, ShortArc, Runaway}
 use Rattle.chains.specs.declared.Drawn.the-variants.{Chain}
-use Rattle.draw.specs.Part.{floatsOf}
+use Rattle.chains.specs.Draw.{floatsOf}
 use Rattle.answer.proofs.Laws.{show-refusal, show-chain}
 use borrow.Author.Needs.{needs}
 use Rattle.answer.proofs.show.Statement.{statement}
