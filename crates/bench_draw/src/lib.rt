@@ -133,7 +133,15 @@ pub extern "C" fn cs_draw(
     let edge = edge_of(row, start, finish, sense, lo, hi, tolerance, low, high);
     let options = options_of(deflection, angle, relative, segments, depth, scale);
     let drawn = draw::draw(
-        points, curves, reals, parts, ranges, edge, options, first, second,
+        points,
+        curves,
+        reals,
+        parts,
+        ranges,
+        edge,
+        options,
+        first,
+        second,
     );
     *way = code_of(drawn);
     *size = size_of(drawn);
@@ -176,7 +184,15 @@ pub extern "C" fn cs_draw_checked(
     let edge = edge_of(row, start, finish, sense, lo, hi, tolerance, low, high);
     let options = options_of(deflection, angle, relative, segments, depth, scale);
     let drawn = draw::draw_checked(
-        points, curves, reals, parts, ranges, edge, options, first, second,
+        points,
+        curves,
+        reals,
+        parts,
+        ranges,
+        edge,
+        options,
+        first,
+        second,
     );
     *way = code_of(drawn);
     *size = size_of(drawn);
@@ -214,8 +230,7 @@ pub extern "C" fn cs_check(
     segments: u64,
     depth: u32,
     scale: f64,
-)
-    -> u32
+) -> u32
     ensures { λ r. ⌜ r ≡ causeOf (verdict (lent (points .entry) (curves .entry) (reals .entry) (parts .entry) (ranges .entry)) (edgeOf row start finish sense lo hi tolerance low high) (optionsOf deflection angle relative segments depth scale)) ⌝ }
 {
     let edge = edge_of(row, start, finish, sense, lo, hi, tolerance, low, high);

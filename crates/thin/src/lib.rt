@@ -75,7 +75,13 @@ fn retain(chain: &mut [f64], keep: &[bool]) -> usize
 }
 
 // Thins the records, of which there are as many as flags. What is kept is moved to the buffer's start; a refusal leaves the buffer as it was.
-fn thin_with(chain: &mut [f64], tolerance: f64, angle: f64, floor: usize, keep: &mut [bool]) -> Counted
+fn thin_with(
+    chain: &mut [f64],
+    tolerance: f64,
+    angle: f64,
+    floor: usize,
+    keep: &mut [bool],
+) -> Counted
     requires { ⌜ (2 < length (now keep)) × (length (now keep) ≤ most) × (width * length (now keep) ≤ length (now chain)) × (now keep ≡ replicate (length (now keep)) false) × (lt nought tolerance ≡ true) ⌝ }
     ensures { λ r. ⌜ (r ≡ answerOf (thinned tolerance angle floor (samples (length (now (keep .entry))) (now (chain .entry)))))
         × (now (chain .exit) ≡ after (now (chain .entry)) (thinned tolerance angle floor (samples (length (now (keep .entry))) (now (chain .entry))))) ⌝ }
