@@ -87,7 +87,18 @@ fn draw_read(
     ensures { λ r. ⌜ Outcome (leading n m k (lent (points .entry) (curves .entry) (reals .entry) (parts .entry) (ranges .entry))) edge options (now (first .entry)) (now (second .entry)) r (now (first .exit)) (now (second .exit)) ⌝ }
 {
     draw_rows(
-        points, curves, reals, parts, ranges, n, m, k, edge, options, first, second,
+        points,
+        curves,
+        reals,
+        parts,
+        ranges,
+        n,
+        m,
+        k,
+        edge,
+        options,
+        first,
+        second,
     )
 }
 
@@ -121,7 +132,18 @@ pub fn answer(text: &[u8], first: &mut [f64], second: &mut [f64], out: &mut [u8]
             hi,
         } => {
             let drawn = draw_read(
-                &points, &curves, &reals, &parts, &ranges, n, m, k, edge, options, first, second,
+                &points,
+                &curves,
+                &reals,
+                &parts,
+                &ranges,
+                n,
+                m,
+                k,
+                edge,
+                options,
+                first,
+                second,
             );
             show(drawn, first, second, lo, hi, out)
         }

@@ -223,7 +223,14 @@ fn main() {
         if n == 0 {
             break;
         }
-        kept = feed(&chunk[..n], &mut text, &mut first, &mut second, &mut out, kept);
+        kept = feed(
+            &chunk[..n],
+            &mut text,
+            &mut first,
+            &mut second,
+            &mut out,
+            kept,
+        );
         turns -= 1;
     }
     finish(&text, &mut first, &mut second, &mut out, kept);
