@@ -285,11 +285,11 @@ fn polyline(name: &'static str, n: usize) -> Case {
     d.case(name, e, options(4e-4, 480.0))
 }
 
-/// n arcs of half a turn, one after another, over one circle.
-fn composite(name: &'static str, n: usize) -> Case {
+/// n arcs of half a turn, one after another; rough, so that a midpoint of many arcs does not lie where they begin.
+fn composite(name: &'static str, n: usize, rough: f64) -> Case {
     let mut d = Draft::new();
     for i in 0..n {
-        let row = d.frame(CIRCLE, [20.0 * i as f64, 0.0, 0.0], 10.0, 0.0);
+        let row = d.frame(CIRCLE, [20.0 * i as f64, rough * (i * i % 7) as f64, 0.0], 10.0, 0.0);
         d.tables.push_segment(Segment { curve: row, lo: 0.0, hi: std::f64::consts::PI, sense: 0 });
     }
     let row = d.tables.push_row(Row { kind: COMPOSITE, first: 0, count: n as u32, p: 0.0, q: 0.0 });
@@ -566,11 +566,11 @@ fn sizes() {
     for n in [25, 100, 400, 1600, 4000] {
         show("circle, points", n, draw(&circle("circle", n)));
     }
-    for n in [125, 500, 2000, 8000, 32000] {
+    for n in [2000, 8000, 32000] {
         show("polyline, its points", n, draw(&polyline("polyline", n)));
     }
-    for n in [5, 20, 80, 320] {
-        show("composite, segments", n, draw(&composite("composite", n)));
+    for n in [3, 6, 12, 24, 48] {
+        show("composite, segments", n, draw(&composite("composite", n, 1.0)));
     }
     for n in [4, 16, 64, 256, 1024, 4096] {
         let mut c = line();
@@ -599,7 +599,7 @@ fn cases() -> Vec<Case> {
         ellipse(),
         parabola(),
         polyline("polyline of 1,000 points", 1000),
-        composite("composite of 100 arcs", 100),
+        composite("composite of 100 arcs", 100, 0.0),
         complement(),
         short_arc(),
         runaway(),
