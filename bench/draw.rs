@@ -459,11 +459,20 @@ fn time_part() {
     let (c, edges) = part();
     let n = 4 * 128;
     let (mut a, mut b) = (vec![0.0; n], vec![0.0; n]);
-    assert_eq!(check(&c.tables, &c.edge, &c.options), 0);
+    // every edge passes the check, and is drawn as the oracle draws it
+    let one = |e: &Edge| Case { name: c.name, tables: c.tables.clone(), edge: *e, options: c.options };
+    for e in &edges {
+        assert_eq!(check(&c.tables, e, &c.options), 0);
+        compare(&one(e), n);
+    }
     let total: usize = edges.iter().map(|e| ours_checked(&c.tables, e, &c.options, &mut a, &mut b).1).sum();
     let (froad, nroad) = (fixed::part_road(&c, &edges, n), native::part_road(&c, &edges, n));
     assert_eq!(total, froad());
     let few = &edges[..20];
+    let fixed_few: Vec<_> = few.iter().map(|e| fixed::drawing(&one(e))).collect();
+    let native_few: Vec<_> = few.iter().map(|e| native::drawing(&one(e))).collect();
+    let (mut a3, mut b3) = (vec![0.0; n], vec![0.0; n]);
+    let (mut a4, mut b4) = (vec![0.0; n], vec![0.0; n]);
     let t = least([
         &mut || {
             for e in few {
@@ -477,14 +486,24 @@ fn time_part() {
             }
         },
         &mut || {
+            for draw in &fixed_few {
+                black_box(draw(&mut a3, &mut b3));
+            }
+        },
+        &mut || {
             black_box(froad());
+        },
+        &mut || {
+            for draw in &native_few {
+                black_box(draw(&mut a4, &mut b4));
+            }
         },
         &mut || {
             black_box(nroad());
         },
     ]);
     let k = edges.len() as f64;
-    row(c.name, total, 0, [t[0] / 20.0, t[1] / k, f64::NAN, t[2] / k, f64::NAN, t[3] / k]);
+    row(c.name, total, 0, [t[0] / 20.0, t[1] / k, t[2] / 20.0, t[3] / k, t[4] / 20.0, t[5] / k]);
 }
 
 fn others() {
