@@ -285,11 +285,11 @@ fn polyline(name: &'static str, n: usize) -> Case {
     d.case(name, e, options(4e-4, 480.0))
 }
 
-/// n arcs of half a turn, one after another, over one circle.
-fn composite(name: &'static str, n: usize) -> Case {
+/// n arcs of half a turn, one after another; rough, so that a midpoint of many arcs does not lie where they begin.
+fn composite(name: &'static str, n: usize, rough: f64) -> Case {
     let mut d = Draft::new();
     for i in 0..n {
-        let row = d.frame(CIRCLE, [20.0 * i as f64, 0.0, 0.0], 10.0, 0.0);
+        let row = d.frame(CIRCLE, [20.0 * i as f64, rough * (i * i % 7) as f64, 0.0], 10.0, 0.0);
         d.tables.push_segment(Segment { curve: row, lo: 0.0, hi: std::f64::consts::PI, sense: 0 });
     }
     let row = d.tables.push_row(Row { kind: COMPOSITE, first: 0, count: n as u32, p: 0.0, q: 0.0 });
@@ -459,11 +459,20 @@ fn time_part() {
     let (c, edges) = part();
     let n = 4 * 128;
     let (mut a, mut b) = (vec![0.0; n], vec![0.0; n]);
-    assert_eq!(check(&c.tables, &c.edge, &c.options), 0);
+    // every edge passes the check, and is drawn as the oracle draws it
+    let one = |e: &Edge| Case { name: c.name, tables: c.tables.clone(), edge: *e, options: c.options };
+    for e in &edges {
+        assert_eq!(check(&c.tables, e, &c.options), 0);
+        compare(&one(e), n);
+    }
     let total: usize = edges.iter().map(|e| ours_checked(&c.tables, e, &c.options, &mut a, &mut b).1).sum();
     let (froad, nroad) = (fixed::part_road(&c, &edges, n), native::part_road(&c, &edges, n));
     assert_eq!(total, froad());
     let few = &edges[..20];
+    let fixed_few: Vec<_> = few.iter().map(|e| fixed::drawing(&one(e))).collect();
+    let native_few: Vec<_> = few.iter().map(|e| native::drawing(&one(e))).collect();
+    let (mut a3, mut b3) = (vec![0.0; n], vec![0.0; n]);
+    let (mut a4, mut b4) = (vec![0.0; n], vec![0.0; n]);
     let t = least([
         &mut || {
             for e in few {
@@ -477,14 +486,24 @@ fn time_part() {
             }
         },
         &mut || {
+            for draw in &fixed_few {
+                black_box(draw(&mut a3, &mut b3));
+            }
+        },
+        &mut || {
             black_box(froad());
+        },
+        &mut || {
+            for draw in &native_few {
+                black_box(draw(&mut a4, &mut b4));
+            }
         },
         &mut || {
             black_box(nroad());
         },
     ]);
     let k = edges.len() as f64;
-    row(c.name, total, 0, [t[0] / 20.0, t[1] / k, f64::NAN, t[2] / k, f64::NAN, t[3] / k]);
+    row(c.name, total, 0, [t[0] / 20.0, t[1] / k, t[2] / 20.0, t[3] / k, t[4] / 20.0, t[5] / k]);
 }
 
 fn others() {
@@ -566,11 +585,11 @@ fn sizes() {
     for n in [25, 100, 400, 1600, 4000] {
         show("circle, points", n, draw(&circle("circle", n)));
     }
-    for n in [125, 500, 2000, 8000, 32000] {
+    for n in [2000, 8000, 32000] {
         show("polyline, its points", n, draw(&polyline("polyline", n)));
     }
-    for n in [5, 20, 80, 320] {
-        show("composite, segments", n, draw(&composite("composite", n)));
+    for n in [3, 6, 12, 24, 48] {
+        show("composite, segments", n, draw(&composite("composite", n, 1.0)));
     }
     for n in [4, 16, 64, 256, 1024, 4096] {
         let mut c = line();
@@ -599,7 +618,7 @@ fn cases() -> Vec<Case> {
         ellipse(),
         parabola(),
         polyline("polyline of 1,000 points", 1000),
-        composite("composite of 100 arcs", 100),
+        composite("composite of 100 arcs", 100, 0.0),
         complement(),
         short_arc(),
         runaway(),
