@@ -1,0 +1,64 @@
+use Rattle.ready.proofs.Laws.{derivative-by}
+use Rattle.ready.specs.Ready.{readyDerivative}
+use mathlib.Core.Path.{_≡_, refl, sym, ap, _∙_}
+use borrow.Author.Needs.{needs}
+use Rattle.ready.proofs.derivative_of.Statement.{statement}
+use Rattle.ready.proofs.derivative_of.Tie as tie
+use Rattle.ready.proofs.derivative_of.Reads as reads
+use Rattle.ready.proofs.derivative_of.Lts as lts
+use Rattle.ready.proofs.parabola_slope.Reads as parabola-slope-reads
+use Rattle.ready.proofs.round_derivative.Reads as round-derivative-reads
+use Rattle.tangent.proofs.derivative_at.Reads as derivative-at-reads
+
+enum-known-ready : tie.Need-enum-known-ready
+enum-known-ready c = search needs
+
+enum-known-ready-2 : tie.Need-enum-known-ready-2
+enum-known-ready-2 c = search needs
+
+round-derivative-requires : tie.Need-round-derivative-requires
+round-derivative-requires c κs = search needs
+
+enum-known-ready-3 : tie.Need-enum-known-ready-3
+enum-known-ready-3 c = search needs
+
+parabola-slope-requires : tie.Need-parabola-slope-requires
+parabola-slope-requires c κs = search needs
+
+enum-told : tie.Need-enum-told
+enum-told c = search needs
+
+derivative-at-requires : tie.Need-derivative-at-requires
+derivative-at-requires c κs = search needs
+
+returns : tie.Need-returns
+unfolding readyDerivative
+returns c = derivative-by _ _ (c .before .ready .given .1) refl
+
+returns-2 : tie.Need-returns-2
+unfolding readyDerivative
+returns-2 c = derivative-by _ _ (c .before .before .ready2 .given .1) (c .round-derivative .ensures)
+
+returns-3 : tie.Need-returns-3
+unfolding readyDerivative
+returns-3 c = derivative-by _ _ (c .before .before .ready3 .given .1) (c .parabola-slope .ensures)
+
+returns-4 : tie.Need-returns-4
+unfolding readyDerivative
+returns-4 c = derivative-by _ _ (c .before .enum-told .given .1) (c .derivative-at .ensures)
+
+pub derivative-of-spec : {M : Type 1} → statement M
+derivative-of-spec =
+    tie.close
+    (tie.spec
+    enum-known-ready
+    enum-known-ready-2
+    round-derivative-requires
+    enum-known-ready-3
+    parabola-slope-requires
+    enum-told
+    derivative-at-requires
+    returns
+    returns-2
+    returns-3
+    returns-4)

@@ -1,0 +1,75 @@
+use Rattle.math.specs.Math.{vAdd}
+use Rattle.ready.proofs.Laws.{point-by}
+use Rattle.ready.specs.Ready.{readyPoint}
+use mathlib.Core.Path.{_≡_, refl, sym, ap, _∙_}
+use borrow.Author.Needs.{needs}
+use Rattle.ready.proofs.point_of.Statement.{statement}
+use Rattle.ready.proofs.point_of.Tie as tie
+use Rattle.ready.proofs.point_of.Reads as reads
+use Rattle.ready.proofs.point_of.Lts as lts
+use Rattle.curve.proofs.point_at.Reads as point-at-reads
+use Rattle.math.proofs.Vec3.add.Reads as add-reads
+use Rattle.math.proofs.Vec3.scale.Reads as scale-reads
+use Rattle.ready.proofs.parabola_point.Reads as parabola-point-reads
+use Rattle.ready.proofs.round_point.Reads as round-point-reads
+
+enum-known-ready : tie.Need-enum-known-ready
+enum-known-ready c = search needs
+
+scale-requires : tie.Need-scale-requires
+scale-requires c κs = search needs
+
+add-requires : tie.Need-add-requires
+add-requires c κs = search needs
+
+enum-known-ready-2 : tie.Need-enum-known-ready-2
+enum-known-ready-2 c = search needs
+
+round-point-requires : tie.Need-round-point-requires
+round-point-requires c κs = search needs
+
+enum-known-ready-3 : tie.Need-enum-known-ready-3
+enum-known-ready-3 c = search needs
+
+parabola-point-requires : tie.Need-parabola-point-requires
+parabola-point-requires c κs = search needs
+
+enum-told : tie.Need-enum-told
+enum-told c = search needs
+
+point-at-requires : tie.Need-point-at-requires
+point-at-requires c κs = search needs
+
+returns : tie.Need-returns
+unfolding readyPoint
+returns c = point-by _ _ (c .before .before .before .ready .given .1) (c .add .ensures ∙ ap (vAdd _) (c .before .scale .ensures))
+
+returns-2 : tie.Need-returns-2
+unfolding readyPoint
+returns-2 c = point-by _ _ (c .before .before .ready2 .given .1) (c .round-point .ensures)
+
+returns-3 : tie.Need-returns-3
+unfolding readyPoint
+returns-3 c = point-by _ _ (c .before .before .ready3 .given .1) (c .parabola-point .ensures)
+
+returns-4 : tie.Need-returns-4
+unfolding readyPoint
+returns-4 c = point-by _ _ (c .before .enum-told .given .1) (c .point-at .ensures)
+
+pub point-of-spec : {M : Type 1} → statement M
+point-of-spec =
+    tie.close
+    (tie.spec
+    enum-known-ready
+    scale-requires
+    add-requires
+    enum-known-ready-2
+    round-point-requires
+    enum-known-ready-3
+    parabola-point-requires
+    enum-told
+    point-at-requires
+    returns
+    returns-2
+    returns-3
+    returns-4)
