@@ -32,5 +32,8 @@ abbrev pub shortestChord : Float
 shortestChord = bits 0x01A56E1FC2F8F359
 
 -- subdivide: the chord has a length where len is above 1e-300; the divisor is len * len
+unfoldable pub bisectionOffset : Vec3 → Vec3 → Float → Vec3 → Vec3
+bisectionOffset pa chord len p = chordOffset pa chord (lt shortestChord len) (len ⊗ len) p
+
 unfoldable pub bisectionDistance : Vec3 → Vec3 → Float → Vec3 → Float
 bisectionDistance pa chord len p = chordDistance pa chord (lt shortestChord len) (len ⊗ len) p

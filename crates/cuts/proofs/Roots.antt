@@ -2,11 +2,14 @@
 use mathlib.Core.Path.{_≡_, refl, sym}
 use mathlib.Core.Bool.{Bool, true, false}
 use lib.Dec.{T}
-use lib.Ieee.{Float, binary64, fits, lt, le}
-use Rattle.order.proofs.Laws.{lt→nle, le-lt-trans}
+use lib.Ieee.{Float, nan, binary64, fits, lt, le}
+use Rattle.order.proofs.Signed.{zeroF}
+use Rattle.order.proofs.Laws.{number-left, number-right, lt→nle, le-lt-trans}
 use Rattle.arith.proofs.Cmp.{holds}
+use Rattle.arith.specs.Notation.{_⊗_}
 use Rattle.roots.specs.Root.{rootOf}
-use Rattle.roots.proofs.Laws.{root-over, root-reflects}
+use Rattle.roots.proofs.Laws.{root-over, root-under, root-reflects}
+use Rattle.cuts.specs.Limit.{cutIf, aboveSquare, limitOf, Stands}
 
 -- a test that cannot hold
 pub refuted : (b : Bool) → (T b → ⊥) → false ≡ b
@@ -33,6 +36,9 @@ module _ (s cut limit : Float) (F : T (fits binary64 s)) (G : T (fits binary64 c
   pub not-within : lt limit (rootOf cut) ≡ true → le cut s ≡ true → false ≡ le (rootOf s) limit
   not-within h k = refuted (le (rootOf s) limit) (lt→nle limit (rootOf s) (root-over s cut limit F G (holds h) (holds k)))
 
+  pub within : le (rootOf cut) limit ≡ true → le zeroF s ≡ true → le s cut ≡ true → true ≡ le (rootOf s) limit
+  within h z k = known (le (rootOf s) limit) (root-under s cut limit F G (holds h) (holds z) (holds k))
+
 pub root-beyond : {d e : Float} (limit : Float) → d ≡ e → lt limit d ≡ true → lt limit e ≡ true
 root-beyond limit q h = rw (sym q) h
 
@@ -43,3 +49,16 @@ root-not-below s b F G h = sym (refuted (lt (rootOf s) (rootOf b)) (λ (t : T (l
     go : (v : Bool) → v ≡ false → T v → ⊥
     go true e t = absurd (holds (sym e))
     go false e t = t
+
+-- a limit's own cuts stand
+pub stands : (at : Float) → Stands (limitOf at)
+unfolding limitOf
+stands at = record { lowStands = low (le (rootOf (at ⊗ at)) at) refl; highStands = high (lt at (rootOf (aboveSquare at))) refl }
+  where
+    low : (b : Bool) → le (rootOf (at ⊗ at)) at ≡ b → (s : Float) → le s (cutIf b (at ⊗ at)) ≡ true → le (rootOf (cutIf b (at ⊗ at))) at ≡ true
+    low true e s h = e
+    low false e s h = absurd (number-right s nan (holds h))
+
+    high : (b : Bool) → lt at (rootOf (aboveSquare at)) ≡ b → (s : Float) → le (cutIf b (aboveSquare at)) s ≡ true → lt at (rootOf (cutIf b (aboveSquare at))) ≡ true
+    high true e s h = e
+    high false e s h = absurd (number-left nan s (holds h))

@@ -4,6 +4,14 @@ ghost use mathlib.Core.Path.{_≡_};
 ghost use mathlib.Core.Bool.{true};
 ghost use lib.Ieee.{lt, le};
 ghost use Rattle.roots.specs.Root.{rootOf};
+ghost use Rattle.cuts.specs.Limit.{cutIf, limitOf, Stands};
+
+// A limit for roots, with a cut on either side of it; a cut that does not serve is a NaN.
+pub struct Limit {
+    pub at: f64,
+    pub low: f64,
+    pub high: f64,
+}
 
 // Whether the root of s is above the limit. A cut whose own root is not answers for every s up to it.
 pub fn is_above(s: f64, limit: f64, cut: f64, has_cut: bool) -> bool
@@ -42,4 +50,37 @@ pub fn is_within(s: f64, limit: f64, cut: f64, has_cut: bool) -> bool
         }
     }
     roots::root(s) <= limit
+}
+
+fn cut_if(serves: bool, x: f64) -> f64
+    ensures { λ r. ⌜ r ≡ cutIf serves x ⌝ }
+{
+    if serves { x } else { arith::nan() }
+}
+
+// The limit with its cuts, which cost two roots: for many comparisons with one limit.
+pub fn limit_of(at: f64) -> Limit
+    ensures { λ l. ⌜ l ≡ limitOf at ⌝ }
+{
+    let square = at * at;
+    // A little above the square, so that its root is above the limit.
+    let above = square * 1.000001;
+    let low = cut_if(roots::root(square) <= at, square);
+    let high = cut_if(at < roots::root(above), above);
+    Limit { at, low, high }
+}
+
+// Whether the root of s is at most the limit. The root is taken only where s lies between the cuts.
+pub fn is_at_most(s: f64, limit: Limit) -> bool
+    requires { ⌜ Stands limit ⌝ }
+    ensures { λ b. ⌜ b ≡ le (rootOf s) (limit .at) ⌝ }
+{
+    if limit.high <= s {
+        return false;
+    }
+    if 0.0 <= s && s <= limit.low {
+        return true;
+    }
+    let root = roots::root(s);
+    root <= limit.at
 }
