@@ -84,9 +84,10 @@ fn cos_series(z: f64) -> f64
     1.0 - z / 2.0 * w
 }
 
-// By q, the sine is S, C, -S, -C, and the cosine what the sine is for q + 1, where S is r times its series
-// and C is 1 times its own. So both are picked without a branch, and the series, side by side in an array,
-// are worked out in one vector, with half the divisions.
+// Both of t, from r and from q, which is k mod 4. The sine is S, C, -S, -C by q, and the cosine is
+// what the sine is at q + 1; S is r times its series, and C is 1 times its own. Picked by index there
+// is no branch to guess wrong, and the compiler makes one vector of the two series in the array: a
+// division for both.
 fn both(r: f64, q: u64) -> SinCos
     requires { ⌜ q < 4 ⌝ }
     ensures { λ s. ⌜ (s .sin ≡ sinBy q r) × (s .cos ≡ cosBy q r) ⌝ }
@@ -113,15 +114,15 @@ pub fn sin_cos(t: f64) -> SinCos
 pub fn sin(t: f64) -> f64
     ensures { λ s. ⌜ s ≡ sinOf t ⌝ }
 {
-    let both = sin_cos(t);
-    both.sin
+    let sc = sin_cos(t);
+    sc.sin
 }
 
 pub fn cos(t: f64) -> f64
     ensures { λ s. ⌜ s ≡ cosOf t ⌝ }
 {
-    let both = sin_cos(t);
-    both.cos
+    let sc = sin_cos(t);
+    sc.cos
 }
 
 // y becomes y / (1 + root(1 + y * y)): the tangent of half the angle.
