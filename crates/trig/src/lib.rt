@@ -114,15 +114,13 @@ pub fn sin_cos(t: f64) -> SinCos
 pub fn sin(t: f64) -> f64
     ensures { λ s. ⌜ s ≡ sinOf t ⌝ }
 {
-    let sc = sin_cos(t);
-    sc.sin
+    sin_cos(t).sin
 }
 
 pub fn cos(t: f64) -> f64
     ensures { λ s. ⌜ s ≡ cosOf t ⌝ }
 {
-    let sc = sin_cos(t);
-    sc.cos
+    sin_cos(t).cos
 }
 
 // y becomes y / (1 + root(1 + y * y)): the tangent of half the angle.
