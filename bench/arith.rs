@@ -1,4 +1,5 @@
-// Times root against f64::sqrt, and sin_cos against the same steps in Rust, in one run.
+// Times root against f64::sqrt, and sin_cos against the same steps in Rust, inlined and behind a
+// call, in one run.
 //
 // Latency: a chain of calls in which each argument waits for the answer before. Throughput: calls
 // that do not wait for each other. Each figure is the least of many short rounds, in which the
@@ -40,9 +41,16 @@ fn sin_cos(t: f64) -> f64 {
     s + c
 }
 
-// The Rust is called as the library is: a call of its own, which stores both answers.
+// The Rust inlined here: it makes no call and stores nothing, as a Rust program would have it.
 #[inline(never)]
-fn rust_sin_cos(t: f64) -> f64 {
+fn inlined_sin_cos(t: f64) -> f64 {
+    let (s, c) = fixed_steps(t);
+    s + c
+}
+
+// The Rust called as the library is: a call of its own, which stores both answers.
+#[inline(never)]
+fn called_sin_cos(t: f64) -> f64 {
     let (mut s, mut c) = (0.0, 0.0);
     stored_steps(t, &mut s, &mut c);
     s + c
@@ -54,6 +62,7 @@ extern "C" fn stored_steps(t: f64, sin: &mut f64, cos: &mut f64) {
 }
 
 // The steps of sin and cos: the quarter turns k, what is left r, the two kernels, and k mod 4.
+#[inline(always)]
 fn fixed_steps(t: f64) -> (f64, f64) {
     let k = (t * f64::from_bits(0x3FE45F306DC9C883) + 0.5).floor();
     let r = (t - k * f64::from_bits(0x3FF921FB54400000)) - k * f64::from_bits(0x3DD0B4611A626331);
@@ -95,12 +104,12 @@ impl Random {
 }
 
 // nanoseconds a call: the least over the rounds, for each case
-fn least(cases: [Case; 3], round: impl Fn(fn(f64) -> f64) -> f64) -> [f64; 3] {
-    let mut best = [f64::INFINITY; 3];
+fn least(cases: &[Case], round: impl Fn(fn(f64) -> f64) -> f64) -> Vec<f64> {
+    let mut best = vec![f64::INFINITY; cases.len()];
     for _ in 0..ROUNDS {
         for (b, (_, call)) in best.iter_mut().zip(cases) {
             let start = Instant::now();
-            black_box(round(call));
+            black_box(round(*call));
             *b = b.min(start.elapsed().as_nanos() as f64 / COUNT as f64);
         }
     }
@@ -120,16 +129,20 @@ fn apart(call: fn(f64) -> f64, args: &[f64]) -> f64 {
     black_box(&answers)[COUNT - 1]
 }
 
-fn compare(ours: Case, theirs: Case, args: &[f64]) {
-    let report = |what, a: f64, b: f64| {
-        let (x, y, ratio) = (ours.0, theirs.0, a / b);
-        println!("{x:<8} {what:<10} {a:6.2} ns   {y:<22} {b:6.2} ns   ratio {ratio:.2}");
-    };
-    let cases = [("", nothing as fn(f64) -> f64), ours, theirs];
-    let [chain, a, b] = least(cases, |call| chained(call, args));
-    report("latency", a - chain, b - chain);
-    let [_, a, b] = least(cases, |call| apart(call, args));
-    report("throughput", a, b);
+// ours against each of theirs, all of them in the same rounds
+fn compare(ours: Case, theirs: &[Case], args: &[f64]) {
+    let mut cases = vec![("", nothing as fn(f64) -> f64), ours];
+    cases.extend(theirs);
+    let latency = least(&cases, |call| chained(call, args));
+    let throughput = least(&cases, |call| apart(call, args));
+    for (i, (name, _)) in cases.iter().enumerate().skip(2) {
+        let report = |what, a: f64, b: f64| {
+            let (x, ratio) = (ours.0, a / b);
+            println!("{x:<8} {what:<10} {a:6.2} ns   {name:<27} {b:6.2} ns   ratio {ratio:.2}");
+        };
+        report("latency", latency[1] - latency[0], latency[i] - latency[0]);
+        report("throughput", throughput[1], throughput[i]);
+    }
 }
 
 fn same(a: f64, b: f64) -> bool {
@@ -168,10 +181,13 @@ fn main() {
     println!("{} arguments give the same bits", agree(&mut random));
     let args: Vec<f64> = (0..COUNT).map(|_| random.float()).collect();
     let angles: Vec<f64> = (0..COUNT).map(|_| random.float() % 6.5).collect();
-    compare(("root", root), ("f64::sqrt", rust_sqrt), &args);
+    compare(("root", root), &[("f64::sqrt", rust_sqrt)], &args);
     compare(
         ("sin_cos", sin_cos),
-        ("the same steps in Rust", rust_sin_cos),
+        &[
+            ("the same steps, inlined", inlined_sin_cos),
+            ("the same steps, by a call", called_sin_cos),
+        ],
         &angles,
     );
 }

@@ -78,14 +78,11 @@ pub fn floor(x: f64) -> f64
     let s = x + 6755399441055744.0;
     if 4503599627370496.0 <= s {
         if s < 9007199254740992.0 {
+            // all three answers, and then one of them: a branch here would often be guessed wrong
             let n = s - 6755399441055744.0;
-            if x < n {
-                return s - 6755399441055745.0;
-            }
-            if n < x {
-                return n;
-            }
-            return x;
+            let below = s - 6755399441055745.0;
+            let most = if n < x { n } else { x };
+            return if x < n { below } else { most };
         }
     }
     floor_far(x)

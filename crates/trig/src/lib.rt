@@ -1,6 +1,9 @@
 // sin, cos and acos in fixed steps.
 ghost use mathlib.Core.Path.{_≡_};
-ghost use Rattle.trig.specs.Trig.{turns, reduced, quarter, sinKernel, cosKernel, sinOf, cosOf, sinCosOf, halved, arcOf, angleOf, acosBy, acosOf};
+ghost use Prim.Native.Nat.{_<_};
+ghost use mathlib.Core.List.{[], _∷_};
+ghost use Rattle.arith.specs.Notation.{one};
+ghost use Rattle.trig.specs.Trig.{turns, reduced, quarter, stepped, sinBy, cosBy, sinOf, cosOf, sinCosOf, halved, arcOf, angleOf, acosBy, acosOf};
 
 // The sine and the cosine of one angle.
 pub struct SinCos {
@@ -51,11 +54,10 @@ fn reduced(t: f64, k: f64) -> f64
     t - k * 1.5707963267341256 - k * 6.077100506506192e-11
 }
 
-// The sine of an r at most an eighth turn from 0.
-fn sin_kernel(r: f64) -> f64
-    ensures { λ s. ⌜ s ≡ sinKernel r ⌝ }
+// The sine of an r at most an eighth turn from 0, less its factor r; z is r * r.
+fn sin_series(z: f64) -> f64
+    ensures { λ w. ⌜ w ≡ stepped z one (272 ∷ 210 ∷ 156 ∷ 110 ∷ 72 ∷ 42 ∷ 20 ∷ 6 ∷ []) ⌝ }
 {
-    let z = r * r;
     let mut w = 1.0;
     w = 1.0 - z / 272.0 * w;
     w = 1.0 - z / 210.0 * w;
@@ -64,15 +66,13 @@ fn sin_kernel(r: f64) -> f64
     w = 1.0 - z / 72.0 * w;
     w = 1.0 - z / 42.0 * w;
     w = 1.0 - z / 20.0 * w;
-    w = 1.0 - z / 6.0 * w;
-    r * w
+    1.0 - z / 6.0 * w
 }
 
 // The cosine of such an r.
-fn cos_kernel(r: f64) -> f64
-    ensures { λ s. ⌜ s ≡ cosKernel r ⌝ }
+fn cos_series(z: f64) -> f64
+    ensures { λ w. ⌜ w ≡ stepped z one (240 ∷ 182 ∷ 132 ∷ 90 ∷ 56 ∷ 30 ∷ 12 ∷ 2 ∷ []) ⌝ }
 {
-    let z = r * r;
     let mut w = 1.0;
     w = 1.0 - z / 240.0 * w;
     w = 1.0 - z / 182.0 * w;
@@ -84,29 +84,22 @@ fn cos_kernel(r: f64) -> f64
     1.0 - z / 2.0 * w
 }
 
-pub fn sin(t: f64) -> f64
-    ensures { λ s. ⌜ s ≡ sinOf t ⌝ }
+// Both of t, from r and from q, which is k mod 4. The sine is S, C, -S, -C by q, and the cosine is
+// what the sine is at q + 1; S is r times its series, and C is 1 times its own. Picked by index there
+// is no branch to guess wrong, and the compiler makes one vector of the two series in the array: a
+// division for both.
+fn both(r: f64, q: u64) -> SinCos
+    requires { ⌜ q < 4 ⌝ }
+    ensures { λ s. ⌜ (s .sin ≡ sinBy q r) × (s .cos ≡ cosBy q r) ⌝ }
 {
-    let k = turns(t);
-    let r = reduced(t, k);
-    match quarter(k) {
-        0 => sin_kernel(r),
-        1 => cos_kernel(r),
-        2 => -sin_kernel(r),
-        _ => -cos_kernel(r),
-    }
-}
-
-pub fn cos(t: f64) -> f64
-    ensures { λ s. ⌜ s ≡ cosOf t ⌝ }
-{
-    let k = turns(t);
-    let r = reduced(t, k);
-    match quarter(k) {
-        0 => cos_kernel(r),
-        1 => -sin_kernel(r),
-        2 => -cos_kernel(r),
-        _ => sin_kernel(r),
+    let z = r * r;
+    let series = [sin_series(z), cos_series(z)];
+    let factor = [r, 1.0, -r, -1.0];
+    let i = q as usize;
+    let j = (i + 1) % 4;
+    SinCos {
+        sin: factor[i] * series[i % 2],
+        cos: factor[j] * series[j % 2],
     }
 }
 
@@ -115,15 +108,19 @@ pub fn sin_cos(t: f64) -> SinCos
     ensures { λ s. ⌜ s ≡ sinCosOf t ⌝ }
 {
     let k = turns(t);
-    let r = reduced(t, k);
-    let s = sin_kernel(r);
-    let c = cos_kernel(r);
-    match quarter(k) {
-        0 => SinCos { sin: s, cos: c },
-        1 => SinCos { sin: c, cos: -s },
-        2 => SinCos { sin: -s, cos: -c },
-        _ => SinCos { sin: -c, cos: s },
-    }
+    both(reduced(t, k), quarter(k))
+}
+
+pub fn sin(t: f64) -> f64
+    ensures { λ s. ⌜ s ≡ sinOf t ⌝ }
+{
+    sin_cos(t).sin
+}
+
+pub fn cos(t: f64) -> f64
+    ensures { λ s. ⌜ s ≡ cosOf t ⌝ }
+{
+    sin_cos(t).cos
 }
 
 // y becomes y / (1 + root(1 + y * y)): the tangent of half the angle.

@@ -1,5 +1,7 @@
 -- `arith::floor` meets its contract: where the sum is whole, by how x compares with it; elsewhere by `floor_far`. Assumes nothing.
 use borrow.Author.Needs.{needs}
+use mathlib.Core.Path.{_∙_}
+use mathlib.Core.Logic.{inl, inr}
 use lib.Ieee.{ofBits}
 use Rattle.arith.proofs.Near.{floor-below, floor-above, floor-at}
 use Rattle.arith.proofs.floor.Statement.{statement}
@@ -8,26 +10,26 @@ use Rattle.arith.proofs.floor.Tie as tie
 returns : tie.Need-returns
 unfolding ofBits
 returns c =
-    let d = c .before in
-    floor-below (d .before .before .args .x) (d .before .if1 .taken) (d .if2 .taken) (c .if3 .taken)
+    let d = c .before .before in
+    floor-below (d .before .before .args .x) (d .before .if1 .taken) (d .if2 .taken) (c .if4 .taken)
 
 returns-2 : tie.Need-returns-2
 unfolding ofBits
 returns-2 c =
     let d = c .before .before in
-    floor-above (d .before .before .args .x) (d .before .if1 .taken) (d .if2 .taken) (c .if4 .taken)
-
-returns-3 : tie.Need-returns-3
-unfolding ofBits
-returns-3 c =
-    let d = c .before .before in
-    floor-at (d .before .before .args .x) (d .before .if1 .taken) (d .if2 .taken) (c .before .if3 .left) (c .if4 .left)
+    let x = d .before .before .args .x in
+    let a = d .before .if1 .taken in
+    let b = d .if2 .taken in
+    elim (c .before .if3 .came) [
+      | inl w ↦ w .1 ∙ floor-above x a b (w .0 .taken)
+      | inr w ↦ w .1 ∙ floor-at x a b (c .if4 .left) (w .0 .left)
+    ]
 
 floor-far-requires : tie.Need-floor-far-requires
 floor-far-requires c κs = search needs
 
-returns-4 : tie.Need-returns-4
-returns-4 c = search needs
+returns-3 : tie.Need-returns-3
+returns-3 c = search needs
 
 pub floor-spec : {M : Type 1} → statement M
-floor-spec = tie.close (tie.spec returns returns-2 returns-3 floor-far-requires returns-4)
+floor-spec = tie.close (tie.spec returns returns-2 floor-far-requires returns-3)

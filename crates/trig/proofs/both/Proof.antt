@@ -1,0 +1,67 @@
+-- `trig::both` meets its contract: what is picked at q is the sine, and what is picked one on is the cosine. Assumes nothing.
+use borrow.Author.Needs.{needs}
+use mathlib.Core.Path.{_∙_}
+use Prim.Native.Nat.{_+_, _%_}
+use native.Mathlib.Omega.{arith}
+use Rattle.trig.proofs.Cases.{picked, cos-as-sin}
+use Rattle.trig.proofs.both.Statement.{statement}
+use Rattle.trig.proofs.both.Tie as tie
+
+sin-series-requires : tie.Need-sin-series-requires
+sin-series-requires c κs = search needs
+
+cos-series-requires : tie.Need-cos-series-requires
+cos-series-requires c κs = search needs
+
+add-j : tie.Need-add-j
+add-j c = search needs
+
+mul-t10 : tie.Need-mul-t10
+mul-t10 c = search needs
+
+array-read-t8 : tie.Need-array-read-t8
+array-read-t8 c = search needs
+
+mul-t14 : tie.Need-mul-t14
+mul-t14 c = search needs
+
+array-read-t9 : tie.Need-array-read-t9
+array-read-t9 c = search needs
+
+mul-t18 : tie.Need-mul-t18
+mul-t18 c = search needs
+
+array-read-t21 : tie.Need-array-read-t21
+array-read-t21 c = search needs
+
+mul-t23 : tie.Need-mul-t23
+mul-t23 c = search needs
+
+array-read-t26 : tie.Need-array-read-t26
+array-read-t26 c = search needs
+
+returns : tie.Need-returns
+returns c =
+    let r = c .before .before .args .r in
+    let q = c .before .before .args .q in
+    let s = c .before .sin-series in
+    let w = c .cos-series in
+    let at = picked r (s .result) (w .result) (s .ensures) (w .ensures) in
+    (at q (search needs), at ((q + 1) % 4) (omega arith) ∙ cos-as-sin q r (search needs))
+
+pub both-spec : {M : Type 1} → statement M
+both-spec =
+    tie.close
+    (tie.spec
+    sin-series-requires
+    cos-series-requires
+    add-j
+    mul-t10
+    array-read-t8
+    mul-t14
+    array-read-t9
+    mul-t18
+    array-read-t21
+    mul-t23
+    array-read-t26
+    returns)
