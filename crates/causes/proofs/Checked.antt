@@ -24,6 +24,8 @@ use Rattle.forms.specs.Forms.{pointCount, curveCount, segmentCount, broken, une
 use Rattle.causes.specs.declared.Verdict.{Verdict}
 use Rattle.causes.specs.declared.Verdict.the-variants.{Accepted, Refused}
 use Rattle.causes.proofs.Laws.{neither, three, four, sizes}
+use Rattle.causes.proofs.Runs.{composite-row}
+use Rattle.causes.specs.Skips.{RunsInside}
 use Rattle.causes.specs.Causes.{oversize, highSegment, notLower, unorderedRow, unordered, deepRow, tooDeep, missing, verdict}
 
 -- at most 1e9 in magnitude
@@ -169,6 +171,17 @@ module _ (t : Tables) (e : Edge) (o : Options) where
   row-inside : (i : ℕ) → malformedRow t i ≡ false → getD (t .curves) (i * 3 + 1) 0 + getD (t .curves) (i * 3 + 2) 0 ≤ room t (getD (t .curves) (i * 3) 0)
   unfolding malformedRow
   row-inside i h = run-inside (getD (t .curves) (i * 3) 0) (getD (t .curves) (i * 3 + 1) 0) (getD (t .curves) (i * 3 + 2) 0) (getD (t .reals) (i * 2) nan) (getD (t .reals) (i * 2 + 1) nan) h
+
+  seven-segments : room t 7 ≡ segmentCount t
+  unfolding room
+  seven-segments = refl
+
+  -- the run of each composite lies inside the segments
+  pub runs-inside : illFormed t e o ≡ false → RunsInside t (segmentCount t) (curveCount t)
+  runs-inside h i l first count r =
+      let k = composite-row first count t i r in
+      let m = row-inside i (some-none (malformedRow t) (curveCount t) i l (forms-of h .0)) in
+      omega (arith, ap (room t) (k .0) ∙ seven-segments)
 
   segment-inside : (i : ℕ) → malformedSegment t i ≡ false → segmentIn t i .curve < curveCount t
   unfolding malformedSegment segmentOf

@@ -4,13 +4,15 @@ use brep::Curve;
 use brep::Edge;
 use options::Options;
 ghost use mathlib.Core.Path.{_≡_};
-ghost use Prim.Native.Nat.{_≤_};
+ghost use Prim.Native.Nat.{_+_, _/_, _≤_};
 ghost use mathlib.Core.List.{_++_};
 ghost use lib.ListN.{length, getD, drop};
-ghost use lib.Dec.{ltb};
+ghost use lib.Dec.{leb, ltb};
 ghost use Rattle.brep.specs.Rows.{lent};
+ghost use Rattle.brep.specs.Tree.{segmentIn};
 ghost use Rattle.nest.specs.Nest.{nestings};
 ghost use Rattle.bounds.specs.Some.{someBelow};
+ghost use Rattle.causes.specs.Skips.{Leads, Moved, Seen, RunInside, RunsInside};
 ghost use Rattle.causes.specs.Causes.{oversize, highSegment, unorderedRow, deepRow, deepAt, missing, verdict};
 
 pub enum Verdict {
@@ -27,7 +29,7 @@ fn oversize(points: &[f64], curves: &[u32], reals: &[f64], parts: &[u32], ranges
     either(196608 < points.len(), either(rows, segments))
 }
 
-// Whether segment number j of the composite in row refers to that row or a higher one.
+// Whether segment number i refers to row or a higher one.
 fn high_segment(
     points: &[f64],
     curves: &[u32],
@@ -35,33 +37,54 @@ fn high_segment(
     parts: &[u32],
     ranges: &[f64],
     row: u32,
-    first: u32,
-    j: u32,
+    i: u32,
 ) -> bool
-    ensures { λ r. ⌜ r ≡ highSegment (lent (points .entry) (curves .entry) (reals .entry) (parts .entry) (ranges .entry)) row first j ⌝ }
+    ensures { λ r. ⌜ r ≡ leb row (segmentIn (lent (points .entry) (curves .entry) (reals .entry) (parts .entry) (ranges .entry)) i .curve) ⌝ }
 {
-    let s = brep::segment_at(parts, ranges, first, j);
-    row <= s.curve
+    row <= brep::int_at(parts, i as usize * 2)
 }
 
+// The first segment from number from on that was not looked at, or segments. Each entry on the way then leads twice as
+// far, so that no way stays long.
+fn unseen(skips: &mut [u32], segments: u32, from: u32) -> u32
+    requires { ⌜ Leads (now skips) segments × (from ≤ segments) ⌝ }
+    ensures { λ r. ⌜ Moved (now (skips .entry)) (now (skips .exit)) segments from r ⌝ }
+{
+    let mut j = from;
+    while skips[j as usize] != 0 {
+        let next = j + skips[j as usize];
+        let after = next + skips[next as usize];
+        skips[j as usize] = after - j;
+        j = after;
+    }
+    j
+}
+
+// A segment that a lower row looked at refers to rows below that one, so that it is not looked at again.
 fn any_high_segment(
     points: &[f64],
     curves: &[u32],
     reals: &[f64],
     parts: &[u32],
     ranges: &[f64],
+    skips: &mut [u32],
+    segments: u32,
     row: u32,
     first: u32,
     count: u32,
 ) -> bool
-    ensures { λ r. ⌜ r ≡ someBelow count (highSegment (lent (points .entry) (curves .entry) (reals .entry) (parts .entry) (ranges .entry)) row first) ⌝ }
+    requires { ⌜ Seen (lent points curves reals parts ranges) (now skips) segments row × (first + count ≤ segments) ⌝ }
+    ensures { λ r. ⌜ (r ≡ someBelow count (highSegment (lent (points .entry) (curves .entry) (reals .entry) (parts .entry) (ranges .entry)) row first))
+        × Seen (lent (points .entry) (curves .entry) (reals .entry) (parts .entry) (ranges .entry)) (now (skips .exit)) segments row ⌝ }
 {
-    let mut j: u32 = 0;
-    while j < count {
-        if high_segment(points, curves, reals, parts, ranges, row, first, j) {
+    let end = first + count;
+    let mut j = unseen(skips, segments, first);
+    while j < end {
+        if high_segment(points, curves, reals, parts, ranges, row, j) {
             return true;
         }
-        j += 1;
+        skips[j as usize] = 1;
+        j = unseen(skips, segments, j + 1);
     }
     false
 }
@@ -72,9 +95,13 @@ fn unordered_row(
     reals: &[f64],
     parts: &[u32],
     ranges: &[f64],
+    skips: &mut [u32],
+    segments: u32,
     row: u32,
 ) -> bool
-    ensures { λ r. ⌜ r ≡ unorderedRow (lent (points .entry) (curves .entry) (reals .entry) (parts .entry) (ranges .entry)) row ⌝ }
+    requires { ⌜ Seen (lent points curves reals parts ranges) (now skips) segments row × RunInside (lent points curves reals parts ranges) segments row ⌝ }
+    ensures { λ r. ⌜ (r ≡ unorderedRow (lent (points .entry) (curves .entry) (reals .entry) (parts .entry) (ranges .entry)) row)
+        × Seen (lent (points .entry) (curves .entry) (reals .entry) (parts .entry) (ranges .entry)) (now (skips .exit)) segments row ⌝ }
 {
     let c = brep::row_at(points, curves, reals, row);
     match c {
@@ -98,12 +125,47 @@ fn unordered_row(
         Curve::Polyline { first: _, count: _ } => false,
         Curve::Trimmed { base, range: _ } => row <= base,
         Curve::Composite { first, count } => {
-            any_high_segment(points, curves, reals, parts, ranges, row, first, count)
+            any_high_segment(
+                points,
+                curves,
+                reals,
+                parts,
+                ranges,
+                skips,
+                segments,
+                row,
+                first,
+                count,
+            )
         }
     }
 }
 
-// Cause 4, in the first rows rows.
+// Cause 4 in the first rows rows, lowest first, with room for what each segment leads to.
+fn unordered_in(
+    points: &[f64],
+    curves: &[u32],
+    reals: &[f64],
+    parts: &[u32],
+    ranges: &[f64],
+    skips: &mut [u32],
+    segments: u32,
+    rows: u32,
+) -> bool
+    requires { ⌜ Seen (lent points curves reals parts ranges) (now skips) segments 0 × RunsInside (lent points curves reals parts ranges) segments rows ⌝ }
+    ensures { λ r. ⌜ r ≡ someBelow rows (unorderedRow (lent (points .entry) (curves .entry) (reals .entry) (parts .entry) (ranges .entry))) ⌝ }
+{
+    let mut row: u32 = 0;
+    while row < rows {
+        if unordered_row(points, curves, reals, parts, ranges, skips, segments, row) {
+            return true;
+        }
+        row += 1;
+    }
+    false
+}
+
+// Cause 4. Few segments need little room, which is cleared at each call.
 fn unordered(
     points: &[f64],
     curves: &[u32],
@@ -112,16 +174,34 @@ fn unordered(
     ranges: &[f64],
     rows: u32,
 ) -> bool
+    requires { ⌜ (length (now parts) / 2 ≤ 4096) × RunsInside (lent points curves reals parts ranges) (length (now parts) / 2) rows ⌝ }
     ensures { λ r. ⌜ r ≡ someBelow rows (unorderedRow (lent (points .entry) (curves .entry) (reals .entry) (parts .entry) (ranges .entry))) ⌝ }
 {
-    let mut row: u32 = 0;
-    while row < rows {
-        if unordered_row(points, curves, reals, parts, ranges, row) {
-            return true;
-        }
-        row += 1;
+    let segments = (parts.len() / 2) as u32;
+    if segments <= 32 {
+        let mut few = [0u32; 33];
+        return unordered_in(
+            points,
+            curves,
+            reals,
+            parts,
+            ranges,
+            &mut few,
+            segments,
+            rows,
+        );
     }
-    false
+    let mut skips = [0u32; 4097];
+    unordered_in(
+        points,
+        curves,
+        reals,
+        parts,
+        ranges,
+        &mut skips,
+        segments,
+        rows,
+    )
 }
 
 fn deep_at(nests: &[u32], row: u32) -> bool

@@ -1,3 +1,4 @@
+use Rattle.causes.proofs.Checked.{runs-inside}
 -- `causes::check` meets its contract: at each way out, which causes were passed and which was met. Assumes nothing.
 use mathlib.Core.Path.{sym, _∙_}
 use Rattle.causes.specs.Causes.{verdict}
@@ -20,7 +21,7 @@ ill-formed-requires : tie.Need-ill-formed-requires
 ill-formed-requires c κs = search needs
 
 unordered-requires : tie.Need-unordered-requires
-unordered-requires c κs = search needs
+unordered-requires c κs = (omega (arith, sizes _ (sym (c .before .before .before .before .before .oversize .ensures) ∙ c .before .before .before .before .if1 .left) .2), runs-inside _ _ _ (sym (c .before .ill-formed .ensures) ∙ c .if3 .left))
 
 too-deep-requires : tie.Need-too-deep-requires
 too-deep-requires c κs = omega (arith, sizes _ (sym (c .before .before .before .before .before .before .before .oversize .ensures) ∙ c .before .before .before .before .before .before .if1 .left) .1)
