@@ -1,7 +1,7 @@
 -- When an edge is turned away: causes 1 to 6 of the scope's table, each a predicate of its own, in order. Definitions only.
 use mathlib.Core.Bool.{Bool, false, cond, _||_}
 use mathlib.Core.List.{List}
-use Prim.Native.Nat.{ℕ, _+_, _*_}
+use Prim.Native.Nat.{ℕ, _+_, _*_, min}
 use lib.ListN.{length, getD}
 use lib.Dec.{ltb, leb}
 use Rattle.brep.specs.declared.Curve.{Curve}
@@ -12,8 +12,8 @@ use Rattle.brep.specs.Tree.{segmentIn, rowIn, tree}
 use Rattle.nest.specs.Nest.{nesting}
 use Rattle.options.specs.declared.Options.{Options}
 use Rattle.bounds.specs.Some.{someBelow}
-use Rattle.bounds.specs.Bounds.{unbounded}
-use Rattle.forms.specs.Forms.{pointCount, curveCount, illFormed}
+use Rattle.bounds.specs.Bounds.{unboundedTables, unboundedEdge, unbounded}
+use Rattle.forms.specs.Forms.{pointCount, curveCount, illFormedTables, illFormedEdge, illFormed}
 use Rattle.causes.specs.declared.Verdict.{Verdict}
 use Rattle.causes.specs.declared.Verdict.the-variants.{Accepted, Refused}
 
@@ -77,3 +77,27 @@ verdict T e o =
     (cond (tooDeep T) (Refused 5)
     (cond (missing T e) (Refused 6)
     Accepted)))))
+
+-- the lowest of those that the tables alone can have: 1 to 5
+unfoldable pub tablesVerdict : Tables → Verdict
+tablesVerdict T =
+    cond (oversize T) (Refused 1)
+    (cond (unboundedTables (T .points) (T .reals) (T .ranges)) (Refused 2)
+    (cond (illFormedTables T) (Refused 3)
+    (cond (unordered T) (Refused 4)
+    (cond (tooDeep T) (Refused 5)
+    Accepted))))
+
+-- the lowest of those of the edge and the options: 2, 3 and 6
+unfoldable pub edgeVerdict : Tables → Edge → Options → Verdict
+edgeVerdict T e o =
+    cond (unboundedEdge e o) (Refused 2)
+    (cond (illFormedEdge e o) (Refused 3)
+    (cond (missing T e) (Refused 6)
+    Accepted))
+
+-- the lower refusal of two; accepted where both are
+unfoldable pub lowestOf : Verdict → Verdict → Verdict
+lowestOf Accepted v = v
+lowestOf (Refused m) Accepted = Refused m
+lowestOf (Refused m) (Refused n) = Refused (min m n)

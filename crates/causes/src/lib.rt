@@ -13,7 +13,7 @@ ghost use Rattle.brep.specs.Tree.{segmentIn};
 ghost use Rattle.nest.specs.Nest.{nestings};
 ghost use Rattle.bounds.specs.Some.{someBelow};
 ghost use Rattle.causes.specs.Skips.{Leads, Moved, Seen, RunInside, RunsInside};
-ghost use Rattle.causes.specs.Causes.{oversize, highSegment, unorderedRow, deepRow, deepAt, missing, verdict};
+ghost use Rattle.causes.specs.Causes.{oversize, highSegment, unorderedRow, deepRow, deepAt, missing, verdict, tablesVerdict, edgeVerdict, lowestOf};
 
 pub enum Verdict {
     Accepted,
@@ -281,6 +281,72 @@ fn missing(
     )
 }
 
+// The lowest of the causes 1 to 5 that the tables alone have: for many edges over the same tables, once.
+pub fn check_tables(
+    points: &[f64],
+    curves: &[u32],
+    reals: &[f64],
+    parts: &[u32],
+    ranges: &[f64],
+) -> Verdict
+    ensures { λ r. ⌜ r ≡ tablesVerdict (lent (points .entry) (curves .entry) (reals .entry) (parts .entry) (ranges .entry)) ⌝ }
+{
+    if oversize(points, curves, reals, parts, ranges) {
+        return Verdict::Refused(1);
+    }
+    let rows = (curves.len() / 3) as u32;
+    if bounds::unbounded_tables(points, reals, ranges) {
+        return Verdict::Refused(2);
+    }
+    if forms::ill_formed_tables(points, curves, reals, parts, ranges) {
+        return Verdict::Refused(3);
+    }
+    if unordered(points, curves, reals, parts, ranges, rows) {
+        return Verdict::Refused(4);
+    }
+    if too_deep(points, curves, reals, parts, ranges, rows) {
+        return Verdict::Refused(5);
+    }
+    Verdict::Accepted
+}
+
+// The lowest of the causes 2, 3 and 6 that the edge and the options have. No table is gone through.
+pub fn check_edge(
+    points: &[f64],
+    curves: &[u32],
+    reals: &[f64],
+    parts: &[u32],
+    ranges: &[f64],
+    edge: Edge,
+    options: Options,
+) -> Verdict
+    ensures { λ r. ⌜ r ≡ edgeVerdict (lent (points .entry) (curves .entry) (reals .entry) (parts .entry) (ranges .entry)) edge options ⌝ }
+{
+    if bounds::unbounded_edge(edge, options) {
+        return Verdict::Refused(2);
+    }
+    if forms::ill_formed_edge(edge, options) {
+        return Verdict::Refused(3);
+    }
+    if missing(points, curves, reals, parts, ranges, edge) {
+        return Verdict::Refused(6);
+    }
+    Verdict::Accepted
+}
+
+// The lower refusal of two.
+pub fn lower(a: Verdict, b: Verdict) -> Verdict
+    ensures { λ r. ⌜ r ≡ lowestOf a b ⌝ }
+{
+    match a {
+        Verdict::Accepted => b,
+        Verdict::Refused(m) => match b {
+            Verdict::Accepted => a,
+            Verdict::Refused(n) => { if m <= n { a } else { b } }
+        },
+    }
+}
+
 // The lowest of the causes 1 to 6 that applies, for any slices of any length.
 pub fn check(
     points: &[f64],
@@ -293,24 +359,7 @@ pub fn check(
 ) -> Verdict
     ensures { λ r. ⌜ r ≡ verdict (lent (points .entry) (curves .entry) (reals .entry) (parts .entry) (ranges .entry)) edge options ⌝ }
 {
-    if oversize(points, curves, reals, parts, ranges) {
-        return Verdict::Refused(1);
-    }
-    let rows = (curves.len() / 3) as u32;
-    if bounds::unbounded(points, reals, ranges, edge, options) {
-        return Verdict::Refused(2);
-    }
-    if forms::ill_formed(points, curves, reals, parts, ranges, edge, options) {
-        return Verdict::Refused(3);
-    }
-    if unordered(points, curves, reals, parts, ranges, rows) {
-        return Verdict::Refused(4);
-    }
-    if too_deep(points, curves, reals, parts, ranges, rows) {
-        return Verdict::Refused(5);
-    }
-    if missing(points, curves, reals, parts, ranges, edge) {
-        return Verdict::Refused(6);
-    }
-    Verdict::Accepted
+    let of_tables = check_tables(points, curves, reals, parts, ranges);
+    let of_edge = check_edge(points, curves, reals, parts, ranges, edge, options);
+    lower(of_tables, of_edge)
 }
