@@ -334,7 +334,7 @@ pub fn check_edge(
     Verdict::Accepted
 }
 
-// The lower refusal of two.
+// The lower refusal of two; accepted where both are.
 pub fn lower(a: Verdict, b: Verdict) -> Verdict
     ensures { λ r. ⌜ r ≡ lowestOf a b ⌝ }
 {
