@@ -148,12 +148,30 @@ pub fn too_deep(
     requires { ⌜ Inside (lent points curves reals parts ranges) rows ⌝ }
     ensures { λ r. ⌜ r ≡ someBelow rows (deepRow (lent (points .entry) (curves .entry) (reals .entry) (parts .entry) (ranges .entry))) ⌝ }
 {
-    if bounds::both(rows <= 32, parts.len() / 2 <= 32) {
+    if rows <= 32 && parts.len() / 2 <= 32 {
         let mut few = [false; 32];
         let mut sums = [0u32; 33];
-        return deep_in(points, curves, reals, parts, ranges, &mut few, &mut sums, rows);
+        return deep_in(
+            points,
+            curves,
+            reals,
+            parts,
+            ranges,
+            &mut few,
+            &mut sums,
+            rows,
+        );
     }
     let mut marks = [false; 4096];
     let mut sums = [0u32; 4097];
-    deep_in(points, curves, reals, parts, ranges, &mut marks, &mut sums, rows)
+    deep_in(
+        points,
+        curves,
+        reals,
+        parts,
+        ranges,
+        &mut marks,
+        &mut sums,
+        rows,
+    )
 }
