@@ -8,9 +8,8 @@ use native.Mathlib.Numerals.{add-one}
 use native.Mathlib.Omega.{arith}
 use lib.ListN.{length, getD}
 use lib.Ieee.{Float, nan}
-use lib.Dec.{eqb, leb, ltb, leb·suc-suc, leb·suc-zero}
+use lib.Dec.{eqb, leb, leb·suc-suc, leb·suc-zero}
 use borrow.Author.Tests.{eqb-true, eq-eqb, ne-eqb, leb-true, leb-false, le-leb, lt-leb, le-ltb}
-use Rattle.math.specs.declared.Interval.{Interval}
 use Rattle.math.specs.Math.{interval}
 use Rattle.brep.specs.declared.Curve.{Curve}
 use Rattle.brep.specs.declared.Curve.the-variants.{Trimmed, Composite}
@@ -18,11 +17,16 @@ use Rattle.brep.specs.Rows.{Tables, kindOf, curveOf, segmentOf}
 use Rattle.brep.specs.Tree.{CurveTree, segmentIn, segments, rowIn, grown, below, tree}
 use Rattle.brep.proofs.Laws.{lower}
 use Rattle.bounds.specs.Some.{someBelow}
-use Rattle.bounds.proofs.Laws.{some-found, some-none, some-same}
-use Rattle.nest.specs.Nest.{nesting, deepest, deepRow, Falling, Inside, Agrees, reaches, nests, segmentMarked, countBelow, nextMark, TrimsFall}
+use Rattle.bounds.proofs.Laws.{some-none, some-same}
+use Rattle.nest.specs.Nest.{nesting, deepest, deepRow, Falling, Inside}
+use Rattle.nest.specs.Levels.{Agrees, nests, segmentMarked, countBelow, nextMark, TrimsFall}
 use Rattle.nest.proofs.Lists.{run-some, some-front}
 
--- ---- a row by its numbers
+-- the row nests to depth d or deeper
+unfoldable pub reaches : Tables → ℕ → ℕ → Bool
+reaches T d row = leb d (nesting (tree T row))
+
+-- ---- a row by its numbers: kind 6 is a trim, kind 7 a composite
 kind-six : (points : List Float) (kind first count : ℕ) (p q : Float) → eqb kind 6 ≡ true → kindOf points kind first count p q ≡ Trimmed first (interval p q)
 unfolding kindOf
 kind-six points kind first count p q e = let k = eqb-true kind 6 e in rw k
@@ -57,6 +61,7 @@ module _ (T : Tables) (row : ℕ) where
   abbrev countAt : ℕ
   countAt = getD (T .curves) (row * 3 + 2) 0
 
+  -- what the row is, by its kind
   is-trim : eqb kindAt 6 ≡ true → rowIn T row ≡ Trimmed firstAt (interval (getD (T .reals) (row * 2) nan) (getD (T .reals) (row * 2 + 1) nan))
   unfolding curveOf
   is-trim e = kind-six (T .points) kindAt firstAt countAt (getD (T .reals) (row * 2) nan) (getD (T .reals) (row * 2 + 1) nan) e
@@ -65,7 +70,7 @@ module _ (T : Tables) (row : ℕ) where
   unfolding curveOf
   is-composite e = kind-seven (T .points) kindAt firstAt countAt (getD (T .reals) (row * 2) nan) (getD (T .reals) (row * 2 + 1) nan) e
 
-  -- its nesting, by its three numbers
+  -- its nesting
   nesting-trim : eqb kindAt 6 ≡ true → nesting (tree T row) ≡ suc (nesting (below T row firstAt))
   unfolding tree grown nesting
   nesting-trim e = ap (λ c. nesting (grown T (below T row) c)) (is-trim e)
@@ -89,6 +94,7 @@ module _ (T : Tables) (row : ℕ) where
       go false false e g = let n = nesting-other e g in sym (lt-leb 1 (nesting (tree T row)) (omega arith))
 
 -- ---- the deepest of a run
+-- the larger of two reaches d where one of them does
 leb-max : (d x y : ℕ) → leb d (max x y) ≡ leb d x || leb d y
 leb-max d x y = go (leb d x) (leb d y) refl refl
   where
@@ -138,7 +144,7 @@ module _ (curves : List ℕ) (marks : List Bool) (sums : List ℕ) (row kind fir
       rw (s, t)
 
 -- ---- a level from the one before
--- marks as good as others below row give row the same mark
+-- marks that are the same below row give row the same next mark
 pub next-same : (curves : List ℕ) (marks before : List Bool) (sums : List ℕ) (rows row : ℕ) → TrimsFall curves rows → row < rows → ((i : ℕ) → i < row → getD marks i false ≡ getD before i false) → nextMark curves marks sums row ≡ nextMark curves before sums row
 unfolding nextMark
 next-same curves marks before sums rows row h l a = go (eqb (getD curves (row * 3) 0) 6) refl
@@ -147,6 +153,7 @@ next-same curves marks before sums rows row h l a = go (eqb (getD curves (row * 
     go true e = rw e (a (getD curves (row * 3 + 1) 0) (h row l e))
     go false e = rw e
 
+-- the trims alone, as mark_deeper asks for them
 pub trims-fall : (T : Tables) (n : ℕ) → Falling T n → TrimsFall (T .curves) n
 trims-fall T n h row l e = h .trimFalls row _ _ l (is-trim T row e)
 
@@ -156,6 +163,7 @@ module _ (T : Tables) (rows d : ℕ) (marks : List Bool) (sums : List ℕ) (fall
   unfolding reaches
   mark-lower c m = known c (omega arith) ∙ ap (λ x. leb (suc d) (nesting x)) (sym (lower T row c m))
 
+  -- the next mark of a trim, of a composite with its run, and of any row
   next-trim : eqb (kindAt T row) 6 ≡ true → getD marks (firstAt T row) false ≡ reaches T (suc (suc d)) row
   unfolding reaches
   next-trim e =
@@ -179,7 +187,6 @@ module _ (T : Tables) (rows d : ℕ) (marks : List Bool) (sums : List ℕ) (fall
       ∙ sym (leb·suc-suc (suc d) (deepest (segments T (below T row) (firstAt T row) (countAt T row))))
       ∙ ap (leb (suc (suc d))) (sym (nesting-composite T row e))
 
-  -- the next depth's mark
   next-reaches : nextMark (T .curves) marks sums row ≡ reaches T (suc (suc d)) row
   unfolding nextMark reaches
   next-reaches = go (eqb (kindAt T row) 6) (eqb (kindAt T row) 7) refl refl
@@ -200,9 +207,11 @@ module _ (T : Tables) (rows : ℕ) where
   level-of : (marks : List Bool) (some : Bool) (depth : ℕ) (P : ℕ → Bool) → ((row : ℕ) → row < rows → P row ≡ reaches T depth row) → some ≡ someBelow rows P → Agrees false marks rows P → Level T rows marks some depth
   level-of marks some depth P h s a = record { marked = λ i l. a i l ∙ h i l; seen = s ∙ some-same P (reaches T depth) rows h }
 
+  -- depth 1
   pub level-first : (marks : List Bool) (some : Bool) → some ≡ someBelow rows (nests (T .curves)) → Agrees false marks rows (nests (T .curves)) → Level T rows marks some 1
   level-first marks some s a = level-of marks some 1 (nests (T .curves)) (λ row l. nests-at T row) s a
 
+  -- one depth further
   pub level-more : Falling T rows → Inside T rows → (before marks : List Bool) (sums : List ℕ) (some seen : Bool) (depth : ℕ) → 1 ≤ depth → Level T rows before some depth → Agrees 0 sums (length (T .parts) / 2 + 1) (countBelow (segmentMarked (T .parts) before)) → seen ≡ someBelow rows (nextMark (T .curves) before sums) → Agrees false marks rows (nextMark (T .curves) before sums) → Level T rows marks seen (depth + 1)
   level-more falls inside before marks sums some seen zero l h c s a = absurd (not-suc-le-zero l)
   level-more falls inside before marks sums some seen (suc d) l h c s a = rw add-one (level-of marks seen (suc (suc d)) (nextMark (T .curves) before sums) (next-reaches T rows d before sums falls inside (h .marked) c) s a)

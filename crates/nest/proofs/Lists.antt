@@ -8,10 +8,10 @@ use native.Mathlib.Numerals.{add-one}
 use native.Mathlib.Omega.{arith}
 use lib.ListN.{length, getD, set, length-set}
 use lib.Seq.{getD-set-same, getD-set-other}
-use lib.Dec.{eqb, ltb, leb}
+use lib.Dec.{eqb, ltb}
 use borrow.Author.Tests.{eqb-true, eqb-false, eq-eqb, ne-eqb, lt-ltb}
 use Rattle.bounds.specs.Some.{someBelow}
-use Rattle.nest.specs.Nest.{Agrees, countBelow}
+use Rattle.nest.specs.Levels.{Agrees, countBelow}
 
 -- ---- from the front
 -- the first n of l are what f gives, and l is as long as it was
@@ -19,9 +19,11 @@ pub record Front {A : Type 0} (d : A) (before l : List A) (f : ℕ → A) (n : �
   pub size : length l ≡ length before
   pub filled : Agrees d l n f
 
+-- none yet
 pub front-none : {A : Type 0} (d : A) (l : List A) (f : ℕ → A) → Front d l l f 0
 front-none d l f = record { size = refl; filled = λ i h. absurd (not-suc-le-zero h) }
 
+-- one more
 pub front-more : {A : Type 0} (d : A) (before l : List A) (f : ℕ → A) (n : ℕ) (v : A) → n < length before → Front d before l f n → v ≡ f n → Front d before (set l n v) f (n + 1)
 front-more d before l f n v m h e = record { size = length-set l n v ∙ h .size; filled = λ i k. go i k (eqb i n) refl }
   where
@@ -43,13 +45,14 @@ unfolding someBelow
 some-more P n s b t h e g = rw (add-one, ← h, ← e) g
 
 -- ---- from the back, in place
--- row is reached: the rows from it on have what f gives, those below what they had; what was seen, or is seen below, is what is seen in all
+-- the loop is at row: from there on is what f gives, below it what there was; what was seen, with what is to be seen, is what all give
 pub record Half (before marks : List Bool) (f : ℕ → Bool) (some : Bool) (row rows : ℕ) : Type 0 where
   pub size : length marks ≡ length before
   pub lower : (i : ℕ) → i < row → getD marks i false ≡ getD before i false
   pub upper : (i : ℕ) → row ≤ i → i < rows → getD marks i false ≡ f i
   pub seen : some || someBelow row f ≡ someBelow rows f
 
+-- laws of or
 or-swap : (s x b : Bool) → (s || b) || x ≡ s || (x || b)
 or-swap true x b = refl
 or-swap false true true = refl
@@ -61,12 +64,14 @@ or-false : (s : Bool) → s || false ≡ s
 or-false true = refl
 or-false false = refl
 
+-- none yet
 pub half-none : (before : List Bool) (f : ℕ → Bool) (rows : ℕ) → Half before before f false rows rows
 half-none before f rows = record { size = refl; lower = λ i l. refl; upper = λ i l m. absurd (low i l m); seen = refl }
   where
     low : (i : ℕ) → rows ≤ i → i < rows → ⊥
     low i l m = omega arith
 
+-- one row further down
 pub half-more : (before marks : List Bool) (f : ℕ → Bool) (some : Bool) (row rows : ℕ) → 0 < row → row ≤ length before → Half before marks f some row rows → (r : ℕ) → r ≡ row - 1 → (b : Bool) → b ≡ f r → (t : Bool) → t ≡ some || b → Half before (set marks r b) f t r rows
 unfolding someBelow
 half-more before marks f some row rows z l h r q b e t g = record {
@@ -83,6 +88,7 @@ half-more before marks f some row rows z l h r q b e t g = record {
     go i k m true w = let s = h .size in let v = eqb-true i r w in rw v (getD-set-same marks r b false (omega arith) ∙ e)
     go i k m false w = let ne = eqb-false i r w in getD-set-other marks r i b false ne ∙ h .upper i (omega arith) m
 
+-- all
 pub half-all : (before marks : List Bool) (f : ℕ → Bool) (some : Bool) (row rows : ℕ) → row ≤ 0 → Half before marks f some row rows → (some ≡ someBelow rows f) × Agrees false marks rows f
 unfolding someBelow
 half-all before marks f some row rows z h =
@@ -90,14 +96,17 @@ half-all before marks f some row rows z h =
     (sym (or-false some) ∙ (rw e at (h .seen)), λ i l. h .upper i (omega arith) l)
 
 -- ---- counts
+-- none yet
 pub count-none : (P : ℕ → Bool) → 0 ≡ countBelow P 0
 unfolding countBelow
 count-none P = refl
 
+-- one more
 pub count-more : (P : ℕ → Bool) (n c b : ℕ) → c ≡ countBelow P n → b ≡ cond (P n) 1 0 → c + b ≡ countBelow P (n + 1)
 unfolding countBelow
 count-more P n c b h e = rw (add-one, h, e)
 
+-- what one number adds
 pub one-most : (b : Bool) (r : ℕ) → r ≡ cond b 1 0 → r ≤ 1
 one-most true r e = omega arith
 one-most false r e = omega arith
@@ -112,6 +121,7 @@ count-most P (suc n) = go (P n) (count-most P n)
     go true h = omega arith
     go false h = omega arith
 
+-- a count in two parts
 count-split : (P : ℕ → Bool) (m n : ℕ) → countBelow P (m + n) ≡ countBelow P m + countBelow (λ j. P (m + j)) n
 unfolding countBelow
 count-split P m zero = rw (add-zero m, add-zero (countBelow P m))
@@ -128,6 +138,7 @@ count-some P (suc n) = go (P n) (countBelow P n) (someBelow n P) (count-some P n
     go true c false h = lt-ltb 0 (c + 1) (omega arith)
     go false c s h = rw add-zero (h ∙ sym (or-false s))
 
+-- a sum differs from its first part where the other is not 0
 differ-more : (a c : ℕ) → not (eqb a (a + c)) ≡ ltb 0 c
 differ-more a zero = let e = eq-eqb a (a + 0) (omega arith) in rw e
 differ-more a (suc c) = let e = ne-eqb a (a + suc c) (λ q. omega arith) in rw (e, lt-ltb 0 (suc c) (omega arith))

@@ -7,7 +7,8 @@ ghost use Prim.Native.Nat.{_+_, _/_, _<_, _≤_};
 ghost use lib.ListN.{length, getD};
 ghost use Rattle.brep.specs.Rows.{lent};
 ghost use Rattle.bounds.specs.Some.{someBelow};
-ghost use Rattle.nest.specs.Nest.{deepRow, Falling, Inside, Agrees, nests, segmentMarked, countBelow, nextMark, TrimsFall};
+ghost use Rattle.nest.specs.Nest.{deepRow, Falling, Inside};
+ghost use Rattle.nest.specs.Levels.{Agrees, nests, segmentMarked, countBelow, nextMark, TrimsFall};
 
 // Mark number i; past the end there is none.
 fn mark_at(marks: &[bool], i: usize) -> bool

@@ -1,10 +1,10 @@
 -- `nest::count_marked` meets its contract. The invariant: n of the segments passed are marked, and so each count before. Assumes nothing.
-use mathlib.Core.Path.{_≡_, _∙_}
+use mathlib.Core.Path.{_≡_}
 use Prim.Native.Nat.{_≤_, _-_, _/_}
-use lib.ListN.{length}
+use lib.ListN.{length, length-set}
 use native.Mathlib.Omega.{arith}
 use borrow.Author.Needs.{needs}
-use Rattle.nest.specs.Nest.{segmentMarked, countBelow}
+use Rattle.nest.specs.Levels.{segmentMarked, countBelow}
 use Rattle.nest.proofs.Laws.{segment-told}
 use Rattle.nest.proofs.Lists.{Front, front-none, front-more, front-last, one-most, count-none, count-more, count-most}
 use Rattle.nest.proofs.count_marked.Statement.{statement}
@@ -59,7 +59,7 @@ slice-write-sums-2 : tie.Need-slice-write-sums-2 Inv-loop μ-loop
 slice-write-sums-2 c = omega arith
 
 same-length : tie.Need-same-length Inv-loop μ-loop
-same-length c = front-last _ _ _ _ _ (length (c .before .before .before .before .before .args .parts .now) / 2) _ (omega arith) (omega arith) (c .before .loop .inv .2) (c .before .loop .inv .1) .size
+same-length c = simp length-set (c .before .loop .inv .2 .size)
 
 returns : tie.Need-returns Inv-loop μ-loop
 returns c = front-last _ _ _ _ _ (length (c .before .before .before .before .before .args .parts .now) / 2) _ (omega arith) (omega arith) (c .before .loop .inv .2) (c .before .loop .inv .1) .filled

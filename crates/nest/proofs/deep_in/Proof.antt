@@ -1,5 +1,5 @@
 -- `nest::deep_in` meets its contract. The invariant: the marks say of each row whether it reaches the depth. Assumes nothing.
-use mathlib.Core.Path.{_≡_, _∙_}
+use mathlib.Core.Path.{_≡_}
 use Prim.Native.Nat.{_≤_, _-_}
 use lib.ListN.{length}
 use native.Mathlib.Omega.{arith}

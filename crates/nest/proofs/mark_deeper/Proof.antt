@@ -1,10 +1,9 @@
 -- `nest::mark_deeper` meets its contract. The invariant: the rows from row on have their new marks, those below the old. Assumes nothing.
 use mathlib.Core.Path.{refl, _∙_}
-use Prim.Native.Nat.{_≤_, _-_}
-use lib.ListN.{length}
+use Prim.Native.Nat.{_≤_}
 use native.Mathlib.Omega.{arith}
 use borrow.Author.Needs.{needs}
-use Rattle.nest.specs.Nest.{nextMark}
+use Rattle.nest.specs.Levels.{nextMark}
 use Rattle.nest.proofs.Lists.{Half, half-none, half-more, half-all}
 use Rattle.nest.proofs.Laws.{next-same}
 use Rattle.nest.proofs.mark_deeper.Statement.{statement}

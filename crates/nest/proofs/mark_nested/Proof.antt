@@ -1,12 +1,11 @@
 -- `nest::mark_nested` meets its contract. The invariant: the rows passed are marked, and some is whether one of them is. Assumes nothing.
-use mathlib.Core.Path.{_≡_, _∙_}
+use mathlib.Core.Path.{_≡_}
 use mathlib.Core.Bool.{false}
 use Prim.Native.Nat.{_≤_, _-_}
-use lib.ListN.{length}
 use native.Mathlib.Omega.{arith}
 use borrow.Author.Needs.{needs}
 use Rattle.bounds.specs.Some.{someBelow}
-use Rattle.nest.specs.Nest.{nests}
+use Rattle.nest.specs.Levels.{nests}
 use Rattle.nest.proofs.Lists.{Front, front-none, front-more, some-first, some-more}
 use Rattle.nest.proofs.mark_nested.Statement.{statement}
 use Rattle.nest.proofs.mark_nested.Tie as tie

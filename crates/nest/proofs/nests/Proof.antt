@@ -1,5 +1,5 @@
 -- `nest::nests` meets its contract. Assumes nothing.
-use Rattle.nest.specs.Nest.{nests}
+use Rattle.nest.specs.Levels.{nests}
 use borrow.Author.Needs.{needs}
 use Rattle.nest.proofs.nests.Statement.{statement}
 use Rattle.nest.proofs.nests.Tie as tie
