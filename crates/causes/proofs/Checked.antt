@@ -15,7 +15,7 @@ use Rattle.brep.specs.declared.Curve.the-variants.{Trimmed, Composite}
 use Rattle.brep.specs.declared.Edge.{Edge}
 use Rattle.brep.specs.Rows.{Tables, segmentOf}
 use Rattle.brep.specs.Tree.{segmentIn, rowIn, tree}
-use Rattle.nest.specs.Nest.{nesting}
+use Rattle.nest.specs.Nest.{nesting, deepRow, Falling, Inside}
 use Rattle.options.specs.declared.Options.{Options}
 use Rattle.bounds.specs.Some.{someBelow, atIndex, some}
 use Rattle.bounds.specs.Bounds.{largest, within, beyond, finiteBeyond, edgeBeyond, optionsBeyond, unbounded}
@@ -25,8 +25,7 @@ use Rattle.causes.specs.declared.Verdict.{Verdict}
 use Rattle.causes.specs.declared.Verdict.the-variants.{Accepted, Refused}
 use Rattle.causes.proofs.Laws.{neither, three, four, sizes}
 use Rattle.causes.proofs.Runs.{composite-row}
-use Rattle.causes.specs.Skips.{RunsInside}
-use Rattle.causes.specs.Causes.{oversize, highSegment, notLower, unorderedRow, unordered, deepRow, tooDeep, missing, verdict}
+use Rattle.causes.specs.Causes.{oversize, highSegment, notLower, unorderedRow, unordered, tooDeep, missing, verdict}
 
 -- at most 1e9 in magnitude
 abbrev pub Bounded : Float → Type 0
@@ -154,8 +153,8 @@ module _ (t : Tables) where
   seven-segments = refl
 
   -- the run of each composite lies inside the segments
-  pub runs-inside : illFormedTables t ≡ false → RunsInside t (segmentCount t) (curveCount t)
-  runs-inside h i l first count r =
+  pub runs-inside : illFormedTables t ≡ false → Inside t (curveCount t)
+  runs-inside h i first count l r =
       let k = composite-row first count t i r in
       let m = row-inside i (some-none (malformedRow t) (curveCount t) i l (forms-of h .0)) in
       omega (arith, ap (room t) (k .0) ∙ seven-segments)
@@ -172,6 +171,13 @@ module _ (t : Tables) where
   segment-falls : (i first count j : ℕ) → unorderedRow t i ≡ false → rowIn t i ≡ Composite first count → j < count → segmentIn t (first + j) .curve < i
   unfolding unorderedRow notLower highSegment
   segment-falls i first count j h k l = leb-false i (segmentIn t (first + j) .curve) (some-none (highSegment t i first) count j l (ap (notLower t i) (sym k) ∙ h))
+
+  -- every reference falls
+  pub falling : unordered t ≡ false → Falling t (curveCount t)
+  falling h = record {
+    trimFalls = λ i base range l k. trim-falls i base range (some-none (unorderedRow t) (curveCount t) i l h) k;
+    segmentFalls = λ i first count j l k m. segment-falls i first count j (some-none (unorderedRow t) (curveCount t) i l h) k m;
+  }
 
   -- ---- cause 5
   nesting-at-most : (i : ℕ) → deepRow t i ≡ false → nesting (tree t i) ≤ 8
@@ -265,8 +271,8 @@ module _ (t : Tables) (e : Edge) (o : Options) where
         scaleBounded = bounded-finite (o .scale) (bo .2);
         runInside = λ i l. row-inside t i (some-none (malformedRow t) (curveCount t) i l (f .0));
         segmentInside = λ i l. segment-inside t i (some-none (malformedSegment t) (segmentCount t) i l (f .1));
-        trimFalls = λ i base range l k. trim-falls t i base range (some-none (unorderedRow t) (curveCount t) i l (c .3)) k;
-        segmentFalls = λ i first count j l k m. segment-falls t i first count j (some-none (unorderedRow t) (curveCount t) i l (c .3)) k m;
+        trimFalls = falling t (c .3) .trimFalls;
+        segmentFalls = falling t (c .3) .segmentFalls;
         nestingAtMost = λ i l. nesting-at-most t i (some-none (deepRow t) (curveCount t) i l (c .4));
         curveInside = x .0;
         startInside = x .1;

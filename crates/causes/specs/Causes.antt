@@ -1,15 +1,14 @@
 -- When an edge is turned away: causes 1 to 6 of the scope's table, each a predicate of its own, in order. Definitions only.
 use mathlib.Core.Bool.{Bool, false, cond, _||_}
-use mathlib.Core.List.{List}
 use Prim.Native.Nat.{ℕ, _+_, _*_, min}
-use lib.ListN.{length, getD}
+use lib.ListN.{length}
 use lib.Dec.{ltb, leb}
 use Rattle.brep.specs.declared.Curve.{Curve}
 use Rattle.brep.specs.declared.Curve.the-variants.{Line, Circle, Ellipse, Parabola, Polyline, Trimmed, Composite}
 use Rattle.brep.specs.declared.Edge.{Edge}
 use Rattle.brep.specs.Rows.{Tables}
-use Rattle.brep.specs.Tree.{segmentIn, rowIn, tree}
-use Rattle.nest.specs.Nest.{nesting}
+use Rattle.brep.specs.Tree.{segmentIn, rowIn}
+use Rattle.nest.specs.Nest.{deepRow}
 use Rattle.options.specs.declared.Options.{Options}
 use Rattle.bounds.specs.Some.{someBelow}
 use Rattle.bounds.specs.Bounds.{unboundedTables, unboundedEdge, unbounded}
@@ -47,14 +46,6 @@ unorderedRow T row = notLower T row (rowIn T row)
 -- 4: a trim's base, or the curve of a composite's segment, not in a lower row than its own
 abbrev pub unordered : Tables → Bool
 unordered T = someBelow (curveCount T) (unorderedRow T)
-
--- a row nested deeper than 8
-unfoldable pub deepRow : Tables → ℕ → Bool
-deepRow T row = ltb 8 (nesting (tree T row))
-
--- the same of a table of the rows' nestings
-unfoldable pub deepAt : List ℕ → ℕ → Bool
-deepAt nests row = ltb 8 (getD nests row 0)
 
 -- 5: trims and composites nested deeper than 8
 abbrev pub tooDeep : Tables → Bool

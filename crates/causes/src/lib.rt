@@ -4,16 +4,15 @@ use brep::Curve;
 use brep::Edge;
 use options::Options;
 ghost use mathlib.Core.Path.{_≡_};
-ghost use Prim.Native.Nat.{_+_, _/_, _≤_};
-ghost use mathlib.Core.List.{_++_};
-ghost use lib.ListN.{length, getD, drop};
-ghost use lib.Dec.{leb, ltb};
+ghost use Prim.Native.Nat.{_+_, _/_, _<_, _≤_};
+ghost use lib.ListN.{length};
+ghost use lib.Dec.{leb};
 ghost use Rattle.brep.specs.Rows.{lent};
 ghost use Rattle.brep.specs.Tree.{segmentIn};
-ghost use Rattle.nest.specs.Nest.{nestings};
+ghost use Rattle.nest.specs.Nest.{Inside};
 ghost use Rattle.bounds.specs.Some.{someBelow};
-ghost use Rattle.causes.specs.Skips.{Leads, Moved, Seen, RunInside, RunsInside};
-ghost use Rattle.causes.specs.Causes.{oversize, highSegment, unorderedRow, deepRow, deepAt, missing, verdict, tablesVerdict, edgeVerdict, lowestOf};
+ghost use Rattle.causes.specs.Skips.{Leads, Moved, Seen, RunInside};
+ghost use Rattle.causes.specs.Causes.{oversize, highSegment, unorderedRow, missing, verdict, tablesVerdict, edgeVerdict, lowestOf};
 
 pub enum Verdict {
     Accepted,
@@ -44,11 +43,11 @@ fn high_segment(
     row <= brep::int_at(parts, i as usize * 2)
 }
 
-// The first segment from number from on that was not looked at, or segments. Each entry on the way then leads twice as
-// far, so that no way stays long.
-fn unseen(skips: &mut [u32], segments: u32, from: u32) -> u32
-    requires { ⌜ Leads (now skips) segments × (from ≤ segments) ⌝ }
-    ensures { λ r. ⌜ Moved (now (skips .entry)) (now (skips .exit)) segments from r ⌝ }
+// The first segment from number from on that was not looked at, or the one after the last. Each entry on the way then
+// leads twice as far, so that no way stays long.
+fn unseen(skips: &mut [u32], from: u32) -> u32
+    requires { ⌜ Leads (now skips) × (from < length (now skips)) ⌝ }
+    ensures { λ r. ⌜ Moved (now (skips .entry)) (now (skips .exit)) from r ⌝ }
 {
     let mut j = from;
     while skips[j as usize] != 0 {
@@ -68,23 +67,22 @@ fn any_high_segment(
     parts: &[u32],
     ranges: &[f64],
     skips: &mut [u32],
-    segments: u32,
     row: u32,
     first: u32,
     count: u32,
 ) -> bool
-    requires { ⌜ Seen (lent points curves reals parts ranges) (now skips) segments row × (first + count ≤ segments) ⌝ }
+    requires { ⌜ Seen (lent points curves reals parts ranges) (now skips) row × (first + count < length (now skips)) ⌝ }
     ensures { λ r. ⌜ (r ≡ someBelow count (highSegment (lent (points .entry) (curves .entry) (reals .entry) (parts .entry) (ranges .entry)) row first))
-        × Seen (lent (points .entry) (curves .entry) (reals .entry) (parts .entry) (ranges .entry)) (now (skips .exit)) segments row ⌝ }
+        × Seen (lent (points .entry) (curves .entry) (reals .entry) (parts .entry) (ranges .entry)) (now (skips .exit)) row ⌝ }
 {
     let end = first + count;
-    let mut j = unseen(skips, segments, first);
+    let mut j = unseen(skips, first);
     while j < end {
         if high_segment(points, curves, reals, parts, ranges, row, j) {
             return true;
         }
         skips[j as usize] = 1;
-        j = unseen(skips, segments, j + 1);
+        j = unseen(skips, j + 1);
     }
     false
 }
@@ -96,12 +94,11 @@ fn unordered_row(
     parts: &[u32],
     ranges: &[f64],
     skips: &mut [u32],
-    segments: u32,
     row: u32,
 ) -> bool
-    requires { ⌜ Seen (lent points curves reals parts ranges) (now skips) segments row × RunInside (lent points curves reals parts ranges) segments row ⌝ }
+    requires { ⌜ Seen (lent points curves reals parts ranges) (now skips) row × RunInside (lent points curves reals parts ranges) (now skips) row ⌝ }
     ensures { λ r. ⌜ (r ≡ unorderedRow (lent (points .entry) (curves .entry) (reals .entry) (parts .entry) (ranges .entry)) row)
-        × Seen (lent (points .entry) (curves .entry) (reals .entry) (parts .entry) (ranges .entry)) (now (skips .exit)) segments row ⌝ }
+        × Seen (lent (points .entry) (curves .entry) (reals .entry) (parts .entry) (ranges .entry)) (now (skips .exit)) row ⌝ }
 {
     let c = brep::row_at(points, curves, reals, row);
     match c {
@@ -132,7 +129,6 @@ fn unordered_row(
                 parts,
                 ranges,
                 skips,
-                segments,
                 row,
                 first,
                 count,
@@ -149,15 +145,14 @@ fn unordered_in(
     parts: &[u32],
     ranges: &[f64],
     skips: &mut [u32],
-    segments: u32,
     rows: u32,
 ) -> bool
-    requires { ⌜ Seen (lent points curves reals parts ranges) (now skips) segments 0 × RunsInside (lent points curves reals parts ranges) segments rows ⌝ }
+    requires { ⌜ Seen (lent points curves reals parts ranges) (now skips) 0 × (length (now parts) / 2 < length (now skips)) × Inside (lent points curves reals parts ranges) rows ⌝ }
     ensures { λ r. ⌜ r ≡ someBelow rows (unorderedRow (lent (points .entry) (curves .entry) (reals .entry) (parts .entry) (ranges .entry))) ⌝ }
 {
     let mut row: u32 = 0;
     while row < rows {
-        if unordered_row(points, curves, reals, parts, ranges, skips, segments, row) {
+        if unordered_row(points, curves, reals, parts, ranges, skips, row) {
             return true;
         }
         row += 1;
@@ -174,91 +169,15 @@ fn unordered(
     ranges: &[f64],
     rows: u32,
 ) -> bool
-    requires { ⌜ (length (now parts) / 2 ≤ 4096) × RunsInside (lent points curves reals parts ranges) (length (now parts) / 2) rows ⌝ }
+    requires { ⌜ (length (now parts) / 2 ≤ 4096) × Inside (lent points curves reals parts ranges) rows ⌝ }
     ensures { λ r. ⌜ r ≡ someBelow rows (unorderedRow (lent (points .entry) (curves .entry) (reals .entry) (parts .entry) (ranges .entry))) ⌝ }
 {
-    let segments = (parts.len() / 2) as u32;
-    if segments <= 32 {
+    if parts.len() / 2 <= 32 {
         let mut few = [0u32; 33];
-        return unordered_in(
-            points,
-            curves,
-            reals,
-            parts,
-            ranges,
-            &mut few,
-            segments,
-            rows,
-        );
+        return unordered_in(points, curves, reals, parts, ranges, &mut few, rows);
     }
     let mut skips = [0u32; 4097];
-    unordered_in(
-        points,
-        curves,
-        reals,
-        parts,
-        ranges,
-        &mut skips,
-        segments,
-        rows,
-    )
-}
-
-fn deep_at(nests: &[u32], row: u32) -> bool
-    ensures { λ r. ⌜ r ≡ deepAt (now (nests .entry)) row ⌝ }
-{
-    8 < brep::int_at(nests, row as usize)
-}
-
-fn any_deep(nests: &[u32], rows: u32) -> bool
-    ensures { λ r. ⌜ r ≡ someBelow rows (deepAt (now (nests .entry))) ⌝ }
-{
-    let mut row: u32 = 0;
-    while row < rows {
-        if deep_at(nests, row) {
-            return true;
-        }
-        row += 1;
-    }
-    false
-}
-
-// Cause 5, in the first rows rows, with room for their nestings. Each row's nesting is computed once.
-fn deep_in(
-    points: &[f64],
-    curves: &[u32],
-    reals: &[f64],
-    parts: &[u32],
-    ranges: &[f64],
-    nests: &mut [u32],
-    rows: u32,
-) -> bool
-    requires { ⌜ rows ≤ length (now nests) ⌝ }
-    ensures { λ r. ⌜ (r ≡ someBelow rows (deepRow (lent (points .entry) (curves .entry) (reals .entry) (parts .entry) (ranges .entry))))
-        × (now (nests .exit) ≡ nestings (lent (points .entry) (curves .entry) (reals .entry) (parts .entry) (ranges .entry)) rows ++ drop rows (now (nests .entry))) ⌝ }
-{
-    nest::nest_table(points, curves, reals, parts, ranges, nests, rows);
-    any_deep(nests, rows)
-}
-
-// Cause 5. A small table needs little room, which is cleared at each call.
-fn too_deep(
-    points: &[f64],
-    curves: &[u32],
-    reals: &[f64],
-    parts: &[u32],
-    ranges: &[f64],
-    rows: u32,
-) -> bool
-    requires { ⌜ rows ≤ 4096 ⌝ }
-    ensures { λ r. ⌜ r ≡ someBelow rows (deepRow (lent (points .entry) (curves .entry) (reals .entry) (parts .entry) (ranges .entry))) ⌝ }
-{
-    if rows <= 32 {
-        let mut few = [0u32; 32];
-        return deep_in(points, curves, reals, parts, ranges, &mut few, rows);
-    }
-    let mut nests = [0u32; 4096];
-    deep_in(points, curves, reals, parts, ranges, &mut nests, rows)
+    unordered_in(points, curves, reals, parts, ranges, &mut skips, rows)
 }
 
 // Cause 6.
@@ -304,7 +223,7 @@ pub fn check_tables(
     if unordered(points, curves, reals, parts, ranges, rows) {
         return Verdict::Refused(4);
     }
-    if too_deep(points, curves, reals, parts, ranges, rows) {
+    if nest::too_deep(points, curves, reals, parts, ranges, rows) {
         return Verdict::Refused(5);
     }
     Verdict::Accepted

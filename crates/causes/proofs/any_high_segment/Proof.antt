@@ -1,6 +1,6 @@
 -- `causes::any_high_segment` meets its contract. The invariant: what is passed over, and each segment of the run before j, refers to a lower row. Assumes nothing.
 use mathlib.Core.Path.{_≡_, refl, _∙_}
-use Prim.Native.Nat.{_+_, _-_, _≤_}
+use Prim.Native.Nat.{_+_, _-_, _<_, _≤_}
 use native.Mathlib.Omega.{arith}
 use lib.ListN.{length, length-set}
 use borrow.Author.Needs.{needs}
@@ -11,21 +11,21 @@ use Rattle.causes.proofs.any_high_segment.Statement.{statement}
 use Rattle.causes.proofs.any_high_segment.Tie as tie
 
 abbrev Inv-loop : tie.InvT-loop
-Inv-loop points curves reals parts ranges skips₀ segments row first count end j₀ skips j =
-    Seen (tables points curves reals parts ranges) skips segments row × (first + count ≤ segments) × (first ≤ j) × (j ≤ segments)
+Inv-loop points curves reals parts ranges skips₀ row first count end j₀ skips j =
+    Seen (tables points curves reals parts ranges) skips row × (first + count < length skips) × (first ≤ j) × (j < length skips)
     × Passed (tables points curves reals parts ranges) row first j × (length skips ≡ length skips₀)
 
 abbrev μ-loop : tie.MeasureT-loop
-μ-loop points curves reals parts ranges skips₀ segments row first count end j₀ skips j = segments - j
+μ-loop points curves reals parts ranges skips₀ row first count end j₀ skips j = length skips₀ - j
 
 add-end : tie.Need-add-end Inv-loop μ-loop
-add-end c = search needs
+add-end c = omega (arith, c .before .before .before .before .before .before .pre .0 .leads .few)
 
 unseen-requires : tie.Need-unseen-requires Inv-loop μ-loop
-unseen-requires c κs = (c .before .before .before .before .before .before .before .pre .0 .leads, omega arith)
+unseen-requires c κs = (c .before .before .before .before .before .before .before .pre .0 .leads, omega (arith, c .before .before .before .before .before .before .before .pre .1))
 
 loop-holds : tie.Need-loop-holds Inv-loop μ-loop
-loop-holds c = (begun-seen (c .before .before .before .before .before .before .before .before .before .before .pre .0) (c .before .before .unseen .ensures), c .before .before .before .before .before .before .before .before .before .before .pre .1, c .before .before .unseen .ensures .low, c .before .before .unseen .ensures .high, begun-passed (c .before .before .before .before .before .before .before .before .before .before .pre .0) (c .before .before .unseen .ensures), refl)
+loop-holds c = (begun-seen (c .before .before .before .before .before .before .before .before .before .before .pre .0) (c .before .before .unseen .ensures), omega (arith, c .before .before .before .before .before .before .before .before .before .before .pre .1, c .before .before .unseen .ensures .same), c .before .before .unseen .ensures .low, c .before .before .unseen .ensures .high, begun-passed (c .before .before .before .before .before .before .before .before .before .before .pre .0) (c .before .before .unseen .ensures), refl)
 
 high-segment-requires : tie.Need-high-segment-requires Inv-loop μ-loop
 high-segment-requires c κs = search needs
@@ -49,18 +49,18 @@ add-unseen : tie.Need-add-unseen Inv-loop μ-loop
 add-unseen c = search needs
 
 unseen-requires-2 : tie.Need-unseen-requires-2 Inv-loop μ-loop
-unseen-requires-2 c κs = (looked-seen _ _ _ _ _ (c .before .before .before .before .loop .inv .0) (omega arith) (c .before .before .high-segment .ensures) (c .before .if1 .left) .leads, omega arith)
+unseen-requires-2 c κs = (looked-seen _ _ _ _ (c .before .before .before .before .loop .inv .0) (omega arith) (c .before .before .high-segment .ensures) (c .before .if1 .left) .leads, simp length-set (omega arith))
 
 loop-less : tie.Need-loop-less Inv-loop μ-loop
 loop-less c = omega (arith, c .before .before .unseen2 .ensures .low, c .before .before .unseen2 .ensures .high)
 
 loop-again : tie.Need-loop-again Inv-loop μ-loop
 loop-again c = (
-  begun-seen (looked-seen _ _ _ _ _ (c .before .before .before .before .before .before .before .loop .inv .0) (omega arith) (c .before .before .before .before .before .high-segment .ensures) (c .before .before .before .before .if1 .left)) (c .before .before .unseen2 .ensures),
-  c .before .before .before .before .before .before .before .loop .inv .1,
+  begun-seen (looked-seen _ _ _ _ (c .before .before .before .before .before .before .before .loop .inv .0) (omega arith) (c .before .before .before .before .before .high-segment .ensures) (c .before .before .before .before .if1 .left)) (c .before .before .unseen2 .ensures),
+  omega (arith, c .before .before .before .before .before .before .before .loop .inv .1, simp length-set at (c .before .before .unseen2 .ensures .same)),
   omega (arith, c .before .before .unseen2 .ensures .low),
   c .before .before .unseen2 .ensures .high,
-  looked-passed _ _ _ _ _ (c .before .before .before .before .before .before .before .loop .inv .0) (omega arith) (c .before .before .before .before .before .high-segment .ensures) (c .before .before .before .before .if1 .left) (c .before .before .unseen2 .ensures) (c .before .before .before .before .before .before .before .loop .inv .4),
+  looked-passed _ _ _ _ (c .before .before .before .before .before .before .before .loop .inv .0) (omega arith) (c .before .before .before .before .before .high-segment .ensures) (c .before .before .before .before .if1 .left) (c .before .before .unseen2 .ensures) (c .before .before .before .before .before .before .before .loop .inv .4),
   c .before .before .unseen2 .kept .0 ∙ simp length-set (c .before .before .before .before .before .before .before .loop .inv .5),
 )
 

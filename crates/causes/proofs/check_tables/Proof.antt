@@ -1,5 +1,5 @@
 -- `causes::check_tables` meets its contract. Assumes nothing.
-use Rattle.causes.proofs.Checked.{runs-inside}
+use Rattle.causes.proofs.Checked.{runs-inside, falling}
 use Rattle.causes.proofs.Laws.{sizes}
 use Rattle.causes.specs.Causes.{tablesVerdict}
 use native.Mathlib.Omega.{arith}
@@ -40,7 +40,7 @@ unfolding tablesVerdict
 returns-4 c = rw (sym (c .before .before .before .before .before .before .before .oversize .ensures) ∙ c .before .before .before .before .before .before .if1 .left, sym (c .before .before .before .before .before .unbounded-tables .ensures) ∙ c .before .before .before .before .if2 .left, sym (c .before .before .before .ill-formed-tables .ensures) ∙ c .before .before .if3 .left, sym (c .before .unordered .ensures) ∙ c .if4 .taken)
 
 too-deep-requires : tie.Need-too-deep-requires
-too-deep-requires c κs = omega (arith, sizes _ (sym (c .before .before .before .before .before .before .before .oversize .ensures) ∙ c .before .before .before .before .before .before .if1 .left) .1)
+too-deep-requires c κs = (omega (arith, sizes _ (sym (c .before .before .before .before .before .before .before .oversize .ensures) ∙ c .before .before .before .before .before .before .if1 .left) .1), (omega (arith, sizes _ (sym (c .before .before .before .before .before .before .before .oversize .ensures) ∙ c .before .before .before .before .before .before .if1 .left) .2), (falling _ (sym (c .before .unordered .ensures) ∙ c .if4 .left), runs-inside _ (sym (c .before .before .before .ill-formed-tables .ensures) ∙ c .before .before .if3 .left))))
 
 returns-5 : tie.Need-returns-5
 unfolding tablesVerdict

@@ -5,14 +5,11 @@ use borrow.Author.Needs.{needs}
 use Rattle.causes.proofs.unordered.Statement.{statement}
 use Rattle.causes.proofs.unordered.Tie as tie
 
-cast-segments : tie.Need-cast-segments
-cast-segments c = search needs
-
 slice-aggregate-unordered-in : tie.Need-slice-aggregate-unordered-in
 slice-aggregate-unordered-in c = search needs
 
 unordered-in-requires : tie.Need-unordered-in-requires
-unordered-in-requires c κs = (seen-none _ 33 _ _ (omega arith), c .before .before .before .before .before .before .before .pre .1)
+unordered-in-requires c κs = (seen-none _ 33 _ (omega arith), omega arith, c .before .before .before .before .before .before .before .pre .1)
 
 returns : tie.Need-returns
 returns c = search needs
@@ -21,7 +18,7 @@ slice-aggregate-unordered-in-2 : tie.Need-slice-aggregate-unordered-in-2
 slice-aggregate-unordered-in-2 c = search needs
 
 unordered-in-requires-2 : tie.Need-unordered-in-requires-2
-unordered-in-requires-2 c κs = (seen-none _ 4097 _ _ (omega arith), c .before .before .before .before .before .before .before .pre .1)
+unordered-in-requires-2 c κs = (seen-none _ 4097 _ (omega arith), omega arith, c .before .before .before .before .before .before .before .pre .1)
 
 returns-2 : tie.Need-returns-2
 returns-2 c = search needs
@@ -30,7 +27,6 @@ pub unordered-spec : {M : Type 1} → statement M
 unordered-spec =
     tie.close
     (tie.spec
-    cast-segments
     slice-aggregate-unordered-in
     unordered-in-requires
     returns
