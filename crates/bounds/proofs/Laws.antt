@@ -44,6 +44,14 @@ some-none P (suc n) i l e = go (eqb i n) refl (some-none P n i)
     go true q ih = ap P (eqb-true i n q) ∙ or-false-second (someBelow n P) (P n) e
     go false q ih = let ne = eqb-false i n q in ih (omega arith) (or-false-first (someBelow n P) (P n) e)
 
+pub some-not : (P : ℕ → Bool) (n : ℕ) → ((i : ℕ) → i < n → P i ≡ false) → someBelow n P ≡ false
+unfolding someBelow
+some-not P zero h = refl
+some-not P (suc n) h =
+    let a : someBelow n P ≡ false = some-not P n (λ i l. h i (omega arith)) in
+    let b : P n ≡ false = h n (omega arith) in
+    rw (a, b)
+
 -- two tests that agree below n
 pub some-same : (P Q : ℕ → Bool) (n : ℕ) → ((i : ℕ) → i < n → P i ≡ Q i) → someBelow n P ≡ someBelow n Q
 unfolding someBelow

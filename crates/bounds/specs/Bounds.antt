@@ -29,7 +29,14 @@ edgeBeyond e = finiteBeyond (e .range .lo) || (finiteBeyond (e .range .hi) || be
 unfoldable pub optionsBeyond : Options → Bool
 optionsBeyond o = beyond (o .deflection) || (beyond (o .angle .0) || finiteBeyond (o .scale))
 
--- any float of the points, the rows' p and q, the segments' lo and hi, the edge or the options
+-- any float of the points, the rows' p and q, or the segments' lo and hi
+abbrev pub unboundedTables : List Float → List Float → List Float → Bool
+unboundedTables points reals ranges = some beyond points || (some beyond reals || some beyond ranges)
+
+-- any float of the edge or the options
+abbrev pub unboundedEdge : Edge → Options → Bool
+unboundedEdge e o = edgeBeyond e || optionsBeyond o
+
+-- of the tables, or of the edge and the options
 unfoldable pub unbounded : List Float → List Float → List Float → Edge → Options → Bool
-unbounded points reals ranges e o =
-    (some beyond points || (some beyond reals || some beyond ranges)) || (edgeBeyond e || optionsBeyond o)
+unbounded points reals ranges e o = unboundedTables points reals ranges || unboundedEdge e o

@@ -4,7 +4,7 @@ use options::Options;
 ghost use mathlib.Core.Path.{_≡_};
 ghost use mathlib.Core.Bool.{_&&_, _||_};
 ghost use Rattle.bounds.specs.Some.{some};
-ghost use Rattle.bounds.specs.Bounds.{within, beyond, finiteBeyond, edgeBeyond, optionsBeyond, unbounded};
+ghost use Rattle.bounds.specs.Bounds.{within, beyond, finiteBeyond, edgeBeyond, optionsBeyond, unboundedTables, unboundedEdge};
 
 // `||` and `&&` as calls: a function of many tests has one way through it.
 pub fn either(a: bool, b: bool) -> bool
@@ -69,18 +69,19 @@ fn options_beyond(options: Options) -> bool
     )
 }
 
-pub fn unbounded(
-    points: &[f64],
-    reals: &[f64],
-    ranges: &[f64],
-    edge: Edge,
-    options: Options,
-) -> bool
-    ensures { λ r. ⌜ r ≡ unbounded (now (points .entry)) (now (reals .entry)) (now (ranges .entry)) edge options ⌝ }
+// Of the tables.
+pub fn unbounded_tables(points: &[f64], reals: &[f64], ranges: &[f64]) -> bool
+    ensures { λ r. ⌜ r ≡ unboundedTables (now (points .entry)) (now (reals .entry)) (now (ranges .entry)) ⌝ }
 {
-    let tables = either(
+    either(
         any_beyond(points),
         either(any_beyond(reals), any_beyond(ranges)),
-    );
-    either(tables, either(edge_beyond(edge), options_beyond(options)))
+    )
+}
+
+// Of the edge and the options.
+pub fn unbounded_edge(edge: Edge, options: Options) -> bool
+    ensures { λ r. ⌜ r ≡ unboundedEdge edge options ⌝ }
+{
+    either(edge_beyond(edge), options_beyond(options))
 }

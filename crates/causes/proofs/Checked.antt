@@ -15,16 +15,17 @@ use Rattle.brep.specs.declared.Curve.the-variants.{Trimmed, Composite}
 use Rattle.brep.specs.declared.Edge.{Edge}
 use Rattle.brep.specs.Rows.{Tables, segmentOf}
 use Rattle.brep.specs.Tree.{segmentIn, rowIn, tree}
-use Rattle.nest.specs.Nest.{nesting}
+use Rattle.nest.specs.Nest.{nesting, deepRow, Falling, Inside}
 use Rattle.options.specs.declared.Options.{Options}
 use Rattle.bounds.specs.Some.{someBelow, atIndex, some}
 use Rattle.bounds.specs.Bounds.{largest, within, beyond, finiteBeyond, edgeBeyond, optionsBeyond, unbounded}
 use Rattle.bounds.proofs.Laws.{some-none}
-use Rattle.forms.specs.Forms.{pointCount, curveCount, segmentCount, broken, uneven, unknownKind, wrongCount, unusedSet, room, malformed, malformedRow, malformedSegment, illFormed}
+use Rattle.forms.specs.Forms.{pointCount, curveCount, segmentCount, broken, uneven, unknownKind, wrongCount, unusedSet, room, malformed, malformedRow, malformedSegment, illFormedTables, illFormedEdge, illFormed}
 use Rattle.causes.specs.declared.Verdict.{Verdict}
 use Rattle.causes.specs.declared.Verdict.the-variants.{Accepted, Refused}
 use Rattle.causes.proofs.Laws.{neither, three, four, sizes}
-use Rattle.causes.specs.Causes.{oversize, highSegment, notLower, unorderedRow, unordered, deepRow, tooDeep, missing, verdict}
+use Rattle.causes.proofs.Runs.{composite-row}
+use Rattle.causes.specs.Causes.{oversize, highSegment, notLower, unorderedRow, unordered, tooDeep, missing, verdict}
 
 -- at most 1e9 in magnitude
 abbrev pub Bounded : Float → Type 0
@@ -120,6 +121,72 @@ bounded-finite x h f = bounded x (second-fails (finite x) (beyond x) h f)
 all-bounded : (l : List Float) → some beyond l ≡ false → AllBounded l
 all-bounded l h i m = bounded (getD l i nan) (some-none (atIndex beyond l) (length l) i m h)
 
+module _ (t : Tables) where
+  -- ---- cause 3
+  even-slices : illFormedTables t ≡ false → (length (t .reals) / 2 ≡ curveCount t) × (length (t .ranges) / 2 ≡ segmentCount t)
+  unfolding uneven
+  even-slices h =
+      let reals = not (eqb (length (t .reals) / 2) (curveCount t)) in
+      let ranges = not (eqb (length (t .ranges) / 2) (segmentCount t)) in
+      let r = someBelow (curveCount t) (malformedRow t) || someBelow (segmentCount t) (malformedSegment t) in
+      let k = neither reals ranges (neither (broken t) (reals || ranges) (neither (broken t || (reals || ranges)) r h .0) .1) in (
+        eqb-true (length (t .reals) / 2) (curveCount t) (holds-not (eqb (length (t .reals) / 2) (curveCount t)) (k .0)),
+        eqb-true (length (t .ranges) / 2) (segmentCount t) (holds-not (eqb (length (t .ranges) / 2) (segmentCount t)) (k .1)),
+      )
+
+  forms-of : illFormedTables t ≡ false → (someBelow (curveCount t) (malformedRow t) ≡ false) × (someBelow (segmentCount t) (malformedSegment t) ≡ false)
+  forms-of h =
+      let r = someBelow (curveCount t) (malformedRow t) in
+      let s = someBelow (segmentCount t) (malformedSegment t) in
+      neither r s (neither (broken t || uneven t) (r || s) h .1)
+
+  run-inside : (kind first count : ℕ) (p q : Float) → malformed t kind first count p q ≡ false → first + count ≤ room t kind
+  unfolding malformed
+  run-inside kind first count p q h = ltb-false (room t kind) (first + count) (four (unknownKind kind) (wrongCount kind count) (unusedSet kind p q) (ltb (room t kind) (first + count)) h .3)
+
+  row-inside : (i : ℕ) → malformedRow t i ≡ false → getD (t .curves) (i * 3 + 1) 0 + getD (t .curves) (i * 3 + 2) 0 ≤ room t (getD (t .curves) (i * 3) 0)
+  unfolding malformedRow
+  row-inside i h = run-inside (getD (t .curves) (i * 3) 0) (getD (t .curves) (i * 3 + 1) 0) (getD (t .curves) (i * 3 + 2) 0) (getD (t .reals) (i * 2) nan) (getD (t .reals) (i * 2 + 1) nan) h
+
+  seven-segments : room t 7 ≡ segmentCount t
+  unfolding room
+  seven-segments = refl
+
+  -- the run of each composite lies inside the segments
+  pub runs-inside : illFormedTables t ≡ false → Inside t (curveCount t)
+  runs-inside h i first count l r =
+      let k = composite-row first count t i r in
+      let m = row-inside i (some-none (malformedRow t) (curveCount t) i l (forms-of h .0)) in
+      omega (arith, ap (room t) (k .0) ∙ seven-segments)
+
+  segment-inside : (i : ℕ) → malformedSegment t i ≡ false → segmentIn t i .curve < curveCount t
+  unfolding malformedSegment segmentOf
+  segment-inside i h = leb-false (curveCount t) (getD (t .parts) (i * 2) 0) (neither (leb (curveCount t) (getD (t .parts) (i * 2) 0)) (ltb 1 (getD (t .parts) (i * 2 + 1) 0)) h .0)
+
+  -- ---- cause 4
+  trim-falls : (i base : ℕ) (range : Interval) → unorderedRow t i ≡ false → rowIn t i ≡ Trimmed base range → base < i
+  unfolding unorderedRow notLower
+  trim-falls i base range h k = leb-false i base (ap (notLower t i) (sym k) ∙ h)
+
+  segment-falls : (i first count j : ℕ) → unorderedRow t i ≡ false → rowIn t i ≡ Composite first count → j < count → segmentIn t (first + j) .curve < i
+  unfolding unorderedRow notLower highSegment
+  segment-falls i first count j h k l = leb-false i (segmentIn t (first + j) .curve) (some-none (highSegment t i first) count j l (ap (notLower t i) (sym k) ∙ h))
+
+  -- every reference falls
+  pub falling : unordered t ≡ false → Falling t (curveCount t)
+  falling h = record {
+    trimFalls = λ i base range l k. trim-falls i base range (some-none (unorderedRow t) (curveCount t) i l h) k;
+    segmentFalls = λ i first count j l k m. segment-falls i first count j (some-none (unorderedRow t) (curveCount t) i l h) k m;
+  }
+
+  -- ---- cause 5
+  nesting-at-most : (i : ℕ) → deepRow t i ≡ false → nesting (tree t i) ≤ 8
+  unfolding deepRow
+  nesting-at-most i h = ltb-false 8 (nesting (tree t i)) h
+
+  sizes-at : oversize t ≡ false → (pointCount t ≤ 65536) × (curveCount t ≤ 4096) × (segmentCount t ≤ 4096)
+  sizes-at h = let k = sizes t h in (omega arith, omega arith, omega arith)
+
 module _ (t : Tables) (e : Edge) (o : Options) where
   bounds-of : unbounded (t .points) (t .reals) (t .ranges) e o ≡ false → (some beyond (t .points) ≡ false) × (some beyond (t .reals) ≡ false) × (some beyond (t .ranges) ≡ false) × (edgeBeyond e ≡ false) × (optionsBeyond o ≡ false)
   unfolding unbounded
@@ -140,53 +207,9 @@ module _ (t : Tables) (e : Edge) (o : Options) where
   unfolding optionsBeyond
   options-of h = three (beyond (o .deflection)) (beyond (o .angle .0)) (finiteBeyond (o .scale)) h
 
-  -- ---- cause 3
-  even-slices : illFormed t e o ≡ false → (length (t .reals) / 2 ≡ curveCount t) × (length (t .ranges) / 2 ≡ segmentCount t)
-  unfolding illFormed uneven
-  even-slices h =
-      let reals = not (eqb (length (t .reals) / 2) (curveCount t)) in
-      let ranges = not (eqb (length (t .ranges) / 2) (segmentCount t)) in
-      let r = someBelow (curveCount t) (malformedRow t) || someBelow (segmentCount t) (malformedSegment t) in
-      let w = ltb 1 (e .sense) || ltb 1 (o .relative) in
-      let k = neither reals ranges (neither (broken t) (reals || ranges) (neither (broken t || (reals || ranges)) (r || w) h .0) .1) in (
-        eqb-true (length (t .reals) / 2) (curveCount t) (holds-not (eqb (length (t .reals) / 2) (curveCount t)) (k .0)),
-        eqb-true (length (t .ranges) / 2) (segmentCount t) (holds-not (eqb (length (t .ranges) / 2) (segmentCount t)) (k .1)),
-      )
-
-  forms-of : illFormed t e o ≡ false → (someBelow (curveCount t) (malformedRow t) ≡ false) × (someBelow (segmentCount t) (malformedSegment t) ≡ false)
+  tables-formed : illFormed t e o ≡ false → illFormedTables t ≡ false
   unfolding illFormed
-  forms-of h =
-      let b = broken t || uneven t in
-      let r = someBelow (curveCount t) (malformedRow t) in
-      let s = someBelow (segmentCount t) (malformedSegment t) in
-      let w = ltb 1 (e .sense) || ltb 1 (o .relative) in
-      neither r s (neither (r || s) w (neither b ((r || s) || w) h .1) .0)
-
-  run-inside : (kind first count : ℕ) (p q : Float) → malformed t kind first count p q ≡ false → first + count ≤ room t kind
-  unfolding malformed
-  run-inside kind first count p q h = ltb-false (room t kind) (first + count) (four (unknownKind kind) (wrongCount kind count) (unusedSet kind p q) (ltb (room t kind) (first + count)) h .3)
-
-  row-inside : (i : ℕ) → malformedRow t i ≡ false → getD (t .curves) (i * 3 + 1) 0 + getD (t .curves) (i * 3 + 2) 0 ≤ room t (getD (t .curves) (i * 3) 0)
-  unfolding malformedRow
-  row-inside i h = run-inside (getD (t .curves) (i * 3) 0) (getD (t .curves) (i * 3 + 1) 0) (getD (t .curves) (i * 3 + 2) 0) (getD (t .reals) (i * 2) nan) (getD (t .reals) (i * 2 + 1) nan) h
-
-  segment-inside : (i : ℕ) → malformedSegment t i ≡ false → segmentIn t i .curve < curveCount t
-  unfolding malformedSegment segmentOf
-  segment-inside i h = leb-false (curveCount t) (getD (t .parts) (i * 2) 0) (neither (leb (curveCount t) (getD (t .parts) (i * 2) 0)) (ltb 1 (getD (t .parts) (i * 2 + 1) 0)) h .0)
-
-  -- ---- cause 4
-  trim-falls : (i base : ℕ) (range : Interval) → unorderedRow t i ≡ false → rowIn t i ≡ Trimmed base range → base < i
-  unfolding unorderedRow notLower
-  trim-falls i base range h k = leb-false i base (ap (notLower t i) (sym k) ∙ h)
-
-  segment-falls : (i first count j : ℕ) → unorderedRow t i ≡ false → rowIn t i ≡ Composite first count → j < count → segmentIn t (first + j) .curve < i
-  unfolding unorderedRow notLower highSegment
-  segment-falls i first count j h k l = leb-false i (segmentIn t (first + j) .curve) (some-none (highSegment t i first) count j l (ap (notLower t i) (sym k) ∙ h))
-
-  -- ---- cause 5
-  nesting-at-most : (i : ℕ) → deepRow t i ≡ false → nesting (tree t i) ≤ 8
-  unfolding deepRow
-  nesting-at-most i h = ltb-false 8 (nesting (tree t i)) h
+  tables-formed h = neither (illFormedTables t) (illFormedEdge e o) h .0
 
   -- ---- cause 6
   indexes-of : missing t e ≡ false → (e .curve < curveCount t) × (e .start < pointCount t) × (e .end < pointCount t) × (e .low < pointCount t) × (e .high < pointCount t)
@@ -221,18 +244,15 @@ module _ (t : Tables) (e : Edge) (o : Options) where
       numbered (tooDeep t) 5 n v6 h5 (omega arith) (omega arith) λ h6.
       numbered (missing t e) 6 n Accepted h6 (omega arith) (omega arith) λ h7. absurd (never n (sym h7))
 
-  sizes-at : oversize t ≡ false → (pointCount t ≤ 65536) × (curveCount t ≤ 4096) × (segmentCount t ≤ 4096)
-  sizes-at h = let k = sizes t h in (omega arith, omega arith, omega arith)
-
   pub checked : verdict t e o ≡ Accepted → Checked t e o
   checked h =
       let c = causes-of h in
-      let z = sizes-at (c .0) in
+      let z = sizes-at t (c .0) in
       let b = bounds-of (c .1) in
       let be = edge-of (b .3) in
       let bo = options-of (b .4) in
-      let s = even-slices (c .2) in
-      let f = forms-of (c .2) in
+      let s = even-slices t (tables-formed (c .2)) in
+      let f = forms-of t (tables-formed (c .2)) in
       let x = indexes-of (c .5) in
       record {
         pointsAtMost = z .0;
@@ -249,11 +269,11 @@ module _ (t : Tables) (e : Edge) (o : Options) where
         deflectionBounded = bounded (o .deflection) (bo .0);
         angleBounded = bounded (o .angle .0) (bo .1);
         scaleBounded = bounded-finite (o .scale) (bo .2);
-        runInside = λ i l. row-inside i (some-none (malformedRow t) (curveCount t) i l (f .0));
-        segmentInside = λ i l. segment-inside i (some-none (malformedSegment t) (segmentCount t) i l (f .1));
-        trimFalls = λ i base range l k. trim-falls i base range (some-none (unorderedRow t) (curveCount t) i l (c .3)) k;
-        segmentFalls = λ i first count j l k m. segment-falls i first count j (some-none (unorderedRow t) (curveCount t) i l (c .3)) k m;
-        nestingAtMost = λ i l. nesting-at-most i (some-none (deepRow t) (curveCount t) i l (c .4));
+        runInside = λ i l. row-inside t i (some-none (malformedRow t) (curveCount t) i l (f .0));
+        segmentInside = λ i l. segment-inside t i (some-none (malformedSegment t) (segmentCount t) i l (f .1));
+        trimFalls = falling t (c .3) .trimFalls;
+        segmentFalls = falling t (c .3) .segmentFalls;
+        nestingAtMost = λ i l. nesting-at-most t i (some-none (deepRow t) (curveCount t) i l (c .4));
         curveInside = x .0;
         startInside = x .1;
         endInside = x .2;

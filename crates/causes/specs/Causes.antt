@@ -1,19 +1,18 @@
 -- When an edge is turned away: causes 1 to 6 of the scope's table, each a predicate of its own, in order. Definitions only.
 use mathlib.Core.Bool.{Bool, false, cond, _||_}
-use mathlib.Core.List.{List}
-use Prim.Native.Nat.{ℕ, _+_, _*_}
-use lib.ListN.{length, getD}
+use Prim.Native.Nat.{ℕ, _+_, _*_, min}
+use lib.ListN.{length}
 use lib.Dec.{ltb, leb}
 use Rattle.brep.specs.declared.Curve.{Curve}
 use Rattle.brep.specs.declared.Curve.the-variants.{Line, Circle, Ellipse, Parabola, Polyline, Trimmed, Composite}
 use Rattle.brep.specs.declared.Edge.{Edge}
 use Rattle.brep.specs.Rows.{Tables}
-use Rattle.brep.specs.Tree.{segmentIn, rowIn, tree}
-use Rattle.nest.specs.Nest.{nesting}
+use Rattle.brep.specs.Tree.{segmentIn, rowIn}
+use Rattle.nest.specs.Nest.{deepRow}
 use Rattle.options.specs.declared.Options.{Options}
 use Rattle.bounds.specs.Some.{someBelow}
-use Rattle.bounds.specs.Bounds.{unbounded}
-use Rattle.forms.specs.Forms.{pointCount, curveCount, illFormed}
+use Rattle.bounds.specs.Bounds.{unboundedTables, unboundedEdge, unbounded}
+use Rattle.forms.specs.Forms.{pointCount, curveCount, illFormedTables, illFormedEdge, illFormed}
 use Rattle.causes.specs.declared.Verdict.{Verdict}
 use Rattle.causes.specs.declared.Verdict.the-variants.{Accepted, Refused}
 
@@ -48,14 +47,6 @@ unorderedRow T row = notLower T row (rowIn T row)
 abbrev pub unordered : Tables → Bool
 unordered T = someBelow (curveCount T) (unorderedRow T)
 
--- a row nested deeper than 8
-unfoldable pub deepRow : Tables → ℕ → Bool
-deepRow T row = ltb 8 (nesting (tree T row))
-
--- the same of a table of the rows' nestings
-unfoldable pub deepAt : List ℕ → ℕ → Bool
-deepAt nests row = ltb 8 (getD nests row 0)
-
 -- 5: trims and composites nested deeper than 8
 abbrev pub tooDeep : Tables → Bool
 tooDeep T = someBelow (curveCount T) (deepRow T)
@@ -77,3 +68,27 @@ verdict T e o =
     (cond (tooDeep T) (Refused 5)
     (cond (missing T e) (Refused 6)
     Accepted)))))
+
+-- the lowest of those that the tables alone can have: 1 to 5
+unfoldable pub tablesVerdict : Tables → Verdict
+tablesVerdict T =
+    cond (oversize T) (Refused 1)
+    (cond (unboundedTables (T .points) (T .reals) (T .ranges)) (Refused 2)
+    (cond (illFormedTables T) (Refused 3)
+    (cond (unordered T) (Refused 4)
+    (cond (tooDeep T) (Refused 5)
+    Accepted))))
+
+-- the lowest of those of the edge and the options: 2, 3 and 6
+unfoldable pub edgeVerdict : Tables → Edge → Options → Verdict
+edgeVerdict T e o =
+    cond (unboundedEdge e o) (Refused 2)
+    (cond (illFormedEdge e o) (Refused 3)
+    (cond (missing T e) (Refused 6)
+    Accepted))
+
+-- the lower refusal of two; accepted where both are
+unfoldable pub lowestOf : Verdict → Verdict → Verdict
+lowestOf Accepted v = v
+lowestOf (Refused m) Accepted = Refused m
+lowestOf (Refused m) (Refused n) = Refused (min m n)

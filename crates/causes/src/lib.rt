@@ -4,14 +4,15 @@ use brep::Curve;
 use brep::Edge;
 use options::Options;
 ghost use mathlib.Core.Path.{_≡_};
-ghost use Prim.Native.Nat.{_≤_};
-ghost use mathlib.Core.List.{_++_};
-ghost use lib.ListN.{length, getD, drop};
-ghost use lib.Dec.{ltb};
+ghost use Prim.Native.Nat.{_+_, _/_, _<_, _≤_};
+ghost use lib.ListN.{length};
+ghost use lib.Dec.{leb};
 ghost use Rattle.brep.specs.Rows.{lent};
-ghost use Rattle.nest.specs.Nest.{nestings};
+ghost use Rattle.brep.specs.Tree.{segmentIn};
+ghost use Rattle.nest.specs.Nest.{Inside};
 ghost use Rattle.bounds.specs.Some.{someBelow};
-ghost use Rattle.causes.specs.Causes.{oversize, highSegment, unorderedRow, deepRow, deepAt, missing, verdict};
+ghost use Rattle.causes.specs.Skips.{Leads, Moved, Seen, RunInside};
+ghost use Rattle.causes.specs.Causes.{oversize, highSegment, unorderedRow, missing, verdict, tablesVerdict, edgeVerdict, lowestOf};
 
 pub enum Verdict {
     Accepted,
@@ -27,7 +28,7 @@ fn oversize(points: &[f64], curves: &[u32], reals: &[f64], parts: &[u32], ranges
     either(196608 < points.len(), either(rows, segments))
 }
 
-// Whether segment number j of the composite in row refers to that row or a higher one.
+// Whether segment number i refers to row or a higher one.
 fn high_segment(
     points: &[f64],
     curves: &[u32],
@@ -35,33 +36,53 @@ fn high_segment(
     parts: &[u32],
     ranges: &[f64],
     row: u32,
-    first: u32,
-    j: u32,
+    i: u32,
 ) -> bool
-    ensures { λ r. ⌜ r ≡ highSegment (lent (points .entry) (curves .entry) (reals .entry) (parts .entry) (ranges .entry)) row first j ⌝ }
+    ensures { λ r. ⌜ r ≡ leb row (segmentIn (lent (points .entry) (curves .entry) (reals .entry) (parts .entry) (ranges .entry)) i .curve) ⌝ }
 {
-    let s = brep::segment_at(parts, ranges, first, j);
-    row <= s.curve
+    row <= brep::int_at(parts, i as usize * 2)
 }
 
+// The first segment from number from on that was not looked at, or the one after the last. Each entry on the way then
+// leads twice as far, so that no way stays long.
+fn unseen(skips: &mut [u32], from: u32) -> u32
+    requires { ⌜ Leads (now skips) × (from < length (now skips)) ⌝ }
+    ensures { λ r. ⌜ Moved (now (skips .entry)) (now (skips .exit)) from r ⌝ }
+{
+    let mut j = from;
+    while skips[j as usize] != 0 {
+        let next = j + skips[j as usize];
+        let after = next + skips[next as usize];
+        skips[j as usize] = after - j;
+        j = after;
+    }
+    j
+}
+
+// A segment that a lower row looked at refers to rows below that one, so that it is not looked at again.
 fn any_high_segment(
     points: &[f64],
     curves: &[u32],
     reals: &[f64],
     parts: &[u32],
     ranges: &[f64],
+    skips: &mut [u32],
     row: u32,
     first: u32,
     count: u32,
 ) -> bool
-    ensures { λ r. ⌜ r ≡ someBelow count (highSegment (lent (points .entry) (curves .entry) (reals .entry) (parts .entry) (ranges .entry)) row first) ⌝ }
+    requires { ⌜ Seen (lent points curves reals parts ranges) (now skips) row × (first + count < length (now skips)) ⌝ }
+    ensures { λ r. ⌜ (r ≡ someBelow count (highSegment (lent (points .entry) (curves .entry) (reals .entry) (parts .entry) (ranges .entry)) row first))
+        × Seen (lent (points .entry) (curves .entry) (reals .entry) (parts .entry) (ranges .entry)) (now (skips .exit)) row ⌝ }
 {
-    let mut j: u32 = 0;
-    while j < count {
-        if high_segment(points, curves, reals, parts, ranges, row, first, j) {
+    let end = first + count;
+    let mut j = unseen(skips, first);
+    while j < end {
+        if high_segment(points, curves, reals, parts, ranges, row, j) {
             return true;
         }
-        j += 1;
+        skips[j as usize] = 1;
+        j = unseen(skips, j + 1);
     }
     false
 }
@@ -72,9 +93,12 @@ fn unordered_row(
     reals: &[f64],
     parts: &[u32],
     ranges: &[f64],
+    skips: &mut [u32],
     row: u32,
 ) -> bool
-    ensures { λ r. ⌜ r ≡ unorderedRow (lent (points .entry) (curves .entry) (reals .entry) (parts .entry) (ranges .entry)) row ⌝ }
+    requires { ⌜ Seen (lent points curves reals parts ranges) (now skips) row × RunInside (lent points curves reals parts ranges) (now skips) row ⌝ }
+    ensures { λ r. ⌜ (r ≡ unorderedRow (lent (points .entry) (curves .entry) (reals .entry) (parts .entry) (ranges .entry)) row)
+        × Seen (lent (points .entry) (curves .entry) (reals .entry) (parts .entry) (ranges .entry)) (now (skips .exit)) row ⌝ }
 {
     let c = brep::row_at(points, curves, reals, row);
     match c {
@@ -98,12 +122,45 @@ fn unordered_row(
         Curve::Polyline { first: _, count: _ } => false,
         Curve::Trimmed { base, range: _ } => row <= base,
         Curve::Composite { first, count } => {
-            any_high_segment(points, curves, reals, parts, ranges, row, first, count)
+            any_high_segment(
+                points,
+                curves,
+                reals,
+                parts,
+                ranges,
+                skips,
+                row,
+                first,
+                count,
+            )
         }
     }
 }
 
-// Cause 4, in the first rows rows.
+// Cause 4 in the first rows rows, lowest first, with room for what each segment leads to.
+fn unordered_in(
+    points: &[f64],
+    curves: &[u32],
+    reals: &[f64],
+    parts: &[u32],
+    ranges: &[f64],
+    skips: &mut [u32],
+    rows: u32,
+) -> bool
+    requires { ⌜ Seen (lent points curves reals parts ranges) (now skips) 0 × (length (now parts) / 2 < length (now skips)) × Inside (lent points curves reals parts ranges) rows ⌝ }
+    ensures { λ r. ⌜ r ≡ someBelow rows (unorderedRow (lent (points .entry) (curves .entry) (reals .entry) (parts .entry) (ranges .entry))) ⌝ }
+{
+    let mut row: u32 = 0;
+    while row < rows {
+        if unordered_row(points, curves, reals, parts, ranges, skips, row) {
+            return true;
+        }
+        row += 1;
+    }
+    false
+}
+
+// Cause 4. Few segments need little room, which is cleared at each call.
 fn unordered(
     points: &[f64],
     curves: &[u32],
@@ -112,73 +169,15 @@ fn unordered(
     ranges: &[f64],
     rows: u32,
 ) -> bool
+    requires { ⌜ (length (now parts) / 2 ≤ 4096) × Inside (lent points curves reals parts ranges) rows ⌝ }
     ensures { λ r. ⌜ r ≡ someBelow rows (unorderedRow (lent (points .entry) (curves .entry) (reals .entry) (parts .entry) (ranges .entry))) ⌝ }
 {
-    let mut row: u32 = 0;
-    while row < rows {
-        if unordered_row(points, curves, reals, parts, ranges, row) {
-            return true;
-        }
-        row += 1;
+    if parts.len() / 2 <= 32 {
+        let mut few = [0u32; 33];
+        return unordered_in(points, curves, reals, parts, ranges, &mut few, rows);
     }
-    false
-}
-
-fn deep_at(nests: &[u32], row: u32) -> bool
-    ensures { λ r. ⌜ r ≡ deepAt (now (nests .entry)) row ⌝ }
-{
-    8 < brep::int_at(nests, row as usize)
-}
-
-fn any_deep(nests: &[u32], rows: u32) -> bool
-    ensures { λ r. ⌜ r ≡ someBelow rows (deepAt (now (nests .entry))) ⌝ }
-{
-    let mut row: u32 = 0;
-    while row < rows {
-        if deep_at(nests, row) {
-            return true;
-        }
-        row += 1;
-    }
-    false
-}
-
-// Cause 5, in the first rows rows, with room for their nestings. Each row's nesting is computed once.
-fn deep_in(
-    points: &[f64],
-    curves: &[u32],
-    reals: &[f64],
-    parts: &[u32],
-    ranges: &[f64],
-    nests: &mut [u32],
-    rows: u32,
-) -> bool
-    requires { ⌜ rows ≤ length (now nests) ⌝ }
-    ensures { λ r. ⌜ (r ≡ someBelow rows (deepRow (lent (points .entry) (curves .entry) (reals .entry) (parts .entry) (ranges .entry))))
-        × (now (nests .exit) ≡ nestings (lent (points .entry) (curves .entry) (reals .entry) (parts .entry) (ranges .entry)) rows ++ drop rows (now (nests .entry))) ⌝ }
-{
-    nest::nest_table(points, curves, reals, parts, ranges, nests, rows);
-    any_deep(nests, rows)
-}
-
-// Cause 5. A small table needs little room, which is cleared at each call.
-fn too_deep(
-    points: &[f64],
-    curves: &[u32],
-    reals: &[f64],
-    parts: &[u32],
-    ranges: &[f64],
-    rows: u32,
-) -> bool
-    requires { ⌜ rows ≤ 4096 ⌝ }
-    ensures { λ r. ⌜ r ≡ someBelow rows (deepRow (lent (points .entry) (curves .entry) (reals .entry) (parts .entry) (ranges .entry))) ⌝ }
-{
-    if rows <= 32 {
-        let mut few = [0u32; 32];
-        return deep_in(points, curves, reals, parts, ranges, &mut few, rows);
-    }
-    let mut nests = [0u32; 4096];
-    deep_in(points, curves, reals, parts, ranges, &mut nests, rows)
+    let mut skips = [0u32; 4097];
+    unordered_in(points, curves, reals, parts, ranges, &mut skips, rows)
 }
 
 // Cause 6.
@@ -201,6 +200,72 @@ fn missing(
     )
 }
 
+// The lowest of the causes 1 to 5 that the tables alone have: for many edges over the same tables, once.
+pub fn check_tables(
+    points: &[f64],
+    curves: &[u32],
+    reals: &[f64],
+    parts: &[u32],
+    ranges: &[f64],
+) -> Verdict
+    ensures { λ r. ⌜ r ≡ tablesVerdict (lent (points .entry) (curves .entry) (reals .entry) (parts .entry) (ranges .entry)) ⌝ }
+{
+    if oversize(points, curves, reals, parts, ranges) {
+        return Verdict::Refused(1);
+    }
+    let rows = (curves.len() / 3) as u32;
+    if bounds::unbounded_tables(points, reals, ranges) {
+        return Verdict::Refused(2);
+    }
+    if forms::ill_formed_tables(points, curves, reals, parts, ranges) {
+        return Verdict::Refused(3);
+    }
+    if unordered(points, curves, reals, parts, ranges, rows) {
+        return Verdict::Refused(4);
+    }
+    if nest::too_deep(points, curves, reals, parts, ranges, rows) {
+        return Verdict::Refused(5);
+    }
+    Verdict::Accepted
+}
+
+// The lowest of the causes 2, 3 and 6 that the edge and the options have. No table is gone through.
+pub fn check_edge(
+    points: &[f64],
+    curves: &[u32],
+    reals: &[f64],
+    parts: &[u32],
+    ranges: &[f64],
+    edge: Edge,
+    options: Options,
+) -> Verdict
+    ensures { λ r. ⌜ r ≡ edgeVerdict (lent (points .entry) (curves .entry) (reals .entry) (parts .entry) (ranges .entry)) edge options ⌝ }
+{
+    if bounds::unbounded_edge(edge, options) {
+        return Verdict::Refused(2);
+    }
+    if forms::ill_formed_edge(edge, options) {
+        return Verdict::Refused(3);
+    }
+    if missing(points, curves, reals, parts, ranges, edge) {
+        return Verdict::Refused(6);
+    }
+    Verdict::Accepted
+}
+
+// The lower refusal of two; accepted where both are.
+pub fn lower(a: Verdict, b: Verdict) -> Verdict
+    ensures { λ r. ⌜ r ≡ lowestOf a b ⌝ }
+{
+    match a {
+        Verdict::Accepted => b,
+        Verdict::Refused(m) => match b {
+            Verdict::Accepted => a,
+            Verdict::Refused(n) => { if m <= n { a } else { b } }
+        },
+    }
+}
+
 // The lowest of the causes 1 to 6 that applies, for any slices of any length.
 pub fn check(
     points: &[f64],
@@ -213,24 +278,7 @@ pub fn check(
 ) -> Verdict
     ensures { λ r. ⌜ r ≡ verdict (lent (points .entry) (curves .entry) (reals .entry) (parts .entry) (ranges .entry)) edge options ⌝ }
 {
-    if oversize(points, curves, reals, parts, ranges) {
-        return Verdict::Refused(1);
-    }
-    let rows = (curves.len() / 3) as u32;
-    if bounds::unbounded(points, reals, ranges, edge, options) {
-        return Verdict::Refused(2);
-    }
-    if forms::ill_formed(points, curves, reals, parts, ranges, edge, options) {
-        return Verdict::Refused(3);
-    }
-    if unordered(points, curves, reals, parts, ranges, rows) {
-        return Verdict::Refused(4);
-    }
-    if too_deep(points, curves, reals, parts, ranges, rows) {
-        return Verdict::Refused(5);
-    }
-    if missing(points, curves, reals, parts, ranges, edge) {
-        return Verdict::Refused(6);
-    }
-    Verdict::Accepted
+    let of_tables = check_tables(points, curves, reals, parts, ranges);
+    let of_edge = check_edge(points, curves, reals, parts, ranges, edge, options);
+    lower(of_tables, of_edge)
 }

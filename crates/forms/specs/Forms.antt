@@ -78,9 +78,16 @@ malformedRow T i =
 unfoldable pub malformedSegment : Tables → ℕ → Bool
 malformedSegment T i = leb (curveCount T) (getD (T .parts) (i * 2) 0) || ltb 1 (getD (T .parts) (i * 2 + 1) 0)
 
--- the slices, the rows, the segments, the edge's sense, or relative
-unfoldable pub illFormed : Tables → Edge → Options → Bool
-illFormed T e o =
+-- the slices, the rows, or the segments
+abbrev pub illFormedTables : Tables → Bool
+illFormedTables T =
     (broken T || uneven T)
-    || ((someBelow (curveCount T) (malformedRow T) || someBelow (segmentCount T) (malformedSegment T))
-    || (ltb 1 (e .sense) || ltb 1 (o .relative)))
+    || (someBelow (curveCount T) (malformedRow T) || someBelow (segmentCount T) (malformedSegment T))
+
+-- the edge's sense, or relative
+abbrev pub illFormedEdge : Edge → Options → Bool
+illFormedEdge e o = ltb 1 (e .sense) || ltb 1 (o .relative)
+
+-- of the tables, or of the edge and the options
+unfoldable pub illFormed : Tables → Edge → Options → Bool
+illFormed T e o = illFormedTables T || illFormedEdge e o

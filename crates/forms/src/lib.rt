@@ -9,7 +9,7 @@ ghost use lib.ListN.{length};
 ghost use lib.Dec.{ltb};
 ghost use Rattle.brep.specs.Rows.{lent};
 ghost use Rattle.bounds.specs.Some.{someBelow};
-ghost use Rattle.forms.specs.Forms.{broken, uneven, unknownKind, wrongCount, spareP, spareQ, unusedSet, room, malformed, malformedRow, malformedSegment, illFormed};
+ghost use Rattle.forms.specs.Forms.{broken, uneven, unknownKind, wrongCount, spareP, spareQ, unusedSet, room, malformed, malformedRow, malformedSegment, illFormedTables, illFormedEdge};
 
 fn broken(points: &[f64], curves: &[u32], reals: &[f64], parts: &[u32], ranges: &[f64]) -> bool
     ensures { λ r. ⌜ r ≡ broken (lent (points .entry) (curves .entry) (reals .entry) (parts .entry) (ranges .entry)) ⌝ }
@@ -189,16 +189,15 @@ fn any_segment(points: &[f64], curves: &[u32], reals: &[f64], parts: &[u32], ran
     false
 }
 
-pub fn ill_formed(
+// Of the tables.
+pub fn ill_formed_tables(
     points: &[f64],
     curves: &[u32],
     reals: &[f64],
     parts: &[u32],
     ranges: &[f64],
-    edge: Edge,
-    options: Options,
 ) -> bool
-    ensures { λ r. ⌜ r ≡ illFormed (lent (points .entry) (curves .entry) (reals .entry) (parts .entry) (ranges .entry)) edge options ⌝ }
+    ensures { λ r. ⌜ r ≡ illFormedTables (lent (points .entry) (curves .entry) (reals .entry) (parts .entry) (ranges .entry)) ⌝ }
 {
     let ragged = either(
         broken(points, curves, reals, parts, ranges),
@@ -208,8 +207,12 @@ pub fn ill_formed(
         any_row(points, curves, reals, parts, ranges),
         any_segment(points, curves, reals, parts, ranges),
     );
-    either(
-        ragged,
-        either(rows, either(1 < edge.sense, 1 < options.relative)),
-    )
+    either(ragged, rows)
+}
+
+// Of the edge and the options.
+pub fn ill_formed_edge(edge: Edge, options: Options) -> bool
+    ensures { λ r. ⌜ r ≡ illFormedEdge edge options ⌝ }
+{
+    either(1 < edge.sense, 1 < options.relative)
 }

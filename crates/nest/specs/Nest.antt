@@ -1,10 +1,13 @@
 -- How deep trims and composites nest (cause 5). Definitions only.
 use mathlib.Core.Path.{_≡_}
-use mathlib.Core.List.{List, [], _∷_, _++_}
-use Prim.Native.Nat.{ℕ, zero, suc, _<_, min, max}
-use lib.ListN.{getD}
+use mathlib.Core.Bool.{Bool}
+use Prim.Native.Nat.{ℕ, suc, _+_, _/_, _<_, _≤_, max}
+use lib.ListN.{length}
+use lib.Dec.{ltb}
+use Rattle.math.specs.declared.Interval.{Interval}
+use Rattle.brep.specs.declared.Curve.the-variants.{Trimmed, Composite}
 use Rattle.brep.specs.Rows.{Tables}
-use Rattle.brep.specs.Tree.{CurveTree, line, circle, ellipse, parabola, polyline, trimmed, composite, Segments, none, segment, tree}
+use Rattle.brep.specs.Tree.{CurveTree, line, circle, ellipse, parabola, polyline, trimmed, composite, Segments, none, segment, segmentIn, rowIn, tree}
 
 -- 0 for kinds 1 to 5, one more than its base for a trim, one more than its deepest segment for a composite
 unfoldable mutual
@@ -22,11 +25,15 @@ unfoldable mutual
   deepest none = 0
   deepest (segment curve range same rest) = max (nesting curve) (deepest rest)
 
--- the nestings of the first n rows; 9 stands for 9 and all that is deeper
-unfoldable pub nestings : Tables → ℕ → List ℕ
-nestings T zero = []
-nestings T (suc n) = nestings T n ++ (min 9 (nesting (tree T n)) ∷ [])
+-- a row nested deeper than 8
+unfoldable pub deepRow : Tables → ℕ → Bool
+deepRow T row = ltb 8 (nesting (tree T row))
 
--- nests holds the nesting of each row below n, or 9 where it is deeper
-abbrev pub Known : Tables → List ℕ → ℕ → Type 0
-Known T nests n = (i : ℕ) → i < n → getD nests i 0 ≡ min 9 (nesting (tree T i))
+-- each trim and composite among the first n rows refers to lower rows only
+pub record Falling (T : Tables) (n : ℕ) : Type 0 where
+  pub trimFalls : (row base : ℕ) (range : Interval) → row < n → rowIn T row ≡ Trimmed base range → base < row
+  pub segmentFalls : (row first count j : ℕ) → row < n → rowIn T row ≡ Composite first count → j < count → segmentIn T (first + j) .curve < row
+
+-- the run of each composite among the first n rows ends where the segments do, or before
+abbrev pub Inside : Tables → ℕ → Type 0
+Inside T n = (row first count : ℕ) → row < n → rowIn T row ≡ Composite first count → first + count ≤ length (T .parts) / 2

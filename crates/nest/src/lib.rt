@@ -1,128 +1,178 @@
-// How deep trims and composites nest, row by row: each row from the rows below it, so that shared rows cost nothing.
-use brep::Curve;
+// Whether trims and composites nest deeper than 8, level by level: the rows that reach a depth are marked from the marks
+// of the depth before. Each level is one pass over the segments and one over the rows, however the runs overlap.
+use bounds::either;
 ghost use mathlib.Core.Path.{_≡_};
-ghost use mathlib.Core.Bool.{cond};
-ghost use mathlib.Core.List.{_++_};
-ghost use Prim.Native.Nat.{_+_, _≤_, min, max};
-ghost use lib.ListN.{length, getD, drop};
-ghost use lib.Dec.{ltb};
+ghost use mathlib.Core.Bool.{false, cond};
+ghost use Prim.Native.Nat.{_+_, _/_, _<_, _≤_};
+ghost use lib.ListN.{length, getD};
 ghost use Rattle.brep.specs.Rows.{lent};
-ghost use Rattle.brep.specs.Tree.{tree, below, segments};
-ghost use Rattle.nest.specs.Nest.{nesting, deepest, nestings, Known};
+ghost use Rattle.bounds.specs.Some.{someBelow};
+ghost use Rattle.nest.specs.Nest.{deepRow, Falling, Inside};
+ghost use Rattle.nest.specs.Levels.{Agrees, nests, segmentMarked, countBelow, nextMark, TrimsFall};
 
-fn larger(a: u32, b: u32) -> u32
-    ensures { λ r. ⌜ r ≡ max a b ⌝ }
+// Mark number i; past the end there is none.
+fn mark_at(marks: &[bool], i: usize) -> bool
+    ensures { λ r. ⌜ r ≡ getD (now (marks .entry)) i false ⌝ }
 {
-    if a < b { b } else { a }
+    if i < marks.len() { marks[i] } else { false }
 }
 
-// One deeper, at most 9.
-fn deeper(d: u32) -> u32
-    ensures { λ r. ⌜ r ≡ min 9 (d + 1) ⌝ }
+fn one_if(b: bool) -> u32
+    ensures { λ r. ⌜ r ≡ cond b 1 0 ⌝ }
 {
-    if d < 8 { d + 1 } else { 9 }
+    if b { 1 } else { 0 }
 }
 
-// The nesting of what row refers to: a reference that does not fall is the empty polyline.
-fn nest_below(nests: &[u32], row: u32, base: u32) -> u32
-    ensures { λ r. ⌜ r ≡ cond (ltb base row) (getD (now (nests .entry)) base 0) 0 ⌝ }
+// Kinds 6 and 7.
+fn nests(curves: &[u32], row: u32) -> bool
+    ensures { λ r. ⌜ r ≡ nests (now (curves .entry)) row ⌝ }
 {
-    if base < row {
-        return brep::int_at(nests, base as usize);
+    let kind = brep::int_at(curves, row as usize * 3);
+    either(kind == 6, kind == 7)
+}
+
+// Depth 1: marks every trim and composite, and says whether there is one.
+fn mark_nested(curves: &[u32], marks: &mut [bool], rows: u32) -> bool
+    requires { ⌜ rows ≤ length (now marks) ⌝ }
+    ensures { λ r. ⌜ (r ≡ someBelow rows (nests (now (curves .entry))))
+        × Agrees false (now (marks .exit)) rows (nests (now (curves .entry))) ⌝ }
+{
+    let mut some = false;
+    let mut row: u32 = 0;
+    while row < rows {
+        let mark = nests(curves, row);
+        marks[row as usize] = mark;
+        some = either(some, mark);
+        row += 1;
     }
-    0
+    some
 }
 
-// The deepest of a composite's segments.
-fn deepest_at(
+// How many of the first k segments have a marked curve, for each k up to all of them.
+fn count_marked(parts: &[u32], marks: &[bool], sums: &mut [u32])
+    requires { ⌜ length (now parts) / 2 ≤ 4096 ⌝ }
+    requires { ⌜ length (now parts) / 2 < length (now sums) ⌝ }
+    ensures { λ _. ⌜ Agrees 0 (now (sums .exit)) (length (now (parts .entry)) / 2 + 1) (countBelow (segmentMarked (now (parts .entry)) (now (marks .entry)))) ⌝ }
+{
+    let segments = parts.len() / 2;
+    let mut n: u32 = 0;
+    let mut k = 0;
+    while k < segments {
+        sums[k] = n;
+        let curve = brep::int_at(parts, k * 2);
+        n += one_if(mark_at(marks, curve as usize));
+        k += 1;
+    }
+    sums[segments] = n;
+}
+
+// A row's mark at the next depth. More marked segments before a run's end than before its start: one of the run is marked.
+fn next_mark(curves: &[u32], marks: &[bool], sums: &[u32], row: u32) -> bool
+    ensures { λ r. ⌜ r ≡ nextMark (now (curves .entry)) (now (marks .entry)) (now (sums .entry)) row ⌝ }
+{
+    let at = row as usize * 3;
+    let kind = brep::int_at(curves, at);
+    let first = brep::int_at(curves, at + 1) as usize;
+    if kind == 6 {
+        return mark_at(marks, first);
+    }
+    if kind == 7 {
+        let end = first + brep::int_at(curves, at + 2) as usize;
+        return brep::int_at(sums, first) != brep::int_at(sums, end);
+    }
+    false
+}
+
+// Marks the rows that reach the next depth, and says whether there is one. From the highest row down: a trim's base is in
+// a lower row, whose mark is still the one of the depth before.
+fn mark_deeper(curves: &[u32], marks: &mut [bool], sums: &[u32], rows: u32) -> bool
+    requires { ⌜ rows ≤ length (now marks) ⌝ }
+    requires { ⌜ TrimsFall (now curves) rows ⌝ }
+    ensures { λ r. ⌜ (r ≡ someBelow rows (nextMark (now (curves .entry)) (now (marks .entry)) (now (sums .entry))))
+        × Agrees false (now (marks .exit)) rows (nextMark (now (curves .entry)) (now (marks .entry)) (now (sums .entry))) ⌝ }
+{
+    let mut some = false;
+    let mut row = rows;
+    while 0 < row {
+        row -= 1;
+        let mark = next_mark(curves, marks, sums, row);
+        marks[row as usize] = mark;
+        some = either(some, mark);
+    }
+    some
+}
+
+// With room for a mark of each row, and for a count before each segment and after the last. Where nothing reaches a depth,
+// nothing reaches a greater one.
+fn deep_in(
     points: &[f64],
     curves: &[u32],
     reals: &[f64],
     parts: &[u32],
     ranges: &[f64],
-    nests: &[u32],
-    row: u32,
-    first: u32,
-    count: u32,
-) -> u32
-    requires { ⌜ Known (lent points curves reals parts ranges) (now nests) row ⌝ }
-    ensures { λ r. ⌜ r ≡ min 9 (deepest (segments (lent (points .entry) (curves .entry) (reals .entry) (parts .entry) (ranges .entry)) (below (lent (points .entry) (curves .entry) (reals .entry) (parts .entry) (ranges .entry)) row) first count)) ⌝ }
+    marks: &mut [bool],
+    sums: &mut [u32],
+    rows: u32,
+) -> bool
+    requires { ⌜ rows ≤ length (now marks) ⌝ }
+    requires { ⌜ length (now parts) / 2 ≤ 4096 ⌝ }
+    requires { ⌜ length (now parts) / 2 < length (now sums) ⌝ }
+    requires { ⌜ Falling (lent points curves reals parts ranges) rows ⌝ }
+    requires { ⌜ Inside (lent points curves reals parts ranges) rows ⌝ }
+    ensures { λ r. ⌜ r ≡ someBelow rows (deepRow (lent (points .entry) (curves .entry) (reals .entry) (parts .entry) (ranges .entry))) ⌝ }
 {
-    let mut best: u32 = 0;
-    let mut j: u32 = 0;
-    while j < count {
-        let s = brep::segment_at(parts, ranges, first, j);
-        best = larger(best, nest_below(nests, row, s.curve));
-        j += 1;
+    let mut some = mark_nested(curves, marks, rows);
+    let mut depth: u32 = 1;
+    while depth < 9 {
+        if !some {
+            return false;
+        }
+        count_marked(parts, marks, sums);
+        some = mark_deeper(curves, marks, sums, rows);
+        depth += 1;
     }
-    best
+    some
 }
 
-// The nesting of row, at most 9, where nests holds that of each lower row.
-fn nest_of(
+// Cause 5, in the first rows rows. Small tables need little room, which is cleared at each call.
+pub fn too_deep(
     points: &[f64],
     curves: &[u32],
     reals: &[f64],
     parts: &[u32],
     ranges: &[f64],
-    nests: &[u32],
-    row: u32,
-) -> u32
-    requires { ⌜ Known (lent points curves reals parts ranges) (now nests) row ⌝ }
-    ensures { λ r. ⌜ r ≡ min 9 (nesting (tree (lent (points .entry) (curves .entry) (reals .entry) (parts .entry) (ranges .entry)) row)) ⌝ }
+    rows: u32,
+) -> bool
+    requires { ⌜ rows ≤ 4096 ⌝ }
+    requires { ⌜ length (now parts) / 2 ≤ 4096 ⌝ }
+    requires { ⌜ Falling (lent points curves reals parts ranges) rows ⌝ }
+    requires { ⌜ Inside (lent points curves reals parts ranges) rows ⌝ }
+    ensures { λ r. ⌜ r ≡ someBelow rows (deepRow (lent (points .entry) (curves .entry) (reals .entry) (parts .entry) (ranges .entry))) ⌝ }
 {
-    let c = brep::row_at(points, curves, reals, row);
-    match c {
-        Curve::Line {
-            origin: _,
-            direction: _,
-        } => 0,
-        Curve::Circle {
-            frame: _,
-            radius: _,
-        } => 0,
-        Curve::Ellipse {
-            frame: _,
-            semi_major: _,
-            semi_minor: _,
-        } => 0,
-        Curve::Parabola {
-            frame: _,
-            focal_dist: _,
-        } => 0,
-        Curve::Polyline { first: _, count: _ } => 0,
-        Curve::Trimmed { base, range: _ } => deeper(nest_below(nests, row, base)),
-        Curve::Composite { first, count } => deeper(deepest_at(
+    if rows <= 32 && parts.len() / 2 <= 32 {
+        let mut few = [false; 32];
+        let mut sums = [0u32; 33];
+        return deep_in(
             points,
             curves,
             reals,
             parts,
             ranges,
-            nests,
-            row,
-            first,
-            count,
-        )),
+            &mut few,
+            &mut sums,
+            rows,
+        );
     }
-}
-
-// The nestings of the first rows rows, each at most 9.
-pub fn nest_table(
-    points: &[f64],
-    curves: &[u32],
-    reals: &[f64],
-    parts: &[u32],
-    ranges: &[f64],
-    nests: &mut [u32],
-    rows: u32,
-)
-    requires { ⌜ rows ≤ length (now nests) ⌝ }
-    ensures { λ _. ⌜ now (nests .exit) ≡ nestings (lent (points .entry) (curves .entry) (reals .entry) (parts .entry) (ranges .entry)) rows ++ drop rows (now (nests .entry)) ⌝ }
-{
-    let mut row: u32 = 0;
-    while row < rows {
-        let n = nest_of(points, curves, reals, parts, ranges, nests, row);
-        nests[row as usize] = n;
-        row += 1;
-    }
+    let mut marks = [false; 4096];
+    let mut sums = [0u32; 4097];
+    deep_in(
+        points,
+        curves,
+        reals,
+        parts,
+        ranges,
+        &mut marks,
+        &mut sums,
+        rows,
+    )
 }

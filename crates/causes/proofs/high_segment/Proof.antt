@@ -1,15 +1,18 @@
 -- `causes::high_segment` meets its contract. Assumes nothing.
-use Rattle.causes.specs.Causes.{highSegment}
+use Rattle.brep.specs.Rows.{segmentOf}
 use borrow.Author.Needs.{needs}
 use Rattle.causes.proofs.high_segment.Statement.{statement}
 use Rattle.causes.proofs.high_segment.Tie as tie
 
-segment-at-requires : tie.Need-segment-at-requires
-segment-at-requires c κs = search needs
+mul-int-at : tie.Need-mul-int-at
+mul-int-at c = search needs
+
+int-at-requires : tie.Need-int-at-requires
+int-at-requires c κs = search needs
 
 returns : tie.Need-returns
-unfolding highSegment
-returns c = rw (c .before .segment-at .ensures)
+unfolding segmentOf
+returns c = rw (c .int-at .ensures)
 
 pub high-segment-spec : {M : Type 1} → statement M
-high-segment-spec = tie.close (tie.spec segment-at-requires returns)
+high-segment-spec = tie.close (tie.spec mul-int-at int-at-requires returns)

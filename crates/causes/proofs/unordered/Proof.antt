@@ -1,50 +1,35 @@
--- `causes::unordered` meets its contract. The invariant: each row passed refers to lower rows alone. Assumes nothing.
-use Rattle.bounds.proofs.Laws.{Clear, clear-none, clear-more, clear-found, clear-all}
-use Rattle.brep.specs.Rows.{tables}
-use Rattle.causes.specs.Causes.{unorderedRow}
-use Prim.Native.Nat.{_≤_, _-_}
+-- `causes::unordered` meets its contract: at first no segment is passed over. Assumes nothing.
 use native.Mathlib.Omega.{arith}
+use Rattle.causes.proofs.Skips.{seen-none}
 use borrow.Author.Needs.{needs}
 use Rattle.causes.proofs.unordered.Statement.{statement}
 use Rattle.causes.proofs.unordered.Tie as tie
 
-abbrev Inv-loop : tie.InvT-loop
-Inv-loop points curves reals parts ranges rows row₀ row = (row ≤ rows) × Clear (unorderedRow (tables points curves reals parts ranges)) row
+slice-aggregate-unordered-in : tie.Need-slice-aggregate-unordered-in
+slice-aggregate-unordered-in c = search needs
 
-abbrev μ-loop : tie.MeasureT-loop
-μ-loop points curves reals parts ranges rows row₀ row = rows - row
+unordered-in-requires : tie.Need-unordered-in-requires
+unordered-in-requires c κs = (seen-none _ 33 _ (omega arith), omega arith, c .before .before .before .before .before .before .before .pre .1)
 
-loop-holds : tie.Need-loop-holds Inv-loop μ-loop
-loop-holds c = (search needs, clear-none _)
+returns : tie.Need-returns
+returns c = search needs
 
-unordered-row-requires : tie.Need-unordered-row-requires Inv-loop μ-loop
-unordered-row-requires c κs = search needs
+slice-aggregate-unordered-in-2 : tie.Need-slice-aggregate-unordered-in-2
+slice-aggregate-unordered-in-2 c = search needs
 
-returns : tie.Need-returns Inv-loop μ-loop
-returns c = clear-found (c .before .before .before .loop .inv .1) (c .before .before .loop-test .taken) (c .before .unordered-row .ensures) (c .if1 .taken)
+unordered-in-requires-2 : tie.Need-unordered-in-requires-2
+unordered-in-requires-2 c κs = (seen-none _ 4097 _ (omega arith), omega arith, c .before .before .before .before .before .before .before .pre .1)
 
-add-row : tie.Need-add-row Inv-loop μ-loop
-add-row c = omega arith
-
-loop-less : tie.Need-loop-less Inv-loop μ-loop
-loop-less c = omega arith
-
-loop-again : tie.Need-loop-again Inv-loop μ-loop
-loop-again c = (omega arith, clear-more (c .before .before .before .loop .inv .1) (c .before .unordered-row .ensures) (c .if1 .left))
-
-returns-2 : tie.Need-returns-2 Inv-loop μ-loop
-returns-2 c = clear-all (c .before .loop .inv .1) (c .before .loop .inv .0) (c .loop-test .left)
+returns-2 : tie.Need-returns-2
+returns-2 c = search needs
 
 pub unordered-spec : {M : Type 1} → statement M
 unordered-spec =
     tie.close
     (tie.spec
-    Inv-loop
-    μ-loop
-    loop-holds
-    unordered-row-requires
+    slice-aggregate-unordered-in
+    unordered-in-requires
     returns
-    add-row
-    loop-less
-    loop-again
+    slice-aggregate-unordered-in-2
+    unordered-in-requires-2
     returns-2)

@@ -1,0 +1,42 @@
+-- `causes::lower` meets its contract. Assumes nothing.
+use Rattle.causes.proofs.Apart.{lower-none, lower-one, lower-first, lower-second}
+use borrow.Author.Needs.{needs}
+use Rattle.causes.proofs.lower.Statement.{statement}
+use Rattle.causes.proofs.lower.Tie as tie
+
+enum-told : tie.Need-enum-told
+enum-told c = search needs
+
+enum-known-a : tie.Need-enum-known-a
+enum-known-a c = search needs
+
+enum-told-2 : tie.Need-enum-told-2
+enum-told-2 c = search needs
+
+enum-known-b : tie.Need-enum-known-b
+enum-known-b c = search needs
+
+returns : tie.Need-returns
+returns c = lower-none _ _ (c .enum-told .given .1)
+
+returns-2 : tie.Need-returns-2
+returns-2 c = lower-one _ _ _ (c .before .before .before .a .given .1) (c .enum-told2 .given .1)
+
+returns-3 : tie.Need-returns-3
+returns-3 c = lower-first _ _ _ _ (c .before .before .before .before .before .a .given .1) (c .before .before .b .given .1) (c .if1 .taken)
+
+returns-4 : tie.Need-returns-4
+returns-4 c = lower-second _ _ _ _ (c .before .before .before .before .before .a .given .1) (c .before .before .b .given .1) (c .if1 .left)
+
+pub lower-spec : {M : Type 1} → statement M
+lower-spec =
+    tie.close
+    (tie.spec
+    enum-told
+    enum-known-a
+    enum-told-2
+    enum-known-b
+    returns
+    returns-2
+    returns-3
+    returns-4)
