@@ -75,8 +75,8 @@ pub fn float_at(s: &[f64], i: usize) -> f64
     if i < s.len() { s[i] } else { arith::nan() }
 }
 
-// Point number i of the run that starts at first.
-pub fn point_in(points: &[f64], first: u32, i: u32) -> Vec3
+// A point that is not whole: each coordinate by its own test.
+fn point_past_end(points: &[f64], first: u32, i: u32) -> Vec3
     ensures { λ r. ⌜ r ≡ pointOf (now (points .entry)) (first + i) ⌝ }
 {
     let at = (first as usize + i as usize) * 3;
@@ -87,6 +87,21 @@ pub fn point_in(points: &[f64], first: u32, i: u32) -> Vec3
     }
 }
 
+// Point number i of the run that starts at first. One test where the point is whole.
+pub fn point_in(points: &[f64], first: u32, i: u32) -> Vec3
+    ensures { λ r. ⌜ r ≡ pointOf (now (points .entry)) (first + i) ⌝ }
+{
+    let at = (first as usize + i as usize) * 3;
+    if at + 3 <= points.len() {
+        return Vec3 {
+            x: points[at],
+            y: points[at + 1],
+            z: points[at + 2],
+        };
+    }
+    point_past_end(points, first, i)
+}
+
 // Point number i: the Rust's `solid.vertex(i)`.
 pub fn point(points: &[f64], i: u32) -> Vec3
     ensures { λ r. ⌜ r ≡ pointOf (now (points .entry)) i ⌝ }
@@ -94,8 +109,8 @@ pub fn point(points: &[f64], i: u32) -> Vec3
     point_in(points, i, 0)
 }
 
-// The frame whose origin, axis and ref_dir are the points from first on, as they are.
-pub fn frame_at(points: &[f64], first: u32) -> Frame
+// A frame that is not whole: each point by its own test.
+fn frame_past_end(points: &[f64], first: u32) -> Frame
     ensures { λ r. ⌜ r ≡ frameOf (now (points .entry)) first ⌝ }
 {
     Frame {
@@ -103,6 +118,36 @@ pub fn frame_at(points: &[f64], first: u32) -> Frame
         axis: point_in(points, first, 1),
         ref_dir: point_in(points, first, 2),
     }
+}
+
+// The frame whose origin, axis and ref_dir are the points from first on, as they are. One test where the frame is whole.
+pub fn frame_at(points: &[f64], first: u32) -> Frame
+    ensures { λ r. ⌜ r ≡ frameOf (now (points .entry)) first ⌝ }
+{
+    let at = first as usize * 3;
+    if at + 9 <= points.len() {
+        let origin = Vec3 {
+            x: points[at],
+            y: points[at + 1],
+            z: points[at + 2],
+        };
+        let axis = Vec3 {
+            x: points[at + 3],
+            y: points[at + 4],
+            z: points[at + 5],
+        };
+        let ref_dir = Vec3 {
+            x: points[at + 6],
+            y: points[at + 7],
+            z: points[at + 8],
+        };
+        return Frame {
+            origin,
+            axis,
+            ref_dir,
+        };
+    }
+    frame_past_end(points, first)
 }
 
 // Segment number i of the run that starts at first.

@@ -1,12 +1,16 @@
 // Curve evaluation on rows: eval/curve.rs. Each contract is the definition at the row's curve.
-use brep::Curve;
-use math::Frame;
+// A row's kind is read by its number, as brep::kind_of has them, and of its other numbers only those that are used: 1 line, 2 circle,
+// 3 ellipse, 4 parabola, 5 polyline, 6 trim, 7 composite; any other is the empty polyline.
 use math::Interval;
 use math::Vec3;
 ghost use mathlib.Core.Path.{_≡_};
-ghost use Prim.Native.Nat.{_-_};
-ghost use Rattle.brep.specs.Rows.{lent};
-ghost use Rattle.brep.specs.Tree.{tree, run, runOf};
+ghost use Prim.Native.Nat.{_+_, _-_, _*_};
+ghost use lib.ListN.{getD};
+ghost use lib.Ieee.{nan};
+ghost use Rattle.math.specs.Math.{interval, vAdd, vScale};
+ghost use Rattle.brep.specs.Rows.{lent, pointOf, frameOf};
+ghost use Rattle.brep.specs.Tree.{tree, run, runOf, polyline};
+ghost use Rattle.curve.specs.Under.{under};
 ghost use Rattle.curve.specs.Eval.{naturalRange, closes, isClosed, everySpan, period, isSampled, indexIn, polylineParameter, polylinePoint, ownParameter, ellipsePoint, parabolaPoint, pointAt};
 
 // What `period` finds: how far the parameter runs until the curve is back where it was, or that it never is.
@@ -22,6 +26,32 @@ pub fn last_of(count: u32) -> u32
     if count == 0 { 0 } else { count - 1 }
 }
 
+// While the row is a trim whose base lies lower, its base.
+pub fn under_trims(curves: &[u32], row: u32) -> u32
+    ensures { λ r. ⌜ r ≡ under (now (curves .entry)) row ⌝ }
+{
+    let mut r = row;
+    while brep::int_at(curves, r as usize * 3) == 6 {
+        let base = brep::int_at(curves, r as usize * 3 + 1);
+        if r <= base {
+            return r;
+        }
+        r = base;
+    }
+    r
+}
+
+// A trim's range.
+fn range_at(reals: &[f64], row: u32) -> Interval
+    ensures { λ r. ⌜ r ≡ interval (getD (now (reals .entry)) (row * 2) nan) (getD (now (reals .entry)) (row * 2 + 1) nan) ⌝ }
+{
+    let at = row as usize * 2;
+    Interval {
+        lo: brep::float_at(reals, at),
+        hi: brep::float_at(reals, at + 1),
+    }
+}
+
 pub fn natural_range(
     points: &[f64],
     curves: &[u32],
@@ -32,43 +62,32 @@ pub fn natural_range(
 ) -> Interval
     ensures { λ r. ⌜ r ≡ naturalRange (tree (lent (points .entry) (curves .entry) (reals .entry) (parts .entry) (ranges .entry)) row) ⌝ }
 {
-    let c = brep::row_at(points, curves, reals, row);
-    match c {
-        Curve::Line {
-            origin: _,
-            direction: _,
-        } => Interval {
+    let at = row as usize * 3;
+    let kind = brep::int_at(curves, at);
+    match kind {
+        1 => Interval {
             lo: -1e12,
             hi: 1e12,
         },
-        Curve::Circle {
-            frame: _,
-            radius: _,
-        } => Interval {
+        2 => Interval {
             lo: 0.0,
             hi: 6.283185307179586,
         },
-        Curve::Ellipse {
-            frame: _,
-            semi_major: _,
-            semi_minor: _,
-        } => Interval {
+        3 => Interval {
             lo: 0.0,
             hi: 6.283185307179586,
         },
-        Curve::Parabola {
-            frame: _,
-            focal_dist: _,
-        } => Interval { lo: -1e6, hi: 1e6 },
-        Curve::Polyline { first: _, count } => Interval {
+        4 => Interval { lo: -1e6, hi: 1e6 },
+        5 => Interval {
             lo: 0.0,
-            hi: last_of(count) as f64,
+            hi: last_of(brep::int_at(curves, at + 2)) as f64,
         },
-        Curve::Trimmed { base: _, range } => range,
-        Curve::Composite { first: _, count } => Interval {
+        6 => range_at(reals, row),
+        7 => Interval {
             lo: 0.0,
-            hi: count as f64,
+            hi: brep::int_at(curves, at + 2) as f64,
         },
+        _ => Interval { lo: 0.0, hi: 0.0 },
     }
 }
 
@@ -94,36 +113,27 @@ pub fn is_closed(
 ) -> bool
     ensures { λ r. ⌜ r ≡ isClosed (tree (lent (points .entry) (curves .entry) (reals .entry) (parts .entry) (ranges .entry)) row) ⌝ }
 {
-    let c = brep::row_at(points, curves, reals, row);
-    match c {
-        Curve::Line {
-            origin: _,
-            direction: _,
-        } => false,
-        Curve::Circle {
-            frame: _,
-            radius: _,
-        } => true,
-        Curve::Ellipse {
-            frame: _,
-            semi_major: _,
-            semi_minor: _,
-        } => true,
-        Curve::Parabola {
-            frame: _,
-            focal_dist: _,
-        } => false,
-        Curve::Polyline { first, count } => closes_at(points, first, count),
-        Curve::Trimmed { base, range } => {
-            if base < row {
-                if is_closed(points, curves, reals, parts, ranges, base) {
-                    let n = natural_range(points, curves, reals, parts, ranges, base);
+    let at = row as usize * 3;
+    let kind = brep::int_at(curves, at);
+    let first = brep::int_at(curves, at + 1);
+    match kind {
+        1 => false,
+        2 => true,
+        3 => true,
+        4 => false,
+        5 => closes_at(points, first, brep::int_at(curves, at + 2)),
+        6 => {
+            if first < row {
+                if is_closed(points, curves, reals, parts, ranges, first) {
+                    let range = range_at(reals, row);
+                    let n = natural_range(points, curves, reals, parts, ranges, first);
                     return arith::abs(arith::abs(range.span()) - n.span()) < 1e-9;
                 }
             }
             false
         }
-        Curve::Composite { first: _, count: _ } => false,
+        7 => false,
+        _ => false,
     }
 }
 
@@ -139,6 +149,20 @@ fn every_span(span: f64) -> Repeats
     Repeats::Never
 }
 
+// A polyline's period, where it closes, is its range's span.
+fn polyline_period(points: &[f64], first: u32, count: u32) -> Repeats
+    ensures { λ r. ⌜ r ≡ period (polyline (run (now (points .entry)) first count)) ⌝ }
+{
+    if closes_at(points, first, count) {
+        let n = Interval {
+            lo: 0.0,
+            hi: last_of(count) as f64,
+        };
+        return every_span(n.span());
+    }
+    Repeats::Never
+}
+
 pub fn period(
     points: &[f64],
     curves: &[u32],
@@ -149,46 +173,23 @@ pub fn period(
 ) -> Repeats
     ensures { λ r. ⌜ r ≡ period (tree (lent (points .entry) (curves .entry) (reals .entry) (parts .entry) (ranges .entry)) row) ⌝ }
 {
-    let c = brep::row_at(points, curves, reals, row);
-    match c {
-        Curve::Line {
-            origin: _,
-            direction: _,
-        } => Repeats::Never,
-        Curve::Circle {
-            frame: _,
-            radius: _,
-        } => Repeats::Every(6.283185307179586),
-        Curve::Ellipse {
-            frame: _,
-            semi_major: _,
-            semi_minor: _,
-        } => Repeats::Every(6.283185307179586),
-        Curve::Parabola {
-            frame: _,
-            focal_dist: _,
-        } => Repeats::Never,
-        Curve::Polyline { first, count } => {
-            if closes_at(points, first, count) {
-                let n = Interval {
-                    lo: 0.0,
-                    hi: last_of(count) as f64,
-                };
-                return every_span(n.span());
-            }
-            Repeats::Never
+    let at = under_trims(curves, row) as usize * 3;
+    let kind = brep::int_at(curves, at);
+    match kind {
+        1 => Repeats::Never,
+        2 => Repeats::Every(6.283185307179586),
+        3 => Repeats::Every(6.283185307179586),
+        4 => Repeats::Never,
+        5 => {
+            let first = brep::int_at(curves, at + 1);
+            polyline_period(points, first, brep::int_at(curves, at + 2))
         }
-        Curve::Trimmed { base, range: _ } => {
-            if base < row {
-                return period(points, curves, reals, parts, ranges, base);
-            }
-            Repeats::Never
-        }
-        Curve::Composite { first: _, count: _ } => Repeats::Never,
+        7 => Repeats::Never,
+        _ => Repeats::Never,
     }
 }
 
-// Whether the row is a polyline, or a trim of one. (A base that is not lower reads as an empty polyline.)
+// Whether the row is a polyline, or a trim of one. (An unknown kind and a base that is not lower read as an empty polyline.)
 pub fn is_sampled(
     points: &[f64],
     curves: &[u32],
@@ -199,33 +200,16 @@ pub fn is_sampled(
 ) -> bool
     ensures { λ r. ⌜ r ≡ isSampled (tree (lent (points .entry) (curves .entry) (reals .entry) (parts .entry) (ranges .entry)) row) ⌝ }
 {
-    let c = brep::row_at(points, curves, reals, row);
-    match c {
-        Curve::Line {
-            origin: _,
-            direction: _,
-        } => false,
-        Curve::Circle {
-            frame: _,
-            radius: _,
-        } => false,
-        Curve::Ellipse {
-            frame: _,
-            semi_major: _,
-            semi_minor: _,
-        } => false,
-        Curve::Parabola {
-            frame: _,
-            focal_dist: _,
-        } => false,
-        Curve::Polyline { first: _, count: _ } => true,
-        Curve::Trimmed { base, range: _ } => {
-            if base < row {
-                return is_sampled(points, curves, reals, parts, ranges, base);
-            }
-            true
-        }
-        Curve::Composite { first: _, count: _ } => false,
+    let at = under_trims(curves, row) as usize * 3;
+    let kind = brep::int_at(curves, at);
+    match kind {
+        1 => false,
+        2 => false,
+        3 => false,
+        4 => false,
+        5 => true,
+        7 => false,
+        _ => true,
     }
 }
 
@@ -273,21 +257,32 @@ pub fn own_parameter(range: Interval, same_sense: bool, local: f64) -> f64
     range.at(1.0 - local)
 }
 
-fn ellipse_point(frame: Frame, semi_major: f64, semi_minor: f64, t: f64) -> Vec3
-    ensures { λ r. ⌜ r ≡ ellipsePoint frame «semi_major» «semi_minor» t ⌝ }
+// The sine and cosine come before the frame, whose nine floats need not be kept over the call.
+fn ellipse_point(points: &[f64], first: u32, semi_major: f64, semi_minor: f64, t: f64) -> Vec3
+    ensures { λ r. ⌜ r ≡ ellipsePoint (frameOf (now (points .entry)) first) «semi_major» «semi_minor» t ⌝ }
 {
     let sc = trig::sin_cos(t);
+    let frame = brep::frame_at(points, first);
     let x = frame.ref_dir.scale(semi_major * sc.cos);
     let y = frame.y_dir().scale(semi_minor * sc.sin);
     frame.origin.add(x).add(y)
 }
 
-fn parabola_point(frame: Frame, focal_dist: f64, t: f64) -> Vec3
-    ensures { λ r. ⌜ r ≡ parabolaPoint frame «focal_dist» t ⌝ }
+fn parabola_point(points: &[f64], first: u32, focal_dist: f64, t: f64) -> Vec3
+    ensures { λ r. ⌜ r ≡ parabolaPoint (frameOf (now (points .entry)) first) «focal_dist» t ⌝ }
 {
+    let frame = brep::frame_at(points, first);
     let x = frame.ref_dir.scale(focal_dist * t * t);
     let y = frame.y_dir().scale(2.0 * focal_dist * t);
     frame.origin.add(x).add(y)
+}
+
+fn line_point(points: &[f64], first: u32, t: f64) -> Vec3
+    ensures { λ r. ⌜ r ≡ vAdd (pointOf (now (points .entry)) first) (vScale (pointOf (now (points .entry)) (first + 1)) t) ⌝ }
+{
+    let origin = brep::point_in(points, first, 0);
+    let direction = brep::point_in(points, first, 1);
+    origin.add(direction.scale(t))
 }
 
 pub fn point_at(
@@ -301,34 +296,28 @@ pub fn point_at(
 ) -> Vec3
     ensures { λ r. ⌜ r ≡ pointAt (tree (lent (points .entry) (curves .entry) (reals .entry) (parts .entry) (ranges .entry)) row) t ⌝ }
 {
-    let c = brep::row_at(points, curves, reals, row);
-    match c {
-        Curve::Line { origin, direction } => origin.add(direction.scale(t)),
-        Curve::Circle { frame, radius } => frame.polar(radius, t),
-        Curve::Ellipse {
-            frame,
-            semi_major,
-            semi_minor,
-        } => ellipse_point(frame, semi_major, semi_minor, t),
-        Curve::Parabola { frame, focal_dist } => parabola_point(frame, focal_dist, t),
-        Curve::Polyline { first, count } => polyline_point(points, first, count, t),
-        Curve::Trimmed { base, range: _ } => {
-            if base < row {
-                return point_at(points, curves, reals, parts, ranges, base, t);
-            }
-            Vec3::ZERO
+    let r = under_trims(curves, row);
+    let at = r as usize * 3;
+    let kind = brep::int_at(curves, at);
+    let first = brep::int_at(curves, at + 1);
+    match kind {
+        1 => line_point(points, first, t),
+        2 => {
+            let p = brep::float_at(reals, r as usize * 2);
+            ellipse_point(points, first, p, p, t)
         }
-        Curve::Composite { first, count } => composite_at(
-            points,
-            curves,
-            reals,
-            parts,
-            ranges,
-            row,
-            first,
-            count,
-            t,
-        ),
+        3 => {
+            let p = brep::float_at(reals, r as usize * 2);
+            let q = brep::float_at(reals, r as usize * 2 + 1);
+            ellipse_point(points, first, p, q, t)
+        }
+        4 => parabola_point(points, first, brep::float_at(reals, r as usize * 2), t),
+        5 => polyline_point(points, first, brep::int_at(curves, at + 2), t),
+        7 => {
+            let count = brep::int_at(curves, at + 2);
+            composite_at(points, curves, reals, parts, ranges, r, first, count, t)
+        }
+        _ => Vec3::ZERO,
     }
 }
 

@@ -1,11 +1,10 @@
 // Derivatives and tangents on rows: eval/curve.rs. Each contract is the definition at the row's curve.
-use brep::Curve;
+// A row's kind is read by its number, as in `curve`.
 use math::Direction;
-use math::Frame;
 use math::Interval;
 use math::Vec3;
 ghost use mathlib.Core.Path.{_≡_};
-ghost use Rattle.brep.specs.Rows.{lent};
+ghost use Rattle.brep.specs.Rows.{lent, frameOf};
 ghost use Rattle.brep.specs.Tree.{tree, run, runOf};
 ghost use Rattle.tangent.specs.Derivative.{polylineDerivative, signedSpan, ellipseDerivative, parabolaDerivative, derivativeAt, tangentAt};
 
@@ -32,19 +31,21 @@ fn signed_span(range: Interval, same_sense: bool) -> f64
     -1.0 * range.span()
 }
 
-// A circle is an ellipse with equal axes.
-fn ellipse_derivative(frame: Frame, semi_major: f64, semi_minor: f64, t: f64) -> Vec3
-    ensures { λ r. ⌜ r ≡ ellipseDerivative frame «semi_major» «semi_minor» t ⌝ }
+// A circle is an ellipse with equal axes. The sine and cosine come before the frame, as in `curve`.
+fn ellipse_derivative(points: &[f64], first: u32, semi_major: f64, semi_minor: f64, t: f64) -> Vec3
+    ensures { λ r. ⌜ r ≡ ellipseDerivative (frameOf (now (points .entry)) first) «semi_major» «semi_minor» t ⌝ }
 {
     let sc = trig::sin_cos(t);
+    let frame = brep::frame_at(points, first);
     let x = frame.ref_dir.scale(-semi_major * sc.sin);
     let y = frame.y_dir().scale(semi_minor * sc.cos);
     x.add(y)
 }
 
-fn parabola_derivative(frame: Frame, focal_dist: f64, t: f64) -> Vec3
-    ensures { λ r. ⌜ r ≡ parabolaDerivative frame «focal_dist» t ⌝ }
+fn parabola_derivative(points: &[f64], first: u32, focal_dist: f64, t: f64) -> Vec3
+    ensures { λ r. ⌜ r ≡ parabolaDerivative (frameOf (now (points .entry)) first) «focal_dist» t ⌝ }
 {
+    let frame = brep::frame_at(points, first);
     let x = frame.ref_dir.scale(2.0 * focal_dist * t);
     let y = frame.y_dir().scale(2.0 * focal_dist);
     x.add(y)
@@ -61,37 +62,28 @@ pub fn derivative_at(
 ) -> Vec3
     ensures { λ r. ⌜ r ≡ derivativeAt (tree (lent (points .entry) (curves .entry) (reals .entry) (parts .entry) (ranges .entry)) row) t ⌝ }
 {
-    let c = brep::row_at(points, curves, reals, row);
-    match c {
-        Curve::Line {
-            origin: _,
-            direction,
-        } => direction,
-        Curve::Circle { frame, radius } => ellipse_derivative(frame, radius, radius, t),
-        Curve::Ellipse {
-            frame,
-            semi_major,
-            semi_minor,
-        } => ellipse_derivative(frame, semi_major, semi_minor, t),
-        Curve::Parabola { frame, focal_dist } => parabola_derivative(frame, focal_dist, t),
-        Curve::Polyline { first, count } => polyline_derivative(points, first, count, t),
-        Curve::Trimmed { base, range: _ } => {
-            if base < row {
-                return derivative_at(points, curves, reals, parts, ranges, base, t);
-            }
-            Vec3::ZERO
+    let r = curve::under_trims(curves, row);
+    let at = r as usize * 3;
+    let kind = brep::int_at(curves, at);
+    let first = brep::int_at(curves, at + 1);
+    match kind {
+        1 => brep::point_in(points, first, 1),
+        2 => {
+            let p = brep::float_at(reals, r as usize * 2);
+            ellipse_derivative(points, first, p, p, t)
         }
-        Curve::Composite { first, count } => composite_derivative(
-            points,
-            curves,
-            reals,
-            parts,
-            ranges,
-            row,
-            first,
-            count,
-            t,
-        ),
+        3 => {
+            let p = brep::float_at(reals, r as usize * 2);
+            let q = brep::float_at(reals, r as usize * 2 + 1);
+            ellipse_derivative(points, first, p, q, t)
+        }
+        4 => parabola_derivative(points, first, brep::float_at(reals, r as usize * 2), t),
+        5 => polyline_derivative(points, first, brep::int_at(curves, at + 2), t),
+        7 => {
+            let count = brep::int_at(curves, at + 2);
+            composite_derivative(points, curves, reals, parts, ranges, r, first, count, t)
+        }
+        _ => Vec3::ZERO,
     }
 }
 

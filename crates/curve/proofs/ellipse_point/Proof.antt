@@ -8,6 +8,9 @@ use Rattle.curve.proofs.ellipse_point.Tie as tie
 sin-cos-requires : tie.Need-sin-cos-requires
 sin-cos-requires c κs = search needs
 
+frame-at-requires : tie.Need-frame-at-requires
+frame-at-requires c κs = search needs
+
 scale-requires : tie.Need-scale-requires
 scale-requires c κs = search needs
 
@@ -25,13 +28,14 @@ add-requires-2 c κs = search needs
 
 returns : tie.Need-returns
 unfolding ellipsePoint sinCosOf
-returns c = rw (c .add2 .ensures, c .before .add .ensures, c .before .before .scale2 .ensures, c .before .before .before .before .y-dir .ensures, c .before .before .before .before .before .scale .ensures, c .before .before .before .before .before .before .before .sin-cos .ensures)
+returns c = rw (c .add2 .ensures, c .before .add .ensures, c .before .before .scale2 .ensures, c .before .before .before .before .y-dir .ensures, c .before .before .before .before .before .scale .ensures, c .before .before .before .before .before .before .before .frame-at .ensures, c .before .before .before .before .before .before .before .before .sin-cos .ensures)
 
 pub ellipse-point-spec : {M : Type 1} → statement M
 ellipse-point-spec =
     tie.close
     (tie.spec
     sin-cos-requires
+    frame-at-requires
     scale-requires
     y-dir-requires
     scale-requires-2

@@ -1,93 +1,93 @@
 -- `curve::natural_range` meets its contract. Assumes nothing.
-use Rattle.curve.proofs.Laws.{polyline-range, composite-range}
+use mathlib.Core.Path.{refl, _∙_}
+use Rattle.brep.proofs.ByKind.{at-line, at-circle, at-ellipse, at-parabola, at-polyline, at-trim, at-composite, at-unknown}
 use Rattle.curve.specs.Eval.{naturalRange}
-use Rattle.brep.proofs.Laws.{at-row, at-lower, at-high}
-use Rattle.brep.specs.Tree.{grown}
-use mathlib.Core.Path.{_≡_, refl, sym, ap, _∙_}
+use Rattle.curve.proofs.Laws.{polyline-range, nothing-range, composite-range}
 use borrow.Author.Needs.{needs}
 use Rattle.curve.proofs.natural_range.Statement.{statement}
 use Rattle.curve.proofs.natural_range.Tie as tie
 
-row-at-requires : tie.Need-row-at-requires
-row-at-requires c κs = search needs
+mul-at : tie.Need-mul-at
+mul-at c = search needs
 
-enum-told : tie.Need-enum-told
-enum-told c = search needs
+int-at-requires : tie.Need-int-at-requires
+int-at-requires c κs = search needs
 
-enum-told-2 : tie.Need-enum-told-2
-enum-told-2 c = search needs
+add-int-at : tie.Need-add-int-at
+add-int-at c = search needs
 
-enum-told-3 : tie.Need-enum-told-3
-enum-told-3 c = search needs
-
-enum-told-4 : tie.Need-enum-told-4
-enum-told-4 c = search needs
-
-enum-known-c : tie.Need-enum-known-c
-enum-known-c c = search needs
+int-at-requires-2 : tie.Need-int-at-requires-2
+int-at-requires-2 c κs = search needs
 
 last-of-requires : tie.Need-last-of-requires
 last-of-requires c κs = search needs
 
-int-to-float-t15 : tie.Need-int-to-float-t15
-int-to-float-t15 c = search needs
-
-enum-known-c-2 : tie.Need-enum-known-c-2
-enum-known-c-2 c = search needs
-
-enum-known-c-3 : tie.Need-enum-known-c-3
-enum-known-c-3 c = search needs
-
 int-to-float-t16 : tie.Need-int-to-float-t16
 int-to-float-t16 c = search needs
 
+range-at-requires : tie.Need-range-at-requires
+range-at-requires c κs = search needs
+
+add-int-at-2 : tie.Need-add-int-at-2
+add-int-at-2 c = search needs
+
+int-at-requires-3 : tie.Need-int-at-requires-3
+int-at-requires-3 c κs = search needs
+
+int-to-float-t19 : tie.Need-int-to-float-t19
+int-to-float-t19 c = search needs
+
 returns : tie.Need-returns
-unfolding naturalRange grown
-returns c = at-row naturalRange _ _ (c .enum-told .given .1) (c .before .before .row-at .ensures)
+unfolding naturalRange
+returns c = at-line naturalRange _ _ (c .before .int-at .ensures) (c .match .keys1) refl
 
 returns-2 : tie.Need-returns-2
-unfolding naturalRange grown
-returns-2 c = at-row naturalRange _ _ (c .enum-told2 .given .1) (c .before .before .row-at .ensures)
+unfolding naturalRange
+returns-2 c = at-circle naturalRange _ _ (c .before .int-at .ensures) (c .match .keys2) refl refl
 
 returns-3 : tie.Need-returns-3
-unfolding naturalRange grown
-returns-3 c = at-row naturalRange _ _ (c .enum-told3 .given .1) (c .before .before .row-at .ensures)
+unfolding naturalRange
+returns-3 c = at-ellipse naturalRange _ _ (c .before .int-at .ensures) (c .match .keys3) refl refl refl
 
 returns-4 : tie.Need-returns-4
-unfolding naturalRange grown
-returns-4 c = at-row naturalRange _ _ (c .enum-told4 .given .1) (c .before .before .row-at .ensures)
+unfolding naturalRange
+returns-4 c = at-parabola naturalRange _ _ (c .before .int-at .ensures) (c .match .keys4) refl refl
 
 returns-5 : tie.Need-returns-5
-unfolding naturalRange grown
-returns-5 c = polyline-range _ _ _ _ (c .before .last-of .ensures) ∙ at-row naturalRange _ _ (c .before .before .before .c .given .1) (c .before .before .before .before .before .row-at .ensures)
+unfolding naturalRange
+returns-5 c = polyline-range _ _ _ _ (c .before .last-of .ensures) ∙ at-polyline naturalRange _ _ (c .before .before .before .before .int-at .ensures) (c .before .before .before .match .keys5) refl (c .before .before .int-at2 .ensures)
 
 returns-6 : tie.Need-returns-6
-unfolding naturalRange grown
-returns-6 c = at-row naturalRange _ _ (c .before .c2 .given .1) (c .before .before .before .row-at .ensures)
+unfolding naturalRange
+returns-6 c = c .range-at .ensures ∙ at-trim naturalRange _ _ (c .before .before .int-at .ensures) (c .before .match .keys6) refl refl refl
 
 returns-7 : tie.Need-returns-7
-unfolding naturalRange grown
-returns-7 c = composite-range _ _ _ _ ∙ at-row naturalRange _ _ (c .before .before .c3 .given .1) (c .before .before .before .before .row-at .ensures)
+unfolding naturalRange
+returns-7 c = composite-range _ _ _ _ ∙ at-composite naturalRange _ _ (c .before .before .before .int-at .ensures) (c .before .before .match .keys7) refl (c .before .int-at3 .ensures)
+
+returns-8 : tie.Need-returns-8
+unfolding naturalRange
+returns-8 c = nothing-range ∙ at-unknown naturalRange _ _ (c .before .int-at .ensures) (c .match .rest)
 
 pub natural-range-spec : {M : Type 1} → statement M
 natural-range-spec =
     tie.close
     (tie.spec
-    row-at-requires
-    enum-told
-    enum-told-2
-    enum-told-3
-    enum-told-4
-    enum-known-c
+    mul-at
+    int-at-requires
+    add-int-at
+    int-at-requires-2
     last-of-requires
-    int-to-float-t15
-    enum-known-c-2
-    enum-known-c-3
     int-to-float-t16
+    range-at-requires
+    add-int-at-2
+    int-at-requires-3
+    int-to-float-t19
     returns
     returns-2
     returns-3
     returns-4
     returns-5
     returns-6
-    returns-7)
+    returns-7
+    returns-8)

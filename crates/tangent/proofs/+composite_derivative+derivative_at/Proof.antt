@@ -1,10 +1,11 @@
--- `tangent::composite_derivative` and `tangent::derivative_at` meets their contracts. Assumes nothing.
-use Rattle.tangent.proofs.Laws.{derivative-none, derivative-some}
+-- `tangent::composite_derivative` and `tangent::derivative_at` meet their contracts. Assumes nothing.
+use mathlib.Core.Path.{refl, ap, _∙_}
 use Rattle.math.specs.Math.{vScale}
+use Rattle.brep.proofs.Laws.{at-lower, at-high}
+use Rattle.brep.proofs.ByKind.{at-line, at-circle, at-ellipse, at-parabola, at-polyline, at-composite}
+use Rattle.curve.proofs.Under.{under-low, under-same, under-rest}
 use Rattle.tangent.specs.Derivative.{derivativeAt, polylineDerivative}
-use Rattle.brep.proofs.Laws.{at-row, at-lower, at-high}
-use Rattle.brep.specs.Tree.{grown}
-use mathlib.Core.Path.{_≡_, refl, sym, ap, _∙_}
+use Rattle.tangent.proofs.Laws.{derivative-none, derivative-some}
 use borrow.Author.Needs.{needs}
 use Prim.Native.Nat.{ℕ, _<_, _+_, _*_}
 use borrow.Fn.Kinds.{In}
@@ -16,10 +17,13 @@ use Rattle.tangent.proofs.derivative_at.Reads as derivative-at
 use Rattle.tangent.proofs.derivative_at.Kinds as derivative-at-kinds
 use Rattle.tangent.proofs.+composite_derivative+derivative_at.Lts-derivative_at as derivative-at-lts
 use Rattle.arith.proofs.clamp.Reads as clamp-reads
-use Rattle.brep.proofs.row_at.Reads as row-at-reads
+use Rattle.brep.proofs.float_at.Reads as float-at-reads
+use Rattle.brep.proofs.int_at.Reads as int-at-reads
+use Rattle.brep.proofs.point_in.Reads as point-in-reads
 use Rattle.brep.proofs.segment_at.Reads as segment-at-reads
 use Rattle.curve.proofs.index_in.Reads as index-in-reads
 use Rattle.curve.proofs.own_parameter.Reads as own-parameter-reads
+use Rattle.curve.proofs.under_trims.Reads as under-trims-reads
 use Rattle.math.proofs.Vec3.scale.Reads as scale-reads
 use Rattle.tangent.proofs.ellipse_derivative.Reads as ellipse-derivative-reads
 use Rattle.tangent.proofs.parabola_derivative.Reads as parabola-derivative-reads
@@ -67,7 +71,7 @@ abbrev composite-derivative-claims : ℕ → composite-derivative-lts.Claims
 composite-derivative-claims t = (clamp-reads.Asked, clamp-reads.Learnt, index-in-reads.Asked, index-in-reads.Learnt, segment-at-reads.Asked, segment-at-reads.Learnt, own-parameter-reads.Asked, own-parameter-reads.Learnt, signed-span-reads.Asked, signed-span-reads.Learnt, derivative-at-below t, derivative-at.Post, scale-reads.Asked, scale-reads.Learnt)
 
 abbrev derivative-at-claims : ℕ → derivative-at-lts.Claims
-derivative-at-claims t = (row-at-reads.Asked, row-at-reads.Learnt, ellipse-derivative-reads.Asked, ellipse-derivative-reads.Learnt, parabola-derivative-reads.Asked, parabola-derivative-reads.Learnt, polyline-derivative-reads.Asked, polyline-derivative-reads.Learnt, derivative-at-below t, derivative-at.Post, composite-derivative-below t, composite-derivative.Post)
+derivative-at-claims t = (under-trims-reads.Asked, under-trims-reads.Learnt, int-at-reads.Asked, int-at-reads.Learnt, point-in-reads.Asked, point-in-reads.Learnt, float-at-reads.Asked, float-at-reads.Learnt, ellipse-derivative-reads.Asked, ellipse-derivative-reads.Learnt, parabola-derivative-reads.Asked, parabola-derivative-reads.Learnt, polyline-derivative-reads.Asked, polyline-derivative-reads.Learnt, composite-derivative-below t, composite-derivative.Post)
 
 composite-derivative-returns : (t : ℕ) → composite-derivative-lts.Need-returns (composite-derivative-claims t) (composite-derivative-at t) composite-derivative.Post
 unfolding derivativeAt polylineDerivative
@@ -114,79 +118,120 @@ composite-derivative-returns-3 : (t : ℕ) → composite-derivative-lts.Need-ret
 unfolding derivativeAt polylineDerivative
 composite-derivative-returns-3 t c = c .scale2 .ensures ∙ at-high (λ x. vScale (derivativeAt x (c .before .before .before .own-parameter .result)) (c .before .before .signed-span .result)) _ _ (c .before .if2 .left) ∙ derivative-some _ _ _ _ _ (c .before .before .before .before .before .before .before .before .before .before .if1 .left) _ (c .before .before .before .before .before .before .before .before .clamp .ensures) _ (c .before .before .before .before .before .before .before .index-in .ensures) _ (c .before .before .before .before .before .before .segment-at .ensures) _ (c .before .before .before .own-parameter .ensures) _ (c .before .before .signed-span .ensures)
 
-derivative-at-row-at-requires : (t : ℕ) → derivative-at-lts.Need-row-at-requires (derivative-at-claims t) (derivative-at-at t) derivative-at.Post
-derivative-at-row-at-requires t c κs = search needs
+derivative-at-under-trims-requires : (t : ℕ) → derivative-at-lts.Need-under-trims-requires (derivative-at-claims t) (derivative-at-at t) derivative-at.Post
+derivative-at-under-trims-requires t c κs = search needs
 
-derivative-at-enum-known-c : (t : ℕ) → derivative-at-lts.Need-enum-known-c (derivative-at-claims t) (derivative-at-at t) derivative-at.Post
-derivative-at-enum-known-c t c = search needs
+derivative-at-cast-at : (t : ℕ) → derivative-at-lts.Need-cast-at (derivative-at-claims t) (derivative-at-at t) derivative-at.Post
+derivative-at-cast-at t c = search needs
 
-derivative-at-enum-known-c-2 : (t : ℕ) → derivative-at-lts.Need-enum-known-c-2 (derivative-at-claims t) (derivative-at-at t) derivative-at.Post
-derivative-at-enum-known-c-2 t c = search needs
+derivative-at-mul-at : (t : ℕ) → derivative-at-lts.Need-mul-at (derivative-at-claims t) (derivative-at-at t) derivative-at.Post
+derivative-at-mul-at t c = search needs
+
+derivative-at-int-at-requires : (t : ℕ) → derivative-at-lts.Need-int-at-requires (derivative-at-claims t) (derivative-at-at t) derivative-at.Post
+derivative-at-int-at-requires t c κs = search needs
+
+derivative-at-add-int-at : (t : ℕ) → derivative-at-lts.Need-add-int-at (derivative-at-claims t) (derivative-at-at t) derivative-at.Post
+derivative-at-add-int-at t c = search needs
+
+derivative-at-int-at-requires-2 : (t : ℕ) → derivative-at-lts.Need-int-at-requires-2 (derivative-at-claims t) (derivative-at-at t) derivative-at.Post
+derivative-at-int-at-requires-2 t c κs = search needs
+
+derivative-at-point-in-requires : (t : ℕ) → derivative-at-lts.Need-point-in-requires (derivative-at-claims t) (derivative-at-at t) derivative-at.Post
+derivative-at-point-in-requires t c κs = search needs
+
+derivative-at-cast-float-at : (t : ℕ) → derivative-at-lts.Need-cast-float-at (derivative-at-claims t) (derivative-at-at t) derivative-at.Post
+derivative-at-cast-float-at t c = search needs
+
+derivative-at-mul-float-at : (t : ℕ) → derivative-at-lts.Need-mul-float-at (derivative-at-claims t) (derivative-at-at t) derivative-at.Post
+derivative-at-mul-float-at t c = search needs
+
+derivative-at-float-at-requires : (t : ℕ) → derivative-at-lts.Need-float-at-requires (derivative-at-claims t) (derivative-at-at t) derivative-at.Post
+derivative-at-float-at-requires t c κs = search needs
 
 derivative-at-ellipse-derivative-requires : (t : ℕ) → derivative-at-lts.Need-ellipse-derivative-requires (derivative-at-claims t) (derivative-at-at t) derivative-at.Post
 derivative-at-ellipse-derivative-requires t c κs = search needs
 
-derivative-at-enum-known-c-3 : (t : ℕ) → derivative-at-lts.Need-enum-known-c-3 (derivative-at-claims t) (derivative-at-at t) derivative-at.Post
-derivative-at-enum-known-c-3 t c = search needs
+derivative-at-cast-float-at-2 : (t : ℕ) → derivative-at-lts.Need-cast-float-at-2 (derivative-at-claims t) (derivative-at-at t) derivative-at.Post
+derivative-at-cast-float-at-2 t c = search needs
+
+derivative-at-mul-float-at-2 : (t : ℕ) → derivative-at-lts.Need-mul-float-at-2 (derivative-at-claims t) (derivative-at-at t) derivative-at.Post
+derivative-at-mul-float-at-2 t c = search needs
+
+derivative-at-float-at-requires-2 : (t : ℕ) → derivative-at-lts.Need-float-at-requires-2 (derivative-at-claims t) (derivative-at-at t) derivative-at.Post
+derivative-at-float-at-requires-2 t c κs = search needs
+
+derivative-at-cast-float-at-3 : (t : ℕ) → derivative-at-lts.Need-cast-float-at-3 (derivative-at-claims t) (derivative-at-at t) derivative-at.Post
+derivative-at-cast-float-at-3 t c = search needs
+
+derivative-at-mul-float-at-3 : (t : ℕ) → derivative-at-lts.Need-mul-float-at-3 (derivative-at-claims t) (derivative-at-at t) derivative-at.Post
+derivative-at-mul-float-at-3 t c = search needs
+
+derivative-at-add-float-at : (t : ℕ) → derivative-at-lts.Need-add-float-at (derivative-at-claims t) (derivative-at-at t) derivative-at.Post
+derivative-at-add-float-at t c = search needs
+
+derivative-at-float-at-requires-3 : (t : ℕ) → derivative-at-lts.Need-float-at-requires-3 (derivative-at-claims t) (derivative-at-at t) derivative-at.Post
+derivative-at-float-at-requires-3 t c κs = search needs
 
 derivative-at-ellipse-derivative-requires-2 : (t : ℕ) → derivative-at-lts.Need-ellipse-derivative-requires-2 (derivative-at-claims t) (derivative-at-at t) derivative-at.Post
 derivative-at-ellipse-derivative-requires-2 t c κs = search needs
 
-derivative-at-enum-known-c-4 : (t : ℕ) → derivative-at-lts.Need-enum-known-c-4 (derivative-at-claims t) (derivative-at-at t) derivative-at.Post
-derivative-at-enum-known-c-4 t c = search needs
+derivative-at-cast-float-at-4 : (t : ℕ) → derivative-at-lts.Need-cast-float-at-4 (derivative-at-claims t) (derivative-at-at t) derivative-at.Post
+derivative-at-cast-float-at-4 t c = search needs
+
+derivative-at-mul-float-at-4 : (t : ℕ) → derivative-at-lts.Need-mul-float-at-4 (derivative-at-claims t) (derivative-at-at t) derivative-at.Post
+derivative-at-mul-float-at-4 t c = search needs
+
+derivative-at-float-at-requires-4 : (t : ℕ) → derivative-at-lts.Need-float-at-requires-4 (derivative-at-claims t) (derivative-at-at t) derivative-at.Post
+derivative-at-float-at-requires-4 t c κs = search needs
 
 derivative-at-parabola-derivative-requires : (t : ℕ) → derivative-at-lts.Need-parabola-derivative-requires (derivative-at-claims t) (derivative-at-at t) derivative-at.Post
 derivative-at-parabola-derivative-requires t c κs = search needs
 
-derivative-at-enum-known-c-5 : (t : ℕ) → derivative-at-lts.Need-enum-known-c-5 (derivative-at-claims t) (derivative-at-at t) derivative-at.Post
-derivative-at-enum-known-c-5 t c = search needs
+derivative-at-add-int-at-2 : (t : ℕ) → derivative-at-lts.Need-add-int-at-2 (derivative-at-claims t) (derivative-at-at t) derivative-at.Post
+derivative-at-add-int-at-2 t c = search needs
+
+derivative-at-int-at-requires-3 : (t : ℕ) → derivative-at-lts.Need-int-at-requires-3 (derivative-at-claims t) (derivative-at-at t) derivative-at.Post
+derivative-at-int-at-requires-3 t c κs = search needs
 
 derivative-at-polyline-derivative-requires : (t : ℕ) → derivative-at-lts.Need-polyline-derivative-requires (derivative-at-claims t) (derivative-at-at t) derivative-at.Post
 derivative-at-polyline-derivative-requires t c κs = search needs
 
-derivative-at-enum-known-c-6 : (t : ℕ) → derivative-at-lts.Need-enum-known-c-6 (derivative-at-claims t) (derivative-at-at t) derivative-at.Post
-derivative-at-enum-known-c-6 t c = search needs
+derivative-at-add-int-at-3 : (t : ℕ) → derivative-at-lts.Need-add-int-at-3 (derivative-at-claims t) (derivative-at-at t) derivative-at.Post
+derivative-at-add-int-at-3 t c = search needs
 
-derivative-at-derivative-at-requires : (t : ℕ) → derivative-at-lts.Need-derivative-at-requires (derivative-at-claims t) (derivative-at-at t) derivative-at.Post
-derivative-at-derivative-at-requires t c κs = search needs
-
-derivative-at-returns : (t : ℕ) → derivative-at-lts.Need-returns (derivative-at-claims t) (derivative-at-at t) derivative-at.Post
-unfolding derivativeAt grown polylineDerivative
-derivative-at-returns t c = c .derivative-at .ensures ∙ at-lower (λ x. derivativeAt x (c .before .before .before .before .before .before .before .before .before .before .before .args .t)) _ _ (c .before .if1 .taken) ∙ at-row (λ x. derivativeAt x (c .before .before .before .before .before .before .before .before .before .before .before .args .t)) _ _ (c .before .before .before .c6 .given .1) (c .before .before .before .before .before .row-at .ensures)
-
-derivative-at-enum-known-c-7 : (t : ℕ) → derivative-at-lts.Need-enum-known-c-7 (derivative-at-claims t) (derivative-at-at t) derivative-at.Post
-derivative-at-enum-known-c-7 t c = search needs
+derivative-at-int-at-requires-4 : (t : ℕ) → derivative-at-lts.Need-int-at-requires-4 (derivative-at-claims t) (derivative-at-at t) derivative-at.Post
+derivative-at-int-at-requires-4 t c κs = search needs
 
 derivative-at-composite-derivative-requires : (t : ℕ) → derivative-at-lts.Need-composite-derivative-requires (derivative-at-claims t) (derivative-at-at t) derivative-at.Post
-derivative-at-composite-derivative-requires t c κs = search needs
+derivative-at-composite-derivative-requires t c κs = let l = under-low (c .before .before .before .before .before .before .before .before .before .before .args .curves .now) (c .before .before .before .before .before .before .before .before .before .before .args .row) (c .before .before .before .before .before .before .before .before .before .before .args .row) in let e = c .before .before .before .before .under-trims .ensures in search needs
+
+derivative-at-returns : (t : ℕ) → derivative-at-lts.Need-returns (derivative-at-claims t) (derivative-at-at t) derivative-at.Post
+unfolding derivativeAt polylineDerivative
+derivative-at-returns t c = c .point-in .ensures ∙ at-line (λ x. derivativeAt x (c .before .before .before .before .before .before .before .before .before .before .args .t)) _ _ (c .before .before .before .int-at .ensures) (c .before .match .keys1) (c .before .before .int-at2 .ensures) ∙ under-same (λ x. derivativeAt x (c .before .before .before .before .before .before .before .before .before .before .args .t)) (λ b r. refl) _ _ (c .before .before .before .before .under-trims .ensures)
 
 derivative-at-returns-2 : (t : ℕ) → derivative-at-lts.Need-returns-2 (derivative-at-claims t) (derivative-at-at t) derivative-at.Post
-unfolding derivativeAt grown polylineDerivative
-derivative-at-returns-2 t c = at-row (λ x. derivativeAt x (c .before .before .before .before .before .before .before .before .before .args .t)) _ _ (c .before .c .given .1) (c .before .before .before .row-at .ensures)
+unfolding derivativeAt polylineDerivative
+derivative-at-returns-2 t c = c .ellipse-derivative .ensures ∙ at-circle (λ x. derivativeAt x (c .before .before .before .before .before .before .before .before .before .before .before .args .t)) _ _ (c .before .before .before .before .int-at .ensures) (c .before .before .match .keys2) (c .before .before .before .int-at2 .ensures) (c .before .float-at .ensures) ∙ under-same (λ x. derivativeAt x (c .before .before .before .before .before .before .before .before .before .before .before .args .t)) (λ b r. refl) _ _ (c .before .before .before .before .before .under-trims .ensures)
 
 derivative-at-returns-3 : (t : ℕ) → derivative-at-lts.Need-returns-3 (derivative-at-claims t) (derivative-at-at t) derivative-at.Post
-unfolding derivativeAt grown polylineDerivative
-derivative-at-returns-3 t c = c .ellipse-derivative .ensures ∙ at-row (λ x. derivativeAt x (c .before .before .before .before .before .before .before .before .before .before .args .t)) _ _ (c .before .before .c2 .given .1) (c .before .before .before .before .row-at .ensures)
+unfolding derivativeAt polylineDerivative
+derivative-at-returns-3 t c = c .ellipse-derivative2 .ensures ∙ at-ellipse (λ x. derivativeAt x (c .before .before .before .before .before .before .before .before .before .before .before .before .args .t)) _ _ (c .before .before .before .before .before .int-at .ensures) (c .before .before .before .match .keys3) (c .before .before .before .before .int-at2 .ensures) (c .before .before .float-at2 .ensures) (c .before .float-at3 .ensures) ∙ under-same (λ x. derivativeAt x (c .before .before .before .before .before .before .before .before .before .before .before .before .args .t)) (λ b r. refl) _ _ (c .before .before .before .before .before .before .under-trims .ensures)
 
 derivative-at-returns-4 : (t : ℕ) → derivative-at-lts.Need-returns-4 (derivative-at-claims t) (derivative-at-at t) derivative-at.Post
-unfolding derivativeAt grown polylineDerivative
-derivative-at-returns-4 t c = c .ellipse-derivative2 .ensures ∙ at-row (λ x. derivativeAt x (c .before .before .before .before .before .before .before .before .before .before .args .t)) _ _ (c .before .before .c3 .given .1) (c .before .before .before .before .row-at .ensures)
+unfolding derivativeAt polylineDerivative
+derivative-at-returns-4 t c = c .parabola-derivative .ensures ∙ at-parabola (λ x. derivativeAt x (c .before .before .before .before .before .before .before .before .before .before .before .args .t)) _ _ (c .before .before .before .before .int-at .ensures) (c .before .before .match .keys4) (c .before .before .before .int-at2 .ensures) (c .before .float-at4 .ensures) ∙ under-same (λ x. derivativeAt x (c .before .before .before .before .before .before .before .before .before .before .before .args .t)) (λ b r. refl) _ _ (c .before .before .before .before .before .under-trims .ensures)
 
 derivative-at-returns-5 : (t : ℕ) → derivative-at-lts.Need-returns-5 (derivative-at-claims t) (derivative-at-at t) derivative-at.Post
-unfolding derivativeAt grown polylineDerivative
-derivative-at-returns-5 t c = c .parabola-derivative .ensures ∙ at-row (λ x. derivativeAt x (c .before .before .before .before .before .before .before .before .before .before .args .t)) _ _ (c .before .before .c4 .given .1) (c .before .before .before .before .row-at .ensures)
+unfolding derivativeAt polylineDerivative
+derivative-at-returns-5 t c = c .polyline-derivative .ensures ∙ at-polyline (λ x. derivativeAt x (c .before .before .before .before .before .before .before .before .before .before .before .args .t)) _ _ (c .before .before .before .before .int-at .ensures) (c .before .before .match .keys5) (c .before .before .before .int-at2 .ensures) (c .before .int-at3 .ensures) ∙ under-same (λ x. derivativeAt x (c .before .before .before .before .before .before .before .before .before .before .before .args .t)) (λ b r. refl) _ _ (c .before .before .before .before .before .under-trims .ensures)
 
 derivative-at-returns-6 : (t : ℕ) → derivative-at-lts.Need-returns-6 (derivative-at-claims t) (derivative-at-at t) derivative-at.Post
-unfolding derivativeAt grown polylineDerivative
-derivative-at-returns-6 t c = c .polyline-derivative .ensures ∙ at-row (λ x. derivativeAt x (c .before .before .before .before .before .before .before .before .before .before .args .t)) _ _ (c .before .before .c5 .given .1) (c .before .before .before .before .row-at .ensures)
+unfolding derivativeAt polylineDerivative
+derivative-at-returns-6 t c = c .composite-derivative .ensures ∙ at-composite (λ x. derivativeAt x (c .before .before .before .before .before .before .before .before .before .before .before .args .t)) _ _ (c .before .before .before .before .int-at .ensures) (c .before .before .match .keys6) (c .before .before .before .int-at2 .ensures) (c .before .int-at4 .ensures) ∙ under-same (λ x. derivativeAt x (c .before .before .before .before .before .before .before .before .before .before .before .args .t)) (λ b r. refl) _ _ (c .before .before .before .before .before .under-trims .ensures)
 
 derivative-at-returns-7 : (t : ℕ) → derivative-at-lts.Need-returns-7 (derivative-at-claims t) (derivative-at-at t) derivative-at.Post
-unfolding derivativeAt grown polylineDerivative
-derivative-at-returns-7 t c = at-high (λ x. derivativeAt x (c .before .before .before .before .before .before .before .before .before .before .args .t)) _ _ (c .if1 .left) ∙ at-row (λ x. derivativeAt x (c .before .before .before .before .before .before .before .before .before .before .args .t)) _ _ (c .before .before .c6 .given .1) (c .before .before .before .before .row-at .ensures)
-
-derivative-at-returns-8 : (t : ℕ) → derivative-at-lts.Need-returns-8 (derivative-at-claims t) (derivative-at-at t) derivative-at.Post
-unfolding derivativeAt grown polylineDerivative
-derivative-at-returns-8 t c = c .composite-derivative .ensures ∙ at-row (λ x. derivativeAt x (c .before .before .before .before .before .before .before .before .before .before .args .t)) _ _ (c .before .before .c7 .given .1) (c .before .before .before .before .row-at .ensures)
+unfolding derivativeAt polylineDerivative
+derivative-at-returns-7 t c = under-rest (λ x. derivativeAt x (c .before .before .before .before .before .before .before .before .before .args .t)) (λ b r. refl) _ _ (c .before .before .before .under-trims .ensures) (c .before .before .int-at .ensures) (c .match .rest)
 
 pub +composite-derivative+derivative-at-spec : {M : Type 1} → statement M
 +composite-derivative+derivative-at-spec =
@@ -206,25 +251,39 @@ pub +composite-derivative+derivative-at-spec : {M : Type 1} → statement M
     (composite-derivative-scale-requires-2 t)
     (composite-derivative-returns-3 t))
     λ t. derivative-at-lts.spec (derivative-at-claims t) (derivative-at-at t) derivative-at.Post
-    (derivative-at-row-at-requires t)
-    (derivative-at-enum-known-c t)
-    (derivative-at-enum-known-c-2 t)
+    (derivative-at-under-trims-requires t)
+    (derivative-at-cast-at t)
+    (derivative-at-mul-at t)
+    (derivative-at-int-at-requires t)
+    (derivative-at-add-int-at t)
+    (derivative-at-int-at-requires-2 t)
+    (derivative-at-point-in-requires t)
+    (derivative-at-cast-float-at t)
+    (derivative-at-mul-float-at t)
+    (derivative-at-float-at-requires t)
     (derivative-at-ellipse-derivative-requires t)
-    (derivative-at-enum-known-c-3 t)
+    (derivative-at-cast-float-at-2 t)
+    (derivative-at-mul-float-at-2 t)
+    (derivative-at-float-at-requires-2 t)
+    (derivative-at-cast-float-at-3 t)
+    (derivative-at-mul-float-at-3 t)
+    (derivative-at-add-float-at t)
+    (derivative-at-float-at-requires-3 t)
     (derivative-at-ellipse-derivative-requires-2 t)
-    (derivative-at-enum-known-c-4 t)
+    (derivative-at-cast-float-at-4 t)
+    (derivative-at-mul-float-at-4 t)
+    (derivative-at-float-at-requires-4 t)
     (derivative-at-parabola-derivative-requires t)
-    (derivative-at-enum-known-c-5 t)
+    (derivative-at-add-int-at-2 t)
+    (derivative-at-int-at-requires-3 t)
     (derivative-at-polyline-derivative-requires t)
-    (derivative-at-enum-known-c-6 t)
-    (derivative-at-derivative-at-requires t)
-    (derivative-at-returns t)
-    (derivative-at-enum-known-c-7 t)
+    (derivative-at-add-int-at-3 t)
+    (derivative-at-int-at-requires-4 t)
     (derivative-at-composite-derivative-requires t)
+    (derivative-at-returns t)
     (derivative-at-returns-2 t)
     (derivative-at-returns-3 t)
     (derivative-at-returns-4 t)
     (derivative-at-returns-5 t)
     (derivative-at-returns-6 t)
     (derivative-at-returns-7 t)
-    (derivative-at-returns-8 t)

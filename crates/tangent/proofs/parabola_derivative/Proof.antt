@@ -4,6 +4,9 @@ use borrow.Author.Needs.{needs}
 use Rattle.tangent.proofs.parabola_derivative.Statement.{statement}
 use Rattle.tangent.proofs.parabola_derivative.Tie as tie
 
+frame-at-requires : tie.Need-frame-at-requires
+frame-at-requires c κs = search needs
+
 scale-requires : tie.Need-scale-requires
 scale-requires c κs = search needs
 
@@ -22,4 +25,11 @@ returns c = cc
 
 pub parabola-derivative-spec : {M : Type 1} → statement M
 parabola-derivative-spec =
-    tie.close (tie.spec scale-requires y-dir-requires scale-requires-2 add-requires returns)
+    tie.close
+    (tie.spec
+    frame-at-requires
+    scale-requires
+    y-dir-requires
+    scale-requires-2
+    add-requires
+    returns)

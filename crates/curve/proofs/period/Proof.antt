@@ -1,0 +1,84 @@
+-- `curve::period` meets its contract. Assumes nothing.
+use mathlib.Core.Path.{refl, _∙_}
+use Rattle.brep.proofs.ByKind.{at-line, at-circle, at-ellipse, at-parabola, at-polyline, at-composite}
+use Rattle.curve.specs.Eval.{period, closes}
+use Rattle.curve.proofs.Under.{under-same, under-rest}
+use borrow.Author.Needs.{needs}
+use Rattle.curve.proofs.period.Statement.{statement}
+use Rattle.curve.proofs.period.Tie as tie
+
+under-trims-requires : tie.Need-under-trims-requires
+under-trims-requires c κs = search needs
+
+cast-at : tie.Need-cast-at
+cast-at c = search needs
+
+mul-at : tie.Need-mul-at
+mul-at c = search needs
+
+int-at-requires : tie.Need-int-at-requires
+int-at-requires c κs = search needs
+
+add-int-at : tie.Need-add-int-at
+add-int-at c = search needs
+
+int-at-requires-2 : tie.Need-int-at-requires-2
+int-at-requires-2 c κs = search needs
+
+add-int-at-2 : tie.Need-add-int-at-2
+add-int-at-2 c = search needs
+
+int-at-requires-3 : tie.Need-int-at-requires-3
+int-at-requires-3 c κs = search needs
+
+polyline-period-requires : tie.Need-polyline-period-requires
+polyline-period-requires c κs = search needs
+
+returns : tie.Need-returns
+unfolding period closes
+returns c = at-line period _ _ (c .before .int-at .ensures) (c .match .keys1) refl ∙ under-same period (λ b r. refl) _ _ (c .before .before .under-trims .ensures)
+
+returns-2 : tie.Need-returns-2
+unfolding period closes
+returns-2 c = at-circle period _ _ (c .before .int-at .ensures) (c .match .keys2) refl refl ∙ under-same period (λ b r. refl) _ _ (c .before .before .under-trims .ensures)
+
+returns-3 : tie.Need-returns-3
+unfolding period closes
+returns-3 c = at-ellipse period _ _ (c .before .int-at .ensures) (c .match .keys3) refl refl refl ∙ under-same period (λ b r. refl) _ _ (c .before .before .under-trims .ensures)
+
+returns-4 : tie.Need-returns-4
+unfolding period closes
+returns-4 c = at-parabola period _ _ (c .before .int-at .ensures) (c .match .keys4) refl refl ∙ under-same period (λ b r. refl) _ _ (c .before .before .under-trims .ensures)
+
+returns-5 : tie.Need-returns-5
+unfolding period closes
+returns-5 c = c .polyline-period .ensures ∙ at-polyline period _ _ (c .before .before .before .before .int-at .ensures) (c .before .before .before .match .keys5) (c .before .before .int-at2 .ensures) (c .before .int-at3 .ensures) ∙ under-same period (λ b r. refl) _ _ (c .before .before .before .before .before .under-trims .ensures)
+
+returns-6 : tie.Need-returns-6
+unfolding period closes
+returns-6 c = at-composite period _ _ (c .before .int-at .ensures) (c .match .keys6) refl refl ∙ under-same period (λ b r. refl) _ _ (c .before .before .under-trims .ensures)
+
+returns-7 : tie.Need-returns-7
+unfolding period closes
+returns-7 c = under-rest period (λ b r. refl) _ _ (c .before .before .under-trims .ensures) (c .before .int-at .ensures) (c .match .rest)
+
+pub period-spec : {M : Type 1} → statement M
+period-spec =
+    tie.close
+    (tie.spec
+    under-trims-requires
+    cast-at
+    mul-at
+    int-at-requires
+    add-int-at
+    int-at-requires-2
+    add-int-at-2
+    int-at-requires-3
+    polyline-period-requires
+    returns
+    returns-2
+    returns-3
+    returns-4
+    returns-5
+    returns-6
+    returns-7)
