@@ -40,28 +40,11 @@ fn is_reversed(
         return edge.sense == 0;
     }
     let start = brep::point(points, edge.start);
+    let row = edge.curve;
     let first = params[0];
     let last = params[params.len() - 1];
-    let head = ready::point_of(
-        ready,
-        points,
-        curves,
-        reals,
-        parts,
-        ranges,
-        edge.curve,
-        first,
-    );
-    let tail = ready::point_of(
-        ready,
-        points,
-        curves,
-        reals,
-        parts,
-        ranges,
-        edge.curve,
-        last,
-    );
+    let head = ready::point_of(ready, points, curves, reals, parts, ranges, row, first);
+    let tail = ready::point_of(ready, points, curves, reals, parts, ranges, row, last);
     tail.sub(start).length_squared() < head.sub(start).length_squared()
 }
 
@@ -104,16 +87,8 @@ fn record_at(
         let end = brep::point(points, edge.end);
         return Sample { point: end, param };
     }
-    let point = ready::point_of(
-        ready,
-        points,
-        curves,
-        reals,
-        parts,
-        ranges,
-        edge.curve,
-        param,
-    );
+    let row = edge.curve;
+    let point = ready::point_of(ready, points, curves, reals, parts, ranges, row, param);
     Sample { point, param }
 }
 

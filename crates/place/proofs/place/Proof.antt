@@ -24,13 +24,13 @@ ready-at-requires : tie.Need-ready-at-requires Inv-loop μ-loop
 ready-at-requires c κs = search needs
 
 is-reversed-requires : tie.Need-is-reversed-requires Inv-loop μ-loop
-is-reversed-requires c κs = search needs
+is-reversed-requires c κs = (omega arith, c .ready-at .ensures)
 
 loop-holds : tie.Need-loop-holds Inv-loop μ-loop
 loop-holds c = let a = c .before .before .before .before .before .before .before .before .before .args in (omega arith, refl, place-start (lent (a .points) (a .curves) (a .reals) (a .parts) (a .ranges)) (a .edge) (now (a .params)) (omega arith) (now (a .chain)))
 
 record-at-requires : tie.Need-record-at-requires Inv-loop μ-loop
-record-at-requires c κs = search needs
+record-at-requires c κs = (omega arith, c .before .before .before .ready-at .ensures)
 
 put-requires : tie.Need-put-requires Inv-loop μ-loop
 put-requires c κs = search needs
