@@ -1,5 +1,5 @@
 -- The probes, one after the other. Assumes nothing.
-use mathlib.Core.Path.{_≡_, ap, _∙_}
+use mathlib.Core.Path.{_≡_, sym, ap, _∙_}
 use mathlib.Core.Bool.{cond}
 use Prim.Native.Nat.{ℕ, suc, _+_, _≤_}
 use native.Mathlib.Omega.{arith}
@@ -13,17 +13,20 @@ use Rattle.math.specs.Math.{vFinite, emptyBox, addPoint, boxSize, at}
 use Rattle.brep.specs.declared.Edge.{Edge}
 use Rattle.brep.specs.Rows.{Tables}
 use Rattle.brep.specs.Tree.{CurveTree}
-use Rattle.curve.specs.Eval.{pointAt}
+use Rattle.ready.specs.declared.Ready.{Ready}
+use Rattle.ready.specs.Ready.{readyOf, readyPoint}
+use Rattle.ready.proofs.Laws.{point-by, ready-point}
 use Rattle.usable.specs.declared.Usable.{Usable}
 use Rattle.usable.specs.Usable.{usableRange}
 use Rattle.chains.specs.Edge.{edgeCurve, edgeStart, edgeEnd, probed, extentBox, edgeExtent}
 
 module _ (c : CurveTree) (range : Interval) (b : Aabb) (i : ℕ) {found : Aabb} (e : found ≡ probed c range b i) where
-  pub one-more : {t : Float} → t ≡ at range (count i ⊘ bits 0x4020000000000000) → {p : Vec3} → p ≡ pointAt c t → {next : Aabb} → next ≡ cond (vFinite p) (addPoint found p) found → next ≡ probed c range b (i + 1)
+  -- the curve was made ready once
+  pub one-more : {r : Ready} → r ≡ readyOf c → {t : Float} → t ≡ at range (count i ⊘ bits 0x4020000000000000) → {p : Vec3} → p ≡ readyPoint r c t → {next : Aabb} → next ≡ cond (vFinite p) (addPoint found p) found → next ≡ probed c range b (i + 1)
   unfolding probed
-  one-more et ep en =
+  one-more made et ep en =
       let one : suc i ≡ i + 1 = omega arith in
-      en ∙ rw (ep, et, e) (ap (probed c range b) one)
+      en ∙ rw (point-by c _ (sym made) ep ∙ ready-point c _, et, e) (ap (probed c range b) one)
 
   pub all-nine : i ≤ 9 → 9 ≤ i → found ≡ probed c range b 9
   all-nine h k = e ∙ ap (probed c range b) (omega arith)

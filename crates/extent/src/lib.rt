@@ -34,11 +34,12 @@ fn probe(
 ) -> Aabb
     ensures { λ r. ⌜ r ≡ probed (tree (lent (points .entry) (curves .entry) (reals .entry) (parts .entry) (ranges .entry)) row) range b 9 ⌝ }
 {
+    let ready = ready::ready_at(points, curves, reals, parts, ranges, row);
     let mut found = b;
     let mut i: u32 = 0;
     while i < 9 {
         let t = range.at(i as f64 / 8.0);
-        let p = curve::point_at(points, curves, reals, parts, ranges, row, t);
+        let p = ready::point_of(ready, points, curves, reals, parts, ranges, row, t);
         found = add_finite(found, p);
         i += 1;
     }

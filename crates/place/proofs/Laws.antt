@@ -16,6 +16,9 @@ use Rattle.brep.specs.declared.Edge.{Edge}
 use Rattle.brep.specs.Rows.{Tables}
 use Rattle.brep.specs.Tree.{CurveTree}
 use Rattle.curve.specs.Eval.{pointAt}
+use Rattle.ready.specs.declared.Ready.{Ready}
+use Rattle.ready.specs.Ready.{readyOf, readyPoint}
+use Rattle.ready.proofs.Laws.{point-by, ready-point}
 use Rattle.samples.specs.declared.Sample.{Sample}
 use Rattle.samples.specs.Chain.{width, row, flat, lastOf}
 use Rattle.samples.proofs.Laws.{push}
@@ -93,6 +96,10 @@ pinned-at start end (s ∷ q ∷ l) last zero d e h k = refl
 pinned-at start end (s ∷ q ∷ l) last (suc i) d e h k =
     let f : last ≡ suc (length l) = omega arith in
     rw (f, eqb·suc-zero i, eqb·suc-suc i (length l)) (lastPinned-at end q l i d (omega arith))
+
+-- ---- a point of the edge's curve, made ready
+pub on-curve : (T : Tables) (e : Edge) {r : Ready} {p : Vec3} (t : Float) → r ≡ readyOf (edgeCurve T e) → p ≡ readyPoint r (edgeCurve T e) t → p ≡ pointAt (edgeCurve T e) t
+on-curve T e t made h = point-by (edgeCurve T e) t (sym made) h ∙ ready-point (edgeCurve T e) t
 
 -- ---- which way the chain runs
 not-not : (b : Bool) → b ≡ not (not b)

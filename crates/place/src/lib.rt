@@ -1,13 +1,15 @@
 // The records of an edge's chain, from its parameters: in the edge's own direction, with both ends pinned to the vertices.
 use brep::Edge;
+use ready::Ready;
 use samples::Sample;
 ghost use mathlib.Core.Path.{_≡_};
 ghost use Prim.Native.Nat.{_*_, _<_, _≤_};
 ghost use lib.ListN.{length};
 ghost use lib.Seq.{sets};
 ghost use Rattle.brep.specs.Rows.{lent};
+ghost use Rattle.ready.specs.Ready.{readyOf};
 ghost use Rattle.samples.specs.Chain.{width, flat};
-ghost use Rattle.chains.specs.Edge.{degenerateEnds, placed};
+ghost use Rattle.chains.specs.Edge.{edgeCurve, degenerateEnds, placed};
 ghost use Rattle.place.specs.Place.{ofPoints, runsBack, paramAt, recordAt};
 
 // Whether the vertices are too near each other to tell the direction.
@@ -28,19 +30,21 @@ fn is_reversed(
     parts: &[u32],
     ranges: &[f64],
     edge: Edge,
+    ready: Ready,
     params: &[f64],
 ) -> bool
-    requires { ⌜ 2 ≤ length (now params) ⌝ }
+    requires { ⌜ (2 ≤ length (now params)) × (ready ≡ readyOf (edgeCurve (lent points curves reals parts ranges) edge)) ⌝ }
     ensures { λ r. ⌜ r ≡ runsBack (lent (points .entry) (curves .entry) (reals .entry) (parts .entry) (ranges .entry)) edge (now (params .entry)) ⌝ }
 {
     if degenerate_ends(points, edge) {
         return edge.sense == 0;
     }
     let start = brep::point(points, edge.start);
+    let row = edge.curve;
     let first = params[0];
     let last = params[params.len() - 1];
-    let head = curve::point_at(points, curves, reals, parts, ranges, edge.curve, first);
-    let tail = curve::point_at(points, curves, reals, parts, ranges, edge.curve, last);
+    let head = ready::point_of(ready, points, curves, reals, parts, ranges, row, first);
+    let tail = ready::point_of(ready, points, curves, reals, parts, ranges, row, last);
     tail.sub(start).length_squared() < head.sub(start).length_squared()
 }
 
@@ -63,11 +67,12 @@ fn record_at(
     parts: &[u32],
     ranges: &[f64],
     edge: Edge,
+    ready: Ready,
     params: &[f64],
     reversed: bool,
     i: usize,
 ) -> Sample
-    requires { ⌜ i < length (now params) ⌝ }
+    requires { ⌜ (i < length (now params)) × (ready ≡ readyOf (edgeCurve (lent points curves reals parts ranges) edge)) ⌝ }
     ensures { λ r. ⌜ r ≡ recordAt (lent (points .entry) (curves .entry) (reals .entry) (parts .entry) (ranges .entry)) edge (now (params .entry)) reversed i ⌝ }
 {
     let param = param_at(params, reversed, i);
@@ -82,7 +87,8 @@ fn record_at(
         let end = brep::point(points, edge.end);
         return Sample { point: end, param };
     }
-    let point = curve::point_at(points, curves, reals, parts, ranges, edge.curve, param);
+    let row = edge.curve;
+    let point = ready::point_of(ready, points, curves, reals, parts, ranges, row, param);
     Sample { point, param }
 }
 
@@ -100,7 +106,8 @@ pub fn place(
     requires { ⌜ (2 ≤ length (now params)) × (width * length (now params) ≤ length (now chain)) ⌝ }
     ensures { λ _. ⌜ now (chain .exit) ≡ sets (now (chain .entry)) 0 (flat (placed (lent (points .entry) (curves .entry) (reals .entry) (parts .entry) (ranges .entry)) edge (now (params .entry)))) ⌝ }
 {
-    let reversed = is_reversed(points, curves, reals, parts, ranges, edge, params);
+    let ready = ready::ready_at(points, curves, reals, parts, ranges, edge.curve);
+    let reversed = is_reversed(points, curves, reals, parts, ranges, edge, ready, params);
     let n = params.len();
     for i in 0..n {
         let s = record_at(
@@ -110,6 +117,7 @@ pub fn place(
             parts,
             ranges,
             edge,
+            ready,
             params,
             reversed,
             i,

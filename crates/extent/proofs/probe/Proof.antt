@@ -11,12 +11,15 @@ use Rattle.extent.proofs.probe.Statement.{statement}
 use Rattle.extent.proofs.probe.Tie as tie
 
 abbrev Inv-loop : tie.InvT-loop
-Inv-loop points curves reals parts ranges row range found₀ i₀ found i =
+Inv-loop points curves reals parts ranges row range ready found₀ i₀ found i =
     (i ≤ 9) × (found ≡ probed (tree (tables points curves reals parts ranges) row) range found₀ i)
 
 abbrev μ-loop : tie.MeasureT-loop
-μ-loop points curves reals parts ranges row range found₀ i₀ found i =
+μ-loop points curves reals parts ranges row range ready found₀ i₀ found i =
     9 - i
+
+ready-at-requires : tie.Need-ready-at-requires Inv-loop μ-loop
+ready-at-requires c κs = search needs
 
 loop-holds : tie.Need-loop-holds Inv-loop μ-loop
 unfolding probed
@@ -28,8 +31,8 @@ int-to-float-at c = search needs
 at-requires : tie.Need-at-requires Inv-loop μ-loop
 at-requires c κs = search needs
 
-point-at-requires : tie.Need-point-at-requires Inv-loop μ-loop
-point-at-requires c κs = search needs
+point-of-requires : tie.Need-point-of-requires Inv-loop μ-loop
+point-of-requires c κs = search needs
 
 add-finite-requires : tie.Need-add-finite-requires Inv-loop μ-loop
 add-finite-requires c κs = search needs
@@ -41,7 +44,7 @@ loop-less : tie.Need-loop-less Inv-loop μ-loop
 loop-less c = omega arith
 
 loop-again : tie.Need-loop-again Inv-loop μ-loop
-loop-again c = (omega arith, one-more _ _ _ _ (c .before .before .before .before .before .loop .inv .1) (c .before .before .at .ensures) (c .before .point-at .ensures) (c .add-finite .ensures))
+loop-again c = (omega arith, one-more _ _ _ _ (c .before .before .before .before .before .loop .inv .1) (c .before .before .before .before .before .before .ready-at .ensures) (c .before .before .at .ensures) (c .before .point-of .ensures) (c .add-finite .ensures))
 
 returns : tie.Need-returns Inv-loop μ-loop
 returns c = all-nine _ _ _ _ (c .before .loop .inv .1) (c .before .loop .inv .0) (c .loop-test .left)
@@ -52,10 +55,11 @@ probe-spec =
     (tie.spec
     Inv-loop
     μ-loop
+    ready-at-requires
     loop-holds
     int-to-float-at
     at-requires
-    point-at-requires
+    point-of-requires
     add-finite-requires
     add-i
     loop-less

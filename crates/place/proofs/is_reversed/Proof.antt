@@ -2,7 +2,7 @@
 use mathlib.Core.Path.{sym, _∙_}
 use denote.Ref.{now}
 use Rattle.brep.specs.Rows.{lent}
-use Rattle.place.proofs.Laws.{back-by-sense, back-by-ends}
+use Rattle.place.proofs.Laws.{on-curve, back-by-sense, back-by-ends}
 use borrow.Author.Needs.{needs}
 use Rattle.place.proofs.is_reversed.Statement.{statement}
 use Rattle.place.proofs.is_reversed.Tie as tie
@@ -28,11 +28,11 @@ mul-last c = search needs
 shared-slice-read-last : tie.Need-shared-slice-read-last
 shared-slice-read-last c = search needs
 
-point-at-requires : tie.Need-point-at-requires
-point-at-requires c κs = search needs
+point-of-requires : tie.Need-point-of-requires
+point-of-requires c κs = search needs
 
-point-at-requires-2 : tie.Need-point-at-requires-2
-point-at-requires-2 c κs = search needs
+point-of-requires-2 : tie.Need-point-of-requires-2
+point-of-requires-2 c κs = search needs
 
 sub-requires : tie.Need-sub-requires
 sub-requires c κs = search needs
@@ -49,8 +49,10 @@ length-squared-requires-2 c κs = search needs
 returns-2 : tie.Need-returns-2
 returns-2 c =
     let a = c .before .before .before .before .before .before .before .before .before .before .before .before .before .before .before .before .before .args in
-    simp (c .length-squared2 .ensures, c .before .sub2 .ensures, c .before .before .length-squared .ensures, c .before .before .before .sub .ensures, c .before .before .before .before .point-at2 .ensures, c .before .before .before .before .before .point-at .ensures, c .before .before .before .before .before .before .before .before .point .ensures)
-    (back-by-ends (lent (a .points) (a .curves) (a .reals) (a .parts) (a .ranges)) (a .edge) (now (a .params)) (sym (c .before .before .before .before .before .before .before .before .before .before .degenerate-ends .ensures) ∙ c .before .before .before .before .before .before .before .before .before .if1 .left))
+    let T = lent (a .points) (a .curves) (a .reals) (a .parts) (a .ranges) in
+    let made = c .before .before .before .before .before .before .before .before .before .before .before .before .before .before .before .before .before .pre .1 in
+    simp (c .length-squared2 .ensures, c .before .sub2 .ensures, c .before .before .length-squared .ensures, c .before .before .before .sub .ensures, on-curve T (a .edge) _ made (c .before .before .before .before .point-of2 .ensures), on-curve T (a .edge) _ made (c .before .before .before .before .before .point-of .ensures), c .before .before .before .before .before .before .before .before .point .ensures)
+    (back-by-ends T (a .edge) (now (a .params)) (sym (c .before .before .before .before .before .before .before .before .before .before .degenerate-ends .ensures) ∙ c .before .before .before .before .before .before .before .before .before .if1 .left))
 
 pub is-reversed-spec : {M : Type 1} → statement M
 is-reversed-spec =
@@ -63,8 +65,8 @@ is-reversed-spec =
     sub-last
     mul-last
     shared-slice-read-last
-    point-at-requires
-    point-at-requires-2
+    point-of-requires
+    point-of-requires-2
     sub-requires
     length-squared-requires
     sub-requires-2

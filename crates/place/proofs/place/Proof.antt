@@ -14,39 +14,42 @@ use Rattle.place.proofs.place.Statement.{statement}
 use Rattle.place.proofs.place.Tie as tie
 
 abbrev Inv-loop : tie.InvT-loop
-Inv-loop points curves reals parts ranges edge params chain₀ reversed n i₀ chain i =
+Inv-loop points curves reals parts ranges edge params chain₀ ready reversed n i₀ chain i =
     (i ≤ length params) × (length chain ≡ length chain₀) × (chain ≡ sets chain₀ 0 (flat (take i (placed (tables points curves reals parts ranges) edge params))))
 
 abbrev μ-loop : tie.MeasureT-loop
-μ-loop points curves reals parts ranges edge params chain₀ reversed n i₀ chain i = length params - i
+μ-loop points curves reals parts ranges edge params chain₀ ready reversed n i₀ chain i = length params - i
+
+ready-at-requires : tie.Need-ready-at-requires Inv-loop μ-loop
+ready-at-requires c κs = search needs
 
 is-reversed-requires : tie.Need-is-reversed-requires Inv-loop μ-loop
-is-reversed-requires c κs = search needs
+is-reversed-requires c κs = (omega arith, c .ready-at .ensures)
 
 loop-holds : tie.Need-loop-holds Inv-loop μ-loop
-loop-holds c = let a = c .before .before .before .before .before .before .before .before .args in (omega arith, refl, place-start (lent (a .points) (a .curves) (a .reals) (a .parts) (a .ranges)) (a .edge) (now (a .params)) (omega arith) (now (a .chain)))
+loop-holds c = let a = c .before .before .before .before .before .before .before .before .before .args in (omega arith, refl, place-start (lent (a .points) (a .curves) (a .reals) (a .parts) (a .ranges)) (a .edge) (now (a .params)) (omega arith) (now (a .chain)))
 
 record-at-requires : tie.Need-record-at-requires Inv-loop μ-loop
-record-at-requires c κs = search needs
+record-at-requires c κs = (omega arith, c .before .before .before .ready-at .ensures)
 
 put-requires : tie.Need-put-requires Inv-loop μ-loop
 put-requires c κs = search needs
 
 add-i : tie.Need-add-i Inv-loop μ-loop
-add-i c = omega (arith, c .before .before .before .before .before .before .before .before .before .before .before .before .before .before .before .pre, c .before .before .before .before .before .before .before .before .before .before .before .before .before .before .before .good .1 .1 .1 .1 .1 .1 .0 .1)
+add-i c = omega (arith, c .before .before .before .before .before .before .before .before .before .before .before .before .before .before .before .before .pre, c .before .before .before .before .before .before .before .before .before .before .before .before .before .before .before .before .good .1 .1 .1 .1 .1 .1 .0 .1)
 
 loop-less : tie.Need-loop-less Inv-loop μ-loop
 loop-less c = search needs
 
 loop-again : tie.Need-loop-again Inv-loop μ-loop
 loop-again c =
-    let a = c .before .before .before .before .before .before .before .before .before .before .before .before .before .before .before .args in
+    let a = c .before .before .before .before .before .before .before .before .before .before .before .before .before .before .before .before .args in
     let l = c .before .before .before .before .before .before .loop in
     let s = c .before .before .before .before .record-at in
     let T = lent (a .points) (a .curves) (a .reals) (a .parts) (a .ranges) in (
       omega arith,
       ap length (c .before .before .put .ensures) ∙ length-sets (l .chain) (width * l .i) (row (s .result)) ∙ l .inv .1,
-      place-next T (a .edge) (now (a .params)) (c .before .before .before .before .before .before .before .before .before .before .before .before .before .before .before .pre .0) (now (a .chain)) (l .chain) _ (l .i) (s .result) _ (omega arith) (l .inv .2) (c .before .before .before .before .before .before .before .is-reversed .ensures) (s .ensures) (c .before .before .put .ensures),
+      place-next T (a .edge) (now (a .params)) (c .before .before .before .before .before .before .before .before .before .before .before .before .before .before .before .before .pre .0) (now (a .chain)) (l .chain) _ (l .i) (s .result) _ (omega arith) (l .inv .2) (c .before .before .before .before .before .before .before .is-reversed .ensures) (s .ensures) (c .before .before .put .ensures),
     )
 
 same-length : tie.Need-same-length Inv-loop μ-loop
@@ -54,7 +57,7 @@ same-length c = c .before .loop .inv .1
 
 returns : tie.Need-returns Inv-loop μ-loop
 returns c =
-    let a = c .before .before .before .before .before .before .before .before .before .before .args in
+    let a = c .before .before .before .before .before .before .before .before .before .before .before .args in
     let l = c .before .loop in
     place-done (lent (a .points) (a .curves) (a .reals) (a .parts) (a .ranges)) (a .edge) (now (a .params)) (omega arith) (now (a .chain)) (l .chain) (l .i) (omega arith) (l .inv .2)
 
@@ -64,6 +67,7 @@ place-spec =
     (tie.spec
     Inv-loop
     μ-loop
+    ready-at-requires
     is-reversed-requires
     loop-holds
     record-at-requires

@@ -1,5 +1,5 @@
 -- `record_at` meets its contract, by the tests that decide the record. Assumes nothing.
-use Rattle.place.proofs.Laws.{record-first, record-last, record-between}
+use Rattle.place.proofs.Laws.{on-curve, record-first, record-last, record-between}
 use denote.Ref.{now}
 use Rattle.brep.specs.Rows.{lent}
 use borrow.Author.Needs.{needs}
@@ -30,14 +30,16 @@ returns-2 c =
     record-last (lent (a .points) (a .curves) (a .reals) (a .parts) (a .ranges)) (a .edge) (now (a .params)) (a .reversed) (a .i) _ _
     (c .before .before .before .param-at .ensures) (c .before .before .if1 .left) (c .before .if2 .taken) (c .point2 .ensures)
 
-point-at-requires : tie.Need-point-at-requires
-point-at-requires c κs = search needs
+point-of-requires : tie.Need-point-of-requires
+point-of-requires c κs = search needs
 
 returns-3 : tie.Need-returns-3
 returns-3 c =
     let a = c .before .before .before .before .before .before .before .before .before .before .args in
-    record-between (lent (a .points) (a .curves) (a .reals) (a .parts) (a .ranges)) (a .edge) (now (a .params)) (a .reversed)
-    (a .i) _ _ (c .before .before .before .param-at .ensures) (c .before .before .if1 .left) (c .before .if2 .left) (c .point-at .ensures)
+    let T = lent (a .points) (a .curves) (a .reals) (a .parts) (a .ranges) in
+    record-between T (a .edge) (now (a .params)) (a .reversed)
+    (a .i) _ _ (c .before .before .before .param-at .ensures) (c .before .before .if1 .left) (c .before .if2 .left)
+    (on-curve T (a .edge) _ (c .before .before .before .before .before .before .before .before .before .before .pre .1) (c .point-of .ensures))
 
 pub record-at-spec : {M : Type 1} → statement M
 record-at-spec =
@@ -49,5 +51,5 @@ record-at-spec =
     sub-if2
     point-requires-2
     returns-2
-    point-at-requires
+    point-of-requires
     returns-3)
