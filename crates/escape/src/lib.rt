@@ -117,15 +117,16 @@ pub fn nearest(
     ensures { λ w. ⌜ (w .start ≡ nearest (tree (lent (points .entry) (curves .entry) (reals .entry) (parts .entry) (ranges .entry)) row) start) × (w .end ≡ nearest (tree (lent (points .entry) (curves .entry) (reals .entry) (parts .entry) (ranges .entry)) row) end) ⌝ }
 {
     let natural = curve::natural_range(points, curves, reals, parts, ranges, row);
+    let ready = ready::ready_at(points, curves, reals, parts, ranges, row);
     let first = sweep_at(natural, 0);
-    let p = curve::point_at(points, curves, reals, parts, ranges, row, first);
+    let p = ready::point_of(ready, points, curves, reals, parts, ranges, row, first);
     let mut a = measured(start, first, p);
     let mut b = measured(end, first, p);
     let mut i = 0u32;
     while i < STEPS {
         i += 1;
         let t = sweep_at(natural, i);
-        let q = curve::point_at(points, curves, reals, parts, ranges, row, t);
+        let q = ready::point_of(ready, points, curves, reals, parts, ranges, row, t);
         a = nearer(a, start, t, q);
         b = nearer(b, end, t, q);
     }
