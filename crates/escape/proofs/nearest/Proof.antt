@@ -1,5 +1,5 @@
 -- `escape::nearest` meets its contract. The invariant: both vertices have their nearest of the parameters up to i. Assumes nothing.
-use Rattle.escape.proofs.Sweep.{Swept, swept-first, swept-rooted, swept-more, swept-all}
+use Rattle.escape.proofs.Sweep.{Swept, swept-first, swept-more, swept-all}
 use Rattle.curve.specs.Eval.{naturalRange}
 use Rattle.ready.specs.Ready.{readyOf}
 use Rattle.brep.specs.Tree.{tree}
@@ -56,10 +56,10 @@ point-of-requires-2 : tie.Need-point-of-requires-2 Inv-loop μ-loop
 point-of-requires-2 c κs = search needs
 
 nearer-requires : tie.Need-nearer-requires Inv-loop μ-loop
-nearer-requires c κs = swept-rooted (c .before .before .before .loop .inv .3)
+nearer-requires c κs = search needs
 
 nearer-requires-2 : tie.Need-nearer-requires-2 Inv-loop μ-loop
-nearer-requires-2 c κs = swept-rooted (c .before .before .before .before .loop .inv .4)
+nearer-requires-2 c κs = search needs
 
 loop-less : tie.Need-loop-less Inv-loop μ-loop
 loop-less c = search needs
