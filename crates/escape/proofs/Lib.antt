@@ -1,2 +1,4 @@
 pub mod Search
 pub mod Sweep
+pub mod Close
+pub mod Apart

@@ -1,4 +1,4 @@
--- The nearest parameter so far, with how far its point lies from the target. Definitions only.
+-- The nearest parameter so far, with how far its point lies from the target, for the code's own use. Definitions only.
 use mathlib.Core.Bool.{cond}
 use lib.Ieee.{Float, lt}
 use Rattle.roots.specs.Root.{rootOf}
@@ -8,10 +8,8 @@ use Rattle.escape.specs.declared.Best.{Best}
 
 -- a parameter and the point at it
 unfoldable pub measured : Vec3 → Float → Vec3 → Best
-measured target t p =
-    let s = vLengthSquared (vSub p target) in
-    record { param = t; square = s; root = rootOf s }
+measured target t p = record { param = t; square = vLengthSquared (vSub p target) }
 
 -- the second where it is strictly nearer
 unfoldable pub nearerOf : Best → Best → Best
-nearerOf best next = cond (lt (next .root) (best .root)) next best
+nearerOf best next = cond (lt (rootOf (next .square)) (rootOf (best .square))) next best

@@ -6,6 +6,7 @@ use math::Vec3;
 use options::Resolved;
 ghost use mathlib.Core.Path.{_≡_};
 ghost use Prim.Native.Nat.{_*_, _≤_};
+ghost use lib.Ieee.{lt};
 ghost use lib.ListN.{length};
 ghost use Rattle.roots.specs.Root.{rootOf};
 ghost use Rattle.brep.specs.Rows.{lent};
@@ -17,11 +18,10 @@ ghost use Rattle.escape.specs.Best.{measured, nearerOf};
 // How many steps `nearest` takes along the natural range.
 const STEPS: u32 = 512;
 
-// A parameter, the squared distance of its point to the target, and that one's root.
+// A parameter, and the squared distance of its point to the target.
 struct Best {
     param: f64,
     square: f64,
-    root: f64,
 }
 
 // The parameters that are nearest to an edge's two vertices.
@@ -66,32 +66,38 @@ pub fn reaches(edge: Edge, r: Resolved, p: Vec3, chain: &[f64], n: usize) -> boo
     false
 }
 
+// Whether the root of s is below that of t, mostly without either: a root rises with what stands under it, and where that rises by one
+// part in a million, so that the roots round to two floats, the root does rise.
+fn is_below(s: f64, t: f64) -> bool
+    ensures { λ b. ⌜ b ≡ lt (rootOf s) (rootOf t) ⌝ }
+{
+    if s < t {
+        if 0.0 < s {
+            if s * 1.000001 < t {
+                return true;
+            }
+        }
+        return roots::root(s) < roots::root(t);
+    }
+    false
+}
+
 fn measured(target: Vec3, t: f64, p: Vec3) -> Best
     ensures { λ b. ⌜ b ≡ measured target t p ⌝ }
 {
-    let s = p.sub(target).length_squared();
     Best {
         param: t,
-        square: s,
-        root: roots::root(s),
+        square: p.sub(target).length_squared(),
     }
 }
 
-// The parameter t with its point p where that is strictly nearer. Only where the square is below the best one can the root be.
+// The parameter t with its point p where that is strictly nearer.
 fn nearer(best: Best, target: Vec3, t: f64, p: Vec3) -> Best
-    requires { ⌜ best .root ≡ rootOf (best .square) ⌝ }
     ensures { λ b. ⌜ b ≡ nearerOf best (measured target t p) ⌝ }
 {
-    let s = p.sub(target).length_squared();
-    if s < best.square {
-        let root = roots::root(s);
-        if root < best.root {
-            return Best {
-                param: t,
-                square: s,
-                root,
-            };
-        }
+    let next = measured(target, t, p);
+    if is_below(next.square, best.square) {
+        return next;
     }
     best
 }
@@ -117,15 +123,16 @@ pub fn nearest(
     ensures { λ w. ⌜ (w .start ≡ nearest (tree (lent (points .entry) (curves .entry) (reals .entry) (parts .entry) (ranges .entry)) row) start) × (w .end ≡ nearest (tree (lent (points .entry) (curves .entry) (reals .entry) (parts .entry) (ranges .entry)) row) end) ⌝ }
 {
     let natural = curve::natural_range(points, curves, reals, parts, ranges, row);
+    let ready = ready::ready_at(points, curves, reals, parts, ranges, row);
     let first = sweep_at(natural, 0);
-    let p = curve::point_at(points, curves, reals, parts, ranges, row, first);
+    let p = ready::point_of(ready, points, curves, reals, parts, ranges, row, first);
     let mut a = measured(start, first, p);
     let mut b = measured(end, first, p);
     let mut i = 0u32;
     while i < STEPS {
         i += 1;
         let t = sweep_at(natural, i);
-        let q = curve::point_at(points, curves, reals, parts, ranges, row, t);
+        let q = ready::point_of(ready, points, curves, reals, parts, ranges, row, t);
         a = nearer(a, start, t, q);
         b = nearer(b, end, t, q);
     }

@@ -10,12 +10,9 @@ sub-requires c κs = search needs
 length-squared-requires : tie.Need-length-squared-requires
 length-squared-requires c κs = search needs
 
-root-requires : tie.Need-root-requires
-root-requires c κs = search needs
-
 returns : tie.Need-returns
 unfolding measured
 returns c = cc
 
 pub measured-spec : {M : Type 1} → statement M
-measured-spec = tie.close (tie.spec sub-requires length-squared-requires root-requires returns)
+measured-spec = tie.close (tie.spec sub-requires length-squared-requires returns)

@@ -1,0 +1,28 @@
+-- `escape::is_below` meets its contract: a root is not below where what stands under it is not, and is where that is by one part in a
+-- million. Assumes nothing.
+use Rattle.escape.proofs.Apart.{surely-below}
+use Rattle.cuts.proofs.Roots.{root-not-below}
+use mathlib.Core.Path.{sym}
+use borrow.Author.Needs.{needs}
+use Rattle.escape.proofs.is_below.Statement.{statement}
+use Rattle.escape.proofs.is_below.Tie as tie
+
+returns : tie.Need-returns
+returns c =
+    let a = c .before .before .before .args in
+    surely-below (a .s) (a .t) (search needs) (search needs) (c .before .before .if1 .taken) (c .before .if2 .taken) (c .if3 .taken)
+
+root-requires : tie.Need-root-requires
+root-requires c κs = search needs
+
+root-requires-2 : tie.Need-root-requires-2
+root-requires-2 c κs = search needs
+
+returns-2 : tie.Need-returns-2
+returns-2 c = cc
+
+returns-3 : tie.Need-returns-3
+returns-3 c = let a = c .before .args in sym (root-not-below (a .s) (a .t) (search needs) (search needs) (c .if1 .left))
+
+pub is-below-spec : {M : Type 1} → statement M
+is-below-spec = tie.close (tie.spec returns root-requires root-requires-2 returns-2 returns-3)
