@@ -1,4 +1,4 @@
--- A span, by what split_of answers of its ends, and the ways out of subdivide. Assumes nothing.
+-- The points and tangents of a curve made ready, a span by what split_of answers of its ends, and the ways out of subdivide. Assumes nothing.
 use mathlib.Core.Path.{_≡_, refl, sym, ap, subst, _∙_}
 use mathlib.Core.Bool.{Bool, true, false}
 use mathlib.Core.List.{List, [], _∷_, _++_}
@@ -12,10 +12,13 @@ use Rattle.trig.specs.Trig.{acosOf}
 use Rattle.math.specs.declared.Vec3.{Vec3}
 use Rattle.math.specs.declared.Direction.{Direction}
 use Rattle.math.specs.declared.Direction.the-variants.{Unit, Nothing}
-use Rattle.math.specs.Math.{vDot}
+use Rattle.math.specs.Math.{vDot, tryNormalized}
 use Rattle.brep.specs.Tree.{CurveTree}
 use Rattle.curve.specs.Eval.{pointAt}
 use Rattle.tangent.specs.Derivative.{tangentAt}
+use Rattle.ready.specs.declared.Ready.{Ready}
+use Rattle.ready.specs.Ready.{readyOf, readyPoint, readyDerivative}
+use Rattle.ready.proofs.Laws.{ready-point, ready-derivative}
 use Rattle.options.specs.declared.Resolved.{Resolved}
 use Rattle.params.specs.Params.{midpoint, subdivided}
 use Rattle.params.proofs.Lists.{subdivided-zero, subdivided-within, subdivided-split}
@@ -27,6 +30,14 @@ use Rattle.bisect.specs.declared.End.{End}
 use Rattle.bisect.specs.declared.Split.{Split}
 use Rattle.bisect.specs.declared.Split.the-variants.{Within, At}
 use Rattle.bisect.specs.Bisect.{endAt, sagOf, turnOf, isWithin, withinBudget, splitOf}
+
+-- ---- the curve's own points and tangents, where it was made ready
+module _ (c : CurveTree) (t : Float) {ready : Ready} (R : ready ≡ readyOf c) where
+  pub own-point : {p : Vec3} → p ≡ readyPoint ready c t → p ≡ pointAt c t
+  own-point P = P ∙ ap (λ (x : Ready). readyPoint x c t) R ∙ ready-point c t
+
+  pub own-tangent : {d : Vec3} {g : Direction} → d ≡ readyDerivative ready c t → g ≡ tryNormalized d → g ≡ tangentAt c t
+  own-tangent D G = G ∙ ap tryNormalized (D ∙ ap (λ (x : Ready). readyDerivative x c t) R ∙ ready-derivative c t)
 
 -- ---- the test, by the branches that the code takes
 module _ (a b : Direction) where

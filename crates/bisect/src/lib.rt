@@ -3,11 +3,13 @@ use listed::Listed;
 use math::Direction;
 use math::Vec3;
 use options::Resolved;
+use ready::Ready;
 ghost use mathlib.Core.Path.{_≡_};
 ghost use Prim.Native.Nat.{_≤_};
 ghost use lib.ListN.{length};
 ghost use Rattle.brep.specs.Rows.{lent};
 ghost use Rattle.brep.specs.Tree.{tree};
+ghost use Rattle.ready.specs.Ready.{readyOf};
 ghost use Rattle.params.specs.Params.{subdivided};
 ghost use Rattle.listed.specs.Held.{Behind};
 ghost use Rattle.bisect.specs.Bisect.{endAt, turnOf, isWithin, splitOf, withinBudget};
@@ -25,7 +27,7 @@ pub enum Split {
     At(End),
 }
 
-// The curve of a row at t.
+// The curve of a row, made ready, at t.
 pub fn end_at(
     points: &[f64],
     curves: &[u32],
@@ -33,15 +35,16 @@ pub fn end_at(
     parts: &[u32],
     ranges: &[f64],
     row: u32,
+    ready: Ready,
     t: f64,
 ) -> End
+    requires { ⌜ ready ≡ readyOf (tree (lent points curves reals parts ranges) row) ⌝ }
     ensures { λ r. ⌜ r ≡ endAt (tree (lent (points .entry) (curves .entry) (reals .entry) (parts .entry) (ranges .entry)) row) t ⌝ }
 {
-    End {
-        t,
-        point: curve::point_at(points, curves, reals, parts, ranges, row, t),
-        tangent: tangent::tangent_at(points, curves, reals, parts, ranges, row, t),
-    }
+    let point = ready::point_of(ready, points, curves, reals, parts, ranges, row, t);
+    let slope = ready::derivative_of(ready, points, curves, reals, parts, ranges, row, t);
+    let tangent = slope.try_normalized();
+    End { t, point, tangent }
 }
 
 // The angle between two tangents; 0 where one is missing.
@@ -79,18 +82,21 @@ fn split_of(
     parts: &[u32],
     ranges: &[f64],
     row: u32,
+    ready: Ready,
     r: Resolved,
     a: End,
     b: End,
 ) -> Split
+    requires { ⌜ ready ≡ readyOf (tree (lent points curves reals parts ranges) row) ⌝ }
     ensures { λ s. ⌜ s ≡ splitOf (tree (lent (points .entry) (curves .entry) (reals .entry) (parts .entry) (ranges .entry)) row) r a b ⌝ }
 {
     let t = 0.5 * (a.t + b.t);
-    let point = curve::point_at(points, curves, reals, parts, ranges, row, t);
+    let point = ready::point_of(ready, points, curves, reals, parts, ranges, row, t);
     if is_within(r, a, b, point) {
         return Split::Within;
     }
-    let tangent = tangent::tangent_at(points, curves, reals, parts, ranges, row, t);
+    let slope = ready::derivative_of(ready, points, curves, reals, parts, ranges, row, t);
+    let tangent = slope.try_normalized();
     Split::At(End { t, point, tangent })
 }
 
@@ -102,6 +108,7 @@ pub fn subdivide(
     parts: &[u32],
     ranges: &[f64],
     row: u32,
+    ready: Ready,
     r: Resolved,
     a: End,
     b: End,
@@ -109,7 +116,8 @@ pub fn subdivide(
     out: &mut [f64],
     k: usize,
 ) -> Listed
-    requires { ⌜ (a ≡ endAt (tree (lent points curves reals parts ranges) row) (a .t))
+    requires { ⌜ (ready ≡ readyOf (tree (lent points curves reals parts ranges) row))
+        × (a ≡ endAt (tree (lent points curves reals parts ranges) row) (a .t))
         × (b ≡ endAt (tree (lent points curves reals parts ranges) row) (b .t)) × (k ≤ length (now out)) ⌝ }
     ensures { λ w. ⌜ Behind (now (out .entry)) k
         (subdivided (withinBudget (tree (lent (points .entry) (curves .entry) (reals .entry) (parts .entry) (ranges .entry)) row) r) depth (a .t) (b .t))
@@ -118,7 +126,7 @@ pub fn subdivide(
     if depth == 0 {
         return Listed::Count(k);
     }
-    let split = split_of(points, curves, reals, parts, ranges, row, r, a, b);
+    let split = split_of(points, curves, reals, parts, ranges, row, ready, r, a, b);
     let Split::At(m) = split else {
         return Listed::Count(k);
     };
@@ -129,6 +137,7 @@ pub fn subdivide(
         parts,
         ranges,
         row,
+        ready,
         r,
         a,
         m,
@@ -150,6 +159,7 @@ pub fn subdivide(
         parts,
         ranges,
         row,
+        ready,
         r,
         m,
         b,

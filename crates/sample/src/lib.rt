@@ -6,6 +6,7 @@ use math::Interval;
 use math::Vec3;
 use options::Resolved;
 use params::Closed;
+use ready::Ready;
 ghost use mathlib.Core.Path.{_≡_};
 ghost use mathlib.Core.List.{_++_};
 ghost use Prim.Native.Nat.{_≤_};
@@ -17,6 +18,7 @@ ghost use Rattle.roots.specs.Root.{rootOf};
 ghost use Rattle.brep.specs.Rows.{lent};
 ghost use Rattle.brep.specs.Tree.{tree};
 ghost use Rattle.curve.specs.Eval.{pointAt};
+ghost use Rattle.ready.specs.Ready.{readyOf};
 ghost use Rattle.params.specs.Params.{subdivided, unlessHi, bisected, refined};
 ghost use Rattle.listed.specs.Held.{Held, Behind};
 ghost use Rattle.knots.specs.Knots.{curveKnots};
@@ -40,15 +42,18 @@ fn miss_square(
     parts: &[u32],
     ranges: &[f64],
     row: u32,
+    ready: Ready,
     a: f64,
     b: f64,
     pa: Vec3,
     pb: Vec3,
 ) -> f64
-    requires { ⌜ (pa ≡ pointAt (tree (lent points curves reals parts ranges) row) a) × (pb ≡ pointAt (tree (lent points curves reals parts ranges) row) b) ⌝ }
+    requires { ⌜ (ready ≡ readyOf (tree (lent points curves reals parts ranges) row))
+        × (pa ≡ pointAt (tree (lent points curves reals parts ranges) row) a) × (pb ≡ pointAt (tree (lent points curves reals parts ranges) row) b) ⌝ }
     ensures { λ w. ⌜ w ≡ missSquare (tree (lent (points .entry) (curves .entry) (reals .entry) (parts .entry) (ranges .entry)) row) a b ⌝ }
 {
-    let m = curve::point_at(points, curves, reals, parts, ranges, row, 0.5 * (a + b));
+    let t = 0.5 * (a + b);
+    let m = ready::point_of(ready, points, curves, reals, parts, ranges, row, t);
     m.sub(pa.add(pb).scale(0.5)).length_squared()
 }
 
@@ -85,13 +90,26 @@ fn worst_miss(
         square: 0.0,
         root: 0.0,
     };
+    let ready = ready::ready_at(points, curves, reals, parts, ranges, row);
     let mut a = params[0];
-    let mut pa = curve::point_at(points, curves, reals, parts, ranges, row, a);
+    let mut pa = ready::point_of(ready, points, curves, reals, parts, ranges, row, a);
     let mut i = 1usize;
     while i < params.len() {
         let b = params[i];
-        let pb = curve::point_at(points, curves, reals, parts, ranges, row, b);
-        let s = miss_square(points, curves, reals, parts, ranges, row, a, b, pa, pb);
+        let pb = ready::point_of(ready, points, curves, reals, parts, ranges, row, b);
+        let s = miss_square(
+            points,
+            curves,
+            reals,
+            parts,
+            ranges,
+            row,
+            ready,
+            a,
+            b,
+            pa,
+            pb,
+        );
         worst = larger(worst, s);
         a = b;
         pa = pb;
@@ -143,6 +161,7 @@ fn step(
     parts: &[u32],
     ranges: &[f64],
     row: u32,
+    ready: Ready,
     range: Interval,
     r: Resolved,
     left: End,
@@ -150,7 +169,8 @@ fn step(
     out: &mut [f64],
     k: usize,
 ) -> Listed
-    requires { ⌜ (left ≡ endAt (tree (lent points curves reals parts ranges) row) (left .t)) × (right ≡ endAt (tree (lent points curves reals parts ranges) row) (right .t)) × (k ≤ length (now out)) ⌝ }
+    requires { ⌜ (ready ≡ readyOf (tree (lent points curves reals parts ranges) row))
+        × (left ≡ endAt (tree (lent points curves reals parts ranges) row) (left .t)) × (right ≡ endAt (tree (lent points curves reals parts ranges) row) (right .t)) × (k ≤ length (now out)) ⌝ }
     ensures { λ w. ⌜ Behind (now (out .entry)) k (subdivided (withinBudget (tree (lent (points .entry) (curves .entry) (reals .entry) (parts .entry) (ranges .entry)) row) r) (r .depth) (left .t) (right .t) ++ unlessHi range (right .t)) w (now (out .exit)) ⌝ }
 {
     let inside = bisect::subdivide(
@@ -160,6 +180,7 @@ fn step(
         parts,
         ranges,
         row,
+        ready,
         r,
         left,
         right,
@@ -192,16 +213,17 @@ fn walk(
     requires { ⌜ now breaks ≡ keptBreaks (tree (lent points curves reals parts ranges) row) (range .lo) (range .hi) (r .sag) ⌝ }
     ensures { λ w. ⌜ Held (now (out .entry)) (bisected (sampler (tree (lent (points .entry) (curves .entry) (reals .entry) (parts .entry) (ranges .entry)) row) range r) range) w (now (out .exit)) ⌝ }
 {
+    let ready = ready::ready_at(points, curves, reals, parts, ranges, row);
     let pushed = listed::push(out, 0, range.lo);
     let Listed::Count(first) = pushed else {
         return Listed::Refused;
     };
     let mut k = first;
-    let mut left = bisect::end_at(points, curves, reals, parts, ranges, row, range.lo);
+    let mut left = bisect::end_at(points, curves, reals, parts, ranges, row, ready, range.lo);
     let mut i = 0usize;
     while i <= breaks.len() {
         let b = stop_at(range, breaks, i);
-        let right = bisect::end_at(points, curves, reals, parts, ranges, row, b);
+        let right = bisect::end_at(points, curves, reals, parts, ranges, row, ready, b);
         let stepped = step(
             points,
             curves,
@@ -209,6 +231,7 @@ fn walk(
             parts,
             ranges,
             row,
+            ready,
             range,
             r,
             left,

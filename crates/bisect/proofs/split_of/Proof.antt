@@ -1,28 +1,52 @@
-use Rattle.bisect.proofs.Laws.{split-yes, split-no}
-use Rattle.brep.specs.Tree.{tree}
-use Rattle.brep.specs.Rows.{lent}
+-- `bisect::split_of` meets its contract. Assumes nothing.
 use borrow.Author.Needs.{needs}
+use Rattle.brep.specs.Rows.{tables}
+use Rattle.brep.specs.Tree.{CurveTree, tree}
+use Rattle.params.specs.Params.{midpoint}
+use Rattle.bisect.proofs.Laws.{own-point, own-tangent, split-yes, split-no}
 use Rattle.bisect.proofs.split_of.Statement.{statement}
 use Rattle.bisect.proofs.split_of.Tie as tie
-use Rattle.bisect.proofs.split_of.Reads as reads
-use Rattle.bisect.proofs.split_of.Lts as lts
-use Rattle.bisect.proofs.is_within.Reads as is-within-reads
 
-point-at-requires : tie.Need-point-at-requires
-point-at-requires c κs = search needs
+-- the curve that is read
+abbrev curve-of : tie.Start → CurveTree
+curve-of st =
+    let a = st .args in
+    tree (tables (a .points .now) (a .curves .now) (a .reals .now) (a .parts .now) (a .ranges .now)) (a .row)
+
+point-of-requires : tie.Need-point-of-requires
+point-of-requires c κs = search needs
 
 is-within-requires : tie.Need-is-within-requires
 is-within-requires c κs = search needs
 
 returns : tie.Need-returns
-returns c = let a = c .before .before .before .before .before .before .before .before .before .before .args in split-yes (tree (lent (a .points) (a .curves) (a .reals) (a .parts) (a .ranges)) (a .row)) (a .r) (a .a) (a .b) (cc)
+returns c =
+    let st = c .before .before .before .before .before .before .before .before .before .before in
+    let a = st .args in
+    let p = own-point (curve-of st) (midpoint (a .a .t) (a .b .t)) (st .pre) (c .before .before .point-of .ensures) in
+    split-yes (curve-of st) (a .r) (a .a) (a .b) (cc)
 
-tangent-at-requires : tie.Need-tangent-at-requires
-tangent-at-requires c κs = search needs
+derivative-of-requires : tie.Need-derivative-of-requires
+derivative-of-requires c κs = search needs
+
+try-normalized-requires : tie.Need-try-normalized-requires
+try-normalized-requires c κs = search needs
 
 returns-2 : tie.Need-returns-2
-returns-2 c = let a = c .before .before .before .before .before .before .before .before .before .before .before .args in split-no (tree (lent (a .points) (a .curves) (a .reals) (a .parts) (a .ranges)) (a .row)) (a .r) (a .a) (a .b) (c .before .before .before .point-at .result) (c .tangent-at .result) (c .before .before .before .point-at .ensures) (c .tangent-at .ensures) (cc)
+returns-2 c =
+    let st = c .before .before .before .before .before .before .before .before .before .before .before .before in
+    let a = st .args in
+    let m = midpoint (a .a .t) (a .b .t) in
+    split-no (curve-of st) (a .r) (a .a) (a .b) _ _ (own-point (curve-of st) m (st .pre) (c .before .before .before .before .point-of .ensures))
+    (own-tangent (curve-of st) m (st .pre) (c .before .derivative-of .ensures) (c .try-normalized .ensures)) (cc)
 
 pub split-of-spec : {M : Type 1} → statement M
 split-of-spec =
-    tie.close (tie.spec point-at-requires is-within-requires returns tangent-at-requires returns-2)
+    tie.close
+    (tie.spec
+    point-of-requires
+    is-within-requires
+    returns
+    derivative-of-requires
+    try-normalized-requires
+    returns-2)

@@ -1,11 +1,15 @@
 -- `sample::miss_square` meets its contract. Assumes nothing.
 use borrow.Author.Needs.{needs}
+use Rattle.brep.specs.Rows.{tables}
+use Rattle.brep.specs.Tree.{tree}
+use Rattle.params.specs.Params.{midpoint}
+use Rattle.bisect.proofs.Laws.{own-point}
 use Rattle.sample.specs.Worst.{missSquare}
 use Rattle.sample.proofs.miss_square.Statement.{statement}
 use Rattle.sample.proofs.miss_square.Tie as tie
 
-point-at-requires : tie.Need-point-at-requires
-point-at-requires c κs = search needs
+point-of-requires : tie.Need-point-of-requires
+point-of-requires c κs = search needs
 
 add-requires : tie.Need-add-requires
 add-requires c κs = search needs
@@ -21,9 +25,13 @@ length-squared-requires c κs = search needs
 
 returns : tie.Need-returns
 unfolding missSquare
-returns c = cc
+returns c =
+    let st = c .before .before .before .before .before .before .before .before .before .before in
+    let a = st .args in
+    let m = own-point (tree (tables (a .points .now) (a .curves .now) (a .reals .now) (a .parts .now) (a .ranges .now)) (a .row)) (midpoint (a .a) (a .b)) (st .pre .0) (c .before .before .before .before .point-of .ensures) in
+    cc
 
 pub miss-square-spec : {M : Type 1} → statement M
 miss-square-spec =
     tie.close
-    (tie.spec point-at-requires add-requires scale-requires sub-requires length-squared-requires returns)
+    (tie.spec point-of-requires add-requires scale-requires sub-requires length-squared-requires returns)

@@ -9,6 +9,7 @@ use Rattle.roots.specs.Root.{rootOf}
 use Rattle.brep.specs.Rows.{tables}
 use Rattle.brep.specs.Tree.{CurveTree, tree}
 use Rattle.curve.specs.Eval.{pointAt}
+use Rattle.bisect.proofs.Laws.{own-point}
 use Rattle.sample.specs.declared.Worst.{Worst}
 use Rattle.sample.specs.Sample.{missOf}
 use Rattle.sample.proofs.Squares.{Rooted, rooted-first, miss-root, larger-max, larger-rooted}
@@ -17,13 +18,13 @@ use Rattle.sample.proofs.worst_miss.Statement.{statement}
 use Rattle.sample.proofs.worst_miss.Tie as tie
 
 abbrev Inv-loop : tie.InvT-loop
-Inv-loop points curves reals parts ranges row params worst₀ a₀ pa₀ i₀ worst a pa i =
+Inv-loop points curves reals parts ranges row params worst₀ ready a₀ pa₀ i₀ worst a pa i =
     (pa ≡ pointAt (tree (tables points curves reals parts ranges) row) a)
     × Missing (tree (tables points curves reals parts ranges) row) params (worst .root) a i
     × Rooted worst
 
 abbrev μ-loop : tie.MeasureT-loop
-μ-loop points curves reals parts ranges row params worst₀ a₀ pa₀ i₀ worst a pa i = length params - i
+μ-loop points curves reals parts ranges row params worst₀ ready a₀ pa₀ i₀ worst a pa i = length params - i
 
 -- the curve that is read
 abbrev curve-of : tie.Start Inv-loop μ-loop → CurveTree
@@ -36,16 +37,19 @@ returns c =
     let st = c .before .before .before .before .before .before .before in
     no-params (curve-of st) (st .args .params .now) (c .if1 .taken)
 
+ready-at-requires : tie.Need-ready-at-requires Inv-loop μ-loop
+ready-at-requires c κs = search needs
+
 shared-slice-read-a : tie.Need-shared-slice-read-a Inv-loop μ-loop
 shared-slice-read-a c = search needs
 
-point-at-requires : tie.Need-point-at-requires Inv-loop μ-loop
-point-at-requires c κs = search needs
+point-of-requires : tie.Need-point-of-requires Inv-loop μ-loop
+point-of-requires c κs = search needs
 
 loop-holds : tie.Need-loop-holds Inv-loop μ-loop
 loop-holds c =
-    let st = c .before .before .before .before .before .before .before .before .before in
-    (c .point-at .ensures, first-param (curve-of st) (st .args .params .now) (c .before .before .if1 .left), rooted-first)
+    let st = c .before .before .before .before .before .before .before .before .before .before in
+    (own-point (curve-of st) _ (c .before .before .ready-at .ensures) (c .point-of .ensures), first-param (curve-of st) (st .args .params .now) (c .before .before .before .if1 .left), rooted-first)
 
 mul-b : tie.Need-mul-b Inv-loop μ-loop
 mul-b c = search needs
@@ -53,11 +57,14 @@ mul-b c = search needs
 shared-slice-read-b : tie.Need-shared-slice-read-b Inv-loop μ-loop
 shared-slice-read-b c = search needs
 
-point-at-requires-2 : tie.Need-point-at-requires-2 Inv-loop μ-loop
-point-at-requires-2 c κs = search needs
+point-of-requires-2 : tie.Need-point-of-requires-2 Inv-loop μ-loop
+point-of-requires-2 c κs = search needs
 
 miss-square-requires : tie.Need-miss-square-requires Inv-loop μ-loop
-miss-square-requires c κs = (c .before .before .before .loop .inv .0, c .point-at2 .ensures)
+miss-square-requires c κs =
+    let st = c .before .before .before .before .before .before .before .before .before .before .before .before .before .before in
+    let R = c .before .before .before .before .before .before .ready-at .ensures in
+    (R, c .before .before .before .loop .inv .0, own-point (curve-of st) _ R (c .point-of2 .ensures))
 
 larger-requires : tie.Need-larger-requires Inv-loop μ-loop
 larger-requires c κs = c .before .before .before .before .loop .inv .2 .own
@@ -68,7 +75,7 @@ add-i c =
     omega (
       arith,
       c .before .before .before .before .loop-test .taken,
-      c .before .before .before .before .before .before .before .before .before .before .before .before .before .before .before .good .1 .1 .1 .1 .1 .1 .0 .1,
+      c .before .before .before .before .before .before .before .before .before .before .before .before .before .before .before .before .good .1 .1 .1 .1 .1 .1 .0 .1,
     )
 
 loop-less : tie.Need-loop-less Inv-loop μ-loop
@@ -76,9 +83,9 @@ loop-less c = search needs
 
 loop-again : tie.Need-loop-again Inv-loop μ-loop
 loop-again c =
-    let st = c .before .before .before .before .before .before .before .before .before .before .before .before .before .before .before in
+    let st = c .before .before .before .before .before .before .before .before .before .before .before .before .before .before .before .before in
     let l = c .before .before .before .before .before .loop in (
-      c .before .before .point-at2 .ensures,
+      own-point (curve-of st) _ (c .before .before .before .before .before .before .before .before .ready-at .ensures) (c .before .before .point-of2 .ensures),
       next-param (curve-of st) (st .args .params .now) (l .worst .root) (l .a) (l .i) (l .inv .1)
           (c .larger .result .root) (missOf (curve-of st) (l .a) _) _ (c .before .before .before .before .loop-test .taken) refl refl
           (ap (λ (w : Worst). w .root) (c .larger .ensures) ∙ larger-max (l .worst) _ (l .inv .2) ∙ ap (maxOf (l .worst .root)) (ap rootOf (c .before .miss-square .ensures) ∙ miss-root (curve-of st) (l .a) _)),
@@ -87,7 +94,7 @@ loop-again c =
 
 returns-2 : tie.Need-returns-2 Inv-loop μ-loop
 returns-2 c =
-    let st = c .before .before .before .before .before .before .before .before .before .before .before in
+    let st = c .before .before .before .before .before .before .before .before .before .before .before .before in
     let l = c .before .loop in
     last-param (curve-of st) (st .args .params .now) (l .worst .root) (l .a) (l .i) (l .inv .1) (c .loop-test .left)
 
@@ -98,12 +105,13 @@ worst-miss-spec =
     Inv-loop
     μ-loop
     returns
+    ready-at-requires
     shared-slice-read-a
-    point-at-requires
+    point-of-requires
     loop-holds
     mul-b
     shared-slice-read-b
-    point-at-requires-2
+    point-of-requires-2
     miss-square-requires
     larger-requires
     add-i
