@@ -109,8 +109,8 @@ pub fn point(points: &[f64], i: u32) -> Vec3
     point_in(points, i, 0)
 }
 
-// A frame that is not whole: each point by its own test.
-fn frame_past_end(points: &[f64], first: u32) -> Frame
+// The frame whose origin, axis and ref_dir are the points from first on, as they are.
+pub fn frame_at(points: &[f64], first: u32) -> Frame
     ensures { λ r. ⌜ r ≡ frameOf (now (points .entry)) first ⌝ }
 {
     Frame {
@@ -118,36 +118,6 @@ fn frame_past_end(points: &[f64], first: u32) -> Frame
         axis: point_in(points, first, 1),
         ref_dir: point_in(points, first, 2),
     }
-}
-
-// The frame whose origin, axis and ref_dir are the points from first on, as they are. One test where the frame is whole.
-pub fn frame_at(points: &[f64], first: u32) -> Frame
-    ensures { λ r. ⌜ r ≡ frameOf (now (points .entry)) first ⌝ }
-{
-    let at = first as usize * 3;
-    if at + 9 <= points.len() {
-        let origin = Vec3 {
-            x: points[at],
-            y: points[at + 1],
-            z: points[at + 2],
-        };
-        let axis = Vec3 {
-            x: points[at + 3],
-            y: points[at + 4],
-            z: points[at + 5],
-        };
-        let ref_dir = Vec3 {
-            x: points[at + 6],
-            y: points[at + 7],
-            z: points[at + 8],
-        };
-        return Frame {
-            origin,
-            axis,
-            ref_dir,
-        };
-    }
-    frame_past_end(points, first)
 }
 
 // Segment number i of the run that starts at first.

@@ -10,16 +10,15 @@ use borrow.Author.Tests.{ne-eqb, le-ltb, lt-ltb}
 use Rattle.arith.specs.Notation.{_⊖_, _⊗_, _⊘_, bits, count, nought}
 use Rattle.arith.specs.Floor.{floorOf}
 use Rattle.arith.specs.Pick.{absOf, clampOf}
-use Rattle.math.specs.declared.Frame.{Frame}
 use Rattle.math.specs.declared.Interval.{Interval}
 use Rattle.brep.specs.declared.Segment.{Segment}
-use Rattle.math.specs.Math.{vZero, vSub, vLerp, vLengthSquared, polar, interval, spanOf}
+use Rattle.math.specs.Math.{vZero, vSub, vLerp, vLengthSquared, interval, spanOf}
 use Rattle.brep.specs.Rows.{Tables, pointOf}
-use Rattle.brep.specs.Tree.{CurveTree, Segments, segment, circle, polyline, composite, run, segments, segmentIn, trimmed, tree, below}
+use Rattle.brep.specs.Tree.{CurveTree, Segments, segment, polyline, composite, run, segments, segmentIn, trimmed, tree, below}
 use Rattle.brep.proofs.Laws.{length-run, getD-run, lower, high}
 use Rattle.curve.specs.declared.Repeats.{Repeats}
 use Rattle.curve.specs.declared.Repeats.the-variants.{Never}
-use Rattle.curve.specs.Eval.{naturalRange, countOf, clampedTo, indexIn, segmentIndex, segmentLocal, ownParameter, ellipsePoint, pointAt, segmentPoint, closes, polylineParameter, polylinePoint, everySpan, period, isClosed}
+use Rattle.curve.specs.Eval.{naturalRange, countOf, clampedTo, indexIn, segmentIndex, segmentLocal, ownParameter, pointAt, segmentPoint, closes, polylineParameter, polylinePoint, everySpan, period, isClosed}
 
 pub count-segments : (T : Tables) (f : ℕ → CurveTree) (first n : ℕ) → countOf (segments T f first n) ≡ n
 unfolding countOf segments
@@ -40,11 +39,6 @@ module _ {A : Type 0} (h : Segments → ℕ → Float → A) (k : CurveTree → 
   pub of-composite : (T : Tables) (f : ℕ → CurveTree) (first n : ℕ) (t : Float) → (n ≡ 0 → ⊥) → (clamped : Float) → clamped ≡ clampedTo n t → (i : ℕ) → i ≡ indexIn (n - 1) clamped → (s : Segment) → s ≡ segmentIn T (first + i) →
       k (f (s .curve)) (s .range) (s .«same_sense») (clamped ⊖ count i) ≡ h (segments T f first n) (segmentIndex (countOf (segments T f first n)) t) (segmentLocal (countOf (segments T f first n)) t)
   of-composite T f first n t z clamped eh i ei s es = rw (count-segments T f first n, es, ei, eh) (sym (nth T f first n (segmentIndex n t) (segmentLocal n t) (omega arith)))
-
--- a circle is an ellipse with equal axes
-pub circle-point : (f : Frame) (r t : Float) → ellipsePoint f r r t ≡ pointAt (circle f r) t
-unfolding ellipsePoint pointAt polar
-circle-point f r t = refl
 
 module _ (T : Tables) (f : ℕ → CurveTree) (first n : ℕ) (t : Float) where
   pub composite-none : n ≡ 0 → vZero ≡ pointAt (composite (segments T f first n)) t

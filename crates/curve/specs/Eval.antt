@@ -9,6 +9,7 @@ use lib.Ieee.Scale.{finite}
 use Rattle.arith.specs.Notation.{_⊕_, _⊖_, _⊗_, _⊘_, bits, count, nought, one, two}
 use Rattle.arith.specs.Pick.{absOf, clampOf}
 use Rattle.arith.specs.Floor.{floorOf}
+use Rattle.trig.specs.declared.SinCos.{SinCos}
 use Rattle.trig.specs.Trig.{sinOf, cosOf}
 use Rattle.math.specs.declared.Vec3.{Vec3}
 use Rattle.math.specs.declared.Frame.{Frame}
@@ -104,6 +105,10 @@ segmentLocal n t = clampedTo n t ⊖ count (segmentIndex n t)
 unfoldable pub ownParameter : Interval → Bool → Float → Float
 ownParameter range true local = at range local
 ownParameter range false local = at range (one ⊖ local)
+
+-- O + x (a c) + y (b s), of a cosine c and a sine s that are at hand
+abbrev pub around : Frame → Float → Float → SinCos → Vec3
+around f a b sc = vAdd (vAdd (f .origin) (vScale (f .«ref_dir») (a ⊗ sc .cos))) (vScale (yDir f) (b ⊗ sc .sin))
 
 -- an ellipse's point: O + x (a cos t) + y (b sin t)
 unfoldable pub ellipsePoint : Frame → Float → Float → Float → Vec3

@@ -1,17 +1,19 @@
 // Curve evaluation on rows: eval/curve.rs. Each contract is the definition at the row's curve.
 // A row's kind is read by its number, as brep::kind_of has them, and of its other numbers only those that are used: 1 line, 2 circle,
 // 3 ellipse, 4 parabola, 5 polyline, 6 trim, 7 composite; any other is the empty polyline.
+use math::Frame;
 use math::Interval;
 use math::Vec3;
+use trig::SinCos;
 ghost use mathlib.Core.Path.{_≡_};
 ghost use Prim.Native.Nat.{_+_, _-_, _*_};
 ghost use lib.ListN.{getD};
 ghost use lib.Ieee.{nan};
-ghost use Rattle.math.specs.Math.{interval, vAdd, vScale};
+ghost use Rattle.math.specs.Math.{interval, vAdd, vScale, polar};
 ghost use Rattle.brep.specs.Rows.{lent, pointOf, frameOf};
 ghost use Rattle.brep.specs.Tree.{tree, run, runOf, polyline};
 ghost use Rattle.curve.specs.Under.{under};
-ghost use Rattle.curve.specs.Eval.{naturalRange, closes, isClosed, everySpan, period, isSampled, indexIn, polylineParameter, polylinePoint, ownParameter, ellipsePoint, parabolaPoint, pointAt};
+ghost use Rattle.curve.specs.Eval.{naturalRange, closes, isClosed, everySpan, period, isSampled, indexIn, polylineParameter, polylinePoint, ownParameter, around, ellipsePoint, parabolaPoint, pointAt};
 
 // What `period` finds: how far the parameter runs until the curve is back where it was, or that it never is.
 pub enum Repeats {
@@ -257,15 +259,30 @@ pub fn own_parameter(range: Interval, same_sense: bool, local: f64) -> f64
     range.at(1.0 - local)
 }
 
+// A sine and a cosine along a frame's axes.
+fn around(frame: Frame, semi_major: f64, semi_minor: f64, sc: SinCos) -> Vec3
+    ensures { λ r. ⌜ r ≡ around frame «semi_major» «semi_minor» sc ⌝ }
+{
+    let x = frame.ref_dir.scale(semi_major * sc.cos);
+    let y = frame.y_dir().scale(semi_minor * sc.sin);
+    frame.origin.add(x).add(y)
+}
+
 // The sine and cosine come before the frame, whose nine floats need not be kept over the call.
+fn circle_point(points: &[f64], first: u32, radius: f64, t: f64) -> Vec3
+    ensures { λ r. ⌜ r ≡ polar (frameOf (now (points .entry)) first) radius t ⌝ }
+{
+    let sc = trig::sin_cos(t);
+    let frame = brep::frame_at(points, first);
+    around(frame, radius, radius, sc)
+}
+
 fn ellipse_point(points: &[f64], first: u32, semi_major: f64, semi_minor: f64, t: f64) -> Vec3
     ensures { λ r. ⌜ r ≡ ellipsePoint (frameOf (now (points .entry)) first) «semi_major» «semi_minor» t ⌝ }
 {
     let sc = trig::sin_cos(t);
     let frame = brep::frame_at(points, first);
-    let x = frame.ref_dir.scale(semi_major * sc.cos);
-    let y = frame.y_dir().scale(semi_minor * sc.sin);
-    frame.origin.add(x).add(y)
+    around(frame, semi_major, semi_minor, sc)
 }
 
 fn parabola_point(points: &[f64], first: u32, focal_dist: f64, t: f64) -> Vec3
@@ -304,7 +321,7 @@ pub fn point_at(
         1 => line_point(points, first, t),
         2 => {
             let p = brep::float_at(reals, r as usize * 2);
-            ellipse_point(points, first, p, p, t)
+            circle_point(points, first, p, t)
         }
         3 => {
             let p = brep::float_at(reals, r as usize * 2);

@@ -3,7 +3,7 @@ use mathlib.Core.Path.{refl, _∙_}
 use Rattle.brep.proofs.Laws.{at-lower, at-high}
 use Rattle.brep.proofs.ByKind.{at-line, at-circle, at-ellipse, at-parabola, at-polyline, at-composite}
 use Rattle.curve.specs.Eval.{pointAt, polylinePoint}
-use Rattle.curve.proofs.Laws.{circle-point, composite-none, composite-some}
+use Rattle.curve.proofs.Laws.{composite-none, composite-some}
 use Rattle.curve.proofs.Under.{under-low, under-same, under-rest}
 use borrow.Author.Needs.{needs}
 use Prim.Native.Nat.{ℕ, _<_, _+_, _*_}
@@ -19,6 +19,7 @@ use Rattle.arith.proofs.clamp.Reads as clamp-reads
 use Rattle.brep.proofs.float_at.Reads as float-at-reads
 use Rattle.brep.proofs.int_at.Reads as int-at-reads
 use Rattle.brep.proofs.segment_at.Reads as segment-at-reads
+use Rattle.curve.proofs.circle_point.Reads as circle-point-reads
 use Rattle.curve.proofs.ellipse_point.Reads as ellipse-point-reads
 use Rattle.curve.proofs.index_in.Reads as index-in-reads
 use Rattle.curve.proofs.line_point.Reads as line-point-reads
@@ -59,7 +60,7 @@ abbrev composite-at-claims : ℕ → composite-at-lts.Claims
 composite-at-claims t = (clamp-reads.Asked, clamp-reads.Learnt, index-in-reads.Asked, index-in-reads.Learnt, segment-at-reads.Asked, segment-at-reads.Learnt, own-parameter-reads.Asked, own-parameter-reads.Learnt, point-at-below t, point-at.Post)
 
 abbrev point-at-claims : ℕ → point-at-lts.Claims
-point-at-claims t = (under-trims-reads.Asked, under-trims-reads.Learnt, int-at-reads.Asked, int-at-reads.Learnt, line-point-reads.Asked, line-point-reads.Learnt, float-at-reads.Asked, float-at-reads.Learnt, ellipse-point-reads.Asked, ellipse-point-reads.Learnt, parabola-point-reads.Asked, parabola-point-reads.Learnt, polyline-point-reads.Asked, polyline-point-reads.Learnt, composite-at-below t, composite-at.Post)
+point-at-claims t = (under-trims-reads.Asked, under-trims-reads.Learnt, int-at-reads.Asked, int-at-reads.Learnt, line-point-reads.Asked, line-point-reads.Learnt, float-at-reads.Asked, float-at-reads.Learnt, circle-point-reads.Asked, circle-point-reads.Learnt, ellipse-point-reads.Asked, ellipse-point-reads.Learnt, parabola-point-reads.Asked, parabola-point-reads.Learnt, polyline-point-reads.Asked, polyline-point-reads.Learnt, composite-at-below t, composite-at.Post)
 
 composite-at-returns : (t : ℕ) → composite-at-lts.Need-returns (composite-at-claims t) (composite-at-at t) composite-at.Post
 unfolding pointAt polylinePoint
@@ -127,8 +128,8 @@ point-at-mul-float-at t c = search needs
 point-at-float-at-requires : (t : ℕ) → point-at-lts.Need-float-at-requires (point-at-claims t) (point-at-at t) point-at.Post
 point-at-float-at-requires t c κs = search needs
 
-point-at-ellipse-point-requires : (t : ℕ) → point-at-lts.Need-ellipse-point-requires (point-at-claims t) (point-at-at t) point-at.Post
-point-at-ellipse-point-requires t c κs = search needs
+point-at-circle-point-requires : (t : ℕ) → point-at-lts.Need-circle-point-requires (point-at-claims t) (point-at-at t) point-at.Post
+point-at-circle-point-requires t c κs = search needs
 
 point-at-cast-float-at-2 : (t : ℕ) → point-at-lts.Need-cast-float-at-2 (point-at-claims t) (point-at-at t) point-at.Post
 point-at-cast-float-at-2 t c = search needs
@@ -151,8 +152,8 @@ point-at-add-float-at t c = search needs
 point-at-float-at-requires-3 : (t : ℕ) → point-at-lts.Need-float-at-requires-3 (point-at-claims t) (point-at-at t) point-at.Post
 point-at-float-at-requires-3 t c κs = search needs
 
-point-at-ellipse-point-requires-2 : (t : ℕ) → point-at-lts.Need-ellipse-point-requires-2 (point-at-claims t) (point-at-at t) point-at.Post
-point-at-ellipse-point-requires-2 t c κs = search needs
+point-at-ellipse-point-requires : (t : ℕ) → point-at-lts.Need-ellipse-point-requires (point-at-claims t) (point-at-at t) point-at.Post
+point-at-ellipse-point-requires t c κs = search needs
 
 point-at-cast-float-at-4 : (t : ℕ) → point-at-lts.Need-cast-float-at-4 (point-at-claims t) (point-at-at t) point-at.Post
 point-at-cast-float-at-4 t c = search needs
@@ -190,11 +191,11 @@ point-at-returns t c = c .line-point .ensures ∙ at-line (λ x. pointAt x (c .b
 
 point-at-returns-2 : (t : ℕ) → point-at-lts.Need-returns-2 (point-at-claims t) (point-at-at t) point-at.Post
 unfolding pointAt polylinePoint
-point-at-returns-2 t c = c .ellipse-point .ensures ∙ circle-point _ _ _ ∙ at-circle (λ x. pointAt x (c .before .before .before .before .before .before .before .before .before .before .before .args .t)) _ _ (c .before .before .before .before .int-at .ensures) (c .before .before .match .keys2) (c .before .before .before .int-at2 .ensures) (c .before .float-at .ensures) ∙ under-same (λ x. pointAt x (c .before .before .before .before .before .before .before .before .before .before .before .args .t)) (λ b r. refl) _ _ (c .before .before .before .before .before .under-trims .ensures)
+point-at-returns-2 t c = c .circle-point .ensures ∙ at-circle (λ x. pointAt x (c .before .before .before .before .before .before .before .before .before .before .before .args .t)) _ _ (c .before .before .before .before .int-at .ensures) (c .before .before .match .keys2) (c .before .before .before .int-at2 .ensures) (c .before .float-at .ensures) ∙ under-same (λ x. pointAt x (c .before .before .before .before .before .before .before .before .before .before .before .args .t)) (λ b r. refl) _ _ (c .before .before .before .before .before .under-trims .ensures)
 
 point-at-returns-3 : (t : ℕ) → point-at-lts.Need-returns-3 (point-at-claims t) (point-at-at t) point-at.Post
 unfolding pointAt polylinePoint
-point-at-returns-3 t c = c .ellipse-point2 .ensures ∙ at-ellipse (λ x. pointAt x (c .before .before .before .before .before .before .before .before .before .before .before .before .args .t)) _ _ (c .before .before .before .before .before .int-at .ensures) (c .before .before .before .match .keys3) (c .before .before .before .before .int-at2 .ensures) (c .before .before .float-at2 .ensures) (c .before .float-at3 .ensures) ∙ under-same (λ x. pointAt x (c .before .before .before .before .before .before .before .before .before .before .before .before .args .t)) (λ b r. refl) _ _ (c .before .before .before .before .before .before .under-trims .ensures)
+point-at-returns-3 t c = c .ellipse-point .ensures ∙ at-ellipse (λ x. pointAt x (c .before .before .before .before .before .before .before .before .before .before .before .before .args .t)) _ _ (c .before .before .before .before .before .int-at .ensures) (c .before .before .before .match .keys3) (c .before .before .before .before .int-at2 .ensures) (c .before .before .float-at2 .ensures) (c .before .float-at3 .ensures) ∙ under-same (λ x. pointAt x (c .before .before .before .before .before .before .before .before .before .before .before .before .args .t)) (λ b r. refl) _ _ (c .before .before .before .before .before .before .under-trims .ensures)
 
 point-at-returns-4 : (t : ℕ) → point-at-lts.Need-returns-4 (point-at-claims t) (point-at-at t) point-at.Post
 unfolding pointAt polylinePoint
@@ -236,7 +237,7 @@ pub +composite-at+point-at-spec : {M : Type 1} → statement M
     (point-at-cast-float-at t)
     (point-at-mul-float-at t)
     (point-at-float-at-requires t)
-    (point-at-ellipse-point-requires t)
+    (point-at-circle-point-requires t)
     (point-at-cast-float-at-2 t)
     (point-at-mul-float-at-2 t)
     (point-at-float-at-requires-2 t)
@@ -244,7 +245,7 @@ pub +composite-at+point-at-spec : {M : Type 1} → statement M
     (point-at-mul-float-at-3 t)
     (point-at-add-float-at t)
     (point-at-float-at-requires-3 t)
-    (point-at-ellipse-point-requires-2 t)
+    (point-at-ellipse-point-requires t)
     (point-at-cast-float-at-4 t)
     (point-at-mul-float-at-4 t)
     (point-at-float-at-requires-4 t)
