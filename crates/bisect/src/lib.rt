@@ -7,12 +7,24 @@ use ready::Ready;
 ghost use mathlib.Core.Path.{_≡_};
 ghost use Prim.Native.Nat.{_≤_};
 ghost use lib.ListN.{length};
+ghost use lib.Ieee.{le};
+ghost use Rattle.roots.specs.Root.{rootOf};
 ghost use Rattle.brep.specs.Rows.{lent};
 ghost use Rattle.brep.specs.Tree.{tree};
 ghost use Rattle.ready.specs.Ready.{readyOf};
 ghost use Rattle.params.specs.Params.{subdivided};
 ghost use Rattle.listed.specs.Held.{Behind};
-ghost use Rattle.bisect.specs.Bisect.{endAt, turnOf, isWithin, splitOf, withinBudget};
+ghost use Rattle.bisect.specs.Bisect.{endAt, Around, turnOf, isWithin, splitOf, withinBudget};
+
+// A chord that is not longer than this has no length, as in `chord`.
+const SHORTEST_CHORD: f64 = 1e-300;
+
+// Where they are known, a square whose root is within the sag, and one whose root is not. They spare most roots.
+pub struct Cuts {
+    pub known: bool,
+    pub low: f64,
+    pub high: f64,
+}
 
 // An end of a span: its parameter, and the curve's point and tangent there.
 pub struct End {
@@ -47,6 +59,40 @@ pub fn end_at(
     End { t, point, tangent }
 }
 
+// The cuts of a sag: its square, and a little above that, so that the root is above the sag.
+pub fn cuts_of(sag: f64) -> Cuts
+    ensures { λ k. ⌜ Around k sag ⌝ }
+{
+    let low = sag * sag;
+    let high = low * 1.000001;
+    if roots::root(low) <= sag {
+        let known = sag < roots::root(high);
+        return Cuts { known, low, high };
+    }
+    Cuts {
+        known: false,
+        low,
+        high,
+    }
+}
+
+// Whether the root of s is at most the sag.
+fn is_near(s: f64, sag: f64, cuts: Cuts) -> bool
+    requires { ⌜ Around cuts sag ⌝ }
+    ensures { λ w. ⌜ w ≡ le (rootOf s) sag ⌝ }
+{
+    if cuts.known {
+        if cuts.high <= s {
+            return false;
+        }
+        // Below zero there is no root.
+        if 0.0 <= s && s <= cuts.low {
+            return true;
+        }
+    }
+    roots::root(s) <= sag
+}
+
 // The angle between two tangents; 0 where one is missing.
 fn turn(a: Direction, b: Direction) -> f64
     ensures { λ r. ⌜ r ≡ turnOf a b ⌝ }
@@ -61,12 +107,14 @@ fn turn(a: Direction, b: Direction) -> f64
 }
 
 // Whether the span from a to b, whose middle has the point pm, is within budget.
-fn is_within(r: Resolved, a: End, b: End, pm: Vec3) -> bool
+fn is_within(r: Resolved, cuts: Cuts, a: End, b: End, pm: Vec3) -> bool
+    requires { ⌜ Around cuts (r .sag) ⌝ }
     ensures { λ w. ⌜ w ≡ isWithin r a b pm ⌝ }
 {
     let chord = b.point.sub(a.point);
-    let deviation = chord::bisection_distance(a.point, chord, chord.length(), pm);
-    if deviation <= r.sag {
+    let len = chord.length();
+    let offset = chord::chord_offset(a.point, chord, SHORTEST_CHORD < len, len * len, pm);
+    if is_near(offset.length_squared(), r.sag, cuts) {
         let ta = a.tangent;
         let tb = b.tangent;
         return turn(ta, tb) <= r.angle;
@@ -84,15 +132,16 @@ fn split_of(
     row: u32,
     ready: Ready,
     r: Resolved,
+    cuts: Cuts,
     a: End,
     b: End,
 ) -> Split
-    requires { ⌜ ready ≡ readyOf (tree (lent points curves reals parts ranges) row) ⌝ }
+    requires { ⌜ (ready ≡ readyOf (tree (lent points curves reals parts ranges) row)) × Around cuts (r .sag) ⌝ }
     ensures { λ s. ⌜ s ≡ splitOf (tree (lent (points .entry) (curves .entry) (reals .entry) (parts .entry) (ranges .entry)) row) r a b ⌝ }
 {
     let t = 0.5 * (a.t + b.t);
     let point = ready::point_of(ready, points, curves, reals, parts, ranges, row, t);
-    if is_within(r, a, b, point) {
+    if is_within(r, cuts, a, b, point) {
         return Split::Within;
     }
     let slope = ready::derivative_of(ready, points, curves, reals, parts, ranges, row, t);
@@ -110,13 +159,14 @@ pub fn subdivide(
     row: u32,
     ready: Ready,
     r: Resolved,
+    cuts: Cuts,
     a: End,
     b: End,
     depth: u32,
     out: &mut [f64],
     k: usize,
 ) -> Listed
-    requires { ⌜ (ready ≡ readyOf (tree (lent points curves reals parts ranges) row))
+    requires { ⌜ (ready ≡ readyOf (tree (lent points curves reals parts ranges) row)) × Around cuts (r .sag)
         × (a ≡ endAt (tree (lent points curves reals parts ranges) row) (a .t))
         × (b ≡ endAt (tree (lent points curves reals parts ranges) row) (b .t)) × (k ≤ length (now out)) ⌝ }
     ensures { λ w. ⌜ Behind (now (out .entry)) k
@@ -126,7 +176,19 @@ pub fn subdivide(
     if depth == 0 {
         return Listed::Count(k);
     }
-    let split = split_of(points, curves, reals, parts, ranges, row, ready, r, a, b);
+    let split = split_of(
+        points,
+        curves,
+        reals,
+        parts,
+        ranges,
+        row,
+        ready,
+        r,
+        cuts,
+        a,
+        b,
+    );
     let Split::At(m) = split else {
         return Listed::Count(k);
     };
@@ -139,6 +201,7 @@ pub fn subdivide(
         row,
         ready,
         r,
+        cuts,
         a,
         m,
         depth - 1,
@@ -161,6 +224,7 @@ pub fn subdivide(
         row,
         ready,
         r,
+        cuts,
         m,
         b,
         depth - 1,

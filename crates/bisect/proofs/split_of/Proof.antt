@@ -23,7 +23,7 @@ returns : tie.Need-returns
 returns c =
     let st = c .before .before .before .before .before .before .before .before .before .before in
     let a = st .args in
-    let p = own-point (curve-of st) (midpoint (a .a .t) (a .b .t)) (st .pre) (c .before .before .point-of .ensures) in
+    let p = own-point (curve-of st) (midpoint (a .a .t) (a .b .t)) (st .pre .0) (c .before .before .point-of .ensures) in
     split-yes (curve-of st) (a .r) (a .a) (a .b) (cc)
 
 derivative-of-requires : tie.Need-derivative-of-requires
@@ -37,8 +37,8 @@ returns-2 c =
     let st = c .before .before .before .before .before .before .before .before .before .before .before .before in
     let a = st .args in
     let m = midpoint (a .a .t) (a .b .t) in
-    split-no (curve-of st) (a .r) (a .a) (a .b) _ _ (own-point (curve-of st) m (st .pre) (c .before .before .before .before .point-of .ensures))
-    (own-tangent (curve-of st) m (st .pre) (c .before .derivative-of .ensures) (c .try-normalized .ensures)) (cc)
+    split-no (curve-of st) (a .r) (a .a) (a .b) _ _ (own-point (curve-of st) m (st .pre .0) (c .before .before .before .before .point-of .ensures))
+    (own-tangent (curve-of st) m (st .pre .0) (c .before .derivative-of .ensures) (c .try-normalized .ensures)) (cc)
 
 pub split-of-spec : {M : Type 1} → statement M
 split-of-spec =

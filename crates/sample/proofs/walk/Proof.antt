@@ -12,12 +12,12 @@ use Rattle.sample.proofs.walk.Statement.{statement}
 use Rattle.sample.proofs.walk.Tie as tie
 
 abbrev Inv-loop : tie.InvT-loop
-Inv-loop points curves reals parts ranges row range r breaks out₀ ready first k₀ left₀ i₀ out k left i =
+Inv-loop points curves reals parts ranges row range r breaks out₀ ready cuts first k₀ left₀ i₀ out k left i =
     (i ≤ length breaks + 1)
     × Walking (tree (tables points curves reals parts ranges) row) range r breaks out₀ k₀ out left k i
 
 abbrev μ-loop : tie.MeasureT-loop
-μ-loop points curves reals parts ranges row range r breaks out₀ ready first k₀ left₀ i₀ out k left i = length breaks + 1 - i
+μ-loop points curves reals parts ranges row range r breaks out₀ ready cuts first k₀ left₀ i₀ out k left i = length breaks + 1 - i
 
 -- the curve that is read
 abbrev curve-of : tie.Start Inv-loop μ-loop → CurveTree
@@ -27,6 +27,9 @@ curve-of st =
 
 ready-at-requires : tie.Need-ready-at-requires Inv-loop μ-loop
 ready-at-requires c κs = search needs
+
+cuts-of-requires : tie.Need-cuts-of-requires Inv-loop μ-loop
+cuts-of-requires c κs = search needs
 
 push-requires : tie.Need-push-requires Inv-loop μ-loop
 push-requires c κs = search needs
@@ -42,16 +45,16 @@ same-length c = search needs
 
 returns : tie.Need-returns Inv-loop μ-loop
 returns c =
-    let st = c .before .before .before .before .before .before .before .before .before .before .before .before .before .before in
+    let st = c .before .before .before .before .before .before .before .before .before .before .before .before .before .before .before in
     low-refused (curve-of st) (st .args .range) (st .args .r) (st .args .breaks .now) (st .pre) (st .args .out .now) _
     (c .before .before .before .before .push .ensures) (c .enum-told .given .1)
 
 end-at-requires : tie.Need-end-at-requires Inv-loop μ-loop
-end-at-requires c κs = c .before .before .before .before .before .before .before .ready-at .ensures
+end-at-requires c κs = c .before .before .before .before .before .before .before .before .ready-at .ensures
 
 loop-holds : tie.Need-loop-holds Inv-loop μ-loop
 loop-holds c =
-    let st = c .before .before .before .before .before .before .before .before .before .before .before .before .before .before .before .before in (
+    let st = c .before .before .before .before .before .before .before .before .before .before .before .before .before .before .before .before .before in (
       omega arith,
       walking-start (curve-of st) (st .args .range) (st .args .r) (st .args .breaks .now) _ _
           (behind-room (st .args .out .now) 0 _ _ (c .before .before .before .before .before .before .push .ensures) _ (c .before .before .pushed .given .1))
@@ -62,13 +65,14 @@ stop-at-requires : tie.Need-stop-at-requires Inv-loop μ-loop
 stop-at-requires c κs = search needs
 
 end-at-requires-2 : tie.Need-end-at-requires-2 Inv-loop μ-loop
-end-at-requires-2 c κs = c .before .before .before .before .before .before .before .before .before .before .before .ready-at .ensures
+end-at-requires-2 c κs = c .before .before .before .before .before .before .before .before .before .before .before .before .ready-at .ensures
 
 step-requires : tie.Need-step-requires Inv-loop μ-loop
 step-requires c κs =
-    let st = c .before .before .before .before .before .before .before .before .before .before .before .before .before .before .before .before .before .before .before .before .before in
+    let st = c .before .before .before .before .before .before .before .before .before .before .before .before .before .before .before .before .before .before .before .before .before .before in
     let s = c .before .before .before .before .loop .inv .1 in (
-      c .before .before .before .before .before .before .before .before .before .before .before .before .before .ready-at .ensures,
+      c .before .before .before .before .before .before .before .before .before .before .before .before .before .before .ready-at .ensures,
+      c .before .before .before .before .before .before .before .before .before .before .before .before .before .cuts-of .ensures,
       s .own,
       end-own (curve-of st) _ _ (c .before .end-at2 .ensures),
       walking-room (curve-of st) (st .args .range) (st .args .r)
@@ -89,7 +93,7 @@ same-length-2 c =
 
 returns-2 : tie.Need-returns-2 Inv-loop μ-loop
 returns-2 c =
-    let st = c .before .before .before .before .before .before .before .before .before .before .before .before .before .before .before .before .before .before .before .before .before .before .before .before .before .before in
+    let st = c .before .before .before .before .before .before .before .before .before .before .before .before .before .before .before .before .before .before .before .before .before .before .before .before .before .before .before in
     low-then (curve-of st) (st .args .range) (st .args .r) (st .args .breaks .now) (st .pre) (st .args .out .now) _
     (c .before .before .before .before .before .before .before .before .before .before .before .before .before .before .before .before .push .ensures)
     _ (c .before .before .before .before .before .before .before .before .before .before .before .before .pushed .given .1) (walking-refused
@@ -105,7 +109,7 @@ add-i c =
     omega (
       arith,
       c .before .before .before .before .before .before .before .before .before .loop-test .taken,
-      c .before .before .before .before .before .before .before .before .before .before .before .before .before .before .before .before .before .before .before .before .before .before .before .before .before .before .before .good .1 .1 .1 .1 .1 .1 .1 .1 .0 .1,
+      c .before .before .before .before .before .before .before .before .before .before .before .before .before .before .before .before .before .before .before .before .before .before .before .before .before .before .before .before .good .1 .1 .1 .1 .1 .1 .1 .1 .0 .1,
     )
 
 loop-less : tie.Need-loop-less Inv-loop μ-loop
@@ -113,7 +117,7 @@ loop-less c = search needs
 
 loop-again : tie.Need-loop-again Inv-loop μ-loop
 loop-again c =
-    let st = c .before .before .before .before .before .before .before .before .before .before .before .before .before .before .before .before .before .before .before .before .before .before .before .before .before .before .before in (
+    let st = c .before .before .before .before .before .before .before .before .before .before .before .before .before .before .before .before .before .before .before .before .before .before .before .before .before .before .before .before in (
       omega (arith, c .before .before .before .before .before .before .before .before .before .loop-test .taken),
       walking-next (curve-of st)
           (st .args .range) (st .args .r) (st .args .breaks .now)
@@ -126,7 +130,7 @@ loop-again c =
 
 push-requires-2 : tie.Need-push-requires-2 Inv-loop μ-loop
 push-requires-2 c κs =
-    let st = c .before .before .before .before .before .before .before .before .before .before .before .before .before .before .before .before .before .before .before in
+    let st = c .before .before .before .before .before .before .before .before .before .before .before .before .before .before .before .before .before .before .before .before in
     walking-room (curve-of st) (st .args .range) (st .args .r) (st .args .breaks .now) (c .before .before .loop .inv .1)
 
 same-length-3 : tie.Need-same-length-3 Inv-loop μ-loop
@@ -136,7 +140,7 @@ same-length-3 c =
 
 returns-3 : tie.Need-returns-3 Inv-loop μ-loop
 returns-3 c =
-    let st = c .before .before .before .before .before .before .before .before .before .before .before .before .before .before .before .before .before .before .before .before .before .before in
+    let st = c .before .before .before .before .before .before .before .before .before .before .before .before .before .before .before .before .before .before .before .before .before .before .before in
     low-then (curve-of st) (st .args .range) (st .args .r) (st .args .breaks .now) (st .pre) (st .args .out .now) _
     (c .before .before .before .before .before .before .before .before .before .before .before .before .push .ensures) _
     (c .before .before .before .before .before .before .before .before .pushed .given .1) (walking-done (curve-of st) (st .args .range)
@@ -150,6 +154,7 @@ walk-spec =
     Inv-loop
     μ-loop
     ready-at-requires
+    cuts-of-requires
     push-requires
     enum-known-pushed
     enum-told
