@@ -130,3 +130,6 @@ apart (fin false m e) (fin false n d) F G p h k =
 pub surely-below : (s t : Float) → T (fits binary64 s) → T (fits binary64 t) → lt s t ≡ true → lt nought s ≡ true → lt (s ⊗ little) t ≡ true → true ≡ lt (rootOf s) (rootOf t)
 unfolding ofBits
 surely-below s t F G h p k = sym (is-true (lt (rootOf s) (rootOf t)) (apart s t F G (holds p) (holds h) (holds k)))
+
+pub of-roots : {a b : Float} (s t : Float) → a ≡ rootOf s → b ≡ rootOf t → lt a b ≡ lt (rootOf s) (rootOf t)
+of-roots s t e f = rw (e, f)

@@ -1,6 +1,6 @@
 -- `escape::is_below` meets its contract: a root is not below where what stands under it is not, and is where that is by one part in a
 -- million. Assumes nothing.
-use Rattle.escape.proofs.Apart.{surely-below}
+use Rattle.escape.proofs.Apart.{surely-below, of-roots}
 use Rattle.cuts.proofs.Roots.{root-not-below}
 use mathlib.Core.Path.{sym}
 use borrow.Author.Needs.{needs}
@@ -19,7 +19,9 @@ root-requires-2 : tie.Need-root-requires-2
 root-requires-2 c κs = search needs
 
 returns-2 : tie.Need-returns-2
-returns-2 c = cc
+returns-2 c =
+    let a = c .before .before .before .before .args in
+    of-roots (a .s) (a .t) (c .before .root .ensures) (c .root2 .ensures)
 
 returns-3 : tie.Need-returns-3
 returns-3 c = let a = c .before .args in sym (root-not-below (a .s) (a .t) (search needs) (search needs) (c .if1 .left))
