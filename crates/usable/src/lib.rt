@@ -1,5 +1,4 @@
 // usable_range and analytic_segments of edge.rs, on rows.
-use brep::Curve;
 use curve::Repeats;
 use math::Interval;
 use options::Resolved;
@@ -113,34 +112,24 @@ pub fn analytic_segments(
 ) -> Closed
     ensures { λ s. ⌜ s ≡ analyticSegments (tree (lent (points .entry) (curves .entry) (reals .entry) (parts .entry) (ranges .entry)) row) range r ⌝ }
 {
-    let c = brep::row_at(points, curves, reals, row);
-    match c {
-        Curve::Line {
-            origin: _,
-            direction: _,
-        } => Closed::Segments(at_least_one(r.segments)),
-        Curve::Circle { frame: _, radius } => {
+    let base = curve::under_trims(curves, row);
+    let kind = brep::int_at(curves, base as usize * 3);
+    let at = base as usize * 2;
+    match kind {
+        1 => Closed::Segments(at_least_one(r.segments)),
+        2 => {
+            let radius = brep::float_at(reals, at);
             Closed::Segments(r.segments_for_arc(radius, range.span()))
         }
-        Curve::Ellipse {
-            frame: _,
-            semi_major,
-            semi_minor,
-        } => {
+        3 => {
+            let semi_major = brep::float_at(reals, at);
+            let semi_minor = brep::float_at(reals, at + 1);
             let radius = ellipse_radius(semi_major, semi_minor);
             Closed::Segments(r.segments_for_arc(radius, range.span()))
         }
-        Curve::Trimmed { base, range: _ } => {
-            if base < row {
-                return analytic_segments(points, curves, reals, parts, ranges, base, range, r);
-            }
-            Closed::Unknown
-        }
-        Curve::Parabola {
-            frame: _,
-            focal_dist: _,
-        } => Closed::Unknown,
-        Curve::Polyline { first: _, count: _ } => Closed::Unknown,
-        Curve::Composite { first: _, count: _ } => Closed::Unknown,
+        4 => Closed::Unknown,
+        5 => Closed::Unknown,
+        7 => Closed::Unknown,
+        _ => Closed::Unknown,
     }
 }
