@@ -5,15 +5,14 @@ use mathlib.Core.List.{List, [], _∷_, _++_}
 use Prim.Native.Nat.{ℕ, _-_, _≤_}
 use native.Mathlib.Omega.{arith}
 use lib.ListN.{length}
-use lib.Dec.{T}
-use lib.Ieee.{Float, binary64, fits, lt, le, neg, ofBits}
-use Rattle.arith.specs.Notation.{_⊗_, nought, one}
+use lib.Ieee.{Float, le, neg}
+use Rattle.arith.specs.Notation.{nought, one}
 use Rattle.arith.specs.Pick.{clampOf}
-use Rattle.arith.proofs.Cmp.{holds}
 use Rattle.roots.specs.Root.{rootOf}
-use Rattle.roots.proofs.Laws.{root-under}
+use Rattle.cuts.specs.declared.Limit.{Limit}
+use Rattle.cuts.specs.Limit.{limitOf}
 use Rattle.trig.specs.Trig.{acosOf}
-use Rattle.chord.specs.Chord.{shortestChord, chordOffset, chordDistance, bisectionDistance}
+use Rattle.chord.specs.Chord.{chordDistance, bisectionOffset, bisectionDistance}
 use Rattle.math.specs.declared.Vec3.{Vec3}
 use Rattle.math.specs.declared.Direction.{Direction}
 use Rattle.math.specs.declared.Direction.the-variants.{Unit, Nothing}
@@ -44,21 +43,11 @@ module _ (c : CurveTree) (t : Float) {ready : Ready} (R : ready ≡ readyOf c) w
   pub own-tangent : {d : Vec3} {g : Direction} → d ≡ readyDerivative ready c t → g ≡ tryNormalized d → g ≡ tangentAt c t
   own-tangent D G = G ∙ ap tryNormalized (D ∙ ap (λ (x : Ready). readyDerivative x c t) R ∙ ready-derivative c t)
 
--- ---- the sag, by its square
-known : (b : Bool) → T b → true ≡ b
-known true h = refl
-known false h = absurd h
-
--- up to a cut whose root is at most the limit, no root is above it
-pub under : (s cut limit : Float) → T (fits binary64 s) → T (fits binary64 cut) → le (rootOf cut) limit ≡ true → le nought s ≡ true → le s cut ≡ true
-    → true ≡ le (rootOf s) limit
-unfolding ofBits
-under s cut limit F G h p k = known (le (rootOf s) limit) (root-under s cut limit F G (holds h) (holds p) (holds k))
-
-pub sag-root : (pa pb pm : Vec3)
-    → let chord = vSub pb pa in rootOf (vLengthSquared (chordOffset pa chord (lt shortestChord (vLength chord)) (vLength chord ⊗ vLength chord) pm)) ≡ sagOf pa pb pm
-unfolding sagOf bisectionDistance chordDistance vLength
-sag-root pa pb pm = refl
+-- ---- the sag, by its square: what is_within works out and compares
+pub sag-within : (pa pb pm chord offset : Vec3) (len s sag : Float) (limit : Limit) → chord ≡ vSub pb pa → len ≡ vLength chord
+    → offset ≡ bisectionOffset pa chord len pm → s ≡ vLengthSquared offset → limit ≡ limitOf sag → le (rootOf s) (limit .at) ≡ le (sagOf pa pb pm) sag
+unfolding sagOf bisectionOffset bisectionDistance chordDistance vLength limitOf
+sag-within pa pb pm chord offset len s sag limit C L O S E = rw (S, O, L, C, E)
 
 -- ---- the test, by the branches that the code takes
 module _ (a b : Direction) where

@@ -1,10 +1,8 @@
 -- The budget of a span, of subdivide in edge.rs. Definitions only.
-use mathlib.Core.Path.{_≡_}
 use mathlib.Core.Bool.{Bool, true, false, _&&_}
-use lib.Ieee.{Float, lt, le, neg}
+use lib.Ieee.{Float, le, neg}
 use Rattle.arith.specs.Notation.{nought, one}
 use Rattle.arith.specs.Pick.{clampOf}
-use Rattle.roots.specs.Root.{rootOf}
 use Rattle.trig.specs.Trig.{acosOf}
 use Rattle.math.specs.declared.Vec3.{Vec3}
 use Rattle.math.specs.declared.Direction.{Direction}
@@ -16,7 +14,6 @@ use Rattle.tangent.specs.Derivative.{tangentAt}
 use Rattle.options.specs.declared.Resolved.{Resolved}
 use Rattle.chord.specs.Chord.{bisectionDistance}
 use Rattle.params.specs.Params.{midpoint}
-use Rattle.bisect.specs.declared.Cuts.{Cuts}
 use Rattle.bisect.specs.declared.End.{End}
 use Rattle.bisect.specs.declared.Split.{Split}
 use Rattle.bisect.specs.declared.Split.the-variants.{Within, At}
@@ -50,7 +47,3 @@ splitOf c r a b =
       | true ↦ Within
       | false ↦ At (endAt c (midpoint (a .t) (b .t)))
     ]
-
--- cuts that are known stand on both sides of a limit: the root of the low one is at most it, that of the high one is above it
-abbrev pub Around : Cuts → Float → Type 0
-Around k limit = k .known ≡ true → (le (rootOf (k .low)) limit ≡ true) × (lt limit (rootOf (k .high)) ≡ true)

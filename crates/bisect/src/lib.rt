@@ -1,4 +1,5 @@
 // Bisection of a curve's spans: subdivide of edge.rs, on rows. Each point and each tangent is evaluated once and handed down.
+use cuts::Limit;
 use listed::Listed;
 use math::Direction;
 use math::Vec3;
@@ -7,24 +8,13 @@ use ready::Ready;
 ghost use mathlib.Core.Path.{_≡_};
 ghost use Prim.Native.Nat.{_≤_};
 ghost use lib.ListN.{length};
-ghost use lib.Ieee.{le};
-ghost use Rattle.roots.specs.Root.{rootOf};
+ghost use Rattle.cuts.specs.Limit.{limitOf};
 ghost use Rattle.brep.specs.Rows.{lent};
 ghost use Rattle.brep.specs.Tree.{tree};
 ghost use Rattle.ready.specs.Ready.{readyOf};
 ghost use Rattle.params.specs.Params.{subdivided};
 ghost use Rattle.listed.specs.Held.{Behind};
-ghost use Rattle.bisect.specs.Bisect.{endAt, Around, turnOf, isWithin, splitOf, withinBudget};
-
-// A chord that is not longer than this has no length, as in `chord`.
-const SHORTEST_CHORD: f64 = 1e-300;
-
-// Where they are known, a square whose root is within the sag, and one whose root is not. They spare most roots.
-pub struct Cuts {
-    pub known: bool,
-    pub low: f64,
-    pub high: f64,
-}
+ghost use Rattle.bisect.specs.Bisect.{endAt, turnOf, isWithin, splitOf, withinBudget};
 
 // An end of a span: its parameter, and the curve's point and tangent there.
 pub struct End {
@@ -59,40 +49,6 @@ pub fn end_at(
     End { t, point, tangent }
 }
 
-// The cuts of a sag: its square, and a little above that, so that the root is above the sag.
-pub fn cuts_of(sag: f64) -> Cuts
-    ensures { λ k. ⌜ Around k sag ⌝ }
-{
-    let low = sag * sag;
-    let high = low * 1.000001;
-    if roots::root(low) <= sag {
-        let known = sag < roots::root(high);
-        return Cuts { known, low, high };
-    }
-    Cuts {
-        known: false,
-        low,
-        high,
-    }
-}
-
-// Whether the root of s is at most the sag.
-fn is_near(s: f64, sag: f64, cuts: Cuts) -> bool
-    requires { ⌜ Around cuts sag ⌝ }
-    ensures { λ w. ⌜ w ≡ le (rootOf s) sag ⌝ }
-{
-    if cuts.known {
-        if cuts.high <= s {
-            return false;
-        }
-        // Below zero there is no root.
-        if 0.0 <= s && s <= cuts.low {
-            return true;
-        }
-    }
-    roots::root(s) <= sag
-}
-
 // The angle between two tangents; 0 where one is missing.
 fn turn(a: Direction, b: Direction) -> f64
     ensures { λ r. ⌜ r ≡ turnOf a b ⌝ }
@@ -106,15 +62,15 @@ fn turn(a: Direction, b: Direction) -> f64
     trig::acos(arith::clamp(ta.dot(tb), -1.0, 1.0))
 }
 
-// Whether the span from a to b, whose middle has the point pm, is within budget.
-fn is_within(r: Resolved, cuts: Cuts, a: End, b: End, pm: Vec3) -> bool
-    requires { ⌜ Around cuts (r .sag) ⌝ }
+// Whether the span from a to b, whose middle has the point pm, is within budget. The sag is compared by its square.
+fn is_within(r: Resolved, limit: Limit, a: End, b: End, pm: Vec3) -> bool
+    requires { ⌜ (limit ≡ limitOf (r .sag)) ⌝ }
     ensures { λ w. ⌜ w ≡ isWithin r a b pm ⌝ }
 {
     let chord = b.point.sub(a.point);
     let len = chord.length();
-    let offset = chord::chord_offset(a.point, chord, SHORTEST_CHORD < len, len * len, pm);
-    if is_near(offset.length_squared(), r.sag, cuts) {
+    let offset = chord::bisection_offset(a.point, chord, len, pm);
+    if cuts::is_at_most(offset.length_squared(), limit) {
         let ta = a.tangent;
         let tb = b.tangent;
         return turn(ta, tb) <= r.angle;
@@ -132,16 +88,16 @@ fn split_of(
     row: u32,
     ready: Ready,
     r: Resolved,
-    cuts: Cuts,
+    limit: Limit,
     a: End,
     b: End,
 ) -> Split
-    requires { ⌜ (ready ≡ readyOf (tree (lent points curves reals parts ranges) row)) × Around cuts (r .sag) ⌝ }
+    requires { ⌜ (ready ≡ readyOf (tree (lent points curves reals parts ranges) row)) × (limit ≡ limitOf (r .sag)) ⌝ }
     ensures { λ s. ⌜ s ≡ splitOf (tree (lent (points .entry) (curves .entry) (reals .entry) (parts .entry) (ranges .entry)) row) r a b ⌝ }
 {
     let t = 0.5 * (a.t + b.t);
     let point = ready::point_of(ready, points, curves, reals, parts, ranges, row, t);
-    if is_within(r, cuts, a, b, point) {
+    if is_within(r, limit, a, b, point) {
         return Split::Within;
     }
     let slope = ready::derivative_of(ready, points, curves, reals, parts, ranges, row, t);
@@ -159,14 +115,14 @@ pub fn subdivide(
     row: u32,
     ready: Ready,
     r: Resolved,
-    cuts: Cuts,
+    limit: Limit,
     a: End,
     b: End,
     depth: u32,
     out: &mut [f64],
     k: usize,
 ) -> Listed
-    requires { ⌜ (ready ≡ readyOf (tree (lent points curves reals parts ranges) row)) × Around cuts (r .sag)
+    requires { ⌜ (ready ≡ readyOf (tree (lent points curves reals parts ranges) row)) × (limit ≡ limitOf (r .sag))
         × (a ≡ endAt (tree (lent points curves reals parts ranges) row) (a .t))
         × (b ≡ endAt (tree (lent points curves reals parts ranges) row) (b .t)) × (k ≤ length (now out)) ⌝ }
     ensures { λ w. ⌜ Behind (now (out .entry)) k
@@ -185,7 +141,7 @@ pub fn subdivide(
         row,
         ready,
         r,
-        cuts,
+        limit,
         a,
         b,
     );
@@ -201,7 +157,7 @@ pub fn subdivide(
         row,
         ready,
         r,
-        cuts,
+        limit,
         a,
         m,
         depth - 1,
@@ -224,7 +180,7 @@ pub fn subdivide(
         row,
         ready,
         r,
-        cuts,
+        limit,
         m,
         b,
         depth - 1,

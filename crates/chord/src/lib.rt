@@ -2,7 +2,7 @@
 use math::Interval;
 use math::Vec3;
 ghost use mathlib.Core.Path.{_≡_};
-ghost use Rattle.chord.specs.Chord.{footOf, chordOffset, chordDistance, spanOffset, spanDistance, bisectionOffset, bisectionDistance};
+ghost use Rattle.chord.specs.Chord.{footOf, chordOffset, chordDistance, spanOffset, spanDistance, bisectionOffset};
 
 // A chord that is not longer than this has no length for bisection.
 const SHORTEST_CHORD: f64 = 1e-300;
@@ -54,10 +54,4 @@ pub fn bisection_offset(pa: Vec3, chord: Vec3, len: f64, p: Vec3) -> Vec3
     ensures { λ r. ⌜ r ≡ bisectionOffset pa chord len p ⌝ }
 {
     chord_offset(pa, chord, SHORTEST_CHORD < len, len * len, p)
-}
-
-pub fn bisection_distance(pa: Vec3, chord: Vec3, len: f64, p: Vec3) -> f64
-    ensures { λ r. ⌜ r ≡ bisectionDistance pa chord len p ⌝ }
-{
-    chord_distance(pa, chord, SHORTEST_CHORD < len, len * len, p)
 }

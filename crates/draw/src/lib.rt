@@ -19,7 +19,7 @@ ghost use lib.Ieee.{binary64, fits};
 ghost use Rattle.brep.specs.Rows.{lent};
 ghost use Rattle.brep.specs.Tree.{tree};
 ghost use Rattle.causes.specs.declared.Verdict.the-variants.{Accepted};
-ghost use Rattle.causes.specs.Causes.{verdict};
+ghost use Rattle.causes.specs.Causes.{verdict, tablesVerdict};
 ghost use Rattle.knots.specs.Knots.{curveKnots};
 ghost use Rattle.samples.specs.Chain.{width};
 ghost use Rattle.chains.specs.Draw.{firstWay, localOptions, drawnIn, roomOf, answerOf, firstAfter, secondAfter, inFirst, liesInFirst, floatsOf, Outcome};
@@ -136,6 +136,39 @@ pub fn draw_checked(
     fitting_ends(edge.range);
     let r = local_options(points, curves, reals, parts, ranges, edge, options);
     drawn_in(points, curves, reals, parts, ranges, edge, r, first, second)
+}
+
+// Draws an edge over tables that `causes::check_tables` has accepted, for many edges over the same tables: only the edge and
+// the options are looked at.
+pub fn draw_edge(
+    points: &[f64],
+    curves: &[u32],
+    reals: &[f64],
+    parts: &[u32],
+    ranges: &[f64],
+    edge: Edge,
+    options: Options,
+    first: &mut [f64],
+    second: &mut [f64],
+) -> Drawn
+    requires { ⌜ tablesVerdict (lent points curves reals parts ranges) ≡ Accepted ⌝ }
+    ensures { λ r. ⌜ Outcome (lent (points .entry) (curves .entry) (reals .entry) (parts .entry) (ranges .entry)) edge options (now (first .entry)) (now (second .entry)) r (now (first .exit)) (now (second .exit)) ⌝ }
+{
+    let verdict = causes::check_edge(points, curves, reals, parts, ranges, edge, options);
+    match verdict {
+        Verdict::Refused(cause) => Drawn::Refused(cause),
+        Verdict::Accepted => draw_checked(
+            points,
+            curves,
+            reals,
+            parts,
+            ranges,
+            edge,
+            options,
+            first,
+            second,
+        ),
+    }
 }
 
 // THE ENTRY POINT.

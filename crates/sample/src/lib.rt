@@ -1,6 +1,6 @@
 // sample_params of edge.rs, on rows.
-use bisect::Cuts;
 use bisect::End;
+use cuts::Limit;
 use knots::Knots;
 use listed::Listed;
 use math::Interval;
@@ -24,7 +24,8 @@ ghost use Rattle.params.specs.Params.{subdivided, unlessHi, bisected, refined};
 ghost use Rattle.listed.specs.Held.{Held, Behind};
 ghost use Rattle.knots.specs.Knots.{curveKnots};
 ghost use Rattle.thin_breaks.specs.Thin.{keptBreaks};
-ghost use Rattle.bisect.specs.Bisect.{endAt, withinBudget, Around};
+ghost use Rattle.cuts.specs.Limit.{limitOf};
+ghost use Rattle.bisect.specs.Bisect.{endAt, withinBudget};
 ghost use Rattle.sample.specs.Sample.{worstMiss, sampler, sampled};
 ghost use Rattle.sample.specs.Worst.{missSquare, largerOf};
 ghost use Rattle.sample.specs.Answered.{Answered, countOf, stops};
@@ -165,13 +166,13 @@ fn step(
     ready: Ready,
     range: Interval,
     r: Resolved,
-    cuts: Cuts,
+    limit: Limit,
     left: End,
     right: End,
     out: &mut [f64],
     k: usize,
 ) -> Listed
-    requires { ⌜ (ready ≡ readyOf (tree (lent points curves reals parts ranges) row)) × Around cuts (r .sag)
+    requires { ⌜ (ready ≡ readyOf (tree (lent points curves reals parts ranges) row)) × (limit ≡ limitOf (r .sag))
         × (left ≡ endAt (tree (lent points curves reals parts ranges) row) (left .t)) × (right ≡ endAt (tree (lent points curves reals parts ranges) row) (right .t)) × (k ≤ length (now out)) ⌝ }
     ensures { λ w. ⌜ Behind (now (out .entry)) k (subdivided (withinBudget (tree (lent (points .entry) (curves .entry) (reals .entry) (parts .entry) (ranges .entry)) row) r) (r .depth) (left .t) (right .t) ++ unlessHi range (right .t)) w (now (out .exit)) ⌝ }
 {
@@ -184,7 +185,7 @@ fn step(
         row,
         ready,
         r,
-        cuts,
+        limit,
         left,
         right,
         r.depth,
@@ -217,7 +218,7 @@ fn walk(
     ensures { λ w. ⌜ Held (now (out .entry)) (bisected (sampler (tree (lent (points .entry) (curves .entry) (reals .entry) (parts .entry) (ranges .entry)) row) range r) range) w (now (out .exit)) ⌝ }
 {
     let ready = ready::ready_at(points, curves, reals, parts, ranges, row);
-    let cuts = bisect::cuts_of(r.sag);
+    let limit = cuts::limit_of(r.sag);
     let pushed = listed::push(out, 0, range.lo);
     let Listed::Count(first) = pushed else {
         return Listed::Refused;
@@ -238,7 +239,7 @@ fn walk(
             ready,
             range,
             r,
-            cuts,
+            limit,
             left,
             right,
             out,

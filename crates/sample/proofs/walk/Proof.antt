@@ -12,12 +12,12 @@ use Rattle.sample.proofs.walk.Statement.{statement}
 use Rattle.sample.proofs.walk.Tie as tie
 
 abbrev Inv-loop : tie.InvT-loop
-Inv-loop points curves reals parts ranges row range r breaks out₀ ready cuts first k₀ left₀ i₀ out k left i =
+Inv-loop points curves reals parts ranges row range r breaks out₀ ready limit first k₀ left₀ i₀ out k left i =
     (i ≤ length breaks + 1)
     × Walking (tree (tables points curves reals parts ranges) row) range r breaks out₀ k₀ out left k i
 
 abbrev μ-loop : tie.MeasureT-loop
-μ-loop points curves reals parts ranges row range r breaks out₀ ready cuts first k₀ left₀ i₀ out k left i = length breaks + 1 - i
+μ-loop points curves reals parts ranges row range r breaks out₀ ready limit first k₀ left₀ i₀ out k left i = length breaks + 1 - i
 
 -- the curve that is read
 abbrev curve-of : tie.Start Inv-loop μ-loop → CurveTree
@@ -28,8 +28,8 @@ curve-of st =
 ready-at-requires : tie.Need-ready-at-requires Inv-loop μ-loop
 ready-at-requires c κs = search needs
 
-cuts-of-requires : tie.Need-cuts-of-requires Inv-loop μ-loop
-cuts-of-requires c κs = search needs
+limit-of-requires : tie.Need-limit-of-requires Inv-loop μ-loop
+limit-of-requires c κs = search needs
 
 push-requires : tie.Need-push-requires Inv-loop μ-loop
 push-requires c κs = search needs
@@ -72,7 +72,7 @@ step-requires c κs =
     let st = c .before .before .before .before .before .before .before .before .before .before .before .before .before .before .before .before .before .before .before .before .before .before in
     let s = c .before .before .before .before .loop .inv .1 in (
       c .before .before .before .before .before .before .before .before .before .before .before .before .before .before .ready-at .ensures,
-      c .before .before .before .before .before .before .before .before .before .before .before .before .before .cuts-of .ensures,
+      c .before .before .before .before .before .before .before .before .before .before .before .before .before .limit-of .ensures,
       s .own,
       end-own (curve-of st) _ _ (c .before .end-at2 .ensures),
       walking-room (curve-of st) (st .args .range) (st .args .r)
@@ -154,7 +154,7 @@ walk-spec =
     Inv-loop
     μ-loop
     ready-at-requires
-    cuts-of-requires
+    limit-of-requires
     push-requires
     enum-known-pushed
     enum-told
