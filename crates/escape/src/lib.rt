@@ -66,8 +66,8 @@ pub fn reaches(edge: Edge, r: Resolved, p: Vec3, chain: &[f64], n: usize) -> boo
     false
 }
 
-// Whether the root of s is below that of t, mostly without either: a root rises with what stands under it, and where that rises by one
-// part in a million, so that the roots round to two floats, the root does rise.
+// Whether the root of s is below that of t, mostly without either: a root does not fall where what stands under it rises, and it rises to
+// another float where that rises by one part in a million.
 fn is_below(s: f64, t: f64) -> bool
     ensures { λ b. ⌜ b ≡ lt (rootOf s) (rootOf t) ⌝ }
 {
