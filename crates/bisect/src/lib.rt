@@ -63,14 +63,14 @@ fn turn(a: Direction, b: Direction) -> f64
 }
 
 // Whether the span from a to b, whose middle has the point pm, is within budget. The sag is compared by its square.
-fn is_within(r: Resolved, limit: Limit, a: End, b: End, pm: Vec3) -> bool
-    requires { ⌜ (limit ≡ limitOf (r .sag)) ⌝ }
+fn is_within(r: Resolved, l: Limit, a: End, b: End, pm: Vec3) -> bool
+    requires { ⌜ (l ≡ limitOf (r .sag)) ⌝ }
     ensures { λ w. ⌜ w ≡ isWithin r a b pm ⌝ }
 {
     let chord = b.point.sub(a.point);
     let len = chord.length();
     let offset = chord::bisection_offset(a.point, chord, len, pm);
-    if cuts::is_at_most(offset.length_squared(), limit) {
+    if cuts::is_at_most(offset.length_squared(), l) {
         let ta = a.tangent;
         let tb = b.tangent;
         return turn(ta, tb) <= r.angle;
@@ -88,16 +88,16 @@ fn split_of(
     row: u32,
     ready: Ready,
     r: Resolved,
-    limit: Limit,
+    l: Limit,
     a: End,
     b: End,
 ) -> Split
-    requires { ⌜ (ready ≡ readyOf (tree (lent points curves reals parts ranges) row)) × (limit ≡ limitOf (r .sag)) ⌝ }
+    requires { ⌜ (ready ≡ readyOf (tree (lent points curves reals parts ranges) row)) × (l ≡ limitOf (r .sag)) ⌝ }
     ensures { λ s. ⌜ s ≡ splitOf (tree (lent (points .entry) (curves .entry) (reals .entry) (parts .entry) (ranges .entry)) row) r a b ⌝ }
 {
     let t = 0.5 * (a.t + b.t);
     let point = ready::point_of(ready, points, curves, reals, parts, ranges, row, t);
-    if is_within(r, limit, a, b, point) {
+    if is_within(r, l, a, b, point) {
         return Split::Within;
     }
     let slope = ready::derivative_of(ready, points, curves, reals, parts, ranges, row, t);
@@ -115,14 +115,14 @@ pub fn subdivide(
     row: u32,
     ready: Ready,
     r: Resolved,
-    limit: Limit,
+    l: Limit,
     a: End,
     b: End,
     depth: u32,
     out: &mut [f64],
     k: usize,
 ) -> Listed
-    requires { ⌜ (ready ≡ readyOf (tree (lent points curves reals parts ranges) row)) × (limit ≡ limitOf (r .sag))
+    requires { ⌜ (ready ≡ readyOf (tree (lent points curves reals parts ranges) row)) × (l ≡ limitOf (r .sag))
         × (a ≡ endAt (tree (lent points curves reals parts ranges) row) (a .t))
         × (b ≡ endAt (tree (lent points curves reals parts ranges) row) (b .t)) × (k ≤ length (now out)) ⌝ }
     ensures { λ w. ⌜ Behind (now (out .entry)) k
@@ -132,19 +132,7 @@ pub fn subdivide(
     if depth == 0 {
         return Listed::Count(k);
     }
-    let split = split_of(
-        points,
-        curves,
-        reals,
-        parts,
-        ranges,
-        row,
-        ready,
-        r,
-        limit,
-        a,
-        b,
-    );
+    let split = split_of(points, curves, reals, parts, ranges, row, ready, r, l, a, b);
     let Split::At(m) = split else {
         return Listed::Count(k);
     };
@@ -157,7 +145,7 @@ pub fn subdivide(
         row,
         ready,
         r,
-        limit,
+        l,
         a,
         m,
         depth - 1,
@@ -180,7 +168,7 @@ pub fn subdivide(
         row,
         ready,
         r,
-        limit,
+        l,
         m,
         b,
         depth - 1,
