@@ -1,10 +1,11 @@
 // A curve made ready for many points: its trims taken off, its row read and the second axis of its frame worked out once.
-use brep::Curve;
 use math::Frame;
 use math::Vec3;
 ghost use mathlib.Core.Path.{_≡_};
-ghost use Rattle.brep.specs.Rows.{lent};
+ghost use Prim.Native.Nat.{_+_};
+ghost use Rattle.brep.specs.Rows.{lent, pointOf};
 ghost use Rattle.brep.specs.Tree.{tree};
+ghost use Rattle.ready.specs.declared.Ready.the-variants.{Line};
 ghost use Rattle.ready.specs.Ready.{roundOf, parabolaOf, readyOf, roundPoint, parabolaPoint, readyPoint, roundDerivative, parabolaSlope, readyDerivative};
 
 // Axes are as they are: nothing is normalised. A circle is round with equal axes.
@@ -59,7 +60,15 @@ fn parabola_of(frame: Frame, focal_dist: f64) -> Ready
     }
 }
 
-// The curve of a row.
+fn line_of(points: &[f64], first: u32) -> Ready
+    ensures { λ r. ⌜ r ≡ Line (pointOf (now (points .entry)) first) (pointOf (now (points .entry)) (first + 1)) ⌝ }
+{
+    let origin = brep::point(points, first);
+    let direction = brep::point_in(points, first, 1);
+    Ready::Line { origin, direction }
+}
+
+// The curve of a row, by the number of its kind under its trims.
 pub fn ready_at(
     points: &[f64],
     curves: &[u32],
@@ -70,24 +79,28 @@ pub fn ready_at(
 ) -> Ready
     ensures { λ r. ⌜ r ≡ readyOf (tree (lent (points .entry) (curves .entry) (reals .entry) (parts .entry) (ranges .entry)) row) ⌝ }
 {
-    let c = brep::row_at(points, curves, reals, row);
-    match c {
-        Curve::Line { origin, direction } => Ready::Line { origin, direction },
-        Curve::Circle { frame, radius } => round_of(frame, radius, radius),
-        Curve::Ellipse {
-            frame,
-            semi_major,
-            semi_minor,
-        } => round_of(frame, semi_major, semi_minor),
-        Curve::Parabola { frame, focal_dist } => parabola_of(frame, focal_dist),
-        Curve::Polyline { first: _, count: _ } => Ready::Other,
-        Curve::Trimmed { base, range: _ } => {
-            if base < row {
-                return ready_at(points, curves, reals, parts, ranges, base);
-            }
-            Ready::Other
+    let r = curve::under_trims(curves, row);
+    let at = r as usize * 3;
+    let kind = brep::int_at(curves, at);
+    let first = brep::int_at(curves, at + 1);
+    match kind {
+        1 => line_of(points, first),
+        2 => {
+            let p = brep::float_at(reals, r as usize * 2);
+            round_of(brep::frame_at(points, first), p, p)
         }
-        Curve::Composite { first: _, count: _ } => Ready::Other,
+        3 => {
+            let p = brep::float_at(reals, r as usize * 2);
+            let q = brep::float_at(reals, r as usize * 2 + 1);
+            round_of(brep::frame_at(points, first), p, q)
+        }
+        4 => {
+            let p = brep::float_at(reals, r as usize * 2);
+            parabola_of(brep::frame_at(points, first), p)
+        }
+        5 => Ready::Other,
+        7 => Ready::Other,
+        _ => Ready::Other,
     }
 }
 
