@@ -1,6 +1,7 @@
 // Curve evaluation on rows: eval/curve.rs. Each contract is the definition at the row's curve.
 // A row's kind is read by its number, as brep::kind_of has them, and of its other numbers only those that are used: 1 line, 2 circle,
 // 3 ellipse, 4 parabola, 5 polyline, 6 trim, 7 composite; any other is the empty polyline.
+use brep::Curve;
 use math::Frame;
 use math::Interval;
 use math::Vec3;
@@ -13,6 +14,7 @@ ghost use Rattle.math.specs.Math.{interval, vAdd, vScale, polar};
 ghost use Rattle.brep.specs.Rows.{lent, pointOf, frameOf};
 ghost use Rattle.brep.specs.Tree.{tree, run, runOf, polyline};
 ghost use Rattle.curve.specs.Under.{under};
+ghost use Rattle.curve.specs.Turn.{turnOf};
 ghost use Rattle.curve.specs.Eval.{naturalRange, closes, isClosed, everySpan, period, isSampled, indexIn, polylineParameter, polylinePoint, ownParameter, around, ellipsePoint, parabolaPoint, pointAt};
 
 // What `period` finds: how far the parameter runs until the curve is back where it was, or that it never is.
@@ -268,38 +270,23 @@ fn around(frame: Frame, semi_major: f64, semi_minor: f64, sc: SinCos) -> Vec3
     frame.origin.add(x).add(y)
 }
 
-// The sine and cosine come before the frame, whose nine floats need not be kept over the call.
-fn circle_point(points: &[f64], first: u32, radius: f64, t: f64) -> Vec3
-    ensures { λ r. ⌜ r ≡ polar (frameOf (now (points .entry)) first) radius t ⌝ }
+fn parabola_point(frame: Frame, focal_dist: f64, t: f64) -> Vec3
+    ensures { λ r. ⌜ r ≡ parabolaPoint frame «focal_dist» t ⌝ }
 {
-    let sc = trig::sin_cos(t);
-    let frame = brep::frame_at(points, first);
-    around(frame, radius, radius, sc)
-}
-
-fn ellipse_point(points: &[f64], first: u32, semi_major: f64, semi_minor: f64, t: f64) -> Vec3
-    ensures { λ r. ⌜ r ≡ ellipsePoint (frameOf (now (points .entry)) first) «semi_major» «semi_minor» t ⌝ }
-{
-    let sc = trig::sin_cos(t);
-    let frame = brep::frame_at(points, first);
-    around(frame, semi_major, semi_minor, sc)
-}
-
-fn parabola_point(points: &[f64], first: u32, focal_dist: f64, t: f64) -> Vec3
-    ensures { λ r. ⌜ r ≡ parabolaPoint (frameOf (now (points .entry)) first) «focal_dist» t ⌝ }
-{
-    let frame = brep::frame_at(points, first);
     let x = frame.ref_dir.scale(focal_dist * t * t);
     let y = frame.y_dir().scale(2.0 * focal_dist * t);
     frame.origin.add(x).add(y)
 }
 
-fn line_point(points: &[f64], first: u32, t: f64) -> Vec3
-    ensures { λ r. ⌜ r ≡ vAdd (pointOf (now (points .entry)) first) (vScale (pointOf (now (points .entry)) (first + 1)) t) ⌝ }
+// The sine and cosine that a row's point is made of; a row that is neither a circle nor an ellipse needs none.
+fn turn_at(curves: &[u32], row: u32, t: f64) -> SinCos
+    ensures { λ r. ⌜ r ≡ turnOf (getD (now (curves .entry)) (row * 3) 0) t ⌝ }
 {
-    let origin = brep::point_in(points, first, 0);
-    let direction = brep::point_in(points, first, 1);
-    origin.add(direction.scale(t))
+    match brep::int_at(curves, row as usize * 3) {
+        2 => trig::sin_cos(t),
+        3 => trig::sin_cos(t),
+        _ => SinCos { sin: 0.0, cos: 0.0 },
+    }
 }
 
 pub fn point_at(
@@ -314,27 +301,24 @@ pub fn point_at(
     ensures { λ r. ⌜ r ≡ pointAt (tree (lent (points .entry) (curves .entry) (reals .entry) (parts .entry) (ranges .entry)) row) t ⌝ }
 {
     let r = under_trims(curves, row);
-    let at = r as usize * 3;
-    let kind = brep::int_at(curves, at);
-    let first = brep::int_at(curves, at + 1);
-    match kind {
-        1 => line_point(points, first, t),
-        2 => {
-            let p = brep::float_at(reals, r as usize * 2);
-            circle_point(points, first, p, t)
-        }
-        3 => {
-            let p = brep::float_at(reals, r as usize * 2);
-            let q = brep::float_at(reals, r as usize * 2 + 1);
-            ellipse_point(points, first, p, q, t)
-        }
-        4 => parabola_point(points, first, brep::float_at(reals, r as usize * 2), t),
-        5 => polyline_point(points, first, brep::int_at(curves, at + 2), t),
-        7 => {
-            let count = brep::int_at(curves, at + 2);
+    // Before the row, whose nine floats need not be kept over the call.
+    let sc = turn_at(curves, r, t);
+    let c = brep::row_at(points, curves, reals, r);
+    match c {
+        Curve::Line { origin, direction } => origin.add(direction.scale(t)),
+        Curve::Circle { frame, radius } => around(frame, radius, radius, sc),
+        Curve::Ellipse {
+            frame,
+            semi_major,
+            semi_minor,
+        } => around(frame, semi_major, semi_minor, sc),
+        Curve::Parabola { frame, focal_dist } => parabola_point(frame, focal_dist, t),
+        Curve::Polyline { first, count } => polyline_point(points, first, count, t),
+        // Its base does not fall.
+        Curve::Trimmed { base: _, range: _ } => Vec3::ZERO,
+        Curve::Composite { first, count } => {
             composite_at(points, curves, reals, parts, ranges, r, first, count, t)
         }
-        _ => Vec3::ZERO,
     }
 }
 

@@ -4,9 +4,6 @@ use borrow.Author.Needs.{needs}
 use Rattle.curve.proofs.parabola_point.Statement.{statement}
 use Rattle.curve.proofs.parabola_point.Tie as tie
 
-frame-at-requires : tie.Need-frame-at-requires
-frame-at-requires c κs = search needs
-
 scale-requires : tie.Need-scale-requires
 scale-requires c κs = search needs
 
@@ -29,11 +26,4 @@ returns c = cc
 pub parabola-point-spec : {M : Type 1} → statement M
 parabola-point-spec =
     tie.close
-    (tie.spec
-    frame-at-requires
-    scale-requires
-    y-dir-requires
-    scale-requires-2
-    add-requires
-    add-requires-2
-    returns)
+    (tie.spec scale-requires y-dir-requires scale-requires-2 add-requires add-requires-2 returns)
