@@ -1,15 +1,17 @@
--- What the proofs of the causes share: a row as it is told, and the sizes. Assumes nothing.
-use mathlib.Core.Path.{_≡_, sym, ap, _∙_}
-use mathlib.Core.Bool.{Bool, false, _||_}
-use Prim.Native.Nat.{ℕ, _≤_}
+-- What the proofs of the causes share: a row by its numbers, and the sizes. Assumes nothing.
+use mathlib.Core.Path.{_≡_, refl, sym, ap, _∙_}
+use mathlib.Core.Bool.{Bool, true, false, cond, _||_}
+use Prim.Native.Nat.{ℕ, _+_, _≤_}
 use lib.ListN.{length}
-use lib.Dec.{ltb}
-use borrow.Author.Tests.{ltb-false}
-use Rattle.brep.specs.declared.Curve.{Curve}
-use Rattle.brep.specs.Rows.{Tables}
+use lib.Dec.{eqb, ltb, leb}
+use borrow.Author.Tests.{ltb-false, ne-eqb}
+use Rattle.brep.specs.declared.Curve.the-variants.{Line, Circle, Ellipse, Parabola, Polyline, Trimmed, Composite}
+use Rattle.brep.specs.Rows.{Tables, pointOf, frameOf, kindOf, curveOf}
 use Rattle.brep.specs.Tree.{rowIn}
+use Rattle.brep.proofs.ByKind.{kindIn, firstIn, countIn, pIn, qIn, row-trim, row-composite}
+use Rattle.bounds.specs.Some.{someBelow}
 use Rattle.bounds.proofs.Laws.{or-false-first, or-false-second}
-use Rattle.causes.specs.Causes.{oversize, notLower, unorderedRow}
+use Rattle.causes.specs.Causes.{oversize, highSegment, notLower, unorderedRow}
 
 -- tests none of which holds
 pub neither : (a b : Bool) → a || b ≡ false → (a ≡ false) × (b ≡ false)
@@ -25,10 +27,40 @@ four a b c d h =
     let m = neither c d (k .1) in
     (l .0, l .1, m .0, m .1)
 
--- a row that was read as k
-pub row-told : (T : Tables) (row : ℕ) {r k : Curve} → r ≡ k → r ≡ rowIn T row → notLower T row k ≡ unorderedRow T row
-unfolding unorderedRow
-row-told T row g e = ap (notLower T row) (sym g ∙ e)
+-- a row that was read by its numbers
+module _ (T : Tables) (row : ℕ) {kind : ℕ} (e : kind ≡ kindIn T row) where
+  pub composite-read : kind ≡ 7 → {first count : ℕ} → first ≡ firstIn T row → count ≡ countIn T row → rowIn T row ≡ Composite first count
+  composite-read k f n = rw (f, n) (sym (row-composite T row (sym e ∙ k)))
+
+  pub composite-unordered : kind ≡ 7 → {first count : ℕ} → first ≡ firstIn T row → count ≡ countIn T row → someBelow count (highSegment T row first) ≡ unorderedRow T row
+  unfolding unorderedRow notLower
+  composite-unordered k f n = ap (notLower T row) (sym (composite-read k f n))
+
+  pub trim-unordered : kind ≡ 6 → {first : ℕ} → first ≡ firstIn T row → leb row first ≡ unorderedRow T row
+  unfolding unorderedRow notLower
+  trim-unordered k f = rw f (ap (notLower T row) (row-trim T row (sym e ∙ k)))
+
+  -- any other kind refers to no row
+  pub none-unordered : (kind ≡ 6 → ⊥) → (kind ≡ 7 → ⊥) → false ≡ unorderedRow T row
+  unfolding unorderedRow curveOf kindOf notLower
+  none-unordered h6 h7 =
+      let k6 : eqb (kindIn T row) 6 ≡ false = ne-eqb (kindIn T row) 6 (λ k. h6 (e ∙ k)) in
+      let k7 : eqb (kindIn T row) 7 ≡ false = ne-eqb (kindIn T row) 7 (λ k. h7 (e ∙ k)) in
+      rw (k6, k7) (go (eqb (kindIn T row) 1) (eqb (kindIn T row) 2) (eqb (kindIn T row) 3) (eqb (kindIn T row) 4) (eqb (kindIn T row) 5))
+    where
+      go : (a b c d f : Bool) → false ≡ notLower T row
+          (cond a (Line (pointOf (T .points) (firstIn T row)) (pointOf (T .points) (firstIn T row + 1)))
+          (cond b (Circle (frameOf (T .points) (firstIn T row)) (pIn T row))
+          (cond c (Ellipse (frameOf (T .points) (firstIn T row)) (pIn T row) (qIn T row))
+          (cond d (Parabola (frameOf (T .points) (firstIn T row)) (pIn T row))
+          (cond f (Polyline (firstIn T row) (countIn T row))
+          (Polyline (firstIn T row) 0))))))
+      go true b c d f = refl
+      go false true c d f = refl
+      go false false true d f = refl
+      go false false false true f = refl
+      go false false false false true = refl
+      go false false false false false = refl
 
 -- tables that are not above their sizes
 pub sizes : (T : Tables) → oversize T ≡ false → (length (T .points) ≤ 196608) × (length (T .curves) ≤ 12288) × (length (T .parts) ≤ 8192)

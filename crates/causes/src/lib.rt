@@ -1,6 +1,5 @@
 // When an edge is turned away: causes 1 to 6, in order, the lowest that applies. Every row and segment is looked at.
 use bounds::either;
-use brep::Curve;
 use brep::Edge;
 use options::Options;
 ghost use mathlib.Core.Path.{_≡_};
@@ -100,28 +99,13 @@ fn unordered_row(
     ensures { λ r. ⌜ (r ≡ unorderedRow (lent (points .entry) (curves .entry) (reals .entry) (parts .entry) (ranges .entry)) row)
         × Seen (lent (points .entry) (curves .entry) (reals .entry) (parts .entry) (ranges .entry)) (now (skips .exit)) row ⌝ }
 {
-    let c = brep::row_at(points, curves, reals, row);
-    match c {
-        Curve::Line {
-            origin: _,
-            direction: _,
-        } => false,
-        Curve::Circle {
-            frame: _,
-            radius: _,
-        } => false,
-        Curve::Ellipse {
-            frame: _,
-            semi_major: _,
-            semi_minor: _,
-        } => false,
-        Curve::Parabola {
-            frame: _,
-            focal_dist: _,
-        } => false,
-        Curve::Polyline { first: _, count: _ } => false,
-        Curve::Trimmed { base, range: _ } => row <= base,
-        Curve::Composite { first, count } => {
+    let at = row as usize * 3;
+    let kind = brep::int_at(curves, at);
+    let first = brep::int_at(curves, at + 1);
+    match kind {
+        6 => row <= first,
+        7 => {
+            let count = brep::int_at(curves, at + 2);
             any_high_segment(
                 points,
                 curves,
@@ -134,6 +118,7 @@ fn unordered_row(
                 count,
             )
         }
+        _ => false,
     }
 }
 

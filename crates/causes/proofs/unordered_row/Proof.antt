@@ -1,87 +1,56 @@
 -- `causes::unordered_row` meets its contract: at each kind, by what the row is. Assumes nothing.
-use mathlib.Core.Path.{sym, _∙_}
-use Rattle.causes.specs.Causes.{notLower}
-use Rattle.causes.proofs.Laws.{row-told}
+use Rattle.brep.specs.Rows.{lent}
+use Rattle.causes.proofs.Laws.{composite-read, composite-unordered, trim-unordered, none-unordered}
+use mathlib.Core.Path.{_∙_}
 use borrow.Author.Needs.{needs}
 use Rattle.causes.proofs.unordered_row.Statement.{statement}
 use Rattle.causes.proofs.unordered_row.Tie as tie
 
-row-at-requires : tie.Need-row-at-requires
-row-at-requires c κs = search needs
+mul-at : tie.Need-mul-at
+mul-at c = search needs
 
-enum-told : tie.Need-enum-told
-enum-told c = search needs
+int-at-requires : tie.Need-int-at-requires
+int-at-requires c κs = search needs
 
-enum-told-2 : tie.Need-enum-told-2
-enum-told-2 c = search needs
+add-int-at : tie.Need-add-int-at
+add-int-at c = search needs
 
-enum-told-3 : tie.Need-enum-told-3
-enum-told-3 c = search needs
+int-at-requires-2 : tie.Need-int-at-requires-2
+int-at-requires-2 c κs = search needs
 
-enum-told-4 : tie.Need-enum-told-4
-enum-told-4 c = search needs
+add-int-at-2 : tie.Need-add-int-at-2
+add-int-at-2 c = search needs
 
-enum-told-5 : tie.Need-enum-told-5
-enum-told-5 c = search needs
-
-enum-known-c : tie.Need-enum-known-c
-enum-known-c c = search needs
-
-enum-known-c-2 : tie.Need-enum-known-c-2
-enum-known-c-2 c = search needs
+int-at-requires-3 : tie.Need-int-at-requires-3
+int-at-requires-3 c κs = search needs
 
 any-high-segment-requires : tie.Need-any-high-segment-requires
-any-high-segment-requires c κs = (c .before .before .before .before .before .before .before .before .before .before .before .pre .0, c .before .before .before .before .before .before .before .before .before .before .before .pre .1 _ _ (sym (c .before .before .before .before .row-at .ensures) ∙ c .before .before .c2 .given .1))
+any-high-segment-requires c κs = let a = c .before .before .before .before .before .before .before .before .before .before .before .args in (c .before .before .before .before .before .before .before .before .before .before .before .pre .0, c .before .before .before .before .before .before .before .before .before .before .before .pre .1 _ _ (composite-read (lent (a .points) (a .curves) (a .reals) (a .parts) (a .ranges)) (a .row) (c .before .before .before .before .int-at .ensures) (c .before .before .match .keys2) (c .before .before .before .int-at2 .ensures) (c .before .int-at3 .ensures)))
 
 returns : tie.Need-returns
-unfolding notLower
-returns c = (row-told _ _ (c .enum-told .given .1) (c .before .before .row-at .ensures), c .before .before .before .before .before .before .before .before .before .pre .0)
-
-returns-2 : tie.Need-returns-2
-unfolding notLower
-returns-2 c = (row-told _ _ (c .enum-told2 .given .1) (c .before .before .row-at .ensures), c .before .before .before .before .before .before .before .before .before .pre .0)
-
-returns-3 : tie.Need-returns-3
-unfolding notLower
-returns-3 c = (row-told _ _ (c .enum-told3 .given .1) (c .before .before .row-at .ensures), c .before .before .before .before .before .before .before .before .before .pre .0)
-
-returns-4 : tie.Need-returns-4
-unfolding notLower
-returns-4 c = (row-told _ _ (c .enum-told4 .given .1) (c .before .before .row-at .ensures), c .before .before .before .before .before .before .before .before .before .pre .0)
-
-returns-5 : tie.Need-returns-5
-unfolding notLower
-returns-5 c = (row-told _ _ (c .enum-told5 .given .1) (c .before .before .row-at .ensures), c .before .before .before .before .before .before .before .before .before .pre .0)
-
-returns-6 : tie.Need-returns-6
-unfolding notLower
-returns-6 c = (row-told _ _ (c .before .c .given .1) (c .before .before .before .row-at .ensures), c .before .before .before .before .before .before .before .before .before .before .pre .0)
+returns c = (trim-unordered _ _ (c .before .before .int-at .ensures) (c .match .keys1) (c .before .int-at2 .ensures), c .before .before .before .before .before .before .before .before .before .pre .0)
 
 same-length : tie.Need-same-length
 same-length c = search needs
 
-returns-7 : tie.Need-returns-7
-unfolding notLower
-returns-7 c = (c .before .before .any-high-segment .ensures .0 ∙ row-told _ _ (c .before .before .before .before .before .c2 .given .1) (c .before .before .before .before .before .before .before .row-at .ensures), c .before .before .any-high-segment .ensures .1)
+returns-2 : tie.Need-returns-2
+returns-2 c = (c .before .before .any-high-segment .ensures .0 ∙ composite-unordered _ _ (c .before .before .before .before .before .before .before .int-at .ensures) (c .before .before .before .before .before .match .keys2) (c .before .before .before .before .before .before .int-at2 .ensures) (c .before .before .before .before .int-at3 .ensures), c .before .before .any-high-segment .ensures .1)
+
+returns-3 : tie.Need-returns-3
+returns-3 c = (none-unordered _ _ (c .before .before .int-at .ensures) (c .match .rest .0 .1) (c .match .rest .1), c .before .before .before .before .before .before .before .before .before .pre .0)
 
 pub unordered-row-spec : {M : Type 1} → statement M
 unordered-row-spec =
     tie.close
     (tie.spec
-    row-at-requires
-    enum-told
-    enum-told-2
-    enum-told-3
-    enum-told-4
-    enum-told-5
-    enum-known-c
-    enum-known-c-2
+    mul-at
+    int-at-requires
+    add-int-at
+    int-at-requires-2
+    add-int-at-2
+    int-at-requires-3
     any-high-segment-requires
     returns
-    returns-2
-    returns-3
-    returns-4
-    returns-5
-    returns-6
     same-length
-    returns-7)
+    returns-2
+    returns-3)
