@@ -39,6 +39,7 @@ module _ (N q P : ℕ) (lo : 2 ^ 52 ≤ q) where
       moved : (a b c : ℕ) → b * 2 ^ 52 * c < (a * 2 ^ 52 + b) * c → b * c * 2 ^ 52 < a * c * 2 ^ 52 + b * c
       moved a b c k = rw (mul-right-comm b c (2 ^ 52), mul-right-comm a c (2 ^ 52), ← add-mul (a * 2 ^ 52) b c) k
 
+-- what has the digits of the root is close to it
 close-digits : (n : ℕ) (r : Float) → RootDigits n r → Close n r
 close-digits n r D =
     let N = D .N in

@@ -21,12 +21,14 @@ pub record RootDigits (n : ℕ) (r : Float) : Type 0 where
   pub k : ℕ
   pub value : Units r (q * 2 ^ k)
   pub format : T (fits binary64 r)
+  -- N has 105 digits at least, and q has 53
   pub long : 2 ^ 104 ≤ N
   pub least : 2 ^ 52 ≤ q
   pub near : IsNear q N
   pub scale : n * 2 ^ 1074 ≡ N * (2 ^ k * 2 ^ k)
 
 module _ (n M z : ℕ) (h : Scaled n M z) where
+  -- n * 2 ^ 106 is N times an even power of two, and 1074 is 106 and twice 484
   scaled : n * 2 ^ 1074 ≡ under M z * (2 ^ ((z + 1) / 2 + 484) * 2 ^ ((z + 1) / 2 + 484))
   scaled =
       let j = (z + 1) / 2 in
