@@ -1,5 +1,5 @@
 // A root compared with a limit, mostly without the root: a cut, whose own root stands on the known side of the limit, answers for all
-// that lies beyond it, since a root rises with what stands under it.
+// that lies beyond it, since a root rises with what stands under it. And two roots compared, mostly without either.
 ghost use mathlib.Core.Path.{_≡_};
 ghost use mathlib.Core.Bool.{true};
 ghost use lib.Ieee.{lt, le};
@@ -32,7 +32,7 @@ pub fn is_over(s: f64, limit: f64, cut: f64, has_cut: bool) -> bool
     ensures { λ b. ⌜ b ≡ lt limit (rootOf s) ⌝ }
 {
     if has_cut {
-        if cut <= s {
+        if s >= cut {
             return true;
         }
     }
@@ -50,6 +50,22 @@ pub fn is_within(s: f64, limit: f64, cut: f64, has_cut: bool) -> bool
         }
     }
     roots::root(s) <= limit
+}
+
+// Whether the root of s is below that of t, mostly without either: a root does not fall where what stands under it rises, and it rises to
+// another float where that rises by one part in a million.
+pub fn is_below(s: f64, t: f64) -> bool
+    ensures { λ b. ⌜ b ≡ lt (rootOf s) (rootOf t) ⌝ }
+{
+    if s < t {
+        if 0.0 < s {
+            if s * 1.000001 < t {
+                return true;
+            }
+        }
+        return roots::root(s) < roots::root(t);
+    }
+    false
 }
 
 fn cut_if(serves: bool, x: f64) -> f64

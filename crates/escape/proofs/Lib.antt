@@ -1,4 +1,2 @@
 pub mod Search
 pub mod Sweep
-pub mod Close
-pub mod Apart

@@ -6,9 +6,7 @@ use math::Vec3;
 use options::Resolved;
 ghost use mathlib.Core.Path.{_≡_};
 ghost use Prim.Native.Nat.{_*_, _≤_};
-ghost use lib.Ieee.{lt};
 ghost use lib.ListN.{length};
-ghost use Rattle.roots.specs.Root.{rootOf};
 ghost use Rattle.brep.specs.Rows.{lent};
 ghost use Rattle.brep.specs.Tree.{tree};
 ghost use Rattle.samples.specs.Chain.{width, samples};
@@ -66,22 +64,6 @@ pub fn reaches(edge: Edge, r: Resolved, p: Vec3, chain: &[f64], n: usize) -> boo
     false
 }
 
-// Whether the root of s is below that of t, mostly without either: a root does not fall where what stands under it rises, and it rises to
-// another float where that rises by one part in a million.
-fn is_below(s: f64, t: f64) -> bool
-    ensures { λ b. ⌜ b ≡ lt (rootOf s) (rootOf t) ⌝ }
-{
-    if s < t {
-        if 0.0 < s {
-            if s * 1.000001 < t {
-                return true;
-            }
-        }
-        return roots::root(s) < roots::root(t);
-    }
-    false
-}
-
 fn measured(target: Vec3, t: f64, p: Vec3) -> Best
     ensures { λ b. ⌜ b ≡ measured target t p ⌝ }
 {
@@ -96,7 +78,7 @@ fn nearer(best: Best, target: Vec3, t: f64, p: Vec3) -> Best
     ensures { λ b. ⌜ b ≡ nearerOf best (measured target t p) ⌝ }
 {
     let next = measured(target, t, p);
-    if is_below(next.square, best.square) {
+    if cuts::is_below(next.square, best.square) {
         return next;
     }
     best

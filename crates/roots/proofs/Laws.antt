@@ -59,11 +59,20 @@ units-above-zero true e (fin false m d) a u = le← (fin true zero e) (fin false
 units-above-zero false e (fin false m d) a u = le← (fin false zero e) (fin false m d) tt tt
     (omega (arith, zero-mul (up e), zero-mul (down e), zero-mul (down d)))
 
+-- what has units is no NaN, and below +∞
+pub units-number : (v : Float) (a : ℕ) → Units v a → T (number v)
+units-number nan a u = absurd u
+units-number (inf s) a u = absurd u
+units-number (fin s m e) a u = tt
+
+pub units-below : (v : Float) (a : ℕ) → Units v a → T (lt v (inf false))
+unfolding lt
+units-below nan a u = absurd u
+units-below (inf s) a u = absurd u
+units-below (fin s m e) a u = tt
+
 units-below-top : (v : Float) (a : ℕ) → Units v a → T (le v (inf false))
-unfolding le
-units-below-top nan a u = absurd u
-units-below-top (inf s) a u = absurd u
-units-below-top (fin s m e) a u = tt
+units-below-top v a u = lt→le v (inf false) (units-below v a u)
 
 not-down : (m : ℕ) (e : ℤ) (t : Bool) (d : ℤ) → T (le (fin false (suc m) e) (fin t zero d)) → ⊥
 not-down m e t d h = bad t (suc m * up e) (down d) (down e) (up d) (mul-pos (mul-pos (zero-lt-suc m) (up-pos e)) (down-pos d))
@@ -176,11 +185,6 @@ same-test true true f g = refl
 same-test true false f g = absurd (f tt)
 same-test false true f g = absurd (g tt)
 same-test false false f g = refl
-
-units-number : (x : Float) (a : ℕ) → Units x a → T (number x)
-units-number nan a u = absurd u
-units-number (inf s) a u = tt
-units-number (fin s m e) a u = tt
 
 -- a cut-off with √cut ≤ c < √(next cut), and an s not below zero
 module _ (cut c s : Float) (a : ℕ) (F : T (fits binary64 cut)) (u : Units cut a) (G : T (fits binary64 s)) (p : T (le zeroF s))

@@ -1,11 +1,11 @@
 -- `escape::reaches` meets its contract. The invariant: the records from i on answer as the whole chain does. Assumes nothing.
 use Rattle.escape.proofs.Search.{close, left, found, passed, none, reaches-whole}
 use Rattle.math.specs.Math.{vLength}
-use lib.Ieee.{lt}
+use Rattle.cuts.proofs.Roots.{root-beyond}
 use borrow.Author.Needs.{needs}
 use native.Mathlib.Omega.{arith}
 use Prim.Native.Nat.{_≤_, _-_}
-use mathlib.Core.Path.{_≡_, refl, sym, ap, _∙_}
+use mathlib.Core.Path.{_≡_, refl, _∙_}
 use Rattle.escape.proofs.reaches.Statement.{statement}
 use Rattle.escape.proofs.reaches.Tie as tie
 
@@ -34,7 +34,7 @@ length-squared-requires : tie.Need-length-squared-requires Inv-loop μ-loop
 length-squared-requires c κs = search needs
 
 is-within-requires : tie.Need-is-within-requires Inv-loop μ-loop
-is-within-requires c κs = λ h. ap (lt (c .before .before .before .before .before .before .max .result)) (sym (c .before .before .before .before .before .root .ensures)) ∙ h
+is-within-requires c κs = root-beyond _ (c .before .before .before .before .before .root .ensures)
 
 returns : tie.Need-returns Inv-loop μ-loop
 unfolding vLength

@@ -1,11 +1,10 @@
--- `escape::is_below` meets its contract: a root is not below where what stands under it is not, and is where that is by one part in a
+-- `cuts::is_below` meets its contract: a root is not below where what stands under it is not, and is where that is by one part in a
 -- million. Assumes nothing.
-use Rattle.escape.proofs.Apart.{surely-below, of-roots}
-use Rattle.cuts.proofs.Roots.{root-not-below}
+use Rattle.cuts.proofs.Roots.{surely-below, of-roots, root-not-below}
 use mathlib.Core.Path.{sym}
 use borrow.Author.Needs.{needs}
-use Rattle.escape.proofs.is_below.Statement.{statement}
-use Rattle.escape.proofs.is_below.Tie as tie
+use Rattle.cuts.proofs.is_below.Statement.{statement}
+use Rattle.cuts.proofs.is_below.Tie as tie
 
 returns : tie.Need-returns
 returns c =

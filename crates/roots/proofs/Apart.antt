@@ -7,19 +7,17 @@ use mathlib.Core.Bool.{true, false}
 use lib.IntN.{ℤ}
 use lib.Dec.{T, lit<, ltb→lt, lt→ltb}
 use lib.Pow.{pow-pos}
-use lib.Ieee.{Float, nan, inf, fin, binary64, up, down, ofFields, ofBits, odd, fits, lt, le}
-use lib.Ieee.Bits.{is-true}
+use lib.Ieee.{Float, nan, inf, fin, binary64, up, down, ofFields, ofBits, odd, fits, mul, lt, le}
 use lib.Ieee.Exact.{HasValue}
 use lib.Ieee.Positive.{positive, den, positive-finite, positive-of-value, values-of-le, mul-at}
 use Rattle.order.proofs.Signed.{zeroF, plus, neg'}
 use Rattle.order.proofs.Rounds.{Rounds}
 use Rattle.order.proofs.Middle as middle
-use Rattle.order.proofs.Laws.{number, lt→le, lt→nle, nle→lt, lt-le-trans}
-use Rattle.arith.proofs.Cmp.{holds}
-use Rattle.arith.specs.Notation.{_⊗_, bits, nought}
+use Rattle.order.proofs.Laws.{lt→le, lt→nle, nle→lt, lt-le-trans}
 use Rattle.roots.specs.Root.{rootOf}
 use Rattle.roots.proofs.Grid.{Units}
-use Rattle.escape.proofs.Close.{close-root}
+use Rattle.roots.proofs.Laws.{units-number, units-below}
+use Rattle.roots.proofs.Close.{close-root}
 
 -- ---- roots of a and of b units, for n and m of them: where b is at most a, m is above n by about two parts in 2 ^ 52 at most
 near : (n m a b U : ℕ) → 0 < U → b ≤ a → m * U * 2 ^ 52 ≤ b * b * (2 ^ 52 + 1) → a * a * 2 ^ 52 < n * U * 2 ^ 52 + a * a
@@ -30,8 +28,8 @@ near n m a b U p h k l =
     lt-of-mul-lt-mul-right U (rw (add-mul (n * 2 ^ 52 + n) m U, add-mul (n * 2 ^ 52) n U, mul-right-comm m (2 ^ 52) U, mul-right-comm n (2 ^ 52) U) g)
 
 -- ---- 1.000001, and a product with it that is below y
-abbrev little : Float
-little = bits 0x3FF000010C6F7A0B
+abbrev pub little : Float
+little = ofBits binary64 0x3FF000010C6F7A0B
 
 little-value : HasValue little false 0x1000010C6F7A0B (2 ^ 52)
 unfolding ofBits ofFields odd
@@ -51,7 +49,7 @@ crossed (fin false w e) m n c d p v h = go (w * up e) (down e) (2 ^ 1074) (v .1)
 
 -- the product is n * 1.000001, rounded; rounding keeps the order, so a y above the product is above that
 module _ (x y : Float) (n m : ℕ) (G : T (fits binary64 y)) (p : T (positive x)) (q : T (positive y)) (u : Units x n) (v : Units y m) where
-  rounded : Rounds binary64 (x ⊗ little) (n * 0x1000010C6F7A0B) 0 (2 ^ 1074 * 2 ^ 52)
+  rounded : Rounds binary64 (mul binary64 x little) (n * 0x1000010C6F7A0B) 0 (2 ^ 1074 * 2 ^ 52)
   rounded = (
     false,
     n * 0x1000010C6F7A0B,
@@ -59,17 +57,11 @@ module _ (x y : Float) (n m : ℕ) (G : T (fits binary64 y)) (p : T (positive x)
     refl,
   )
 
-  under-product : T (lt (x ⊗ little) y) → n * 0x1000010C6F7A0B < m * 2 ^ 52
+  under-product : T (lt (mul binary64 x little) y) → n * 0x1000010C6F7A0B < m * 2 ^ 52
   under-product h = lt-of-not-le (λ (k : m * 2 ^ 52 ≤ n * 0x1000010C6F7A0B).
-      lt→nle (x ⊗ little) y h
-      (middle.above binary64 y (x ⊗ little) (n * 0x1000010C6F7A0B) 0 (2 ^ 1074 * 2 ^ 52) G (positive-finite y q) rounded (mul-pos (pow-pos 1074) (pow-pos 52))
+      lt→nle (mul binary64 x little) y h
+      (middle.above binary64 y (mul binary64 x little) (n * 0x1000010C6F7A0B) 0 (2 ^ 1074 * 2 ^ 52) G (positive-finite y q) rounded (mul-pos (pow-pos 1074) (pow-pos 52))
       (crossed y m n 0x1000010C6F7A0B (2 ^ 52) q v k)))
-
--- what has units is no NaN
-units-number : (x : Float) (a : ℕ) → Units x a → T (number x)
-units-number nan a u = absurd u
-units-number (inf s) a u = absurd u
-units-number (fin s m e) a u = tt
 
 -- ---- both cannot be: m above n by one part in a million, and not by more than two in 2 ^ 52
 at-most-twice : (n m : ℕ) → m * 2 ^ 52 < n * 2 ^ 52 + n + m → m ≤ 2 * n
@@ -82,7 +74,7 @@ far : (n m : ℕ) → n * 0x1000010C6F7A0B < m * 2 ^ 52 → m * 2 ^ 52 < n * 2 ^
 far n m h k = too-far n m (n * 2 ^ 52) (m * 2 ^ 52) (omega (arith, h)) k (at-most-twice n m k)
 
 -- ---- √x < √y, for an x and a y that are positive and finite
-finite-apart : (x y : Float) → T (fits binary64 x) → T (fits binary64 y) → T (positive x) → T (positive y) → T (lt (x ⊗ little) y) → T (lt (rootOf x) (rootOf y))
+finite-apart : (x y : Float) → T (fits binary64 x) → T (fits binary64 y) → T (positive x) → T (positive y) → T (lt (mul binary64 x little) y) → T (lt (rootOf x) (rootOf y))
 finite-apart x y F G p q h =
     let X = close-root x F p in
     let Y = close-root y G q in
@@ -104,14 +96,8 @@ above-zero zero e h = absurd (none (up e) (down e) (ltb→lt (0 * 1 * down e) (0
     none a b h = omega arith
 above-zero (suc m) e h = lt→ltb 0 (suc m) (zero-lt-suc m)
 
-below-top : (r : Float) (a : ℕ) → Units r a → T (lt r (inf false))
-unfolding lt
-below-top nan a u = absurd u
-below-top (inf s) a u = absurd u
-below-top (fin s m e) a u = tt
-
 -- √x < √y, where x is above 0.0 and below y, and x * 1.000001 is too
-apart : (x y : Float) → T (fits binary64 x) → T (fits binary64 y) → T (lt zeroF x) → T (lt x y) → T (lt (x ⊗ little) y) → T (lt (rootOf x) (rootOf y))
+pub apart : (x y : Float) → T (fits binary64 x) → T (fits binary64 y) → T (lt zeroF x) → T (lt x y) → T (lt (mul binary64 x little) y) → T (lt (rootOf x) (rootOf y))
 apart nan y F G p h k = absurd (unfold lt in p)
 apart (inf true) y F G p h k = absurd (unfold lt in p)
 apart (inf false) nan F G p h k = absurd (unfold lt in h)
@@ -120,16 +106,8 @@ apart (inf false) (fin s n d) F G p h k = absurd (unfold lt in h)
 apart (fin true m e) y F G p h k = absurd (unfold lt in p)
 apart (fin false m e) nan F G p h k = absurd (unfold lt in h)
 apart (fin false m e) (inf true) F G p h k = absurd (unfold lt in h)
-apart (fin false m e) (inf false) F G p h k = let C = close-root (fin false m e) F (above-zero m e p) .2 in unfold rootOf in below-top (rootOf (fin false m e)) (C .a) (C .value)
+apart (fin false m e) (inf false) F G p h k = let C = close-root (fin false m e) F (above-zero m e p) .2 in unfold rootOf in units-below (rootOf (fin false m e)) (C .a) (C .value)
 apart (fin false m e) (fin true n d) F G p h k = absurd (unfold lt in h)
 apart (fin false m e) (fin false n d) F G p h k =
     finite-apart (fin false m e) (fin false n d) F G (above-zero m e p)
     (above-zero n d (lt-le-trans zeroF (fin false m e) (fin false n d) p (lt→le (fin false m e) (fin false n d) h))) k
-
--- the same of tests, as `is_below` has them
-pub surely-below : (s t : Float) → T (fits binary64 s) → T (fits binary64 t) → lt s t ≡ true → lt nought s ≡ true → lt (s ⊗ little) t ≡ true → true ≡ lt (rootOf s) (rootOf t)
-unfolding ofBits
-surely-below s t F G h p k = sym (is-true (lt (rootOf s) (rootOf t)) (apart s t F G (holds p) (holds h) (holds k)))
-
-pub of-roots : {a b : Float} (s t : Float) → a ≡ rootOf s → b ≡ rootOf t → lt a b ≡ lt (rootOf s) (rootOf t)
-of-roots s t e f = rw (e, f)
