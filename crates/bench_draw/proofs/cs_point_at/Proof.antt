@@ -2,9 +2,6 @@
 use borrow.Author.Needs.{needs}
 use Rattle.bench_draw.proofs.cs_point_at.Statement.{statement}
 use Rattle.bench_draw.proofs.cs_point_at.Tie as tie
-use Rattle.bench_draw.proofs.cs_point_at.Reads as reads
-use Rattle.bench_draw.proofs.cs_point_at.Lts as lts
-use Rattle.curve.proofs.point_at.Reads as point-at-reads
 
 point-at-requires : tie.Need-point-at-requires
 point-at-requires c κs = search needs
