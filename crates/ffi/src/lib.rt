@@ -172,16 +172,14 @@ pub extern "C" fn cs_draw_over(
     requires { ⌜ tablesVerdict (lent points curves reals parts ranges) ≡ Accepted ⌝ }
     ensures { λ r. ⌜ Told (lent (points .entry) (curves .entry) (reals .entry) (parts .entry) (ranges .entry)) (edgeOf curve start end sense lo hi tolerance low high) (optionsOf deflection angle relative segments depth scale) (now (first .entry)) (now (second .entry)) r (now (way .exit)) (now (count .exit)) (now (first .exit)) (now (second .exit)) ⌝ }
 {
-    let edge = edge_of(curve, start, end, sense, lo, hi, tolerance, low, high);
-    let options = options_of(deflection, angle, relative, segments, depth, scale);
     let drawn = draw::draw_edge(
         points,
         curves,
         reals,
         parts,
         ranges,
-        edge,
-        options,
+        edge_of(curve, start, end, sense, lo, hi, tolerance, low, high),
+        options_of(deflection, angle, relative, segments, depth, scale),
         first,
         second,
     );
@@ -307,15 +305,8 @@ pub extern "C" fn cs_default(
 )
     ensures { λ _. ⌜ optionsOf (now (deflection .exit)) (now (angle .exit)) (now (relative .exit)) (now (segments .exit)) (now (depth .exit)) (now (scale .exit)) ≡ defaultOptions ⌝ }
 {
-    store(
-        Options::default(),
-        deflection,
-        angle,
-        relative,
-        segments,
-        depth,
-        scale,
-    )
+    let default = Options::default();
+    store(default, deflection, angle, relative, segments, depth, scale)
 }
 
 // For a quick preview.
@@ -330,15 +321,8 @@ pub extern "C" fn cs_draft(
 )
     ensures { λ _. ⌜ optionsOf (now (deflection .exit)) (now (angle .exit)) (now (relative .exit)) (now (segments .exit)) (now (depth .exit)) (now (scale .exit)) ≡ draftOptions ⌝ }
 {
-    store(
-        Options::draft(),
-        deflection,
-        angle,
-        relative,
-        segments,
-        depth,
-        scale,
-    )
+    let draft = Options::draft();
+    store(draft, deflection, angle, relative, segments, depth, scale)
 }
 
 // For close inspection.
@@ -353,15 +337,8 @@ pub extern "C" fn cs_fine(
 )
     ensures { λ _. ⌜ optionsOf (now (deflection .exit)) (now (angle .exit)) (now (relative .exit)) (now (segments .exit)) (now (depth .exit)) (now (scale .exit)) ≡ fineOptions ⌝ }
 {
-    store(
-        Options::fine(),
-        deflection,
-        angle,
-        relative,
-        segments,
-        depth,
-        scale,
-    )
+    let fine = Options::fine();
+    store(fine, deflection, angle, relative, segments, depth, scale)
 }
 
 // An angle in degrees as radians.
