@@ -26,8 +26,12 @@ unsafe extern "C" {
 use ::fixed::tables::{CIRCLE, COMPOSITE, ELLIPSE, LINE, PARABOLA, POLYLINE, Row, Segment, TRIMMED};
 use ::fixed::{Edge, Options, OwnedTables};
 
-/// The way's number and the count of points, or the refusal's number.
-type Answer = Result<(u32, usize), u32>;
+#[derive(Debug, Clone, Copy, PartialEq)]
+enum Answer {
+    /// The way's number and the count of points.
+    Chain(u32, usize),
+    Refused(u32),
+}
 
 struct Case {
     name: &'static str,
@@ -37,7 +41,7 @@ struct Case {
 }
 
 fn answer(refusal: u32, way: u32, count: usize) -> Answer {
-    if refusal == 0 { Ok((way, count)) } else { Err(refusal) }
+    if refusal == 0 { Answer::Chain(way, count) } else { Answer::Refused(refusal) }
 }
 
 fn ours(t: &OwnedTables, e: &Edge, o: &Options, first: &mut [f64], second: &mut [f64]) -> Answer {
@@ -127,8 +131,8 @@ macro_rules! rust {
             pub fn drawing(c: &super::Case) -> impl Fn(&mut [f64], &mut [f64]) -> Answer + use<> {
                 let (t, e, o) = (tables(&c.tables), edge(&c.edge), options(&c.options));
                 move |first, second| match draw(&t.lent(), &e, &o, first, second) {
-                    Drawn::Refused(n) => Err(n),
-                    Drawn::Chain(w, n) => Ok((way(w), n)),
+                    Drawn::Refused(n) => Answer::Refused(n),
+                    Drawn::Chain(w, n) => Answer::Chain(way(w), n),
                 }
             }
 
@@ -350,7 +354,7 @@ fn least_floats(c: &Case) -> usize {
     let draw = fixed::drawing(c);
     let answer = |n: usize| draw(&mut vec![0.0; n], &mut vec![0.0; n]);
     let wanted = answer(65536);
-    assert!(wanted.is_ok(), "{}: {wanted:?}", c.name);
+    assert!(matches!(wanted, Answer::Chain(..)), "{}: {wanted:?}", c.name);
     let (mut lo, mut hi) = (4, 65536);
     while lo + 4 < hi {
         let middle = (lo + hi) / 8 * 4;
@@ -370,7 +374,8 @@ fn compare(c: &Case, n: usize) -> (u32, usize) {
     (x, y) = (vec![7.0; n], vec![7.0; n]);
     assert_eq!(answer, ours_over(&c.tables, &c.edge, &c.options, &mut x, &mut y), "{}", c.name);
     assert!(same(&a, &x) && same(&b, &y), "{}: the buffers differ", c.name);
-    answer.expect("a chain")
+    let Answer::Chain(way, count) = answer else { panic!("{}: {answer:?}", c.name) };
+    (way, count)
 }
 
 const ROUNDS: usize = 60;
@@ -606,7 +611,7 @@ fn sizes() {
         let [ns] = least([&mut || {
             black_box(check(black_box(&c.tables), &c.edge, &c.options));
         }]);
-        show("composites over one run, checked", n, ns);
+        show("composites over one run", n, ns);
     }
     // multiplying by an odd number mixes the order
     for n in [128usize, 512, 2048, 8192] {

@@ -161,7 +161,12 @@ fn compare(seen: &mut Seen, sheet: &Sheet, (m, n): (usize, usize)) -> usize {
 }
 
 /// Checks the tables and, if they are accepted, draws over them, for this answer and these buffers.
-fn compare_over(seen: &mut Seen, sheet: &Sheet, answer: Result<(cs::Way, usize), cs::Refusal>, buffers: (&[f64], &[f64])) {
+fn compare_over(
+    seen: &mut Seen,
+    sheet: &Sheet,
+    answer: Result<(cs::Way, usize), cs::Refusal>,
+    buffers: (&[f64], &[f64]),
+) {
     let tables = sheet.tables.lent();
     let checked = ours(&tables).check();
     assert_eq!(checked.err().map(cs::Refusal::number), tables_cause(&tables), "tables:\n{sheet:?}");
