@@ -1,6 +1,6 @@
 // Drawing, walking, presets and angles under C names, over numbers and slices alone. A slice is a pointer and a length, an
-// out value a pointer. Only cs_draw_over has a requires, which cs_check_tables answers beforehand: whatever else another
-// language hands over, no number is outside a contract.
+// out value a pointer. Only cs_draw_over has a requires, and cs_check_tables says whether it is met: nothing else that another
+// language hands over is outside a contract.
 use brep::Edge;
 use causes::Verdict;
 use chains::Drawn;
