@@ -1,32 +1,19 @@
 // Times drawing: the library, the oracle (fixed steps) and the original (native functions), in one run.
 //
-// For each case the three draw the same edge from the same tables into buffers that just hold the chain. Before anything is
-// timed the library's and the oracle's answers and both buffers are compared bit for bit. The functions take turns, and each
-// figure is the least of many rounds, so that a busy machine does not show.
+// The library draws under its C names: by cs_draw, which checks tables, edge and options, and by cs_draw_over, whose tables
+// were checked once before and which checks edge and options. For each case all draw the same edge from the same tables into
+// buffers that just hold the chain. Before anything is timed the library's and the oracle's answers and both buffers are
+// compared bit for bit. The functions take turns, and each figure is the least of many rounds, so that a busy machine does
+// not show.
 use std::hint::black_box;
 use std::time::Instant;
 
+// the functions of ffi
+#[allow(dead_code)]
+#[path = "../bindings/rust/src/raw.rs"]
+mod raw;
+
 unsafe extern "C" {
-    fn cs_draw(
-        points: *const f64, points_n: usize, curves: *const u32, curves_n: usize, reals: *const f64, reals_n: usize,
-        parts: *const u32, parts_n: usize, ranges: *const f64, ranges_n: usize,
-        row: u32, start: u32, end: u32, sense: u32, lo: f64, hi: f64, tolerance: f64, low: u32, high: u32,
-        deflection: f64, angle: f64, relative: u32, segments: u64, depth: u32, scale: f64,
-        first: *mut f64, first_n: usize, second: *mut f64, second_n: usize, way: &mut u32, size: &mut usize,
-    );
-    fn cs_draw_checked(
-        points: *const f64, points_n: usize, curves: *const u32, curves_n: usize, reals: *const f64, reals_n: usize,
-        parts: *const u32, parts_n: usize, ranges: *const f64, ranges_n: usize,
-        row: u32, start: u32, end: u32, sense: u32, lo: f64, hi: f64, tolerance: f64, low: u32, high: u32,
-        deflection: f64, angle: f64, relative: u32, segments: u64, depth: u32, scale: f64,
-        first: *mut f64, first_n: usize, second: *mut f64, second_n: usize, way: &mut u32, size: &mut usize,
-    );
-    fn cs_check(
-        points: *const f64, points_n: usize, curves: *const u32, curves_n: usize, reals: *const f64, reals_n: usize,
-        parts: *const u32, parts_n: usize, ranges: *const f64, ranges_n: usize,
-        row: u32, start: u32, end: u32, sense: u32, lo: f64, hi: f64, tolerance: f64, low: u32, high: u32,
-        deflection: f64, angle: f64, relative: u32, segments: u64, depth: u32, scale: f64,
-    ) -> u32;
     fn cs_point_at(
         points: *const f64, points_n: usize, curves: *const u32, curves_n: usize, reals: *const f64, reals_n: usize,
         parts: *const u32, parts_n: usize, ranges: *const f64, ranges_n: usize,
@@ -39,8 +26,12 @@ unsafe extern "C" {
 use ::fixed::tables::{CIRCLE, COMPOSITE, ELLIPSE, LINE, PARABOLA, POLYLINE, Row, Segment, TRIMMED};
 use ::fixed::{Edge, Options, OwnedTables};
 
-/// An answer: the way's number and the count of points, or 5 and the refusal's number.
-type Answer = (u32, usize);
+#[derive(Debug, Clone, Copy, PartialEq)]
+enum Answer {
+    /// The way's number and the count of points.
+    Chain(u32, usize),
+    Refused(u32),
+}
 
 struct Case {
     name: &'static str,
@@ -49,36 +40,38 @@ struct Case {
     options: Options,
 }
 
-macro_rules! call {
-    ($f:ident, $t:expr, $e:expr, $o:expr $(, $more:expr)*) => {
-        $f(
-            $t.points.as_ptr(), $t.points.len(), $t.curves.as_ptr(), $t.curves.len(), $t.reals.as_ptr(), $t.reals.len(),
-            $t.parts.as_ptr(), $t.parts.len(), $t.ranges.as_ptr(), $t.ranges.len(),
-            $e.curve, $e.start, $e.end, $e.sense, $e.lo, $e.hi, $e.tolerance, $e.low, $e.high,
-            $o.deflection, $o.angle, $o.relative, $o.segments, $o.depth, $o.scale $(, $more)*
-        )
-    };
+fn answer(refusal: u32, way: u32, count: usize) -> Answer {
+    if refusal == 0 { Answer::Chain(way, count) } else { Answer::Refused(refusal) }
 }
 
 fn ours(t: &OwnedTables, e: &Edge, o: &Options, first: &mut [f64], second: &mut [f64]) -> Answer {
-    let mut answer = (0, 0);
-    unsafe {
-        call!(cs_draw, t, e, o, first.as_mut_ptr(), first.len(), second.as_mut_ptr(), second.len(), &mut answer.0, &mut answer.1)
-    };
-    answer
+    let (mut way, mut count) = (0, 0);
+    let (a, m, b, n) = (first.as_mut_ptr(), first.len(), second.as_mut_ptr(), second.len());
+    let refusal = unsafe { raw::call!(cs_draw, t, e, o, o.angle, a, m, b, n, &mut way, &mut count) };
+    answer(refusal, way, count)
 }
 
-/// The tables, the edge and the options have passed the check.
-fn ours_checked(t: &OwnedTables, e: &Edge, o: &Options, first: &mut [f64], second: &mut [f64]) -> Answer {
-    let mut answer = (0, 0);
-    unsafe {
-        call!(cs_draw_checked, t, e, o, first.as_mut_ptr(), first.len(), second.as_mut_ptr(), second.len(), &mut answer.0, &mut answer.1)
-    };
-    answer
+/// `check_tables` has accepted the tables.
+fn ours_over(t: &OwnedTables, e: &Edge, o: &Options, first: &mut [f64], second: &mut [f64]) -> Answer {
+    let (mut way, mut count) = (0, 0);
+    let (a, m, b, n) = (first.as_mut_ptr(), first.len(), second.as_mut_ptr(), second.len());
+    let refusal = unsafe { raw::call!(cs_draw_over, t, e, o, o.angle, a, m, b, n, &mut way, &mut count) };
+    answer(refusal, way, count)
 }
 
 fn check(t: &OwnedTables, e: &Edge, o: &Options) -> u32 {
-    unsafe { call!(cs_check, t, e, o) }
+    unsafe { raw::call!(cs_check, t, e, o, o.angle) }
+}
+
+/// Stops unless the tables are accepted.
+fn check_tables(t: &OwnedTables) {
+    let refusal = unsafe {
+        raw::cs_check_tables(
+            t.points.as_ptr(), t.points.len(), t.curves.as_ptr(), t.curves.len(), t.reals.as_ptr(), t.reals.len(),
+            t.parts.as_ptr(), t.parts.len(), t.ranges.as_ptr(), t.ranges.len(),
+        )
+    };
+    assert_eq!(refusal, 0, "the tables are refused");
 }
 
 // The same for either build of the Rust, whose types are apart.
@@ -126,11 +119,11 @@ macro_rules! rust {
 
             fn way(w: Way) -> u32 {
                 match w {
-                    Way::AsDrawn => 0,
-                    Way::ChordForWantOfARange => 1,
-                    Way::Complement => 2,
-                    Way::ShortArc => 3,
-                    Way::RunawayChord => 4,
+                    Way::AsDrawn => 1,
+                    Way::ChordForWantOfARange => 2,
+                    Way::Complement => 3,
+                    Way::ShortArc => 4,
+                    Way::RunawayChord => 5,
                 }
             }
 
@@ -138,8 +131,8 @@ macro_rules! rust {
             pub fn drawing(c: &super::Case) -> impl Fn(&mut [f64], &mut [f64]) -> Answer + use<> {
                 let (t, e, o) = (tables(&c.tables), edge(&c.edge), options(&c.options));
                 move |first, second| match draw(&t.lent(), &e, &o, first, second) {
-                    Drawn::Refused(n) => (5, n as usize),
-                    Drawn::Chain(w, n) => (way(w), n),
+                    Drawn::Refused(n) => Answer::Refused(n),
+                    Drawn::Chain(w, n) => Answer::Chain(way(w), n),
                 }
             }
 
@@ -361,7 +354,7 @@ fn least_floats(c: &Case) -> usize {
     let draw = fixed::drawing(c);
     let answer = |n: usize| draw(&mut vec![0.0; n], &mut vec![0.0; n]);
     let wanted = answer(65536);
-    assert!(wanted.0 < 5, "{}: {wanted:?}", c.name);
+    assert!(matches!(wanted, Answer::Chain(..)), "{}: {wanted:?}", c.name);
     let (mut lo, mut hi) = (4, 65536);
     while lo + 4 < hi {
         let middle = (lo + hi) / 8 * 4;
@@ -370,17 +363,19 @@ fn least_floats(c: &Case) -> usize {
     hi
 }
 
-/// Both buffers hold the same bits; the count of points.
-fn compare(c: &Case, n: usize) -> Answer {
+/// All draw alike, and both buffers hold the same bits; the way and the count of points. The tables have been accepted.
+fn compare(c: &Case, n: usize) -> (u32, usize) {
     let draw = fixed::drawing(c);
     let (mut a, mut b, mut x, mut y) = (vec![7.0; n], vec![7.0; n], vec![7.0; n], vec![7.0; n]);
     let answer = draw(&mut a, &mut b);
     assert_eq!(answer, ours(&c.tables, &c.edge, &c.options, &mut x, &mut y), "{}", c.name);
     let same = |p: &[f64], q: &[f64]| p.iter().zip(q).all(|(p, q)| p.to_bits() == q.to_bits());
     assert!(same(&a, &x) && same(&b, &y), "{}: the buffers differ", c.name);
-    assert_eq!(answer, ours_checked(&c.tables, &c.edge, &c.options, &mut x, &mut y), "{}", c.name);
+    (x, y) = (vec![7.0; n], vec![7.0; n]);
+    assert_eq!(answer, ours_over(&c.tables, &c.edge, &c.options, &mut x, &mut y), "{}", c.name);
     assert!(same(&a, &x) && same(&b, &y), "{}: the buffers differ", c.name);
-    answer
+    let Answer::Chain(way, count) = answer else { panic!("{}: {answer:?}", c.name) };
+    (way, count)
 }
 
 const ROUNDS: usize = 60;
@@ -411,20 +406,21 @@ fn least<const N: usize>(mut calls: [&mut dyn FnMut(); N]) -> [f64; N] {
 }
 
 fn row(name: &str, points: usize, way: u32, t: [f64; 6]) {
-    let [draw, checked, fixed_draw, fixed_road, native_draw, native_road] = t;
-    let ways = ["as drawn", "chord", "complement", "short arc", "runaway", "refused"];
+    let [draw, over, fixed_draw, fixed_road, native_draw, native_road] = t;
+    let ways = ["as drawn", "chord", "complement", "short arc", "runaway"];
     println!(
-        "| {name} | {points} | {} | {draw:.0} | {checked:.0} | {fixed_draw:.0} | {fixed_road:.0} | {native_draw:.0} | {native_road:.0} | {:.2} | {:.2} | {:.2} | {:.2} |",
-        ways[way as usize],
+        "| {name} | {points} | {} | {draw:.0} | {over:.0} | {fixed_draw:.0} | {fixed_road:.0} | {native_draw:.0} | {native_road:.0} | {:.2} | {:.2} | {:.2} | {:.2} |",
+        ways[way as usize - 1],
         fixed_draw / draw,
-        fixed_road / checked,
+        fixed_road / over,
         native_draw / draw,
-        native_road / checked
+        native_road / over
     );
 }
 
 fn time(c: &Case) {
     let n = least_floats(c);
+    check_tables(&c.tables);
     let (way, size) = compare(c, n);
     let (f, r) = (fixed::drawing(c), native::drawing(c));
     let (froad, nroad) = (fixed::road(c, n), native::road(c, n));
@@ -437,7 +433,7 @@ fn time(c: &Case) {
             black_box(ours(black_box(&c.tables), &c.edge, &c.options, &mut a, &mut b));
         },
         &mut || {
-            black_box(ours_checked(black_box(&c.tables), &c.edge, &c.options, &mut a2, &mut b2));
+            black_box(ours_over(black_box(&c.tables), &c.edge, &c.options, &mut a2, &mut b2));
         },
         &mut || {
             black_box(f(&mut a3, &mut b3));
@@ -459,18 +455,16 @@ fn time_part() {
     let (c, edges) = part();
     let n = 4 * 128;
     let (mut a, mut b) = (vec![0.0; n], vec![0.0; n]);
-    // every edge passes the check, and is drawn as the oracle draws it
+    // every edge is drawn as the oracle draws it
     let one = |e: &Edge| Case { name: c.name, tables: c.tables.clone(), edge: *e, options: c.options };
-    for e in &edges {
-        assert_eq!(check(&c.tables, e, &c.options), 0);
-        compare(&one(e), n);
-    }
-    let total: usize = edges.iter().map(|e| ours_checked(&c.tables, e, &c.options, &mut a, &mut b).1).sum();
+    check_tables(&c.tables);
+    let total: usize = edges.iter().map(|e| compare(&one(e), n).1).sum();
     let (froad, nroad) = (fixed::part_road(&c, &edges, n), native::part_road(&c, &edges, n));
     assert_eq!(total, froad());
     let few = &edges[..20];
     let fixed_few: Vec<_> = few.iter().map(|e| fixed::drawing(&one(e))).collect();
     let native_few: Vec<_> = few.iter().map(|e| native::drawing(&one(e))).collect();
+    let (mut a2, mut b2) = (vec![0.0; n], vec![0.0; n]);
     let (mut a3, mut b3) = (vec![0.0; n], vec![0.0; n]);
     let (mut a4, mut b4) = (vec![0.0; n], vec![0.0; n]);
     let t = least([
@@ -480,9 +474,10 @@ fn time_part() {
             }
         },
         &mut || {
-            let (mut a, mut b) = (vec![0.0; n], vec![0.0; n]);
+            // the tables once for all edges
+            check_tables(black_box(&c.tables));
             for e in &edges {
-                black_box(ours_checked(black_box(&c.tables), e, &c.options, &mut a, &mut b));
+                black_box(ours_over(black_box(&c.tables), e, &c.options, &mut a2, &mut b2));
             }
         },
         &mut || {
@@ -503,7 +498,7 @@ fn time_part() {
         },
     ]);
     let k = edges.len() as f64;
-    row(c.name, total, 0, [t[0] / 20.0, t[1] / k, t[2] / 20.0, t[3] / k, t[4] / 20.0, t[5] / k]);
+    row(c.name, total, 1, [t[0] / 20.0, t[1] / k, t[2] / 20.0, t[3] / k, t[4] / 20.0, t[5] / k]);
 }
 
 fn others() {
@@ -569,7 +564,19 @@ fn others() {
     println!("zeroing 65,536 floats: {:.0} ns, a plain fill {:.0} ns", r[0], r[1]);
 }
 
-/// Cost against size: ns of one draw, or of one sort, and that by the size.
+/// So many composites that all have the same run of as many segments, and an edge over the line that those refer to.
+fn composites(n: usize) -> Case {
+    let mut c = line();
+    for _ in 0..n {
+        c.tables.push_segment(Segment { curve: 0, lo: 0.0, hi: 1.0, sense: 1 });
+    }
+    for _ in 0..n {
+        c.tables.push_row(Row { kind: COMPOSITE, first: 0, count: n as u32, p: 0.0, q: 0.0 });
+    }
+    c
+}
+
+/// Cost against size: ns of one draw, check or sort, and that by the size.
 fn sizes() {
     println!("| what | size | ns | ns / size |");
     println!("|---|---|---|---|");
@@ -597,6 +604,14 @@ fn sizes() {
             c.tables.push_row(Row { kind: LINE, first: 0, count: 2, p: 0.0, q: 0.0 });
         }
         show("line, rows of the tables", n, draw(&c));
+    }
+    for n in [64, 256, 1024, 4095] {
+        let c = composites(n);
+        assert_eq!(check(&c.tables, &c.edge, &c.options), 0);
+        let [ns] = least([&mut || {
+            black_box(check(black_box(&c.tables), &c.edge, &c.options));
+        }]);
+        show("composites over one run", n, ns);
     }
     // multiplying by an odd number mixes the order
     for n in [128usize, 512, 2048, 8192] {
@@ -640,7 +655,7 @@ fn main() {
         }
         return;
     }
-    println!("| case | points | way | draw | draw_checked | oracle | its road | native | its road | oracle / draw | its road / checked | native / draw | its road / checked |");
+    println!("| case | points | way | draw | draw_over | oracle | its road | native | its road | oracle / draw | its road / over | native / draw | its road / over |");
     println!("|---|---|---|---|---|---|---|---|---|---|---|---|---|");
     for c in cases() {
         time(&c);

@@ -1,4 +1,5 @@
-//! Draws through the Rust crate and by the oracle, and compares the answer and every float of both buffers bit for bit.
+//! Draws through the Rust crate, where the tables are accepted also over them, and by the oracle, and compares the answer and
+//! every float of both buffers bit for bit.
 //!
 //!   compare SEED N          N generated sheets, each in buffers of several lengths, then with slices that no sheet can hold
 //!   compare sheets SEED N   prints the sheets, for the C program
@@ -35,6 +36,7 @@ fn main() {
         }
     }
     println!("{} sheets, {} draws alike, longest chain {} points", number(1), seen.draws, seen.longest);
+    println!("  over checked tables: {}", seen.over);
     for (answer, times) in &seen.answers {
         println!("  {answer}: {times}");
     }
@@ -45,6 +47,7 @@ fn main() {
 #[derive(Default)]
 struct Seen {
     draws: u64,
+    over: u64,
     longest: usize,
     payloads: u64,
     answers: BTreeMap<String, u64>,
@@ -130,6 +133,7 @@ fn compare(seen: &mut Seen, sheet: &Sheet, (m, n): (usize, usize)) -> usize {
     let (our_tables, our_edge, our_options) = (ours(&tables), our_edge(edge), our_options(options));
     let buffers = [our_first.as_ptr(), our_second.as_ptr()];
     let got = cs::draw(&our_tables, &our_edge, &our_options, &mut our_first, &mut our_second);
+    let answer = got.as_ref().map(|chain| (chain.way(), chain.len())).map_err(|refusal| *refusal);
     let floats = match (got, expected) {
         (Err(refusal), Drawn::Refused(number)) => {
             assert_eq!(refusal.number(), number, "{refusal}, buffers {m} {n}:\n{sheet:?}");
@@ -152,7 +156,34 @@ fn compare(seen: &mut Seen, sheet: &Sheet, (m, n): (usize, usize)) -> usize {
     let checked = cs::check(&our_tables, &our_edge, &our_options).err().map(cs::Refusal::number);
     assert_eq!(checked, cause(&tables, edge, options, 8, 8), "check:\n{sheet:?}");
     seen.draws += 1;
+    compare_over(seen, sheet, answer, (&first, &second));
     floats
+}
+
+/// Checks the tables and, if they are accepted, draws over them, for this answer and these buffers.
+fn compare_over(
+    seen: &mut Seen,
+    sheet: &Sheet,
+    answer: Result<(cs::Way, usize), cs::Refusal>,
+    buffers: (&[f64], &[f64]),
+) {
+    let tables = sheet.tables.lent();
+    let checked = ours(&tables).check();
+    assert_eq!(checked.err().map(cs::Refusal::number), tables_cause(&tables), "tables:\n{sheet:?}");
+    let Ok(checked) = checked else { return };
+    let (m, n) = (buffers.0.len(), buffers.1.len());
+    let (mut first, mut second) = (vec![MARK; m], vec![MARK; n]);
+    let got = checked.draw(&our_edge(&sheet.edge), &our_options(&sheet.options), &mut first, &mut second);
+    assert_eq!(got.map(|chain| (chain.way(), chain.len())), answer, "over, buffers {m} {n}:\n{sheet:?}");
+    assert!(same(&first, buffers.0) && same(&second, buffers.1), "other floats over, buffers {m} {n}:\n{sheet:?}");
+    seen.over += 1;
+}
+
+/// The lowest cause with an edge and options that have none, but that the tables may be empty.
+fn tables_cause(tables: &Tables) -> Option<u32> {
+    let edge = Edge { curve: 0, start: 0, end: 0, sense: 0, lo: 0.0, hi: 1.0, tolerance: 0.0, low: 0, high: 0 };
+    let options = Options { deflection: 1.0, angle: 1.0, relative: 0, segments: 1, depth: 1, scale: 1.0 };
+    cause(tables, &edge, &options, 8, 8).filter(|number| *number != 6)
 }
 
 /// A walk passes the chain's points, there and back.

@@ -1,9 +1,10 @@
 /* Cornsunset in C: an edge of a part becomes a chain of points. Link with target/staticlib/libffi.a (rt staticlib ffi).
  *
- * Every function is proved to answer as its definition says for any numbers and any contents of any lengths. What is left
- * to the caller is what C leaves to every caller: a pointer is not NULL (not even with a length of 0), has so many elements
- * as the length beside it says, and what is written (buffers, out values) overlaps nothing else that is handed over.
- * No function keeps a pointer, allocates, prints or fails in another way than it says. All may be called from any thread. */
+ * Every function is proved to answer as its definition says for any numbers and any contents of any lengths; cs_draw_over
+ * alone asks for tables that cs_check_tables accepted. What else is left to the caller is what C leaves to every caller: a
+ * pointer is not NULL (not even with a length of 0), has so many elements as the length beside it says, and what is written
+ * (buffers, out values) overlaps nothing else that is handed over. No function keeps a pointer, allocates, prints or fails
+ * in another way than it says. All may be called from any thread. */
 #ifndef CORNSUNSET_H
 #define CORNSUNSET_H
 
@@ -137,6 +138,21 @@ uint32_t cs_check(
     uint32_t curve, uint32_t start, uint32_t end, uint32_t sense, double lo, double hi, double tolerance, uint32_t low, uint32_t high,
     double deflection, double radians, uint32_t relative, uint64_t segments, uint32_t depth, double scale);
 
+/* The lowest of the refusals 1 to 5 that the tables alone have, or 0. */
+uint32_t cs_check_tables(
+    const double *points, size_t points_len, const uint32_t *curves, size_t curves_len, const double *reals, size_t reals_len,
+    const uint32_t *parts, size_t parts_len, const double *ranges, size_t ranges_len);
+
+/* As cs_draw, with the same answer, for many edges over one set of tables, which are not checked again; the edge, the options
+ * and the buffers are (refusals 2, 3 and 6 to 9). The caller owes that cs_check_tables returned 0 for these very tables and
+ * that nothing in them changed since. Otherwise nothing is promised, as with a pointer that is wrong. */
+uint32_t cs_draw_over(
+    const double *points, size_t points_len, const uint32_t *curves, size_t curves_len, const double *reals, size_t reals_len,
+    const uint32_t *parts, size_t parts_len, const double *ranges, size_t ranges_len,
+    uint32_t curve, uint32_t start, uint32_t end, uint32_t sense, double lo, double hi, double tolerance, uint32_t low, uint32_t high,
+    double deflection, double radians, uint32_t relative, uint64_t segments, uint32_t depth, double scale,
+    double *first, size_t first_len, double *second, size_t second_len, uint32_t *way, size_t *count);
+
 /* The options of a preset, the angle in radians: 0.0004 of the scale and 8 degrees; 0.01 and 35, for a quick preview; 0.0001
  * and 4, for close inspection. Each is relative, with 1 segment, depth 12 and no scale: set the scale before drawing. */
 void cs_default(double *deflection, double *radians, uint32_t *relative, uint64_t *segments, uint32_t *depth, double *scale);
@@ -153,18 +169,32 @@ uint32_t cs_step(const double *chain, size_t chain_len, bool forward, size_t *at
 
 /* ---- the same over the structs */
 
+#define CS_TABLES(t) \
+    (t)->points, (t)->points_len, (t)->curves, (t)->curves_len, (t)->reals, (t)->reals_len, (t)->parts, (t)->parts_len, \
+        (t)->ranges, (t)->ranges_len
+#define CS_EDGE(e) (e)->curve, (e)->start, (e)->end, (e)->sense, (e)->lo, (e)->hi, (e)->tolerance, (e)->low, (e)->high
+#define CS_OPTIONS(o) (o)->deflection, (o)->angle.radians, (o)->relative, (o)->segments, (o)->depth, (o)->scale
+
 static inline uint32_t cs_draw_edge(const cs_tables *t, const cs_edge *e, const cs_options *o, double *first, size_t first_len,
                                     double *second, size_t second_len, uint32_t *way, size_t *count) {
-    return cs_draw(t->points, t->points_len, t->curves, t->curves_len, t->reals, t->reals_len, t->parts, t->parts_len, t->ranges,
-                   t->ranges_len, e->curve, e->start, e->end, e->sense, e->lo, e->hi, e->tolerance, e->low, e->high, o->deflection,
-                   o->angle.radians, o->relative, o->segments, o->depth, o->scale, first, first_len, second, second_len, way, count);
+    return cs_draw(CS_TABLES(t), CS_EDGE(e), CS_OPTIONS(o), first, first_len, second, second_len, way, count);
 }
 
 static inline uint32_t cs_check_edge(const cs_tables *t, const cs_edge *e, const cs_options *o) {
-    return cs_check(t->points, t->points_len, t->curves, t->curves_len, t->reals, t->reals_len, t->parts, t->parts_len, t->ranges,
-                    t->ranges_len, e->curve, e->start, e->end, e->sense, e->lo, e->hi, e->tolerance, e->low, e->high, o->deflection,
-                    o->angle.radians, o->relative, o->segments, o->depth, o->scale);
+    return cs_check(CS_TABLES(t), CS_EDGE(e), CS_OPTIONS(o));
 }
+
+static inline uint32_t cs_tables_check(const cs_tables *t) { return cs_check_tables(CS_TABLES(t)); }
+
+/* The caller owes that cs_tables_check returned 0 for these tables, and that nothing in them changed since. */
+static inline uint32_t cs_draw_edge_over(const cs_tables *t, const cs_edge *e, const cs_options *o, double *first,
+                                         size_t first_len, double *second, size_t second_len, uint32_t *way, size_t *count) {
+    return cs_draw_over(CS_TABLES(t), CS_EDGE(e), CS_OPTIONS(o), first, first_len, second, second_len, way, count);
+}
+
+#undef CS_TABLES
+#undef CS_EDGE
+#undef CS_OPTIONS
 
 /* The buffer that holds a chain got in this way. */
 static inline double *cs_chain(uint32_t way, double *first, double *second) { return way <= CS_CHORD ? first : second; }

@@ -1,5 +1,5 @@
-/* What no sheet can hold: tables above their size, slices that are not whole rows, short buffers; and NaN parameters, walks,
- * presets and angles. */
+/* What no sheet can hold: tables above their size, slices that are not whole rows, short buffers; and tables that are checked
+ * once, NaN parameters, walks, presets and angles. */
 #include "cornsunset.h"
 #include <stdio.h>
 #include <stdlib.h>
@@ -24,7 +24,7 @@ static const cs_edge EDGE = {.end = 2, .sense = 1, .hi = 5, .high = 2};
 static const cs_options OPTIONS = {.deflection = 1, .angle = {1}, .segments = 4, .depth = 12};
 
 enum { LENGTH = 65536 + 8 };
-static double first[LENGTH], second[LENGTH];
+static double first[LENGTH], second[LENGTH], third[LENGTH], fourth[LENGTH];
 static uint32_t way;
 static size_t count;
 
@@ -43,6 +43,18 @@ static uint32_t draw(cs_tables t, cs_edge e, cs_options o, size_t m, size_t n) {
         EXPECT(all(first, m, left) && all(second, n, left) && way == CS_NO_CHAIN && count == 0);
     }
     EXPECT(all(first + m, LENGTH - m, -7) && all(second + n, LENGTH - n, -7));
+    return refusal;
+}
+
+/* The same over tables that were accepted, and that all is as by cs_draw_edge. */
+static uint32_t draw_over(cs_tables t, cs_edge e, cs_options o, size_t m, size_t n) {
+    EXPECT(cs_tables_check(&t) == CS_DRAWN);
+    for (size_t i = 0; i < LENGTH; i++) third[i] = fourth[i] = -7;
+    uint32_t its_way = 99;
+    size_t its_count = 99;
+    const uint32_t refusal = cs_draw_edge_over(&t, &e, &o, third, m, fourth, n, &its_way, &its_count);
+    EXPECT(refusal == draw(t, e, o, m, n) && its_way == way && its_count == count);
+    EXPECT(memcmp(first, third, sizeof first) == 0 && memcmp(second, fourth, sizeof second) == 0);
     return refusal;
 }
 
@@ -79,6 +91,23 @@ static void buffers(void) {
     o.segments = 16383, EXPECT(draw(LINE, EDGE, o, 65536, 65539) == CS_DRAWN && count == 16384);
     o.segments = 16384, EXPECT(draw(LINE, EDGE, o, 65540, 65544) == CS_NO_ROOM);
     o.segments = UINT64_MAX, EXPECT(draw(LINE, EDGE, o, 65536, 65536) == CS_NO_ROOM);
+}
+
+static void once(void) {
+    cs_tables t = LINE;
+    t.points_len = 3 * 65536 + 1, EXPECT(cs_tables_check(&t) == CS_OVERSIZE);
+    t = LINE, t.points_len = 8, EXPECT(cs_tables_check(&t) == CS_ILL_FORMED);
+    t = LINE, points[0] = 2e9, EXPECT(cs_tables_check(&t) == CS_UNBOUNDED), points[0] = 0;
+    t = LINE, curves[0] = 6, curves[2] = 1, EXPECT(cs_tables_check(&t) == CS_UNORDERED), curves[0] = 1, curves[2] = 2;
+    t = LINE, t.curves_len = t.reals_len = 0, EXPECT(draw_over(t, EDGE, OPTIONS, 400, 400) == CS_MISSING);
+    EXPECT(draw_over(LINE, EDGE, OPTIONS, 400, 401) == CS_DRAWN && count == 5);
+    cs_edge e = EDGE;
+    e.tolerance = 2e9, EXPECT(draw_over(LINE, e, OPTIONS, 400, 400) == CS_UNBOUNDED);
+    e = EDGE, e.sense = 2, EXPECT(draw_over(LINE, e, OPTIONS, 400, 400) == CS_ILL_FORMED);
+    e = EDGE, e.curve = 1, EXPECT(draw_over(LINE, e, OPTIONS, 400, 400) == CS_MISSING);
+    e = EDGE, e.high = 3, EXPECT(draw_over(LINE, e, OPTIONS, 400, 400) == CS_MISSING);
+    EXPECT(draw_over(LINE, EDGE, OPTIONS, 7, 400) == CS_SHORT_BUFFER);
+    EXPECT(draw_over(LINE, EDGE, OPTIONS, 400, 19) == CS_NO_ROOM);
 }
 
 /* Two chords copy lo and hi with their bits. */
@@ -122,6 +151,7 @@ static void angles(void) {
 int main(void) {
     tables();
     buffers();
+    once();
     nans();
     walks();
     angles();

@@ -328,47 +328,22 @@ pub fn draw<'b>(
     first: &'b mut [f64],
     second: &'b mut [f64],
 ) -> Result<Chain<'b>, Refusal> {
+    drawn(first, second, |first, m, second, n, way, count| {
+        // SAFETY: slices are lent for the call; those that are written are borrowed alone. The function is proved to write
+        // nothing else, whatever it is handed.
+        unsafe { raw::call!(cs_draw, tables, edge, options, options.angle.0, first, m, second, n, way, count) }
+    })
+}
+
+/// The chain that a call drew, or its refusal.
+fn drawn<'b>(
+    first: &'b mut [f64],
+    second: &'b mut [f64],
+    call: impl FnOnce(*mut f64, usize, *mut f64, usize, &mut u32, &mut usize) -> u32,
+) -> Result<Chain<'b>, Refusal> {
     let (mut way, mut count) = (0, 0);
-    // SAFETY: slices are lent for the call; those that are written are borrowed alone. The function is proved to write
-    // nothing else, whatever it is handed.
-    let refusal = unsafe {
-        raw::cs_draw(
-            tables.points.as_ptr(),
-            tables.points.len(),
-            tables.curves.as_ptr(),
-            tables.curves.len(),
-            tables.reals.as_ptr(),
-            tables.reals.len(),
-            tables.parts.as_ptr(),
-            tables.parts.len(),
-            tables.ranges.as_ptr(),
-            tables.ranges.len(),
-            edge.curve,
-            edge.start,
-            edge.end,
-            edge.sense,
-            edge.lo,
-            edge.hi,
-            edge.tolerance,
-            edge.low,
-            edge.high,
-            options.deflection,
-            options.angle.0,
-            options.relative,
-            options.segments,
-            options.depth,
-            options.scale,
-            first.as_mut_ptr(),
-            first.len(),
-            second.as_mut_ptr(),
-            second.len(),
-            &mut way,
-            &mut count,
-        )
-    };
-    if refusal != 0 {
-        return Err(Refusal::of(refusal));
-    }
+    let refusal = call(first.as_mut_ptr(), first.len(), second.as_mut_ptr(), second.len(), &mut way, &mut count);
+    accepted(refusal)?;
     let way = Way::of(way);
     // The points are proved to fit.
     let buffer = if way.in_first() { first } else { second };
@@ -378,37 +353,97 @@ pub fn draw<'b>(
 /// The lowest of the refusals 1 to 6 that applies to an edge: what drawing it looks at before it looks at its buffers.
 pub fn check(tables: &Tables, edge: &Edge, options: &Options) -> Result<(), Refusal> {
     // SAFETY: slices are lent for the call.
-    let refusal = unsafe {
-        raw::cs_check(
-            tables.points.as_ptr(),
-            tables.points.len(),
-            tables.curves.as_ptr(),
-            tables.curves.len(),
-            tables.reals.as_ptr(),
-            tables.reals.len(),
-            tables.parts.as_ptr(),
-            tables.parts.len(),
-            tables.ranges.as_ptr(),
-            tables.ranges.len(),
-            edge.curve,
-            edge.start,
-            edge.end,
-            edge.sense,
-            edge.lo,
-            edge.hi,
-            edge.tolerance,
-            edge.low,
-            edge.high,
-            options.deflection,
-            options.angle.0,
-            options.relative,
-            options.segments,
-            options.depth,
-            options.scale,
-        )
-    };
-    match refusal {
+    accepted(unsafe { raw::call!(cs_check, tables, edge, options, options.angle.0) })
+}
+
+/// The refusal of this number; 0 is none.
+fn accepted(number: u32) -> Result<(), Refusal> {
+    match number {
         0 => Ok(()),
         number => Err(Refusal::of(number)),
+    }
+}
+
+/// Tables that [`Tables::check`] accepted, for many edges over them: drawing does not check the tables again.
+///
+/// ```
+/// # use cornsunset::{draw, Edge, Options, Refusal, Tables};
+/// # let points = [0., 0., 0., 2., 0., 0., 10., 0., 0.];
+/// # let tables = Tables { points: &points, curves: &[1, 0, 2], reals: &[0.0; 2], parts: &[], ranges: &[] };
+/// # let edge = Edge { curve: 0, start: 0, end: 2, sense: 1, lo: 0.0, hi: 5.0, tolerance: 0.0, low: 0, high: 2 };
+/// # let edges = [edge, Edge { sense: 0, start: 2, end: 0, ..edge }, Edge { curve: 1, ..edge }];
+/// # let (mut first, mut second, mut total) = ([0.0; 64], [0.0; 64], 0);
+/// let checked = tables.check()?;
+/// for edge in &edges {
+///     match checked.draw(edge, &Options::default(), &mut first, &mut second) {
+///         Ok(chain) => total += chain.len(),
+///         Err(refusal) => assert_eq!(refusal, Refusal::Missing),
+///     }
+/// }
+/// # assert_eq!(total, 4);
+/// # Ok::<(), Refusal>(())
+/// ```
+///
+/// There is no other way to make one, and the slices stay lent to it:
+///
+/// ```compile_fail,E0451
+/// let checked = cornsunset::Checked { tables: Default::default() };
+/// ```
+///
+/// ```compile_fail,E0506
+/// let mut points = [0.0; 9];
+/// let checked = cornsunset::Tables { points: &points, ..Default::default() }.check().unwrap();
+/// points[0] = f64::NAN;
+/// let tables = checked.tables();
+/// ```
+#[derive(Debug, Clone, Copy)]
+pub struct Checked<'a> {
+    tables: Tables<'a>,
+}
+
+impl<'a> Tables<'a> {
+    /// The lowest of the refusals 1 to 5 that the tables have, whatever the edge; or the tables, checked.
+    pub fn check(&self) -> Result<Checked<'a>, Refusal> {
+        let Tables { points, curves, reals, parts, ranges } = *self;
+        // SAFETY: slices are lent for the call.
+        accepted(unsafe {
+            raw::cs_check_tables(
+                points.as_ptr(),
+                points.len(),
+                curves.as_ptr(),
+                curves.len(),
+                reals.as_ptr(),
+                reals.len(),
+                parts.as_ptr(),
+                parts.len(),
+                ranges.as_ptr(),
+                ranges.len(),
+            )
+        })?;
+        Ok(Checked { tables: *self })
+    }
+}
+
+impl<'a> Checked<'a> {
+    /// The tables.
+    pub fn tables(&self) -> Tables<'a> {
+        self.tables
+    }
+
+    /// Draws an edge over the tables as [`draw`] does, with the same answer; only the edge, the options and the buffers are
+    /// checked, so that it is refused with 2, 3 or 6 to 9 alone.
+    pub fn draw<'b>(
+        &self,
+        edge: &Edge,
+        options: &Options,
+        first: &'b mut [f64],
+        second: &'b mut [f64],
+    ) -> Result<Chain<'b>, Refusal> {
+        let tables = &self.tables;
+        drawn(first, second, |first, m, second, n, way, count| {
+            // SAFETY: as in `draw`. That the tables were accepted is all that the function asks for, and they have been lent
+            // since.
+            unsafe { raw::call!(cs_draw_over, tables, edge, options, options.angle.0, first, m, second, n, way, count) }
+        })
     }
 }

@@ -1,4 +1,4 @@
-//! The safe API by itself: refusals, buffers, NaN parameters, walks, angles and presets.
+//! The safe API by itself: refusals, buffers, tables that are checked once, NaN parameters, walks, angles and presets.
 use cornsunset::{check, draw, Angle, Edge, Options, Refusal, Tables, Walk, Way};
 
 /// What no drawing writes.
@@ -15,6 +15,10 @@ fn options() -> Options {
 
 fn all(floats: &[f64], value: f64) -> bool {
     floats.iter().all(|x| x.to_bits() == value.to_bits())
+}
+
+fn same(a: &[f64], b: &[f64]) -> bool {
+    a.iter().map(|x| x.to_bits()).eq(b.iter().map(|x| x.to_bits()))
 }
 
 /// The refusal, and that the buffers are as it should leave them.
@@ -70,6 +74,53 @@ fn each_refusal_has_its_number_and_leaves_the_buffers() {
     assert_eq!(refused(&LINE, &EDGE, &o, (8, 8)), 8);
     assert_eq!(refused(&LINE, &EDGE, &o, (80, 19)), 8);
     assert_eq!(Refusal::ShortBuffer.to_string(), "A chain buffer is shorter than 8 floats.");
+}
+
+#[test]
+fn tables_are_refused_whatever_the_edge() {
+    let number = |tables: Tables| tables.check().unwrap_err().number();
+    let floats = vec![0.0; 3 * 65_536 + 1];
+    assert_eq!(number(Tables { points: &floats, ..LINE }), 1);
+    assert_eq!(number(Tables { points: &[f64::NAN; 9], ..LINE }), 2);
+    assert_eq!(number(Tables { points: &POINTS[..8], ..LINE }), 3);
+    assert_eq!(number(Tables { curves: &[1, 2, 2], ..LINE }), 3);
+    assert_eq!(number(Tables { curves: &[6, 0, 1], reals: &[0.0, 1.0], ..LINE }), 4);
+    let curves: Vec<u32> = [[1, 0, 2]].into_iter().chain((0..9).map(|i| [6, i, 1])).flatten().collect();
+    let reals: Vec<f64> = [[0.0; 2]].into_iter().chain([[0.0, 5.0]; 9]).flatten().collect();
+    assert_eq!(number(Tables { curves: &curves, reals: &reals, ..LINE }), 5);
+    assert!(Tables { curves: &curves[..27], reals: &reals[..18], ..LINE }.check().is_ok());
+    assert!(Tables::default().check().is_ok());
+}
+
+#[test]
+fn over_checked_tables_an_edge_is_drawn_as_by_itself() {
+    let trimmed = Tables { curves: &[1, 0, 2, 6, 0, 1], reals: &[0.0, 0.0, 1.0, 4.0], ..LINE };
+    let chord = Edge { lo: f64::NAN, ..EDGE };
+    let cases: [(Tables, Edge, Options, usize, usize, u32); 12] = [
+        (LINE, EDGE, options(), 30, 41, 0),
+        (LINE, Edge { sense: 0, start: 2, end: 0, ..EDGE }, options(), 41, 30, 0),
+        (trimmed, Edge { curve: 1, lo: 1.0, hi: 4.0, ..EDGE }, options(), 80, 80, 0),
+        (LINE, chord, options(), 8, 8, 0),
+        (LINE, Edge { tolerance: f64::NAN, ..EDGE }, options(), 80, 80, 2),
+        (LINE, EDGE, Options { deflection: 2e9, ..options() }, 80, 80, 2),
+        (LINE, Edge { sense: 2, ..EDGE }, options(), 80, 80, 3),
+        (LINE, EDGE, Options { relative: 2, ..options() }, 80, 80, 3),
+        (LINE, Edge { curve: 1, ..EDGE }, options(), 80, 80, 6),
+        (Tables::default(), EDGE, options(), 80, 80, 6),
+        (LINE, EDGE, options(), 80, 7, 7),
+        (LINE, EDGE, options(), 8, 8, 8),
+    ];
+    for (tables, edge, options, m, n, number) in cases {
+        let (mut first, mut second) = (vec![MARK; m], vec![MARK; n]);
+        let expected = draw(&tables, &edge, &options, &mut first, &mut second).map(|c| (c.way(), c.len()));
+        let (mut third, mut fourth) = (vec![MARK; m], vec![MARK; n]);
+        let checked = tables.check().unwrap();
+        let got = checked.draw(&edge, &options, &mut third, &mut fourth).map(|c| (c.way(), c.len()));
+        assert_eq!(got, expected);
+        assert_eq!(got.err().map_or(0, Refusal::number), number);
+        assert!(same(&first, &third) && same(&second, &fourth));
+        assert_eq!(checked.tables().points, tables.points);
+    }
 }
 
 #[test]

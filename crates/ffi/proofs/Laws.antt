@@ -1,6 +1,8 @@
--- Drawing with an edge and options that are put together from their numbers, and a step with no point left. Assumes nothing.
+-- Drawing with an edge and options that are put together from their numbers, tables that were accepted, and a step with no
+-- point left. Assumes nothing.
 use mathlib.Core.Path.{_≡_, refl, sym, ap, subst, _∙_}
 use mathlib.Core.Logic.{inl, inr}
+use mathlib.Core.Bool.{Bool, true, false, cond}
 use mathlib.Core.List.{List}
 use Prim.Native.Nat.{ℕ, _≤_}
 use native.Mathlib.Omega.{arith}
@@ -10,6 +12,11 @@ use Rattle.lists.specs.Result.{Result, refused, got}
 use Rattle.brep.specs.declared.Edge.{Edge}
 use Rattle.brep.specs.Rows.{Tables}
 use Rattle.options.specs.declared.Options.{Options}
+use Rattle.causes.specs.declared.Verdict.{Verdict}
+use Rattle.causes.specs.declared.Verdict.the-variants as verdicts
+use Rattle.causes.specs.Causes.{oversize, unordered, tooDeep, tablesVerdict}
+use Rattle.bounds.specs.Bounds.{unboundedTables}
+use Rattle.forms.specs.Forms.{illFormedTables}
 use Rattle.chains.specs.declared.Way.{Way}
 use Rattle.chains.specs.declared.Way.the-variants.{AsDrawn, Chord, Complement, ShortArc, Runaway}
 use Rattle.chains.specs.declared.Drawn.{Drawn}
@@ -20,7 +27,7 @@ use Rattle.chains.proofs.Held.{fits-first, fits-second}
 use Rattle.walker.specs.declared.Step.{Step}
 use Rattle.walker.specs.declared.Step.the-variants.{Done}
 use Rattle.walker.specs.declared.Stepped.{Stepped}
-use Rattle.ffi.specs.Numbers.{answerTo, refusalOf, numberOf, wayOf, countOf, Numbered, Told, passed, pointAfter}
+use Rattle.ffi.specs.Numbers.{causeOf, answerTo, refusalOf, numberOf, wayOf, countOf, Numbered, Told, passed, pointAfter}
 
 -- ways are numbered from 1 to 5
 way-numbers : (w : Way) → (1 ≤ numberOf w) × (numberOf w ≤ 5)
@@ -68,6 +75,23 @@ module _ (T : Tables) (first second : List Float) (r way count : ℕ) (f s : Lis
   by-numbers e e' o o' a p q h w =
       subst (λ (x : Edge). Told T x o' first second r way count f s) p
       (subst (λ (x : Options). Told T e x first second r way count f s) q (by-answer e o a h w))
+
+-- no cause of the tables has the number 0
+by-causes : (a b c d e : Bool) (v : Verdict)
+    → v ≡ cond a (verdicts.Refused 1) (cond b (verdicts.Refused 2) (cond c (verdicts.Refused 3) (cond d (verdicts.Refused 4) (cond e (verdicts.Refused 5) verdicts.Accepted))))
+    → causeOf v ≡ 0 → v ≡ verdicts.Accepted
+unfolding causeOf
+by-causes true b c d e v p q = absurd (omega (arith, sym (ap causeOf p) ∙ q))
+by-causes false true c d e v p q = absurd (omega (arith, sym (ap causeOf p) ∙ q))
+by-causes false false true d e v p q = absurd (omega (arith, sym (ap causeOf p) ∙ q))
+by-causes false false false true e v p q = absurd (omega (arith, sym (ap causeOf p) ∙ q))
+by-causes false false false false true v p q = absurd (omega (arith, sym (ap causeOf p) ∙ q))
+by-causes false false false false false v p q = p
+
+-- so that tables whose check returned 0 are accepted
+pub accepted : (T : Tables) (r : ℕ) → r ≡ causeOf (tablesVerdict T) → r ≡ 0 → tablesVerdict T ≡ verdicts.Accepted
+unfolding tablesVerdict
+accepted T r p q = by-causes (oversize T) (unboundedTables (T .points) (T .reals) (T .ranges)) (illFormedTables T) (unordered T) (tooDeep T) (tablesVerdict T) refl (sym p ∙ q)
 
 -- a step that answered Done passed no point
 pub none-left : (x y : Stepped) (point : List Float) → x ≡ y → x .step ≡ Done

@@ -45,7 +45,7 @@ optionsOf deflection angle relative segments depth scale = record {
   scale = scale;
 }
 
--- 0 for an edge that passes, else the refusal's number
+-- 0 for an edge or tables that pass, else the refusal's number
 unfoldable pub causeOf : Verdict → ℕ
 causeOf verdicts.Accepted = 0
 causeOf (verdicts.Refused n) = n

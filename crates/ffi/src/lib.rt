@@ -1,5 +1,6 @@
 // Drawing, walking, presets and angles under C names, over numbers and slices alone. A slice is a pointer and a length, an
-// out value a pointer. No function has a requires: nothing that another language hands over is outside a contract.
+// out value a pointer. Only cs_draw_over has a requires, and cs_check_tables says whether it is met: nothing else that another
+// language hands over is outside a contract.
 use brep::Edge;
 use causes::Verdict;
 use chains::Drawn;
@@ -11,7 +12,8 @@ use samples::Sample;
 use walker::Step;
 ghost use mathlib.Core.Path.{_≡_};
 ghost use Rattle.brep.specs.Rows.{lent};
-ghost use Rattle.causes.specs.Causes.{verdict};
+ghost use Rattle.causes.specs.declared.Verdict.the-variants.{Accepted};
+ghost use Rattle.causes.specs.Causes.{verdict, tablesVerdict};
 ghost use Rattle.options.specs.Options.{radians, degrees, isClamped, defaultOptions, draftOptions, fineOptions};
 ghost use Rattle.samples.specs.Chain.{row};
 ghost use Rattle.walker.specs.Walk.{startOf, stepped};
@@ -138,6 +140,61 @@ pub extern "C" fn cs_draw(
     told(drawn, way, count)
 }
 
+// The same over tables that cs_check_tables has accepted, and that are still the same: for many edges they are checked once.
+// A caller that is not Rattle owes that.
+#[no_mangle]
+pub extern "C" fn cs_draw_over(
+    points: &[f64],
+    curves: &[u32],
+    reals: &[f64],
+    parts: &[u32],
+    ranges: &[f64],
+    curve: u32,
+    start: u32,
+    end: u32,
+    sense: u32,
+    lo: f64,
+    hi: f64,
+    tolerance: f64,
+    low: u32,
+    high: u32,
+    deflection: f64,
+    angle: f64,
+    relative: u32,
+    segments: u64,
+    depth: u32,
+    scale: f64,
+    first: &mut [f64],
+    second: &mut [f64],
+    way: &mut u32,
+    count: &mut usize,
+) -> u32
+    requires { ⌜ tablesVerdict (lent points curves reals parts ranges) ≡ Accepted ⌝ }
+    ensures { λ r. ⌜ Told (lent (points .entry) (curves .entry) (reals .entry) (parts .entry) (ranges .entry)) (edgeOf curve start end sense lo hi tolerance low high) (optionsOf deflection angle relative segments depth scale) (now (first .entry)) (now (second .entry)) r (now (way .exit)) (now (count .exit)) (now (first .exit)) (now (second .exit)) ⌝ }
+{
+    let drawn = draw::draw_edge(
+        points,
+        curves,
+        reals,
+        parts,
+        ranges,
+        edge_of(curve, start, end, sense, lo, hi, tolerance, low, high),
+        options_of(deflection, angle, relative, segments, depth, scale),
+        first,
+        second,
+    );
+    told(drawn, way, count)
+}
+
+fn cause_of(verdict: Verdict) -> u32
+    ensures { λ r. ⌜ r ≡ causeOf verdict ⌝ }
+{
+    match verdict {
+        Verdict::Accepted => 0,
+        Verdict::Refused(n) => n,
+    }
+}
+
 // The lowest of the causes 1 to 6 that applies, or 0.
 #[no_mangle]
 pub extern "C" fn cs_check(
@@ -166,11 +223,22 @@ pub extern "C" fn cs_check(
 {
     let edge = edge_of(curve, start, end, sense, lo, hi, tolerance, low, high);
     let options = options_of(deflection, angle, relative, segments, depth, scale);
-    let verdict = causes::check(points, curves, reals, parts, ranges, edge, options);
-    match verdict {
-        Verdict::Accepted => 0,
-        Verdict::Refused(n) => n,
-    }
+    cause_of(causes::check(points, curves, reals, parts, ranges, edge, options))
+}
+
+// The lowest of the causes 1 to 5 that the tables alone have, or 0.
+#[no_mangle]
+pub extern "C" fn cs_check_tables(
+    points: &[f64],
+    curves: &[u32],
+    reals: &[f64],
+    parts: &[u32],
+    ranges: &[f64],
+) -> u32
+    ensures { λ r. ⌜ (r ≡ causeOf (tablesVerdict (lent (points .entry) (curves .entry) (reals .entry) (parts .entry) (ranges .entry))))
+        × (r ≡ 0 → tablesVerdict (lent (points .entry) (curves .entry) (reals .entry) (parts .entry) (ranges .entry)) ≡ Accepted) ⌝ }
+{
+    cause_of(causes::check_tables(points, curves, reals, parts, ranges))
 }
 
 // The place where a walk of a chain begins.
@@ -237,15 +305,8 @@ pub extern "C" fn cs_default(
 )
     ensures { λ _. ⌜ optionsOf (now (deflection .exit)) (now (angle .exit)) (now (relative .exit)) (now (segments .exit)) (now (depth .exit)) (now (scale .exit)) ≡ defaultOptions ⌝ }
 {
-    store(
-        Options::default(),
-        deflection,
-        angle,
-        relative,
-        segments,
-        depth,
-        scale,
-    )
+    let default = Options::default();
+    store(default, deflection, angle, relative, segments, depth, scale)
 }
 
 // For a quick preview.
@@ -260,15 +321,8 @@ pub extern "C" fn cs_draft(
 )
     ensures { λ _. ⌜ optionsOf (now (deflection .exit)) (now (angle .exit)) (now (relative .exit)) (now (segments .exit)) (now (depth .exit)) (now (scale .exit)) ≡ draftOptions ⌝ }
 {
-    store(
-        Options::draft(),
-        deflection,
-        angle,
-        relative,
-        segments,
-        depth,
-        scale,
-    )
+    let draft = Options::draft();
+    store(draft, deflection, angle, relative, segments, depth, scale)
 }
 
 // For close inspection.
@@ -283,15 +337,8 @@ pub extern "C" fn cs_fine(
 )
     ensures { λ _. ⌜ optionsOf (now (deflection .exit)) (now (angle .exit)) (now (relative .exit)) (now (segments .exit)) (now (depth .exit)) (now (scale .exit)) ≡ fineOptions ⌝ }
 {
-    store(
-        Options::fine(),
-        deflection,
-        angle,
-        relative,
-        segments,
-        depth,
-        scale,
-    )
+    let fine = Options::fine();
+    store(fine, deflection, angle, relative, segments, depth, scale)
 }
 
 // An angle in degrees as radians.

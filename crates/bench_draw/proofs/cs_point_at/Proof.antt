@@ -1,16 +1,17 @@
 -- `bench_draw::cs_point_at` meets its contract. Assumes nothing.
+use mathlib.Core.Path.{ap}
+use Rattle.math.specs.declared.Vec3.{Vec3}
 use borrow.Author.Needs.{needs}
 use Rattle.bench_draw.proofs.cs_point_at.Statement.{statement}
 use Rattle.bench_draw.proofs.cs_point_at.Tie as tie
-use Rattle.bench_draw.proofs.cs_point_at.Reads as reads
-use Rattle.bench_draw.proofs.cs_point_at.Lts as lts
-use Rattle.curve.proofs.point_at.Reads as point-at-reads
 
 point-at-requires : tie.Need-point-at-requires
 point-at-requires c κs = search needs
 
 returns : tie.Need-returns
-returns c = (cc, cc, cc)
+returns c =
+    let p = c .point-at .ensures in
+    (ap (λ (v : Vec3). v .x) p, ap (λ (v : Vec3). v .y) p, ap (λ (v : Vec3). v .z) p)
 
 pub cs-point-at-spec : {M : Type 1} → statement M
 cs-point-at-spec = tie.close (tie.spec point-at-requires returns)
