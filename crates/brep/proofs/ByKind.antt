@@ -2,35 +2,14 @@
 use mathlib.Core.Path.{_≡_, refl, sym, _∙_, subst}
 use mathlib.Core.List.{List, []}
 use Prim.Native.Nat.{ℕ, _+_, _*_}
-use native.Mathlib.Omega.{arith}
 use lib.ListN.{getD}
 use lib.Ieee.{Float, nan}
 use borrow.Author.Tests.{ne-eqb}
-use Rattle.math.specs.declared.Frame.{Frame}
-use Rattle.math.specs.Math.{vec, interval}
+use Rattle.math.specs.Math.{interval}
 use Rattle.brep.specs.declared.Curve.the-variants.{Line, Circle, Ellipse, Parabola, Polyline, Trimmed, Composite}
 use Rattle.brep.specs.Rows.{Tables, pointOf, frameOf, kindOf, curveOf}
 use Rattle.brep.specs.Tree.{CurveTree, line, circle, ellipse, parabola, polyline, trimmed, composite, run, segments, rowIn, grown, below, tree}
 use Rattle.brep.proofs.Laws.{at-row}
-
--- a frame's nine floats stand one after the other
-pub frame-flat : (points : List Float) (first : ℕ) →
-    _≡_ {A = Frame}
-    (record {
-      origin = vec (getD points (first * 3) nan) (getD points (first * 3 + 1) nan) (getD points (first * 3 + 2) nan);
-      axis = vec (getD points (first * 3 + 3) nan) (getD points (first * 3 + 4) nan) (getD points (first * 3 + 5) nan);
-      «ref_dir» = vec (getD points (first * 3 + 6) nan) (getD points (first * 3 + 7) nan) (getD points (first * 3 + 8) nan);
-    })
-    (frameOf points first)
-unfolding frameOf pointOf
-frame-flat points first =
-    let a : (first + 1) * 3 ≡ first * 3 + 3 = omega arith in
-    let b : (first + 1) * 3 + 1 ≡ first * 3 + 4 = omega arith in
-    let c : (first + 1) * 3 + 2 ≡ first * 3 + 5 = omega arith in
-    let d : (first + 2) * 3 ≡ first * 3 + 6 = omega arith in
-    let e : (first + 2) * 3 + 1 ≡ first * 3 + 7 = omega arith in
-    let f : (first + 2) * 3 + 2 ≡ first * 3 + 8 = omega arith in
-    cc
 
 -- a row's five numbers
 abbrev pub kindIn : Tables → ℕ → ℕ

@@ -15,7 +15,7 @@ use rows::RawEdge;
 use rows::RawOptions;
 use text::Num;
 
-// What 65,536 bytes can hold at most: 1,285 points of 51 bytes, 1,638 curves of 40, 1,724 segments of 38.
+// What 65,536 bytes can hold at most: 1,285 points of 51 bytes, 1,638 curves of 40 or more, 1,724 segments of 38.
 pub const POINTS: usize = 3855;
 
 pub const CURVES: usize = 4914;
