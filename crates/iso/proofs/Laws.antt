@@ -4,16 +4,18 @@ use mathlib.Mathlib.Algebra.Group.Defs.{AddGroup}
 use mathlib.Mathlib.Algebra.Group.Basic.{add-sub-add-right-eq-sub}
 use mathlib.Mathlib.Algebra.Ring.Defs.{CommRing, NonUnitalNonAssocRing, IsNonUnitalNonAssocRing, IsNonUnitalNonAssocSemiring, IsHasDistribNeg, IsRing·toIsNonUnitalNonAssocRing, NonUnitalNonAssocRing·toIsHasDistribNeg}
 use mathlib.Core.List.{List}
-use Prim.Native.Nat.{ℕ, _+_}
-use lib.ListN.{getD}
+use Prim.Native.Nat.{ℕ, _+_, _-_, _≤_}
+use native.Mathlib.Omega.{arith}
+use lib.ListN.{length, getD}
 use lib.Ieee.{Float}
+use borrow.Author.Tests.{ne-eqb}
 use Rattle.arith.specs.Notation.{count}
 use Rattle.trig.specs.Trig.{sinOf, cosOf}
 use Rattle.math.specs.declared.Vec3.{Vec3}
 use Rattle.math.specs.declared.Frame.{Frame}
 use Rattle.math.specs.Math.{vZero, vAdd, vSub, vScale, vLerp, vCross, yDir, polar, vec}
-use Rattle.brep.specs.Tree.{line, circle, ellipse, parabola}
-use Rattle.curve.specs.Eval.{pointAt, ellipsePoint, parabolaPoint, alongFrom}
+use Rattle.brep.specs.Tree.{line, circle, ellipse, parabola, polyline}
+use Rattle.curve.specs.Eval.{pointAt, ellipsePoint, parabolaPoint, polylineParameter, polylinePoint, indexIn, alongFrom}
 use Rattle.iso.specs.Iso.{Expr, value, exact, rounded, roundedVector, isoLine, rustLine, isoCircle, rustCircle, isoEllipse, rustEllipse, isoParabola, rustParabola, isoPolyline, isoPolylineFromOne, rustPolyline, crossPart, one, _+_ as _plus_}
 
 -- what is used of the ring's laws
@@ -120,6 +122,12 @@ pub polyline-rounded : (ps : List Vec3) (i : ℕ) (t : Float) →
     alongFrom ps i t ≡ roundedVector (λ part. rustPolyline (part (getD ps i vZero)) (part (getD ps (i + 1) vZero)) (value (count i)) (value t))
 unfolding vLerp vAdd vSub vScale roundedVector rounded rustPolyline
 polyline-rounded ps i t = refl
+
+-- so a polyline's own point: at its parameter u, wrapped or clamped, on the segment i that u lies in
+pub polyline-point-rounded : (ps : List Vec3) (t : Float) → 2 ≤ length ps → let u = polylineParameter ps t in let i = indexIn (length ps - 2) u in
+    pointAt (polyline ps) t ≡ roundedVector (λ part. rustPolyline (part (getD ps i vZero)) (part (getD ps (i + 1) vZero)) (value (count i)) (value u))
+unfolding pointAt polylinePoint
+polyline-point-rounded ps t l = rw (ne-eqb (length ps) 0 (λ e. omega arith), ne-eqb (length ps) 1 (λ e. omega arith)) (polyline-rounded ps (indexIn (length ps - 2) (polylineParameter ps t)) (polylineParameter ps t))
 
 pub y-rounded : (f : Frame) → let a = f .axis in let b = f .«ref_dir» in
     yDir f ≡ vec (rounded (crossPart (value (a .y)) (value (a .z)) (value (b .y)) (value (b .z)))) (rounded (crossPart (value (a .z)) (value (a .x)) (value (b .z)) (value (b .x)))) (rounded (crossPart (value (a .x)) (value (a .y)) (value (b .x)) (value (b .y))))
