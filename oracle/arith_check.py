@@ -1,4 +1,4 @@
-"""Document 01's fixed steps written a second time, and compared with `oracle arith`.
+"""The scope's fixed steps written a second time, and compared with `oracle arith`.
 
 Usage: arith_check.py LINES ANSWERS
 """

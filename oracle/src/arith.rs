@@ -31,7 +31,7 @@ fn value(line: &str) -> Option<f64> {
     }
 }
 
-/// Rust's own clamp panics unless lower <= upper; there document 01's words decide, below first.
+/// Rust's own clamp panics unless lower <= upper; there the scope's words decide, below first.
 fn clamp(x: f64, lower: f64, upper: f64) -> f64 {
     if lower <= upper {
         x.clamp(lower, upper)

@@ -1,4 +1,4 @@
-//! Causes 1 to 7, in the order and the words of document 01's table.
+//! Causes 1 to 7, in the order and the words of the scope's table.
 
 use crate::tables::{
     CIRCLE, COMPOSITE, ELLIPSE, Edge, LINE, Options, PARABOLA, POLYLINE, Row, TRIMMED, Tables,

@@ -135,7 +135,7 @@ fn records(chain: &[f64]) -> Vec<(Vec3, f64)> {
     chain.chunks_exact(WIDTH).map(|record| (Vec3::from_slice(record), record[3])).collect()
 }
 
-/// The clauses of demand 3 that a chain breaks.
+/// Those of the five clauses that a chain breaks.
 fn broken_clauses(sheet: &Sheet, chain: &[(Vec3, f64)]) -> Vec<&'static str> {
     if chain.len() < 2 {
         return vec!["clause 1, at least two points"];

@@ -1,4 +1,4 @@
-//! The oracle: the published Rust behind the tables, causes and buffers of document 01.
+//! The oracle: the published Rust behind the tables, causes and buffers of the scope.
 
 pub mod arith;
 pub mod causes;

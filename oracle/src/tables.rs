@@ -1,4 +1,4 @@
-//! The tables, the edge and the options as document 01 lends them.
+//! The tables, the edge and the options as the scope lends them.
 
 use road::brep::{CompositeSegment, Curve};
 use road::math::{Frame, Interval, Vec3};

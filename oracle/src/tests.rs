@@ -4,7 +4,7 @@ use crate::draw::{Drawn, draw};
 use crate::tables::{Edge, LINE, Options, OwnedTables, POLYLINE, Row};
 use road::edge::Way;
 
-/// Document 01's line: origin 0, direction (2, 0, 0), vertices x 0 and 10.
+/// The scope's line: origin 0, direction (2, 0, 0), vertices x 0 and 10.
 fn line() -> OwnedTables {
     let mut tables = OwnedTables::default();
     for x in [0.0, 2.0, 10.0] {

@@ -1,4 +1,4 @@
-//! The fixed steps of document 01 for sin, cos, acos, min and max. Every operation rounds once.
+//! The fixed steps of the scope for sin, cos, acos, min and max. Every operation rounds once.
 
 /// 2 / π, π / 2 in two parts, and π.
 const TWO_OVER_PI: f64 = f64::from_bits(0x3FE45F306DC9C883);
