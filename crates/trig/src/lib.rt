@@ -68,14 +68,16 @@ fn steps(z: f64, w: f64, a: f64, b: f64, c: f64, d: f64) -> f64
 fn sin_series(z: f64) -> f64
     ensures { λ w. ⌜ w ≡ stepped z one (272 ∷ 210 ∷ 156 ∷ 110 ∷ 72 ∷ 42 ∷ 20 ∷ 6 ∷ []) ⌝ }
 {
-    steps(z, steps(z, 1.0, 272.0, 210.0, 156.0, 110.0), 72.0, 42.0, 20.0, 6.0)
+    let w = steps(z, 1.0, 272.0, 210.0, 156.0, 110.0);
+    steps(z, w, 72.0, 42.0, 20.0, 6.0)
 }
 
 // The cosine of such an r.
 fn cos_series(z: f64) -> f64
     ensures { λ w. ⌜ w ≡ stepped z one (240 ∷ 182 ∷ 132 ∷ 90 ∷ 56 ∷ 30 ∷ 12 ∷ 2 ∷ []) ⌝ }
 {
-    steps(z, steps(z, 1.0, 240.0, 182.0, 132.0, 90.0), 56.0, 30.0, 12.0, 2.0)
+    let w = steps(z, 1.0, 240.0, 182.0, 132.0, 90.0);
+    steps(z, w, 56.0, 30.0, 12.0, 2.0)
 }
 
 // Both of t, from r and from q, which is k mod 4. The sine is S, C, -S, -C by q, and the cosine is
