@@ -71,10 +71,10 @@ fn line(name: &str, operands: &[f64]) -> String {
 /// The specials and their neighbours, of both signs; NaN; all magnitudes; and where the function bends.
 fn operands(random: &mut Random, name: &str) -> Vec<f64> {
     let mut operands = boundaries(random);
-    // Every fourth exponent, from a random one of the first four.
-    for exponent in (random.below(4) as u64..2048).step_by(4) {
+    for exponent in 0..2048 {
         let fraction = random.bits() >> 12;
-        let sign = random.bits() >> 63;
+        // below 0 every root is NaN
+        let sign = if name == "root" { 0 } else { random.bits() >> 63 };
         operands.push(f64::from_bits(sign << 63 | exponent << 52 | fraction));
     }
     operands.extend((0..200).map(|_| bend(random, name)));

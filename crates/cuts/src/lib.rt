@@ -36,7 +36,7 @@ pub fn is_over(s: f64, limit: f64, cut: f64, has_cut: bool) -> bool
             return true;
         }
     }
-    roots::root(s) > limit
+    limit < roots::root(s)
 }
 
 // Whether the root of s is at most the limit. A cut whose own root is above it answers for every s from there on.

@@ -4,7 +4,8 @@
 -- Assumes nothing.
 
 -- ≤ is reflexive and total on numbers, transitive, and at most each other means equal
-pub use Rattle.order.proofs.Signed.{number, le-refl, le-trans, total as le-total, antisym}
+pub use Rattle.order.specs.Number.{number}
+pub use Rattle.order.proofs.Signed.{le-refl, le-trans, total as le-total, antisym}
 -- x ≤ y and x < y hold of numbers only
 pub use Rattle.order.proofs.Signed.{number-left, number-right}
 -- x < y is that not y ≤ x: from one to the other, and through both

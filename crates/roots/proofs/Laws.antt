@@ -1,24 +1,20 @@
 -- The laws of the root that callers cite: it is monotone, so comparisons of roots are comparisons of what stands under them. Assumes nothing.
-use mathlib.Core.Path.{_≡_, refl, sym, ap, _∙_, subst}
-use mathlib.Core.Logic.{inl, inr}
-use Prim.Native.Nat.{ℕ, zero, suc, _+_, _*_, _/_, _%_, _^_, _≤_, _<_}
-use native.Mathlib.Nat.{le-trans as under, le-of-eq, mul-assoc, mul-le-mul, le-mul-of-pos-right, eq-or-lt-of-le, zero-mul, add-comm, mul-pos, mul-le-mul-right, le-of-mul-le-mul-right, lt-of-lt-of-le, lt-of-le-of-lt, lt-irrefl, le-of-lt, zero-lt-suc}
+use Prim.Native.Nat.{ℕ, zero, suc, _+_, _*_, _^_, _≤_, _<_}
+use native.Mathlib.Nat.{zero-mul, add-comm, mul-pos, mul-le-mul-right, le-of-mul-le-mul-right, lt-of-lt-of-le, lt-of-le-of-lt, lt-irrefl, le-of-lt, zero-lt-suc}
 use native.Mathlib.Omega.{arith}
 use mathlib.Core.Bool.{Bool, true, false, true≢false}
 use lib.IntN.{ℤ}
-use lib.Dec.{T, lt→ltb, not-T}
-use lib.Pow.{pow-pos, pow-mono, pow-add}
-use lib.Ieee.{Float, nan, inf, fin, binary64, up, down, fits, le, lt, ofBits, toBits}
-use lib.Ieee.Bits.{ofBits-toBits, ofBits-fits}
+use lib.Dec.{T, lt→ltb}
+use lib.Pow.{pow-pos}
+use lib.Ieee.{Float, nan, inf, fin, binary64, up, down, fits, le, lt}
 use lib.Ieee.Fits.{up-pos, down-pos}
 use lib.Ieee.Order.{le-of-values}
 use lib.Ieee.Positive.{positive, values-of-le}
 use Rattle.order.proofs.Signed.{P, N, zeroF, le→, le←}
-use Rattle.order.proofs.Laws.{number, number-left, number-right, le-trans, lt→le, lt→nle, nlt→le, nle→lt, lt-le-trans}
+use Rattle.order.proofs.Laws.{number, number-left, number-right, le-trans, lt→le, lt→nle, nle→lt, lt-le-trans}
 use Rattle.roots.specs.Root.{rootOf}
 use Rattle.roots.proofs.Whole.{not-above}
-use Rattle.roots.proofs.Grid.{Units, unitsOf, value-of}
-use Rattle.roots.proofs.Cases.{below-infinity}
+use Rattle.roots.proofs.Grid.{Units}
 use Rattle.roots.proofs.Reader.{Nearest, nearest-root}
 
 -- ---- what is not below zero: a zero of either sign, a positive finite float, +∞
@@ -127,83 +123,3 @@ root-under s cut c F G h p k = le-trans (rootOf s) (rootOf cut) c (root-monotone
 pub root-over : (s up c : Float) → T (fits binary64 s) → T (fits binary64 up) → T (lt c (rootOf up)) → T (le up s) → T (lt c (rootOf s))
 root-over s up c F G h k = lt-le-trans c (rootOf up) (rootOf s) h
     (root-monotone up s G F (rooted up (number-right c (rootOf up) (lt→le c (rootOf up) h))) k)
-
--- ---- the next float up has the next pattern
-units-rise : (x t y u : ℕ) → t < 2 ^ 52 → u < 2 ^ 52 → x * 2 ^ 52 + t ≤ y * 2 ^ 52 + u → unitsOf x t ≤ unitsOf y u
-units-rise zero t zero u h k l = omega arith
-units-rise zero t (suc y) u h k l = under (omega arith) (le-mul-of-pos-right (2 ^ 52 + u) (pow-pos y))
-units-rise (suc x) t zero u h k l = omega arith
-units-rise (suc x) t (suc y) u h k l =
-    elim (eq-or-lt-of-le {n = x} {m = y} (omega arith)) [
-      | inl e ↦ let g : 2 ^ 52 + t ≤ 2 ^ 52 + u = omega arith in rw e (mul-le-mul-right (2 ^ y) g)
-      | inr g ↦
-          let w : 2 ^ 53 * 2 ^ x ≡ 2 ^ 52 * 2 ^ (1 + x) = mul-assoc (2 ^ 52) 2 (2 ^ x) ∙ ap (λ (z : ℕ). 2 ^ 52 * z) (sym (pow-add 2 1 x)) in
-          let a : 2 ^ 52 + t ≤ 2 ^ 53 = omega arith in
-          let b : 2 ^ 52 ≤ 2 ^ 52 + u = omega arith in
-          under (mul-le-mul-right (2 ^ x) a) (under (le-of-eq w) (mul-le-mul b (pow-mono {i = 1 + x} {j = y} (omega arith))))
-    ]
-
-bits-rise : (b c : ℕ) → b ≤ c → c < 2047 * 2 ^ 52 → T (le (ofBits binary64 b) (ofBits binary64 c))
-bits-rise b c h k =
-    le-of-values (ofBits binary64 b) (ofBits binary64 c) (unitsOf (b / 2 ^ 52) (b % 2 ^ 52)) (2 ^ 1074) (unitsOf (c / 2 ^ 52) (c % 2 ^ 52))
-    (2 ^ 1074) (pow-pos 1074) (pow-pos 1074)
-    (value-of b (lt-of-le-of-lt h k)) (value-of c k)
-    (mul-le-mul-right (2 ^ 1074) (units-rise (b / 2 ^ 52) (b % 2 ^ 52) (c / 2 ^ 52) (c % 2 ^ 52) (omega arith) (omega arith) (omega arith)))
-
-abbrev pub next : Float → Float
-next x = ofBits binary64 (toBits binary64 x + 1)
-
-next-top : (b : ℕ) → b < 2047 * 2 ^ 52 → T (le (ofBits binary64 (b + 1)) (inf false))
-next-top b h =
-    elim (eq-or-lt-of-le {n = b + 1} {m = 2047 * 2 ^ 52} (omega arith)) [
-      | inl e ↦ rw e (unfold ofBits le in tt)
-      | inr k ↦ units-below-top (ofBits binary64 (b + 1)) (unitsOf ((b + 1) / 2 ^ 52) ((b + 1) % 2 ^ 52)) (value-of (b + 1) k)
-    ]
-
--- what is above a finite x that is not negative is at least the next float up
-pub next-up : (x y : Float) (a : ℕ) → T (fits binary64 x) → T (fits binary64 y) → Units x a → T (lt x y) → T (le (next x) y)
-next-up nan y a F G u h = absurd u
-next-up (inf s) y a F G u h = absurd u
-next-up (fin true m e) y a F G u h = absurd (true≢false (u .0))
-next-up (fin false m e) nan a F G u h = absurd (unfold lt in h)
-next-up (fin false m e) (inf true) a F G u h = absurd (unfold lt in h)
-next-up (fin false m e) (inf false) a F G u h = next-top (toBits binary64 (fin false m e)) (below-infinity m e F)
-next-up (fin false m e) (fin true n d) a F G u h = absurd (unfold lt in h)
-next-up (fin false m e) (fin false n d) a F G u h =
-    let x = fin false m e in
-    let y = fin false n d in
-    let b = toBits binary64 x in
-    let c = toBits binary64 y in
-    subst (λ (z : Float). T (le (next x) z)) (ofBits-toBits binary64 y G)
-    (bits-rise (b + 1) c (not-above (b + 1) c (λ (k : c < b + 1). lt→nle x y h
-    (subst (λ (z : Float). T (le z x)) (ofBits-toBits binary64 y G)
-    (subst (λ (z : Float). T (le (ofBits binary64 c) z)) (ofBits-toBits binary64 x F)
-    (bits-rise c b (omega arith) (below-infinity m e F)))))) (below-infinity n d G))
-
-same-test : (p q : Bool) → (T p → T q) → (T q → T p) → p ≡ q
-same-test true true f g = refl
-same-test true false f g = absurd (f tt)
-same-test false true f g = absurd (g tt)
-same-test false false f g = refl
-
--- a cut-off with √cut ≤ c < √(next cut), and an s not below zero
-module _ (cut c s : Float) (a : ℕ) (F : T (fits binary64 cut)) (u : Units cut a) (G : T (fits binary64 s)) (p : T (le zeroF s))
-    (low : T (le (rootOf cut) c)) (high : T (lt c (rootOf (next cut)))) where
-  beyond : T (lt cut s) → T (lt c (rootOf s))
-  beyond h = root-over s (next cut) c G (ofBits-fits binary64 (toBits binary64 cut + 1)) high (next-up cut s a F G u h)
-
-  -- √s ≤ c is s ≤ cut
-  pub root-cut-le : le (rootOf s) c ≡ le s cut
-  root-cut-le =
-      same-test (le (rootOf s) c) (le s cut)
-      (λ (h : T (le (rootOf s) c)). nlt→le cut s (units-number cut a u) (number-right zeroF s p)
-      (not-T (lt cut s) (λ (t : T (lt cut s)). lt→nle c (rootOf s) (beyond t) h)))
-      (root-under s cut c G F low p)
-
-  -- and c < √s is cut < s
-  pub root-cut-lt : lt c (rootOf s) ≡ lt cut s
-  root-cut-lt =
-      same-test (lt c (rootOf s)) (lt cut s)
-      (λ (h : T (lt c (rootOf s))). nle→lt cut s (units-number cut a u) (number-right zeroF s p)
-      (λ (k : T (le s cut)). lt→nle c (rootOf s) h (root-under s cut c G F low p k)))
-      beyond

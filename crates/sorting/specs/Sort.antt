@@ -3,7 +3,7 @@ use mathlib.Core.Bool.{cond}
 use mathlib.Core.List.{List, [], _∷_}
 use lib.Dec.{T}
 use lib.Ieee.{Float, lt}
-use Rattle.order.proofs.Signed.{number}
+use Rattle.order.specs.Number.{number}
 
 -- x put before the first that is not below it
 unfoldable pub put : Float → List Float → List Float

@@ -40,10 +40,14 @@ quarter (inf s) = 0
 quarter (fin false m e) = m * up e / down e % 4
 quarter (fin true m e) = (4 - m * up e / down e % 4) % 4
 
--- for each d of the list in turn: w = 1 - (z / d) * w
+-- one step of a series: 1 - (z / d) * w
+abbrev pub step : Float → Float → Float → Float
+step z d w = one ⊖ z ⊘ d ⊗ w
+
+-- such a step for each d of the list in turn
 unfoldable pub stepped : Float → Float → List ℕ → Float
 stepped z w [] = w
-stepped z w (d ∷ ds) = stepped z (one ⊖ z ⊘ count d ⊗ w) ds
+stepped z w (d ∷ ds) = stepped z (step z (count d) w) ds
 
 -- the sine kernel S and the cosine kernel C
 unfoldable pub sinKernel : Float → Float

@@ -3,7 +3,7 @@ ghost use mathlib.Core.Path.{_≡_};
 ghost use Prim.Native.Nat.{_<_};
 ghost use mathlib.Core.List.{[], _∷_};
 ghost use Rattle.arith.specs.Notation.{one};
-ghost use Rattle.trig.specs.Trig.{turns, reduced, quarter, stepped, sinBy, cosBy, sinOf, cosOf, sinCosOf, halved, arcOf, angleOf, acosBy, acosOf};
+ghost use Rattle.trig.specs.Trig.{turns, reduced, quarter, step, stepped, sinBy, cosBy, sinOf, cosOf, sinCosOf, halved, arcOf, angleOf, acosBy, acosOf};
 
 // The sine and the cosine of one angle.
 pub struct SinCos {
@@ -54,34 +54,30 @@ fn reduced(t: f64, k: f64) -> f64
     t - k * 1.5707963267341256 - k * 6.077100506506192e-11
 }
 
+// Four steps of a series: for a, b, c and d in turn, w becomes 1 - z / a * w.
+fn steps(z: f64, w: f64, a: f64, b: f64, c: f64, d: f64) -> f64
+    ensures { λ r. ⌜ r ≡ step z d (step z c (step z b (step z a w))) ⌝ }
+{
+    let first = 1.0 - z / a * w;
+    let second = 1.0 - z / b * first;
+    let third = 1.0 - z / c * second;
+    1.0 - z / d * third
+}
+
 // The sine of an r at most an eighth turn from 0, less its factor r; z is r * r.
 fn sin_series(z: f64) -> f64
     ensures { λ w. ⌜ w ≡ stepped z one (272 ∷ 210 ∷ 156 ∷ 110 ∷ 72 ∷ 42 ∷ 20 ∷ 6 ∷ []) ⌝ }
 {
-    let mut w = 1.0;
-    w = 1.0 - z / 272.0 * w;
-    w = 1.0 - z / 210.0 * w;
-    w = 1.0 - z / 156.0 * w;
-    w = 1.0 - z / 110.0 * w;
-    w = 1.0 - z / 72.0 * w;
-    w = 1.0 - z / 42.0 * w;
-    w = 1.0 - z / 20.0 * w;
-    1.0 - z / 6.0 * w
+    let w = steps(z, 1.0, 272.0, 210.0, 156.0, 110.0);
+    steps(z, w, 72.0, 42.0, 20.0, 6.0)
 }
 
 // The cosine of such an r.
 fn cos_series(z: f64) -> f64
     ensures { λ w. ⌜ w ≡ stepped z one (240 ∷ 182 ∷ 132 ∷ 90 ∷ 56 ∷ 30 ∷ 12 ∷ 2 ∷ []) ⌝ }
 {
-    let mut w = 1.0;
-    w = 1.0 - z / 240.0 * w;
-    w = 1.0 - z / 182.0 * w;
-    w = 1.0 - z / 132.0 * w;
-    w = 1.0 - z / 90.0 * w;
-    w = 1.0 - z / 56.0 * w;
-    w = 1.0 - z / 30.0 * w;
-    w = 1.0 - z / 12.0 * w;
-    1.0 - z / 2.0 * w
+    let w = steps(z, 1.0, 240.0, 182.0, 132.0, 90.0);
+    steps(z, w, 56.0, 30.0, 12.0, 2.0)
 }
 
 // Both of t, from r and from q, which is k mod 4. The sine is S, C, -S, -C by q, and the cosine is

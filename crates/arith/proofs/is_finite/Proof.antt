@@ -8,10 +8,10 @@ infinity-requires : tie.Need-infinity-requires
 infinity-requires c κs = search needs
 
 returns : tie.Need-returns
-returns c = let e = c .before .infinity .ensures in simp e (finite-above _ (simp e at (c .if1 .taken)))
+returns c = let e = c .before .infinity .ensures in rw e (finite-above _ (rw e at (c .if1 .taken)))
 
 returns-2 : tie.Need-returns-2
-returns-2 c = let e = c .before .infinity .ensures in simp e (not-finite _ (simp e at (c .if1 .left)))
+returns-2 c = let e = c .before .infinity .ensures in rw e (not-finite _ (rw e at (c .if1 .left)))
 
 pub is-finite-spec : {M : Type 1} → statement M
 is-finite-spec = tie.close (tie.spec infinity-requires returns returns-2)

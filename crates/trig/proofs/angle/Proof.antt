@@ -18,7 +18,7 @@ arc-requires c κs = search needs
 
 returns : tie.Need-returns
 unfolding angleOf
-returns c = cc
+returns c = rw (c .arc .ensures, c .before .halved3 .ensures, c .before .before .halved2 .ensures, c .before .before .before .halved .ensures)
 
 pub angle-spec : {M : Type 1} → statement M
 angle-spec =

@@ -14,31 +14,31 @@ cos-series-requires : tie.Need-cos-series-requires
 cos-series-requires c κs = search needs
 
 add-j : tie.Need-add-j
-add-j c = search needs
+add-j c = omega arith
 
 mul-t10 : tie.Need-mul-t10
-mul-t10 c = search needs
+mul-t10 c = omega arith
 
 array-read-t8 : tie.Need-array-read-t8
-array-read-t8 c = search needs
+array-read-t8 c = omega arith
 
 mul-t14 : tie.Need-mul-t14
-mul-t14 c = search needs
+mul-t14 c = omega arith
 
 array-read-t9 : tie.Need-array-read-t9
-array-read-t9 c = search needs
+array-read-t9 c = omega arith
 
 mul-t18 : tie.Need-mul-t18
-mul-t18 c = search needs
+mul-t18 c = omega arith
 
 array-read-t21 : tie.Need-array-read-t21
-array-read-t21 c = search needs
+array-read-t21 c = omega arith
 
 mul-t23 : tie.Need-mul-t23
-mul-t23 c = search needs
+mul-t23 c = omega arith
 
 array-read-t26 : tie.Need-array-read-t26
-array-read-t26 c = search needs
+array-read-t26 c = omega arith
 
 returns : tie.Need-returns
 returns c =
@@ -47,7 +47,7 @@ returns c =
     let s = c .before .sin-series in
     let w = c .cos-series in
     let at = picked r (s .result) (w .result) (s .ensures) (w .ensures) in
-    (at q (search needs), at ((q + 1) % 4) (omega arith) ∙ cos-as-sin q r (search needs))
+    (at q (c .before .before .pre), at ((q + 1) % 4) (omega arith) ∙ cos-as-sin q r (c .before .before .pre))
 
 pub both-spec : {M : Type 1} → statement M
 both-spec =

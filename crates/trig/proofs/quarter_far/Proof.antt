@@ -1,7 +1,9 @@
 -- `trig::quarter_far` meets its contract, by what the size cut to a whole number says of k. Assumes nothing.
+use native.Mathlib.Omega.{arith}
 use lib.Ieee.{ofBits}
 use lib.Dec.{lit≤}
 use Rattle.arith.proofs.Casts.{can-cut}
+use Rattle.arith.proofs.Cmp.{holds}
 use Rattle.trig.proofs.Modulo.{of-below, of-other, of-large}
 use borrow.Author.Needs.{needs}
 use Rattle.trig.proofs.quarter_far.Statement.{statement}
@@ -17,7 +19,7 @@ truncating-f64-to-u64-requires c κs =
     rw e (can-cut 64 (lit≤ tt) (c .before .before .args .k) (rw e at (c .if1 .taken)))
 
 sub-result : tie.Need-sub-result
-sub-result c = search needs
+sub-result c = omega arith
 
 returns : tie.Need-returns
 unfolding ofBits
@@ -35,7 +37,7 @@ returns-2 c =
 
 returns-3 : tie.Need-returns-3
 unfolding ofBits
-returns-3 c = of-large (c .before .before .args .k) (search needs) (rw (c .before .abs .ensures) at (c .if1 .left))
+returns-3 c = of-large (c .before .before .args .k) (holds (c .before .before .good .0 .1)) (rw (c .before .abs .ensures) at (c .if1 .left))
 
 pub quarter-far-spec : {M : Type 1} → statement M
 quarter-far-spec =
