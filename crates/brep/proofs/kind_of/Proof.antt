@@ -1,9 +1,7 @@
 -- `brep::kind_of` meets its contract. The kind is the arm's number, or none of the seven. Assumes nothing.
 use Rattle.brep.specs.Rows.{kindOf}
 use borrow.Author.Tests.{ne-eqb}
-use native.Mathlib.Omega.{arith}
 use native.Mathlib.Nat.{add-zero}
-use mathlib.Core.Path.{_≡_}
 use borrow.Author.Needs.{needs}
 use Rattle.brep.proofs.kind_of.Statement.{statement}
 use Rattle.brep.proofs.kind_of.Tie as tie
@@ -25,31 +23,31 @@ frame-at-requires-3 c κs = search needs
 
 returns : tie.Need-returns
 unfolding kindOf
-returns c = let k : c .before .before .before .before .args .kind ≡ 1 = omega arith in simp (k, c .before .point-in .ensures, c .point-in2 .ensures, add-zero)
+returns c = rw (c .before .before .match .keys1, c .point-in2 .ensures, c .before .point-in .ensures, add-zero)
 
 returns-2 : tie.Need-returns-2
 unfolding kindOf
-returns-2 c = let k : c .before .before .before .args .kind ≡ 2 = omega arith in simp (k, c .frame-at .ensures)
+returns-2 c = rw (c .before .match .keys2, c .frame-at .ensures)
 
 returns-3 : tie.Need-returns-3
 unfolding kindOf
-returns-3 c = let k : c .before .before .before .args .kind ≡ 3 = omega arith in simp (k, c .frame-at2 .ensures)
+returns-3 c = rw (c .before .match .keys3, c .frame-at2 .ensures)
 
 returns-4 : tie.Need-returns-4
 unfolding kindOf
-returns-4 c = let k : c .before .before .before .args .kind ≡ 4 = omega arith in simp (k, c .frame-at3 .ensures)
+returns-4 c = rw (c .before .match .keys4, c .frame-at3 .ensures)
 
 returns-5 : tie.Need-returns-5
 unfolding kindOf
-returns-5 c = let k : c .before .before .args .kind ≡ 5 = omega arith in simp k
+returns-5 c = rw (c .match .keys5)
 
 returns-6 : tie.Need-returns-6
 unfolding kindOf
-returns-6 c = let k : c .before .before .args .kind ≡ 6 = omega arith in simp k
+returns-6 c = rw (c .match .keys6)
 
 returns-7 : tie.Need-returns-7
 unfolding kindOf
-returns-7 c = let k : c .before .before .args .kind ≡ 7 = omega arith in simp k
+returns-7 c = rw (c .match .keys7)
 
 returns-8 : tie.Need-returns-8
 unfolding kindOf

@@ -12,7 +12,7 @@ length-requires c κs = search needs
 
 returns : tie.Need-returns
 unfolding chordDistance
-returns c = cc
+returns c = rw (c .length .ensures, c .before .chord-offset .ensures)
 
 pub chord-distance-spec : {M : Type 1} → statement M
 chord-distance-spec = tie.close (tie.spec chord-offset-requires length-requires returns)

@@ -18,7 +18,7 @@ sub-requires c κs = search needs
 
 returns : tie.Need-returns
 unfolding chordOffset
-returns c = rw (c .before .before .before .before .if1 .taken) (cc)
+returns c = rw (c .before .before .before .before .if1 .taken, c .sub .ensures, c .before .add .ensures, c .before .before .scale .ensures, c .before .before .before .foot .ensures)
 
 sub-requires-2 : tie.Need-sub-requires-2
 sub-requires-2 c κs = search needs

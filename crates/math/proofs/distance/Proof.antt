@@ -11,7 +11,7 @@ length-requires : tie.Need-length-requires
 length-requires c κs = search needs
 
 returns : tie.Need-returns
-returns c = cc
+returns c = rw (c .length .ensures, c .before .sub .ensures)
 
 pub distance-spec : {M : Type 1} → statement M
 distance-spec = tie.close (tie.spec sub-requires length-requires returns)

@@ -12,7 +12,7 @@ max-requires c κs = search needs
 
 returns : tie.Need-returns
 unfolding addPoint
-returns c = cc
+returns c = rw (c .max .ensures, c .before .min .ensures)
 
 pub add-point-spec : {M : Type 1} → statement M
 add-point-spec = tie.close (tie.spec min-requires max-requires returns)

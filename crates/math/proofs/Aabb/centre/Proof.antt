@@ -1,5 +1,4 @@
 -- `math::Aabb::centre` meets its contract. Assumes nothing.
-use mathlib.Core.Path.{sym, _∙_}
 use Rattle.math.specs.Math.{centre}
 use borrow.Author.Needs.{needs}
 use Rattle.math.proofs.Aabb.centre.Statement.{statement}
@@ -16,11 +15,11 @@ scale-requires c κs = search needs
 
 returns : tie.Need-returns
 unfolding centre
-returns c = simp (sym (c .before .is-empty .ensures) ∙ c .if1 .taken)
+returns c = rw (← c .before .is-empty .ensures, c .if1 .taken)
 
 returns-2 : tie.Need-returns-2
 unfolding centre
-returns-2 c = simp (sym (c .before .before .before .is-empty .ensures) ∙ c .before .before .if1 .left) cc
+returns-2 c = rw (← c .before .before .before .is-empty .ensures, c .before .before .if1 .left, c .scale .ensures, c .before .add .ensures)
 
 pub centre-spec : {M : Type 1} → statement M
 centre-spec = tie.close (tie.spec is-empty-requires add-requires scale-requires returns returns-2)

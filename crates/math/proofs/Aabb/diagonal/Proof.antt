@@ -12,7 +12,7 @@ length-requires c κs = search needs
 
 returns : tie.Need-returns
 unfolding diagonal
-returns c = cc
+returns c = rw (c .length .ensures, c .before .size .ensures)
 
 pub diagonal-spec : {M : Type 1} → statement M
 diagonal-spec = tie.close (tie.spec size-requires length-requires returns)

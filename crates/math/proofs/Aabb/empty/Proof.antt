@@ -9,7 +9,7 @@ infinity-requires c κs = search needs
 
 returns : tie.Need-returns
 unfolding neg
-returns c = simp (c .infinity .ensures)
+returns c = rw (c .infinity .ensures)
 
 pub empty-spec : {M : Type 1} → statement M
 empty-spec = tie.close (tie.spec infinity-requires returns)

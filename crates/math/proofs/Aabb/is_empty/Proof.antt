@@ -1,7 +1,6 @@
 -- `math::Aabb::is_empty` meets its contract. Assumes nothing.
 use mathlib.Core.Path.{_∙_}
 use Rattle.math.proofs.Laws.{or-first, or-second}
--- `math::Aabb::is_empty` meets its contract. Assumes nothing.
 use Rattle.math.specs.Math.{isEmpty}
 use Rattle.math.proofs.Aabb.is_empty.Statement.{statement}
 use Rattle.math.proofs.Aabb.is_empty.Tie as tie

@@ -1,5 +1,4 @@
 -- `math::Aabb::size` meets its contract. Assumes nothing.
-use mathlib.Core.Path.{sym, _∙_}
 use Rattle.math.specs.Math.{boxSize}
 use borrow.Author.Needs.{needs}
 use Rattle.math.proofs.Aabb.size.Statement.{statement}
@@ -13,11 +12,11 @@ sub-requires c κs = search needs
 
 returns : tie.Need-returns
 unfolding boxSize
-returns c = simp (sym (c .before .is-empty .ensures) ∙ c .if1 .taken)
+returns c = rw (← c .before .is-empty .ensures, c .if1 .taken)
 
 returns-2 : tie.Need-returns-2
 unfolding boxSize
-returns-2 c = simp (sym (c .before .before .is-empty .ensures) ∙ c .before .if1 .left) (c .sub .ensures)
+returns-2 c = rw (← c .before .before .is-empty .ensures, c .before .if1 .left, c .sub .ensures)
 
 pub size-spec : {M : Type 1} → statement M
 size-spec = tie.close (tie.spec is-empty-requires sub-requires returns returns-2)

@@ -9,7 +9,7 @@ cross-requires c κs = search needs
 
 returns : tie.Need-returns
 unfolding yDir
-returns c = cc
+returns c = c .cross .ensures
 
 pub y-dir-spec : {M : Type 1} → statement M
 y-dir-spec = tie.close (tie.spec cross-requires returns)

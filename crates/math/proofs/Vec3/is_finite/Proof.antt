@@ -1,6 +1,5 @@
 -- `math::Vec3::is_finite` meets its contract. Assumes nothing.
 use Rattle.math.proofs.Laws.{and-first, and-second}
--- `math::Vec3::is_finite` meets its contract. Assumes nothing.
 use mathlib.Core.Path.{sym, _∙_}
 use Rattle.math.specs.Math.{vFinite}
 use borrow.Author.Needs.{needs}

@@ -12,7 +12,7 @@ root-requires c κs = search needs
 
 returns : tie.Need-returns
 unfolding vLength
-returns c = cc
+returns c = rw (c .root .ensures, c .before .dot .ensures)
 
 pub length-spec : {M : Type 1} → statement M
 length-spec = tie.close (tie.spec dot-requires root-requires returns)

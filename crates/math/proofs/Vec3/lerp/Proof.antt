@@ -15,7 +15,7 @@ add-requires c κs = search needs
 
 returns : tie.Need-returns
 unfolding vLerp
-returns c = cc
+returns c = rw (c .add .ensures, c .before .scale .ensures, c .before .before .sub .ensures)
 
 pub lerp-spec : {M : Type 1} → statement M
 lerp-spec = tie.close (tie.spec sub-requires scale-requires add-requires returns)

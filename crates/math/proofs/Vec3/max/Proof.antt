@@ -15,7 +15,7 @@ max-requires-3 c κs = search needs
 
 returns : tie.Need-returns
 unfolding vMax
-returns c = cc
+returns c = rw (c .max3 .ensures, c .before .max2 .ensures, c .before .before .max .ensures)
 
 pub max-spec : {M : Type 1} → statement M
 max-spec = tie.close (tie.spec max-requires max-requires-2 max-requires-3 returns)

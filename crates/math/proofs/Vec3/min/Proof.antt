@@ -15,7 +15,7 @@ min-requires-3 c κs = search needs
 
 returns : tie.Need-returns
 unfolding vMin
-returns c = cc
+returns c = rw (c .min3 .ensures, c .before .min2 .ensures, c .before .before .min .ensures)
 
 pub min-spec : {M : Type 1} → statement M
 min-spec = tie.close (tie.spec min-requires min-requires-2 min-requires-3 returns)
