@@ -1,6 +1,6 @@
 // sample_params of edge.rs, on rows.
 use bisect::End;
-use cuts::Limit;
+use bisect::Limits;
 use knots::Knots;
 use listed::Listed;
 use math::Interval;
@@ -24,8 +24,7 @@ ghost use Rattle.params.specs.Params.{subdivided, unlessHi, bisected, refined};
 ghost use Rattle.listed.specs.Held.{Held, Behind};
 ghost use Rattle.knots.specs.Knots.{curveKnots};
 ghost use Rattle.thin_breaks.specs.Thin.{keptBreaks};
-ghost use Rattle.cuts.specs.Limit.{limitOf};
-ghost use Rattle.bisect.specs.Bisect.{endAt, withinBudget};
+ghost use Rattle.bisect.specs.Bisect.{endAt, withinBudget, limitsOf};
 ghost use Rattle.sample.specs.Sample.{worstMiss, sampler, sampled};
 ghost use Rattle.sample.specs.Worst.{missSquare, largerOf};
 ghost use Rattle.sample.specs.Answered.{Answered, countOf, stops};
@@ -166,13 +165,13 @@ fn step(
     ready: Ready,
     range: Interval,
     r: Resolved,
-    limit: Limit,
+    limits: Limits,
     left: End,
     right: End,
     out: &mut [f64],
     k: usize,
 ) -> Listed
-    requires { ⌜ (ready ≡ readyOf (tree (lent points curves reals parts ranges) row)) × (limit ≡ limitOf (r .sag))
+    requires { ⌜ (ready ≡ readyOf (tree (lent points curves reals parts ranges) row)) × (limits ≡ limitsOf r)
         × (left ≡ endAt (tree (lent points curves reals parts ranges) row) (left .t)) × (right ≡ endAt (tree (lent points curves reals parts ranges) row) (right .t)) × (k ≤ length (now out)) ⌝ }
     ensures { λ w. ⌜ Behind (now (out .entry)) k (subdivided (withinBudget (tree (lent (points .entry) (curves .entry) (reals .entry) (parts .entry) (ranges .entry)) row) r) (r .depth) (left .t) (right .t) ++ unlessHi range (right .t)) w (now (out .exit)) ⌝ }
 {
@@ -185,7 +184,7 @@ fn step(
         row,
         ready,
         r,
-        limit,
+        limits,
         left,
         right,
         r.depth,
@@ -218,7 +217,7 @@ fn walk(
     ensures { λ w. ⌜ Held (now (out .entry)) (bisected (sampler (tree (lent (points .entry) (curves .entry) (reals .entry) (parts .entry) (ranges .entry)) row) range r) range) w (now (out .exit)) ⌝ }
 {
     let ready = ready::ready_at(points, curves, reals, parts, ranges, row);
-    let limit = cuts::limit_of(r.sag);
+    let limits = bisect::limits_of(r);
     let pushed = listed::push(out, 0, range.lo);
     let Listed::Count(first) = pushed else {
         return Listed::Refused;
@@ -239,7 +238,7 @@ fn walk(
             ready,
             range,
             r,
-            limit,
+            limits,
             left,
             right,
             out,
