@@ -66,9 +66,11 @@ one-fits = tt
 
 square-part : (y : Float) → Part y → Part (y ⊗ y)
 unfolding le
-square-part y p =
-    (scaled-low y y (part-finite y p) (p .0) p, le-trans (y ⊗ y) (oneF ⊗ y) oneF
-    (mul-mono binary64 y oneF y (part-finite y p) tt (part-finite y p) (p .0) (p .1)) (scaled-high oneF y tt tt p one-fits))
+square-part y p = (
+  scaled-low y y (part-finite y p) (p .0) p,
+  le-trans (y ⊗ y) (oneF ⊗ y) oneF
+      (mul-mono binary64 y oneF y (part-finite y p) tt (part-finite y p) (p .0) (p .1)) (scaled-high oneF y tt tt p one-fits),
+)
 
 -- ---- the greater the divisor, the less the quotient
 turns-law : (px dx py dy pz dz : ℕ) → py * dz ≤ pz * dy → px * dz * (py * dx) + 0 * dy * (pz * dx) ≤ px * dy * (pz * dx) + 0 * dz * (py * dx)
@@ -169,8 +171,10 @@ module _ (y : Float) (p : Part y) where
 
   pub halved-part : Part (halved y)
   unfolding halved ofBits le
-  halved-part = (quotient-low y (oneF ⊕ rootOf (oneF ⊕ y ⊗ y)) (part-finite y p) divisor-finite (p .0) (le-trans oneF twoF (oneF ⊕ rootOf (oneF ⊕ y ⊗ y)) tt divisor-low),
-    le-trans (halved y) (y ⊘ twoF) oneF halved-high half-high)
+  halved-part = (
+    quotient-low y (oneF ⊕ rootOf (oneF ⊕ y ⊗ y)) (part-finite y p) divisor-finite (p .0) (le-trans oneF twoF (oneF ⊕ rootOf (oneF ⊕ y ⊗ y)) tt divisor-low),
+    le-trans (halved y) (y ⊘ twoF) oneF halved-high half-high,
+  )
 
 -- three times: at most an eighth
 half-mono : (x y : Float) → T (finite x) → T (finite y) → T (le x y) → T (le (x ⊘ twoF) (y ⊘ twoF))
