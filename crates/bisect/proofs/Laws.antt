@@ -33,7 +33,10 @@ use Rattle.listed.proofs.Held.{behind-none}
 use Rattle.bisect.specs.declared.End.{End}
 use Rattle.bisect.specs.declared.Split.{Split}
 use Rattle.bisect.specs.declared.Split.the-variants.{Within, At}
-use Rattle.bisect.specs.Bisect.{endAt, sagOf, turnOf, isWithin, withinBudget, splitOf}
+use Rattle.bisect.specs.declared.Limits.{Limits}
+use Rattle.turning.specs.Turning.{Serves}
+use Rattle.turning.proofs.Bound.{serves}
+use Rattle.bisect.specs.Bisect.{limitsOf, endAt, sagOf, turnOf, isWithin, withinBudget, splitOf}
 
 -- ---- the curve's own points and tangents, where it was made ready
 module _ (c : CurveTree) (t : Float) {ready : Ready} (R : ready ≡ readyOf c) where
@@ -49,17 +52,27 @@ pub sag-within : (pa pb pm chord offset : Vec3) (len s sag : Float) (limit : Lim
 unfolding sagOf bisectionOffset bisectionDistance chordDistance vLength limitOf
 sag-within pa pb pm chord offset len s sag limit C L O S E = rw (S, O, L, C, E)
 
+-- ---- the limits, one by one
+module _ (r : Resolved) (l : Limits) (e : l ≡ limitsOf r) where
+  pub sag-limit : l .sag ≡ limitOf (r .sag)
+  unfolding limitsOf
+  sag-limit = ap (λ (x : Limits). x .sag) e
+
+  pub turn-serves : Serves (l .turn) (r .angle)
+  unfolding limitsOf
+  turn-serves = subst (λ (x : Limits). Serves (x .turn) (r .angle)) (sym e) (serves (r .angle))
+
 -- ---- the test, by the branches that the code takes
-module _ (a b : Direction) where
-  pub turn-no-first : a ≡ Nothing → nought ≡ turnOf a b
+module _ (a b : Direction) (limit : Float) where
+  pub turn-no-first : a ≡ Nothing → le nought limit ≡ le (turnOf a b) limit
   unfolding turnOf
   turn-no-first e = rw e
 
-  pub turn-no-second : (ta : Vec3) → a ≡ Unit ta → b ≡ Nothing → nought ≡ turnOf a b
+  pub turn-no-second : (ta : Vec3) → a ≡ Unit ta → b ≡ Nothing → le nought limit ≡ le (turnOf a b) limit
   unfolding turnOf
   turn-no-second ta e f = rw (e, f)
 
-  pub turn-both : (ta tb : Vec3) → a ≡ Unit ta → b ≡ Unit tb → acosOf (clampOf (vDot ta tb) (neg one) one) ≡ turnOf a b
+  pub turn-both : (ta tb : Vec3) → a ≡ Unit ta → b ≡ Unit tb → le (acosOf (clampOf (vDot ta tb) (neg one) one)) limit ≡ le (turnOf a b) limit
   unfolding turnOf
   turn-both ta tb e f = rw (e, f)
 

@@ -8,13 +8,14 @@ use ready::Ready;
 ghost use mathlib.Core.Path.{_≡_};
 ghost use Prim.Native.Nat.{_≤_};
 ghost use lib.ListN.{length};
-ghost use Rattle.cuts.specs.Limit.{limitOf};
+ghost use lib.Ieee.{le};
+ghost use Rattle.turning.specs.Turning.{Serves};
 ghost use Rattle.brep.specs.Rows.{lent};
 ghost use Rattle.brep.specs.Tree.{tree};
 ghost use Rattle.ready.specs.Ready.{readyOf};
 ghost use Rattle.params.specs.Params.{subdivided};
 ghost use Rattle.listed.specs.Held.{Behind};
-ghost use Rattle.bisect.specs.Bisect.{endAt, turnOf, isWithin, splitOf, withinBudget};
+ghost use Rattle.bisect.specs.Bisect.{endAt, turnOf, isWithin, splitOf, withinBudget, limitsOf};
 
 // An end of a span: its parameter, and the curve's point and tangent there.
 pub struct End {
@@ -23,10 +24,25 @@ pub struct End {
     pub tangent: Direction,
 }
 
+// What a span is held to, with the cuts that spare roots and arc cosines.
+pub struct Limits {
+    pub sag: Limit,
+    pub turn: f64,
+}
+
 // What becomes of a span: it is within budget, or split at its middle.
 pub enum Split {
     Within,
     At(End),
+}
+
+// The limits of the options, worked out once for many spans.
+pub fn limits_of(r: Resolved) -> Limits
+    ensures { λ l. ⌜ l ≡ limitsOf r ⌝ }
+{
+    let sag = cuts::limit_of(r.sag);
+    let turn = turning::turn_cut(r.angle);
+    Limits { sag, turn }
 }
 
 // The curve of a row, made ready, at t.
@@ -49,31 +65,33 @@ pub fn end_at(
     End { t, point, tangent }
 }
 
-// The angle between two tangents; 0 where one is missing.
-fn turn(a: Direction, b: Direction) -> f64
-    ensures { λ r. ⌜ r ≡ turnOf a b ⌝ }
+// Whether the angle between two tangents is at most the limit; it is 0 where one is missing.
+fn turns_within(a: Direction, b: Direction, limit: f64, cut: f64) -> bool
+    requires { ⌜ Serves cut limit ⌝ }
+    ensures { λ w. ⌜ w ≡ le (turnOf a b) limit ⌝ }
 {
     let Direction::Unit(ta) = a else {
-        return 0.0;
+        return 0.0 <= limit;
     };
     let Direction::Unit(tb) = b else {
-        return 0.0;
+        return 0.0 <= limit;
     };
-    trig::acos(arith::clamp(ta.dot(tb), -1.0, 1.0))
+    turning::is_turn_within(arith::clamp(ta.dot(tb), -1.0, 1.0), limit, cut)
 }
 
 // Whether the span from a to b, whose middle has the point pm, is within budget. The sag is compared by its square.
-fn is_within(r: Resolved, l: Limit, a: End, b: End, pm: Vec3) -> bool
-    requires { ⌜ (l ≡ limitOf (r .sag)) ⌝ }
+fn is_within(r: Resolved, l: Limits, a: End, b: End, pm: Vec3) -> bool
+    requires { ⌜ l ≡ limitsOf r ⌝ }
     ensures { λ w. ⌜ w ≡ isWithin r a b pm ⌝ }
 {
     let chord = b.point.sub(a.point);
     let len = chord.length();
     let offset = chord::bisection_offset(a.point, chord, len, pm);
-    if cuts::is_at_most(offset.length_squared(), l) {
+    let sag = l.sag;
+    if cuts::is_at_most(offset.length_squared(), sag) {
         let ta = a.tangent;
         let tb = b.tangent;
-        return turn(ta, tb) <= r.angle;
+        return turns_within(ta, tb, r.angle, l.turn);
     }
     false
 }
@@ -88,11 +106,11 @@ fn split_of(
     row: u32,
     ready: Ready,
     r: Resolved,
-    l: Limit,
+    l: Limits,
     a: End,
     b: End,
 ) -> Split
-    requires { ⌜ (ready ≡ readyOf (tree (lent points curves reals parts ranges) row)) × (l ≡ limitOf (r .sag)) ⌝ }
+    requires { ⌜ (ready ≡ readyOf (tree (lent points curves reals parts ranges) row)) × (l ≡ limitsOf r) ⌝ }
     ensures { λ s. ⌜ s ≡ splitOf (tree (lent (points .entry) (curves .entry) (reals .entry) (parts .entry) (ranges .entry)) row) r a b ⌝ }
 {
     let t = 0.5 * (a.t + b.t);
@@ -115,14 +133,14 @@ pub fn subdivide(
     row: u32,
     ready: Ready,
     r: Resolved,
-    l: Limit,
+    l: Limits,
     a: End,
     b: End,
     depth: u32,
     out: &mut [f64],
     k: usize,
 ) -> Listed
-    requires { ⌜ (ready ≡ readyOf (tree (lent points curves reals parts ranges) row)) × (l ≡ limitOf (r .sag))
+    requires { ⌜ (ready ≡ readyOf (tree (lent points curves reals parts ranges) row)) × (l ≡ limitsOf r)
         × (a ≡ endAt (tree (lent points curves reals parts ranges) row) (a .t))
         × (b ≡ endAt (tree (lent points curves reals parts ranges) row) (b .t)) × (k ≤ length (now out)) ⌝ }
     ensures { λ w. ⌜ Behind (now (out .entry)) k

@@ -1,10 +1,9 @@
 // sample_params of edge.rs, on rows.
 use bisect::End;
-use cuts::Limit;
+use bisect::Limits;
 use knots::Knots;
 use listed::Listed;
 use math::Interval;
-use math::Vec3;
 use options::Resolved;
 use params::Closed;
 use ready::Ready;
@@ -12,132 +11,18 @@ ghost use mathlib.Core.Path.{_≡_};
 ghost use mathlib.Core.List.{_++_};
 ghost use Prim.Native.Nat.{_≤_};
 ghost use lib.ListN.{length, getD, take};
-ghost use lib.Ieee.{nan, le};
-ghost use Rattle.arith.specs.Notation.{nought};
+ghost use lib.Ieee.{nan};
 ghost use Rattle.lists.specs.Room.{filled};
-ghost use Rattle.roots.specs.Root.{rootOf};
 ghost use Rattle.brep.specs.Rows.{lent};
 ghost use Rattle.brep.specs.Tree.{tree};
-ghost use Rattle.curve.specs.Eval.{pointAt};
 ghost use Rattle.ready.specs.Ready.{readyOf};
 ghost use Rattle.params.specs.Params.{subdivided, unlessHi, bisected, refined};
 ghost use Rattle.listed.specs.Held.{Held, Behind};
 ghost use Rattle.knots.specs.Knots.{curveKnots};
 ghost use Rattle.thin_breaks.specs.Thin.{keptBreaks};
-ghost use Rattle.cuts.specs.Limit.{limitOf};
-ghost use Rattle.bisect.specs.Bisect.{endAt, withinBudget};
-ghost use Rattle.sample.specs.Sample.{worstMiss, sampler, sampled};
-ghost use Rattle.sample.specs.Worst.{missSquare, largerOf};
+ghost use Rattle.bisect.specs.Bisect.{endAt, withinBudget, limitsOf};
+ghost use Rattle.sample.specs.Sample.{sampler, sampled};
 ghost use Rattle.sample.specs.Answered.{Answered, countOf, stops};
-
-// A miss: its square and its root.
-struct Worst {
-    square: f64,
-    root: f64,
-}
-
-// How far the middle of the curve of a row lies from the middle of the chord from a to b, squared; pa and pb are its points there.
-fn miss_square(
-    points: &[f64],
-    curves: &[u32],
-    reals: &[f64],
-    parts: &[u32],
-    ranges: &[f64],
-    row: u32,
-    ready: Ready,
-    a: f64,
-    b: f64,
-    pa: Vec3,
-    pb: Vec3,
-) -> f64
-    requires { ⌜ (ready ≡ readyOf (tree (lent points curves reals parts ranges) row))
-        × (pa ≡ pointAt (tree (lent points curves reals parts ranges) row) a) × (pb ≡ pointAt (tree (lent points curves reals parts ranges) row) b) ⌝ }
-    ensures { λ w. ⌜ w ≡ missSquare (tree (lent (points .entry) (curves .entry) (reals .entry) (parts .entry) (ranges .entry)) row) a b ⌝ }
-{
-    let t = 0.5 * (a + b);
-    let m = ready::point_of(ready, points, curves, reals, parts, ranges, row, t);
-    m.sub(pa.add(pb).scale(0.5)).length_squared()
-}
-
-// The worst, or the miss of this square where its root is larger. Only where the square is can the root be.
-fn larger(worst: Worst, s: f64) -> Worst
-    requires { ⌜ worst .root ≡ rootOf (worst .square) ⌝ }
-    ensures { λ w. ⌜ w ≡ largerOf worst s ⌝ }
-{
-    if worst.square < s {
-        let root = roots::root(s);
-        if worst.root < root {
-            return Worst { square: s, root };
-        }
-    }
-    worst
-}
-
-// The largest miss between parameters that follow each other. Each point is evaluated once.
-fn worst_miss(
-    points: &[f64],
-    curves: &[u32],
-    reals: &[f64],
-    parts: &[u32],
-    ranges: &[f64],
-    row: u32,
-    params: &[f64],
-) -> f64
-    ensures { λ w. ⌜ w ≡ worstMiss (tree (lent (points .entry) (curves .entry) (reals .entry) (parts .entry) (ranges .entry)) row) nought (now (params .entry)) ⌝ }
-{
-    if params.len() == 0 {
-        return 0.0;
-    }
-    let mut worst = Worst {
-        square: 0.0,
-        root: 0.0,
-    };
-    let ready = ready::ready_at(points, curves, reals, parts, ranges, row);
-    let mut a = params[0];
-    let mut pa = ready::point_of(ready, points, curves, reals, parts, ranges, row, a);
-    let mut i = 1usize;
-    while i < params.len() {
-        let b = params[i];
-        let pb = ready::point_of(ready, points, curves, reals, parts, ranges, row, b);
-        let s = miss_square(
-            points,
-            curves,
-            reals,
-            parts,
-            ranges,
-            row,
-            ready,
-            a,
-            b,
-            pa,
-            pb,
-        );
-        worst = larger(worst, s);
-        a = b;
-        pa = pb;
-        i += 1;
-    }
-    worst.root
-}
-
-// Whether the chords between the first n parameters stay within the sag.
-fn meets(
-    points: &[f64],
-    curves: &[u32],
-    reals: &[f64],
-    parts: &[u32],
-    ranges: &[f64],
-    row: u32,
-    out: &[f64],
-    n: usize,
-    sag: f64,
-) -> bool
-    requires { ⌜ n ≤ length (now out) ⌝ }
-    ensures { λ w. ⌜ w ≡ le (worstMiss (tree (lent (points .entry) (curves .entry) (reals .entry) (parts .entry) (ranges .entry)) row) nought (take n (now (out .entry)))) sag ⌝ }
-{
-    let params = &out[..n];
-    worst_miss(points, curves, reals, parts, ranges, row, params) <= sag
-}
 
 // Stop number i of the walk. The breaks are read backwards where the range runs down.
 fn stop_at(range: Interval, breaks: &[f64], i: usize) -> f64
@@ -166,13 +51,13 @@ fn step(
     ready: Ready,
     range: Interval,
     r: Resolved,
-    limit: Limit,
+    limits: Limits,
     left: End,
     right: End,
     out: &mut [f64],
     k: usize,
 ) -> Listed
-    requires { ⌜ (ready ≡ readyOf (tree (lent points curves reals parts ranges) row)) × (limit ≡ limitOf (r .sag))
+    requires { ⌜ (ready ≡ readyOf (tree (lent points curves reals parts ranges) row)) × (limits ≡ limitsOf r)
         × (left ≡ endAt (tree (lent points curves reals parts ranges) row) (left .t)) × (right ≡ endAt (tree (lent points curves reals parts ranges) row) (right .t)) × (k ≤ length (now out)) ⌝ }
     ensures { λ w. ⌜ Behind (now (out .entry)) k (subdivided (withinBudget (tree (lent (points .entry) (curves .entry) (reals .entry) (parts .entry) (ranges .entry)) row) r) (r .depth) (left .t) (right .t) ++ unlessHi range (right .t)) w (now (out .exit)) ⌝ }
 {
@@ -185,7 +70,7 @@ fn step(
         row,
         ready,
         r,
-        limit,
+        limits,
         left,
         right,
         r.depth,
@@ -218,7 +103,7 @@ fn walk(
     ensures { λ w. ⌜ Held (now (out .entry)) (bisected (sampler (tree (lent (points .entry) (curves .entry) (reals .entry) (parts .entry) (ranges .entry)) row) range r) range) w (now (out .exit)) ⌝ }
 {
     let ready = ready::ready_at(points, curves, reals, parts, ranges, row);
-    let limit = cuts::limit_of(r.sag);
+    let limits = bisect::limits_of(r);
     let pushed = listed::push(out, 0, range.lo);
     let Listed::Count(first) = pushed else {
         return Listed::Refused;
@@ -239,7 +124,7 @@ fn walk(
             ready,
             range,
             r,
-            limit,
+            limits,
             left,
             right,
             out,
@@ -394,15 +279,15 @@ pub fn sample_params(
     requires { ⌜ length (curveKnots (tree (lent points curves reals parts ranges) row)) ≤ 8192 ⌝ }
     ensures { λ w. ⌜ Answered (length (now (out .entry))) (sampled (length (now (out .entry))) (tree (lent (points .entry) (curves .entry) (reals .entry) (parts .entry) (ranges .entry)) row) range r) w (now (out .exit)) ⌝ }
 {
-    let closed = usable::analytic_segments(points, curves, reals, parts, ranges, row, range, r);
-    let Closed::Segments(n) = closed else {
+    let form = usable::analytic_segments(points, curves, reals, parts, ranges, row, range, r);
+    let Closed::Segments(n) = form else {
         return refine(points, curves, reals, parts, ranges, row, range, r, out);
     };
     let even = listed::evenly(range, n, out);
     let Listed::Count(m) = even else {
         return settle(even, out);
     };
-    if meets(points, curves, reals, parts, ranges, row, out, m, r.sag) {
+    if closed::meets(points, curves, reals, parts, ranges, row, out, m, r.sag) {
         return settle(even, out);
     }
     refine(points, curves, reals, parts, ranges, row, range, r, out)

@@ -28,7 +28,7 @@ returns c =
     let st = c .before .before .before .before .before .before .before .before in
     let p = own-point (curve-of st) (st .args .t) (st .pre) (c .before .before .point-of .ensures) in
     let g = own-tangent (curve-of st) (st .args .t) (st .pre) (c .before .derivative-of .ensures) (c .try-normalized .ensures) in
-    cc
+    rw (p, g)
 
 pub end-at-spec : {M : Type 1} → statement M
 end-at-spec =

@@ -1,4 +1,6 @@
 -- `bisect::split_of` meets its contract. Assumes nothing.
+use mathlib.Core.Path.{sym, ap, _∙_}
+use Rattle.bisect.specs.Bisect.{isWithin}
 use borrow.Author.Needs.{needs}
 use Rattle.brep.specs.Rows.{tables}
 use Rattle.brep.specs.Tree.{CurveTree, tree}
@@ -24,7 +26,7 @@ returns c =
     let st = c .before .before .before .before .before .before .before .before .before .before in
     let a = st .args in
     let p = own-point (curve-of st) (midpoint (a .a .t) (a .b .t)) (st .pre .0) (c .before .before .point-of .ensures) in
-    split-yes (curve-of st) (a .r) (a .a) (a .b) (cc)
+    split-yes (curve-of st) (a .r) (a .a) (a .b) (ap (isWithin (a .r) (a .a) (a .b)) (sym p) ∙ sym (c .before .is-within .ensures) ∙ c .if1 .taken)
 
 derivative-of-requires : tie.Need-derivative-of-requires
 derivative-of-requires c κs = search needs
@@ -38,7 +40,8 @@ returns-2 c =
     let a = st .args in
     let m = midpoint (a .a .t) (a .b .t) in
     split-no (curve-of st) (a .r) (a .a) (a .b) _ _ (own-point (curve-of st) m (st .pre .0) (c .before .before .before .before .point-of .ensures))
-    (own-tangent (curve-of st) m (st .pre .0) (c .before .derivative-of .ensures) (c .try-normalized .ensures)) (cc)
+    (own-tangent (curve-of st) m (st .pre .0) (c .before .derivative-of .ensures) (c .try-normalized .ensures))
+    (sym (c .before .before .before .is-within .ensures) ∙ c .before .before .if1 .left)
 
 pub split-of-spec : {M : Type 1} → statement M
 split-of-spec =

@@ -44,9 +44,9 @@ unfolding vLength
 returns c =
     let a = c .before .before .before .before .before .before .before .before .before .before .before .before .args in
     let l = c .before .before .before .before .before .before .loop in
-    found (beyond _ _) (a .chain .now) (a .n) (l .i) (c .before .before .before .before .before .loop-test .taken) (cc) (c .if1 .taken)
+    found (beyond _ _) (a .chain .now) (a .n) (l .i) (c .before .before .before .before .before .loop-test .taken) (rw (c .before .is-above .ensures, c .before .before .length-squared .ensures, c .before .before .before .sub .ensures, c .before .before .before .before .point-at .ensures)) (c .if1 .taken)
     ∙ l .inv .1
-    ∙ escapes-whole (a .chain .now) (a .n) (a .r) _ _ (a .reference) (cc) (c .before .before .before .before .before .before .before .before .centre .ensures)
+    ∙ escapes-whole (a .chain .now) (a .n) (a .r) _ _ (a .reference) (rw (c .before .before .before .before .before .before .before .before .before .before .diagonal .ensures)) (c .before .before .before .before .before .before .before .before .centre .ensures)
 
 add-i : tie.Need-add-i Inv-loop μ-loop
 add-i c = search needs
@@ -59,7 +59,7 @@ unfolding vLength
 loop-again c =
     let a = c .before .before .before .before .before .before .before .before .before .before .before .before .args in
     let l = c .before .before .before .before .before .before .loop in
-    (omega arith, passed (beyond _ _) (a .chain .now) (a .n) (l .i) (c .before .before .before .before .before .loop-test .taken) (cc) (c .if1 .left) ∙ l .inv .1)
+    (omega arith, passed (beyond _ _) (a .chain .now) (a .n) (l .i) (c .before .before .before .before .before .loop-test .taken) (rw (c .before .is-above .ensures, c .before .before .length-squared .ensures, c .before .before .before .sub .ensures, c .before .before .before .before .point-at .ensures)) (c .if1 .left) ∙ l .inv .1)
 
 returns-2 : tie.Need-returns-2 Inv-loop μ-loop
 returns-2 c =
@@ -67,7 +67,7 @@ returns-2 c =
     let l = c .before .loop in
     none (beyond _ _) (a .chain .now) (a .n) (l .i) (c .loop-test .left)
     ∙ l .inv .1
-    ∙ escapes-whole (a .chain .now) (a .n) (a .r) _ _ (a .reference) (cc) (c .before .before .before .centre .ensures)
+    ∙ escapes-whole (a .chain .now) (a .n) (a .r) _ _ (a .reference) (rw (c .before .before .before .before .before .diagonal .ensures)) (c .before .before .before .centre .ensures)
 
 pub escapes-spec : {M : Type 1} → statement M
 escapes-spec =

@@ -12,7 +12,7 @@ length-squared-requires c κs = search needs
 
 returns : tie.Need-returns
 unfolding measured
-returns c = cc
+returns c = rw (c .length-squared .ensures, c .before .sub .ensures)
 
 pub measured-spec : {M : Type 1} → statement M
 measured-spec = tie.close (tie.spec sub-requires length-squared-requires returns)

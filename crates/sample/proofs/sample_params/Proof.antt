@@ -20,8 +20,8 @@ curve-of st =
 analytic-segments-requires : tie.Need-analytic-segments-requires
 analytic-segments-requires c κs = search needs
 
-enum-known-closed : tie.Need-enum-known-closed
-enum-known-closed c = search needs
+enum-known-form : tie.Need-enum-known-form
+enum-known-form c = search needs
 
 enum-told : tie.Need-enum-told
 enum-told c = search needs
@@ -63,7 +63,7 @@ returns-2 c =
     (sampled (length (st .args .out .now)) (curve-of st) (st .args .range) (st .args .r)) refl (form-refused (length (st .args .out .now))
     (curve-of st) (st .args .range) (st .args .r) _
     (c .before .before .before .before .before .before .before .before .before .before .before .before .before .analytic-segments .ensures)
-    _ (c .before .before .before .before .before .before .before .before .before .before .before .closed .given .1) refl _
+    _ (c .before .before .before .before .before .before .before .before .before .before .before .form .given .1) refl _
     (c .before .before .before .before .before .before .before .before .evenly .ensures)
     (c .before .before .before .before .enum-told2 .given .1)) _ _ (c .before .before .settle .ensures .0)
     (c .before .before .settle .ensures .1)
@@ -89,7 +89,7 @@ returns-3 c =
     (length (st .args .out .now)) (curve-of st) (st .args .range) (st .args .r) _
     (c .before .before .before .before .before .before .before .before .before .before .before .before .before .before .before .before .before .analytic-segments .ensures)
     _
-    (c .before .before .before .before .before .before .before .before .before .before .before .before .before .before .before .closed .given .1)
+    (c .before .before .before .before .before .before .before .before .before .before .before .before .before .before .before .form .given .1)
     refl _ (c .before .before .before .before .before .before .before .before .before .before .before .before .evenly .ensures) _
     (c .before .before .before .before .before .before .before .before .even .given .1) _
     (c .before .before .before .before .before .meets .ensures) (c .before .before .before .before .if1 .taken)) _ _
@@ -110,7 +110,7 @@ returns-4 c =
     (st .args .range) (st .args .r)) (form-misses (length (st .args .out .now)) (curve-of st) (st .args .range) (st .args .r) _
     (c .before .before .before .before .before .before .before .before .before .before .before .before .before .before .before .before .before .analytic-segments .ensures)
     _
-    (c .before .before .before .before .before .before .before .before .before .before .before .before .before .before .before .closed .given .1)
+    (c .before .before .before .before .before .before .before .before .before .before .before .before .before .before .before .form .given .1)
     refl _ (c .before .before .before .before .before .before .before .before .before .before .before .before .evenly .ensures) _
     (c .before .before .before .before .before .before .before .before .even .given .1) _
     (c .before .before .before .before .before .meets .ensures) (c .before .before .before .before .if1 .left))
@@ -121,7 +121,7 @@ sample-params-spec =
     tie.close
     (tie.spec
     analytic-segments-requires
-    enum-known-closed
+    enum-known-form
     enum-told
     refine-requires
     same-length

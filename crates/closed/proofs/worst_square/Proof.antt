@@ -1,8 +1,9 @@
--- `sample::worst_miss` meets its contract: pa is the point of a, and what is left to measure, from the worst so far, is the whole. Assumes nothing.
+-- `closed::worst_square` meets its contract: pa is the point of a, and what is left to measure, from some miss whose square the worst stands for, is the whole. Assumes nothing.
 use mathlib.Core.Path.{_≡_, refl, sym, ap, subst, _∙_}
 use Prim.Native.Nat.{_-_}
 use native.Mathlib.Omega.{arith}
 use lib.ListN.{length}
+use lib.Ieee.{Float}
 use borrow.Author.Needs.{needs}
 use Rattle.arith.specs.Pick.{maxOf}
 use Rattle.roots.specs.Root.{rootOf}
@@ -10,18 +11,18 @@ use Rattle.brep.specs.Rows.{tables}
 use Rattle.brep.specs.Tree.{CurveTree, tree}
 use Rattle.curve.specs.Eval.{pointAt}
 use Rattle.bisect.proofs.Laws.{own-point}
-use Rattle.sample.specs.declared.Worst.{Worst}
-use Rattle.sample.specs.Sample.{missOf}
-use Rattle.sample.proofs.Squares.{Rooted, rooted-first, miss-root, larger-max, larger-rooted}
-use Rattle.sample.proofs.Miss.{Missing, no-params, first-param, next-param, last-param}
-use Rattle.sample.proofs.worst_miss.Statement.{statement}
-use Rattle.sample.proofs.worst_miss.Tie as tie
+use Rattle.arith.specs.Notation.{nought}
+use Rattle.closed.specs.Worst.{Alike}
+use Rattle.closed.specs.Miss.{missOf}
+use Rattle.closed.proofs.Squares.{Worst, worst-first, worst-next, miss-root}
+use Rattle.closed.proofs.Miss.{Missing, no-params, first-param, next-param, last-param}
+use Rattle.closed.proofs.worst_square.Statement.{statement}
+use Rattle.closed.proofs.worst_square.Tie as tie
 
 abbrev Inv-loop : tie.InvT-loop
 Inv-loop points curves reals parts ranges row params worst₀ ready a₀ pa₀ i₀ worst a pa i =
     (pa ≡ pointAt (tree (tables points curves reals parts ranges) row) a)
-    × Missing (tree (tables points curves reals parts ranges) row) params (worst .root) a i
-    × Rooted worst
+    × ((m : Float) × Missing (tree (tables points curves reals parts ranges) row) params m a i × Worst worst m)
 
 abbrev μ-loop : tie.MeasureT-loop
 μ-loop points curves reals parts ranges row params worst₀ ready a₀ pa₀ i₀ worst a pa i = length params - i
@@ -35,7 +36,7 @@ curve-of st =
 returns : tie.Need-returns Inv-loop μ-loop
 returns c =
     let st = c .before .before .before .before .before .before .before in
-    no-params (curve-of st) (st .args .params .now) (c .if1 .taken)
+    subst (λ (x : Float). Alike (rootOf nought) x) (no-params (curve-of st) (st .args .params .now) (c .if1 .taken)) (worst-first .alike)
 
 ready-at-requires : tie.Need-ready-at-requires Inv-loop μ-loop
 ready-at-requires c κs = search needs
@@ -49,7 +50,7 @@ point-of-requires c κs = search needs
 loop-holds : tie.Need-loop-holds Inv-loop μ-loop
 loop-holds c =
     let st = c .before .before .before .before .before .before .before .before .before .before in
-    (own-point (curve-of st) _ (c .before .before .ready-at .ensures) (c .point-of .ensures), first-param (curve-of st) (st .args .params .now) (c .before .before .before .if1 .left), rooted-first)
+    (own-point (curve-of st) _ (c .before .before .ready-at .ensures) (c .point-of .ensures), (nought, first-param (curve-of st) (st .args .params .now) (c .before .before .before .if1 .left), worst-first))
 
 mul-b : tie.Need-mul-b Inv-loop μ-loop
 mul-b c = search needs
@@ -67,7 +68,7 @@ miss-square-requires c κs =
     (R, c .before .before .before .loop .inv .0, own-point (curve-of st) _ R (c .point-of2 .ensures))
 
 larger-requires : tie.Need-larger-requires Inv-loop μ-loop
-larger-requires c κs = c .before .before .before .before .loop .inv .2 .own
+larger-requires c κs = search needs
 
 add-i : tie.Need-add-i Inv-loop μ-loop
 add-i c =
@@ -84,22 +85,27 @@ loop-less c = search needs
 loop-again : tie.Need-loop-again Inv-loop μ-loop
 loop-again c =
     let st = c .before .before .before .before .before .before .before .before .before .before .before .before .before .before .before .before in
-    let l = c .before .before .before .before .before .loop in (
+    let l = c .before .before .before .before .before .loop in
+    let m = l .inv .1 .0 in (
       own-point (curve-of st) _ (c .before .before .before .before .before .before .before .before .ready-at .ensures) (c .before .before .point-of2 .ensures),
-      next-param (curve-of st) (st .args .params .now) (l .worst .root) (l .a) (l .i) (l .inv .1)
-          (c .larger .result .root) (missOf (curve-of st) (l .a) _) _ (c .before .before .before .before .loop-test .taken) refl refl
-          (ap (λ (w : Worst). w .root) (c .larger .ensures) ∙ larger-max (l .worst) _ (l .inv .2) ∙ ap (maxOf (l .worst .root)) (ap rootOf (c .before .miss-square .ensures) ∙ miss-root (curve-of st) (l .a) _)),
-      subst Rooted (sym (c .larger .ensures)) (larger-rooted (l .worst) _ (l .inv .2)),
+      (
+        maxOf m (rootOf (c .before .miss-square .result)),
+        next-param (curve-of st) (st .args .params .now) m (l .a) (l .i) (l .inv .1 .1)
+            (maxOf m (rootOf (c .before .miss-square .result))) (missOf (curve-of st) (l .a) _) _ (c .before .before .before .before .loop-test .taken) refl refl
+            (ap (maxOf m) (ap rootOf (c .before .miss-square .ensures) ∙ miss-root (curve-of st) (l .a) _)),
+        subst (λ (x : Float). Worst x (maxOf m (rootOf (c .before .miss-square .result)))) (sym (c .larger .ensures)) (worst-next (l .worst) m (c .before .miss-square .result) (l .inv .1 .2) (search needs)),
+      ),
     )
 
 returns-2 : tie.Need-returns-2 Inv-loop μ-loop
 returns-2 c =
     let st = c .before .before .before .before .before .before .before .before .before .before .before .before in
     let l = c .before .loop in
-    last-param (curve-of st) (st .args .params .now) (l .worst .root) (l .a) (l .i) (l .inv .1) (c .loop-test .left)
+    let m = l .inv .1 .0 in
+    subst (λ (x : Float). Alike (rootOf (l .worst)) x) (last-param (curve-of st) (st .args .params .now) m (l .a) (l .i) (l .inv .1 .1) (c .loop-test .left)) (l .inv .1 .2 .alike)
 
-pub worst-miss-spec : {M : Type 1} → statement M
-worst-miss-spec =
+pub worst-square-spec : {M : Type 1} → statement M
+worst-square-spec =
     tie.close
     (tie.spec
     Inv-loop

@@ -10,7 +10,7 @@ use lib.Ieee.{Float, nan}
 use Rattle.arith.specs.Notation.{nought}
 use Rattle.arith.specs.Pick.{maxOf}
 use Rattle.brep.specs.Tree.{CurveTree}
-use Rattle.sample.specs.Sample.{missOf, worstMiss}
+use Rattle.closed.specs.Miss.{missOf, worstMiss}
 
 -- a is the parameter before number i, and worst the largest miss up to it
 abbrev pub Missing : CurveTree → List Float → Float → Float → ℕ → Type 0

@@ -1,12 +1,12 @@
--- `sample::miss_square` meets its contract. Assumes nothing.
+-- `closed::miss_square` meets its contract. Assumes nothing.
 use borrow.Author.Needs.{needs}
 use Rattle.brep.specs.Rows.{tables}
 use Rattle.brep.specs.Tree.{tree}
 use Rattle.params.specs.Params.{midpoint}
 use Rattle.bisect.proofs.Laws.{own-point}
-use Rattle.sample.specs.Worst.{missSquare}
-use Rattle.sample.proofs.miss_square.Statement.{statement}
-use Rattle.sample.proofs.miss_square.Tie as tie
+use Rattle.closed.specs.Worst.{missSquare}
+use Rattle.closed.proofs.miss_square.Statement.{statement}
+use Rattle.closed.proofs.miss_square.Tie as tie
 
 point-of-requires : tie.Need-point-of-requires
 point-of-requires c κs = search needs
@@ -29,7 +29,7 @@ returns c =
     let st = c .before .before .before .before .before .before .before .before .before .before in
     let a = st .args in
     let m = own-point (tree (tables (a .points .now) (a .curves .now) (a .reals .now) (a .parts .now) (a .ranges .now)) (a .row)) (midpoint (a .a) (a .b)) (st .pre .0) (c .before .before .before .before .point-of .ensures) in
-    cc
+    rw (c .length-squared .ensures, c .before .sub .ensures, c .before .before .scale .ensures, c .before .before .before .add .ensures, m, st .pre .1, st .pre .2)
 
 pub miss-square-spec : {M : Type 1} → statement M
 miss-square-spec =

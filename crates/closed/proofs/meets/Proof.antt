@@ -1,0 +1,27 @@
+-- `closed::meets` meets its contract. Assumes nothing.
+use mathlib.Core.Path.{sym, ap, _∙_}
+use lib.Ieee.{Float, le}
+use lib.Seq.{length-take-le}
+use Rattle.closed.proofs.Squares.{same-test}
+use borrow.Author.Needs.{needs}
+use Rattle.closed.proofs.meets.Statement.{statement}
+use Rattle.closed.proofs.meets.Tie as tie
+
+slice-aggregate-params : tie.Need-slice-aggregate-params
+slice-aggregate-params c =
+    let st = c .before .before .before .before .before .before .before in
+    sym (length-take-le (st .args .n) (st .args .out .now) (st .pre))
+
+worst-square-requires : tie.Need-worst-square-requires
+worst-square-requires c κs = search needs
+
+root-requires : tie.Need-root-requires
+root-requires c κs = search needs
+
+returns : tie.Need-returns
+returns c =
+    let sag = c .before .before .before .before .before .before .before .before .before .args .sag in
+    ap (λ (x : Float). le x sag) (c .root .ensures) ∙ same-test _ _ sag (c .before .worst-square .ensures)
+
+pub meets-spec : {M : Type 1} → statement M
+meets-spec = tie.close (tie.spec slice-aggregate-params worst-square-requires root-requires returns)

@@ -1,0 +1,2 @@
+pub mod Miss
+pub mod Worst

@@ -1,0 +1,109 @@
+// The check of a closed form: how far a curve's middles lie from those of its chords.
+use math::Vec3;
+use ready::Ready;
+ghost use mathlib.Core.Path.{_≡_};
+ghost use Prim.Native.Nat.{_≤_};
+ghost use lib.ListN.{length, take};
+ghost use lib.Ieee.{le};
+ghost use Rattle.arith.specs.Notation.{nought};
+ghost use Rattle.roots.specs.Root.{rootOf};
+ghost use Rattle.brep.specs.Rows.{lent};
+ghost use Rattle.brep.specs.Tree.{tree};
+ghost use Rattle.curve.specs.Eval.{pointAt};
+ghost use Rattle.ready.specs.Ready.{readyOf};
+ghost use Rattle.closed.specs.Miss.{worstMiss};
+ghost use Rattle.closed.specs.Worst.{missSquare, largerOf, Alike};
+
+// How far the middle of the curve of a row lies from the middle of the chord from a to b, squared; pa and pb are its points there.
+fn miss_square(
+    points: &[f64],
+    curves: &[u32],
+    reals: &[f64],
+    parts: &[u32],
+    ranges: &[f64],
+    row: u32,
+    ready: Ready,
+    a: f64,
+    b: f64,
+    pa: Vec3,
+    pb: Vec3,
+) -> f64
+    requires { ⌜ (ready ≡ readyOf (tree (lent points curves reals parts ranges) row))
+        × (pa ≡ pointAt (tree (lent points curves reals parts ranges) row) a) × (pb ≡ pointAt (tree (lent points curves reals parts ranges) row) b) ⌝ }
+    ensures { λ w. ⌜ w ≡ missSquare (tree (lent (points .entry) (curves .entry) (reals .entry) (parts .entry) (ranges .entry)) row) a b ⌝ }
+{
+    let t = 0.5 * (a + b);
+    let m = ready::point_of(ready, points, curves, reals, parts, ranges, row, t);
+    m.sub(pa.add(pb).scale(0.5)).length_squared()
+}
+
+// The larger of the worst square so far and the next; a NaN is passed over.
+fn larger(worst: f64, s: f64) -> f64
+    ensures { λ w. ⌜ w ≡ largerOf worst s ⌝ }
+{
+    if worst < s { s } else { worst }
+}
+
+// The square of the largest miss between parameters that follow each other. Each point is evaluated once.
+fn worst_square(
+    points: &[f64],
+    curves: &[u32],
+    reals: &[f64],
+    parts: &[u32],
+    ranges: &[f64],
+    row: u32,
+    params: &[f64],
+) -> f64
+    ensures { λ w. ⌜ Alike (rootOf w) (worstMiss (tree (lent (points .entry) (curves .entry) (reals .entry) (parts .entry) (ranges .entry)) row) nought (now (params .entry))) ⌝ }
+{
+    if params.len() == 0 {
+        return 0.0;
+    }
+    let mut worst = 0.0;
+    let ready = ready::ready_at(points, curves, reals, parts, ranges, row);
+    let mut a = params[0];
+    let mut pa = ready::point_of(ready, points, curves, reals, parts, ranges, row, a);
+    let mut i = 1usize;
+    while i < params.len() {
+        let b = params[i];
+        let pb = ready::point_of(ready, points, curves, reals, parts, ranges, row, b);
+        let s = miss_square(
+            points,
+            curves,
+            reals,
+            parts,
+            ranges,
+            row,
+            ready,
+            a,
+            b,
+            pa,
+            pb,
+        );
+        worst = larger(worst, s);
+        a = b;
+        pa = pb;
+        i += 1;
+    }
+    worst
+}
+
+// Whether the chords between the first n parameters stay within the sag.
+pub fn meets(
+    points: &[f64],
+    curves: &[u32],
+    reals: &[f64],
+    parts: &[u32],
+    ranges: &[f64],
+    row: u32,
+    out: &[f64],
+    n: usize,
+    sag: f64,
+) -> bool
+    requires { ⌜ n ≤ length (now out) ⌝ }
+    ensures { λ w. ⌜ w ≡ le (worstMiss (tree (lent (points .entry) (curves .entry) (reals .entry) (parts .entry) (ranges .entry)) row) nought (take n (now (out .entry)))) sag ⌝ }
+{
+    let params = &out[..n];
+    // The largest of the roots is the root of the largest.
+    roots::root(worst_square(points, curves, reals, parts, ranges, row, params)) <= sag
+}

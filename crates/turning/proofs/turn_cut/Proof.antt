@@ -1,0 +1,26 @@
+-- `turning::turn_cut` meets its contract. Assumes nothing.
+use lib.Ieee.{ofBits, ofInt}
+use Rattle.turning.specs.Turning.{turnCut}
+use borrow.Author.Needs.{needs}
+use Rattle.turning.proofs.turn_cut.Statement.{statement}
+use Rattle.turning.proofs.turn_cut.Tie as tie
+use Rattle.turning.proofs.turn_cut.Reads as reads
+use Rattle.turning.proofs.turn_cut.Lts as lts
+use Rattle.roots.proofs.root.Reads as root-reads
+use Rattle.turning.proofs.cut_if.Reads as cut-if-reads
+
+root-requires : tie.Need-root-requires
+root-requires c κs = search needs
+
+cut-if-requires : tie.Need-cut-if-requires
+cut-if-requires c κs = search needs
+
+cut-if-requires-2 : tie.Need-cut-if-requires-2
+cut-if-requires-2 c κs = search needs
+
+returns : tie.Need-returns
+unfolding turnCut ofBits ofInt
+returns c = rw (c .cut-if2 .ensures, c .before .cut-if .ensures, c .before .before .root .ensures)
+
+pub turn-cut-spec : {M : Type 1} → statement M
+turn-cut-spec = tie.close (tie.spec root-requires cut-if-requires cut-if-requires-2 returns)

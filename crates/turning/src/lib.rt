@@ -1,0 +1,38 @@
+// An angle compared with a limit by its cosine, mostly without the arc cosine: no angle is above twice the tangent of its half.
+ghost use mathlib.Core.Path.{_≡_};
+ghost use lib.Ieee.{le};
+ghost use Rattle.trig.specs.Trig.{acosOf};
+ghost use Rattle.turning.specs.Turning.{cutIf, turnCut, Serves};
+
+// A cut that serves, or a NaN, with which no comparison holds.
+fn cut_if(serves: bool, cut: f64) -> f64
+    ensures { λ r. ⌜ r ≡ cutIf serves cut ⌝ }
+{
+    if serves { cut } else { arith::nan() }
+}
+
+// The cut for a limit, which costs a root: for many comparisons with one limit.
+pub fn turn_cut(limit: f64) -> f64
+    ensures { λ r. ⌜ r ≡ turnCut limit ⌝ }
+{
+    let half = limit * 0.5;
+    // A little under the square, so that the bound at the cut is not above the limit.
+    let cut = half * half * 0.999999;
+    let bound = 16.0 * (roots::root(cut) / 2.0 / 2.0 / 2.0);
+    cut_if(bound <= limit, cut_if(cut <= 1.0, cut))
+}
+
+// Whether the angle whose cosine is a is at most the limit. The arc cosine is taken only where the square of the tangent of half the
+// angle is above the cut.
+pub fn is_turn_within(a: f64, limit: f64, cut: f64) -> bool
+    requires { ⌜ Serves cut limit ⌝ }
+    ensures { λ b. ⌜ b ≡ le (acosOf a) limit ⌝ }
+{
+    if 0.0 < a {
+        let square = (1.0 - a) / (1.0 + a);
+        if 0.0 <= square && square <= cut {
+            return true;
+        }
+    }
+    trig::acos(a) <= limit
+}
