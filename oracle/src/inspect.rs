@@ -7,7 +7,7 @@ use road::brep::{Curve, Edge};
 use road::edge::{edge_extent, sample_params, usable_range};
 use road::knots::{curve_breaks, thin_breaks};
 use road::math::{Interval, Vec3};
-use road::options::Resolved;
+use road::options::{Options, Resolved};
 use std::fmt::Write;
 
 /// The edge's curve and its sampling, then its point, derivative and tangent at each parameter.
@@ -68,19 +68,36 @@ fn at(curve: &Curve, t: f64) -> String {
     )
 }
 
-/// The first line holds options as a sheet does; each other an extent, a radius and an arc's total.
+/// The first line holds options as a sheet does, or a preset's name; each other an extent, a radius and an arc's total, or
+/// an angle in degrees.
 pub fn resolve(text: &str) -> String {
     let mut lines = text.lines();
-    let Some(resolved) = lines.next().and_then(options).map(|o| resolved(&o)) else {
+    let Some(resolved) = lines.next().and_then(begun) else {
         return "?\n".to_string();
     };
     let Resolved { sag, model, relative, angle, min_edge_segments, max_depth, .. } = resolved;
     let floats = bits(&[sag, model, relative, angle]);
     let mut answer = format!("{floats} {min_edge_segments} {max_depth}\n");
     for line in lines {
-        answer += &arc(&resolved, line).unwrap_or("?\n".to_string());
+        answer += &arc(&resolved, line).or_else(|| degrees(line)).unwrap_or("?\n".to_string());
     }
     answer
+}
+
+/// The options of a first line, resolved; a preset has no scale.
+fn begun(line: &str) -> Option<Resolved> {
+    match line {
+        "default" => Some(Options::default().resolve(0.0)),
+        "draft" => Some(Options::draft().resolve(0.0)),
+        "fine" => Some(Options::fine().resolve(0.0)),
+        _ => options(line).map(|o| resolved(&o)),
+    }
+}
+
+/// An angle in degrees, as radians.
+fn degrees(line: &str) -> Option<String> {
+    let angle = float(line.strip_prefix("degrees ")?)?;
+    Some(format!("{}\n", bits(&[angle.to_radians()])))
 }
 
 /// The sag at an extent, and there the step and the segments of an arc.

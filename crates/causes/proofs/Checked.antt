@@ -23,8 +23,9 @@ use Rattle.bounds.proofs.Laws.{some-none}
 use Rattle.forms.specs.Forms.{pointCount, curveCount, segmentCount, broken, uneven, unknownKind, wrongCount, unusedSet, room, malformed, malformedRow, malformedSegment, illFormedTables, illFormedEdge, illFormed}
 use Rattle.causes.specs.declared.Verdict.{Verdict}
 use Rattle.causes.specs.declared.Verdict.the-variants.{Accepted, Refused}
-use Rattle.causes.proofs.Laws.{neither, three, four, sizes}
+use Rattle.causes.proofs.Laws.{neither, three, four, order-all, sizes}
 use Rattle.causes.proofs.Runs.{composite-row}
+use Rattle.causes.specs.Skips.{outOfOrder, RunsInside}
 use Rattle.causes.specs.Causes.{oversize, highSegment, notLower, unorderedRow, unordered, tooDeep, missing, verdict}
 
 -- at most 1e9 in magnitude
@@ -153,11 +154,16 @@ module _ (t : Tables) where
   seven-segments = refl
 
   -- the run of each composite lies inside the segments
+  pub numbers-inside : illFormedTables t ≡ false → RunsInside (t .curves) (segmentCount t) (curveCount t)
+  numbers-inside h i l k =
+      let m = row-inside i (some-none (malformedRow t) (curveCount t) i l (forms-of h .0)) in
+      omega (arith, ap (room t) k ∙ seven-segments)
+
   pub runs-inside : illFormedTables t ≡ false → Inside t (curveCount t)
   runs-inside h i first count l r =
       let k = composite-row first count t i r in
-      let m = row-inside i (some-none (malformedRow t) (curveCount t) i l (forms-of h .0)) in
-      omega (arith, ap (room t) (k .0) ∙ seven-segments)
+      let m = numbers-inside h i l (k .0) in
+      omega arith
 
   segment-inside : (i : ℕ) → malformedSegment t i ≡ false → segmentIn t i .curve < curveCount t
   unfolding malformedSegment segmentOf
@@ -178,6 +184,9 @@ module _ (t : Tables) where
     trimFalls = λ i base range l k. trim-falls i base range (some-none (unorderedRow t) (curveCount t) i l h) k;
     segmentFalls = λ i first count j l k m. segment-falls i first count j (some-none (unorderedRow t) (curveCount t) i l h) k m;
   }
+
+  pub numbers-falling : someBelow (curveCount t) (outOfOrder (t .curves) (t .parts)) ≡ false → Falling t (curveCount t)
+  numbers-falling h = falling (sym (order-all t (curveCount t)) ∙ h)
 
   -- ---- cause 5
   nesting-at-most : (i : ℕ) → deepRow t i ≡ false → nesting (tree t i) ≤ 8

@@ -2,18 +2,15 @@
 use mathlib.Core.Path.{_≡_, refl, sym, ap, subst, _∙_}
 use mathlib.Core.Bool.{Bool, true, false}
 use mathlib.Core.List.{List}
-use Prim.Native.Nat.{ℕ, _+_, _-_, _<_, _≤_}
+use Prim.Native.Nat.{ℕ, _+_, _-_, _*_, _<_, _≤_}
 use native.Mathlib.Omega.{arith}
 use lib.ListN.{length, getD, set, replicate, length-set, length-replicate, getD-replicate, List·getD-eq-default}
 use lib.Seq.{getD-set-same, getD-set-other}
 use lib.Dec.{eqb, ltb, leb}
 use borrow.Author.Tests.{eqb-true, eqb-false, ltb-true, ltb-false, lt-ltb, leb-false, lt-leb}
-use Rattle.brep.specs.Rows.{Tables}
-use Rattle.brep.specs.Tree.{segmentIn}
 use Rattle.bounds.specs.Some.{someBelow}
 use Rattle.bounds.proofs.Laws.{some-found, some-not}
-use Rattle.causes.specs.Skips.{Leads, Over, Moved, lowSegment, Seen}
-use Rattle.causes.specs.Causes.{highSegment}
+use Rattle.causes.specs.Skips.{refersHigh, highIn, Leads, Over, Moved, lowSegment, Seen}
 
 -- ---- the entry for j is set to d
 module _ (s : List ℕ) (j d : ℕ) (h : j < length s) where
@@ -86,10 +83,10 @@ module _ {before s : List ℕ} {from j : ℕ} (m : Moved before s from j) where
 
 -- ---- rows
 -- a higher row is above all that a lower one is
-pub seen-higher : (T : Tables) (s : List ℕ) (row : ℕ) → Seen T s row → Seen T s (row + 1)
-seen-higher T s row h = record {
+pub seen-higher : (parts : List ℕ) (s : List ℕ) (row : ℕ) → Seen parts s row → Seen parts s (row + 1)
+seen-higher parts s row h = record {
   leads = h .leads;
-  lower = λ j i p q. let k = ltb-true (segmentIn T i .curve) row (h .lower j i p q) in lt-ltb (segmentIn T i .curve) (row + 1) (omega arith);
+  lower = λ j i p q. let k = ltb-true (getD parts (i * 2) 0) row (h .lower j i p q) in lt-ltb (getD parts (i * 2) 0) (row + 1) (omega arith);
 }
 
 zeros : (m j : ℕ) → _≡_ {A = ℕ} (getD (replicate m 0) j 0) 0
@@ -100,54 +97,52 @@ zeros m j = go (ltb j m) refl
     go false e = let k = length-replicate {A = ℕ} m 0 in let l = ltb-false j m e in List·getD-eq-default (replicate m 0) 0 {n = j} (omega arith)
 
 -- a table of zeros passes over nothing
-pub seen-none : (T : Tables) (m row : ℕ) → m ≤ 4097 → Seen T (replicate m 0) row
-seen-none T m row h = record {
+pub seen-none : (parts : List ℕ) (m row : ℕ) → m ≤ 4097 → Seen parts (replicate m 0) row
+seen-none parts m row h = record {
   leads = let l = length-replicate {A = ℕ} m 0 in record { few = omega arith; inside = λ j p. let k = zeros m j in omega arith };
   lower = λ j i p q. let k = zeros m j in absurd (omega arith);
 }
 
 -- the segments from first on that lie before j refer to lower rows than row
-abbrev pub Passed : Tables → ℕ → ℕ → ℕ → Type 0
-Passed T row first j = (i : ℕ) → first ≤ i → i < j → lowSegment T row i ≡ true
+abbrev pub Passed : List ℕ → ℕ → ℕ → ℕ → Type 0
+Passed parts row first j = (i : ℕ) → first ≤ i → i < j → lowSegment parts row i ≡ true
 
-module _ (T : Tables) (row first count j : ℕ) where
-  pub run-found : {b : Bool} → first ≤ j → j < first + count → b ≡ leb row (segmentIn T j .curve) → b ≡ true → true ≡ someBelow count (highSegment T row first)
-  unfolding highSegment
+module _ (parts : List ℕ) (row first count j : ℕ) where
+  pub run-found : {b : Bool} → first ≤ j → j < first + count → b ≡ refersHigh parts row j → b ≡ true → true ≡ someBelow count (highIn parts row first)
   run-found p q e t =
       let k : first + (j - first) ≡ j = omega arith in
-      sym (some-found (highSegment T row first) count (j - first) (omega arith) (ap (λ x. leb row (segmentIn T x .curve)) k ∙ sym e ∙ t))
+      sym (some-found (highIn parts row first) count (j - first) (omega arith) (ap (refersHigh parts row) k ∙ sym e ∙ t))
 
-  pub run-passed : first + count ≤ j → Passed T row first j → false ≡ someBelow count (highSegment T row first)
-  unfolding highSegment
-  run-passed q h = sym (some-not (highSegment T row first) count λ i p. lt-leb row (segmentIn T (first + i) .curve) (ltb-true (segmentIn T (first + i) .curve) row (h (first + i) (omega arith) (omega arith))))
+  pub run-passed : first + count ≤ j → Passed parts row first j → false ≡ someBelow count (highIn parts row first)
+  run-passed q h = sym (some-not (highIn parts row first) count λ i p. lt-leb row (getD parts ((first + i) * 2) 0) (ltb-true (getD parts ((first + i) * 2) 0) row (h (first + i) (omega arith) (omega arith))))
 
 -- entries were followed from first to k
-module _ {T : Tables} {s t : List ℕ} {row first k : ℕ} (h : Seen T s row) (m : Moved s t first k) where
-  pub begun-seen : Seen T t row
-  begun-seen = record { leads = m .leads; lower = m .still (lowSegment T row) (h .lower) }
+module _ {parts s t : List ℕ} {row first k : ℕ} (h : Seen parts s row) (m : Moved s t first k) where
+  pub begun-seen : Seen parts t row
+  begun-seen = record { leads = m .leads; lower = m .still (lowSegment parts row) (h .lower) }
 
-  pub begun-passed : Passed T row first k
-  begun-passed = m .passed (lowSegment T row) (h .lower)
+  pub begun-passed : Passed parts row first k
+  begun-passed = m .passed (lowSegment parts row) (h .lower)
 
 -- segment j was looked at
-module _ (T : Tables) (s : List ℕ) (row j : ℕ) {b : Bool} (h : Seen T s row) (p : j + 1 < length s) (e : b ≡ leb row (segmentIn T j .curve)) (f : b ≡ false) where
-  looked : lowSegment T row j ≡ true
-  looked = lt-ltb (segmentIn T j .curve) row (leb-false row (segmentIn T j .curve) (sym e ∙ f))
+module _ (parts : List ℕ) (s : List ℕ) (row j : ℕ) {b : Bool} (h : Seen parts s row) (p : j + 1 < length s) (e : b ≡ refersHigh parts row j) (f : b ≡ false) where
+  looked : lowSegment parts row j ≡ true
+  looked = lt-ltb (getD parts (j * 2) 0) row (leb-false row (getD parts (j * 2) 0) (sym e ∙ f))
 
-  only : (i : ℕ) → j ≤ i → i < j + 1 → lowSegment T row i ≡ true
-  only i x y = let z : i ≡ j = omega arith in subst (λ a. lowSegment T row a ≡ true) (sym z) looked
+  only : (i : ℕ) → j ≤ i → i < j + 1 → lowSegment parts row i ≡ true
+  only i x y = let z : i ≡ j = omega arith in subst (λ a. lowSegment parts row a ≡ true) (sym z) looked
 
-  pub looked-seen : Seen T (set s j 1) row
+  pub looked-seen : Seen parts (set s j 1) row
   looked-seen = record {
     leads = set-leads s j 1 (omega arith) p (h .leads);
-    lower = set-over s j 1 (omega arith) (lowSegment T row) only (h .lower);
+    lower = set-over s j 1 (omega arith) (lowSegment parts row) only (h .lower);
   }
 
   -- and entries were followed from the next one to k
-  pub looked-passed : {t : List ℕ} {first k : ℕ} → Moved (set s j 1) t (j + 1) k → Passed T row first j → Passed T row first k
+  pub looked-passed : {t : List ℕ} {first k : ℕ} → Moved (set s j 1) t (j + 1) k → Passed parts row first j → Passed parts row first k
   looked-passed m g i x y = go (ltb i j) refl (ltb i (j + 1)) refl
     where
-      go : (a : Bool) → ltb i j ≡ a → (c : Bool) → ltb i (j + 1) ≡ c → lowSegment T row i ≡ true
+      go : (a : Bool) → ltb i j ≡ a → (c : Bool) → ltb i (j + 1) ≡ c → lowSegment parts row i ≡ true
       go true u c v = g i x (ltb-true i j u)
       go false u true v = only i (ltb-false i j u) (ltb-true i (j + 1) v)
       go false u false v = begun-passed looked-seen m i (ltb-false i (j + 1) v) y

@@ -52,11 +52,13 @@ abbrev pub tooDeep : Tables → Bool
 tooDeep T = someBelow (curveCount T) (deepRow T)
 
 -- 6: the edge's curve, start, end, low or high outside its table
+abbrev pub missingFrom : ℕ → ℕ → Edge → Bool
+missingFrom points rows e =
+    leb rows (e .curve)
+    || ((leb points (e .start) || leb points (e .end)) || (leb points (e .low) || leb points (e .high)))
+
 unfoldable pub missing : Tables → Edge → Bool
-missing T e =
-    leb (curveCount T) (e .curve)
-    || ((leb (pointCount T) (e .start) || leb (pointCount T) (e .end))
-    || (leb (pointCount T) (e .low) || leb (pointCount T) (e .high)))
+missing T e = missingFrom (pointCount T) (curveCount T) e
 
 -- the lowest that applies
 unfoldable pub verdict : Tables → Edge → Options → Verdict

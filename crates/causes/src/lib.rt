@@ -5,13 +5,10 @@ use options::Options;
 ghost use mathlib.Core.Path.{_≡_};
 ghost use Prim.Native.Nat.{_+_, _/_, _<_, _≤_};
 ghost use lib.ListN.{length};
-ghost use lib.Dec.{leb};
 ghost use Rattle.brep.specs.Rows.{lent};
-ghost use Rattle.brep.specs.Tree.{segmentIn};
-ghost use Rattle.nest.specs.Nest.{Inside};
 ghost use Rattle.bounds.specs.Some.{someBelow};
-ghost use Rattle.causes.specs.Skips.{Leads, Moved, Seen, RunInside};
-ghost use Rattle.causes.specs.Causes.{oversize, highSegment, unorderedRow, missing, verdict, tablesVerdict, edgeVerdict, lowestOf};
+ghost use Rattle.causes.specs.Skips.{refersHigh, highIn, outOfOrder, Leads, Moved, Seen, RunInside, RunsInside};
+ghost use Rattle.causes.specs.Causes.{oversize, missingFrom, verdict, tablesVerdict, edgeVerdict, lowestOf};
 
 pub enum Verdict {
     Accepted,
@@ -28,16 +25,8 @@ fn oversize(points: &[f64], curves: &[u32], reals: &[f64], parts: &[u32], ranges
 }
 
 // Whether segment number i refers to row or a higher one.
-fn high_segment(
-    points: &[f64],
-    curves: &[u32],
-    reals: &[f64],
-    parts: &[u32],
-    ranges: &[f64],
-    row: u32,
-    i: u32,
-) -> bool
-    ensures { λ r. ⌜ r ≡ leb row (segmentIn (lent (points .entry) (curves .entry) (reals .entry) (parts .entry) (ranges .entry)) i .curve) ⌝ }
+fn high_segment(parts: &[u32], row: u32, i: u32) -> bool
+    ensures { λ r. ⌜ r ≡ refersHigh (now (parts .entry)) row i ⌝ }
 {
     row <= brep::int_at(parts, i as usize * 2)
 }
@@ -59,25 +48,14 @@ fn unseen(skips: &mut [u32], from: u32) -> u32
 }
 
 // A segment that a lower row looked at refers to rows below that one, so that it is not looked at again.
-fn any_high_segment(
-    points: &[f64],
-    curves: &[u32],
-    reals: &[f64],
-    parts: &[u32],
-    ranges: &[f64],
-    skips: &mut [u32],
-    row: u32,
-    first: u32,
-    count: u32,
-) -> bool
-    requires { ⌜ Seen (lent points curves reals parts ranges) (now skips) row × (first + count < length (now skips)) ⌝ }
-    ensures { λ r. ⌜ (r ≡ someBelow count (highSegment (lent (points .entry) (curves .entry) (reals .entry) (parts .entry) (ranges .entry)) row first))
-        × Seen (lent (points .entry) (curves .entry) (reals .entry) (parts .entry) (ranges .entry)) (now (skips .exit)) row ⌝ }
+fn any_high_segment(parts: &[u32], skips: &mut [u32], row: u32, first: u32, count: u32) -> bool
+    requires { ⌜ Seen (now parts) (now skips) row × (first + count < length (now skips)) ⌝ }
+    ensures { λ r. ⌜ (r ≡ someBelow count (highIn (now (parts .entry)) row first)) × Seen (now (parts .entry)) (now (skips .exit)) row ⌝ }
 {
     let end = first + count;
     let mut j = unseen(skips, first);
     while j < end {
-        if high_segment(points, curves, reals, parts, ranges, row, j) {
+        if high_segment(parts, row, j) {
             return true;
         }
         skips[j as usize] = 1;
@@ -86,18 +64,9 @@ fn any_high_segment(
     false
 }
 
-fn unordered_row(
-    points: &[f64],
-    curves: &[u32],
-    reals: &[f64],
-    parts: &[u32],
-    ranges: &[f64],
-    skips: &mut [u32],
-    row: u32,
-) -> bool
-    requires { ⌜ Seen (lent points curves reals parts ranges) (now skips) row × RunInside (lent points curves reals parts ranges) (now skips) row ⌝ }
-    ensures { λ r. ⌜ (r ≡ unorderedRow (lent (points .entry) (curves .entry) (reals .entry) (parts .entry) (ranges .entry)) row)
-        × Seen (lent (points .entry) (curves .entry) (reals .entry) (parts .entry) (ranges .entry)) (now (skips .exit)) row ⌝ }
+fn unordered_row(curves: &[u32], parts: &[u32], skips: &mut [u32], row: u32) -> bool
+    requires { ⌜ Seen (now parts) (now skips) row × RunInside (now curves) (now skips) row ⌝ }
+    ensures { λ r. ⌜ (r ≡ outOfOrder (now (curves .entry)) (now (parts .entry)) row) × Seen (now (parts .entry)) (now (skips .exit)) row ⌝ }
 {
     let at = row as usize * 3;
     let kind = brep::int_at(curves, at);
@@ -106,38 +75,20 @@ fn unordered_row(
         6 => row <= first,
         7 => {
             let count = brep::int_at(curves, at + 2);
-            any_high_segment(
-                points,
-                curves,
-                reals,
-                parts,
-                ranges,
-                skips,
-                row,
-                first,
-                count,
-            )
+            any_high_segment(parts, skips, row, first, count)
         }
         _ => false,
     }
 }
 
 // Cause 4 in the first rows rows, lowest first, with room for what each segment leads to.
-fn unordered_in(
-    points: &[f64],
-    curves: &[u32],
-    reals: &[f64],
-    parts: &[u32],
-    ranges: &[f64],
-    skips: &mut [u32],
-    rows: u32,
-) -> bool
-    requires { ⌜ Seen (lent points curves reals parts ranges) (now skips) 0 × (length (now parts) / 2 < length (now skips)) × Inside (lent points curves reals parts ranges) rows ⌝ }
-    ensures { λ r. ⌜ r ≡ someBelow rows (unorderedRow (lent (points .entry) (curves .entry) (reals .entry) (parts .entry) (ranges .entry))) ⌝ }
+fn unordered_in(curves: &[u32], parts: &[u32], skips: &mut [u32], rows: u32) -> bool
+    requires { ⌜ Seen (now parts) (now skips) 0 × (length (now parts) / 2 < length (now skips)) × RunsInside (now curves) (length (now parts) / 2) rows ⌝ }
+    ensures { λ r. ⌜ r ≡ someBelow rows (outOfOrder (now (curves .entry)) (now (parts .entry))) ⌝ }
 {
     let mut row: u32 = 0;
     while row < rows {
-        if unordered_row(points, curves, reals, parts, ranges, skips, row) {
+        if unordered_row(curves, parts, skips, row) {
             return true;
         }
         row += 1;
@@ -146,43 +97,25 @@ fn unordered_in(
 }
 
 // Cause 4. Few segments need little room, which is cleared at each call.
-fn unordered(
-    points: &[f64],
-    curves: &[u32],
-    reals: &[f64],
-    parts: &[u32],
-    ranges: &[f64],
-    rows: u32,
-) -> bool
-    requires { ⌜ (length (now parts) / 2 ≤ 4096) × Inside (lent points curves reals parts ranges) rows ⌝ }
-    ensures { λ r. ⌜ r ≡ someBelow rows (unorderedRow (lent (points .entry) (curves .entry) (reals .entry) (parts .entry) (ranges .entry))) ⌝ }
+fn unordered(curves: &[u32], parts: &[u32], rows: u32) -> bool
+    requires { ⌜ (length (now parts) / 2 ≤ 4096) × RunsInside (now curves) (length (now parts) / 2) rows ⌝ }
+    ensures { λ r. ⌜ r ≡ someBelow rows (outOfOrder (now (curves .entry)) (now (parts .entry))) ⌝ }
 {
     if parts.len() / 2 <= 32 {
         let mut few = [0u32; 33];
-        return unordered_in(points, curves, reals, parts, ranges, &mut few, rows);
+        return unordered_in(curves, parts, &mut few, rows);
     }
     let mut skips = [0u32; 4097];
-    unordered_in(points, curves, reals, parts, ranges, &mut skips, rows)
+    unordered_in(curves, parts, &mut skips, rows)
 }
 
-// Cause 6.
-fn missing(
-    points: &[f64],
-    curves: &[u32],
-    reals: &[f64],
-    parts: &[u32],
-    ranges: &[f64],
-    edge: Edge,
-) -> bool
-    ensures { λ r. ⌜ r ≡ missing (lent (points .entry) (curves .entry) (reals .entry) (parts .entry) (ranges .entry)) edge ⌝ }
+// Cause 6, over so many points and rows.
+fn missing(points: usize, rows: usize, edge: Edge) -> bool
+    ensures { λ r. ⌜ r ≡ missingFrom points rows edge ⌝ }
 {
-    let n = points.len() / 3;
-    let vertices = either(n <= edge.start as usize, n <= edge.end as usize);
-    let corners = either(n <= edge.low as usize, n <= edge.high as usize);
-    either(
-        curves.len() / 3 <= edge.curve as usize,
-        either(vertices, corners),
-    )
+    let vertices = either(points <= edge.start as usize, points <= edge.end as usize);
+    let corners = either(points <= edge.low as usize, points <= edge.high as usize);
+    either(rows <= edge.curve as usize, either(vertices, corners))
 }
 
 // The lowest of the causes 1 to 5 that the tables alone have: for many edges over the same tables, once.
@@ -205,7 +138,7 @@ pub fn check_tables(
     if forms::ill_formed_tables(points, curves, reals, parts, ranges) {
         return Verdict::Refused(3);
     }
-    if unordered(points, curves, reals, parts, ranges, rows) {
+    if unordered(curves, parts, rows) {
         return Verdict::Refused(4);
     }
     if nest::too_deep(points, curves, reals, parts, ranges, rows) {
@@ -232,7 +165,7 @@ pub fn check_edge(
     if forms::ill_formed_edge(edge, options) {
         return Verdict::Refused(3);
     }
-    if missing(points, curves, reals, parts, ranges, edge) {
+    if missing(points.len() / 3, curves.len() / 3, edge) {
         return Verdict::Refused(6);
     }
     Verdict::Accepted

@@ -60,13 +60,19 @@ unfoldable pub unusedSet : ℕ → Float → Float → Bool
 unusedSet kind p q = (spareP kind && notZero p) || (spareQ kind && notZero q)
 
 -- how many there are of what a row refers to: points, or the rows for a trim's base, or the segments of a composite
-unfoldable pub room : Tables → ℕ → ℕ
-room T kind = cond (leb kind 5) (pointCount T) (cond (eqb kind 6) (curveCount T) (segmentCount T))
+abbrev pub roomOf : ℕ → ℕ → ℕ → ℕ → ℕ
+roomOf points rows segments kind = cond (leb kind 5) points (cond (eqb kind 6) rows segments)
 
--- a row of this kind with these numbers; a run must end inside its table
+unfoldable pub room : Tables → ℕ → ℕ
+room T kind = roomOf (pointCount T) (curveCount T) (segmentCount T) kind
+
+-- a row of this kind with these numbers, among so many of what it refers to; a run must end inside its table
+abbrev pub malformedIn : ℕ → ℕ → ℕ → ℕ → Float → Float → Bool
+malformedIn n kind first count p q =
+    (unknownKind kind || wrongCount kind count) || (unusedSet kind p q || ltb n (first + count))
+
 unfoldable pub malformed : Tables → ℕ → ℕ → ℕ → Float → Float → Bool
-malformed T kind first count p q =
-    (unknownKind kind || wrongCount kind count) || (unusedSet kind p q || ltb (room T kind) (first + count))
+malformed T kind first count p q = malformedIn (room T kind) kind first count p q
 
 -- row i of the curves
 unfoldable pub malformedRow : Tables → ℕ → Bool
@@ -74,9 +80,12 @@ malformedRow T i =
     malformed T (getD (T .curves) (i * 3) 0) (getD (T .curves) (i * 3 + 1) 0) (getD (T .curves) (i * 3 + 2) 0)
     (getD (T .reals) (i * 2) nan) (getD (T .reals) (i * 2 + 1) nan)
 
--- segment i: its curve outside the table, or its sense neither 0 nor 1
+-- segment i: its curve not among so many rows, or its sense neither 0 nor 1
+abbrev pub malformedPart : List ℕ → ℕ → ℕ → Bool
+malformedPart parts rows i = leb rows (getD parts (i * 2) 0) || ltb 1 (getD parts (i * 2 + 1) 0)
+
 unfoldable pub malformedSegment : Tables → ℕ → Bool
-malformedSegment T i = leb (curveCount T) (getD (T .parts) (i * 2) 0) || ltb 1 (getD (T .parts) (i * 2 + 1) 0)
+malformedSegment T i = malformedPart (T .parts) (curveCount T) i
 
 -- the slices, the rows, or the segments
 abbrev pub illFormedTables : Tables → Bool

@@ -9,7 +9,8 @@ ghost use lib.ListN.{length};
 ghost use lib.Dec.{ltb};
 ghost use Rattle.brep.specs.Rows.{lent};
 ghost use Rattle.bounds.specs.Some.{someBelow};
-ghost use Rattle.forms.specs.Forms.{broken, uneven, unknownKind, wrongCount, spareP, spareQ, unusedSet, room, malformed, malformedRow, malformedSegment, illFormedTables, illFormedEdge};
+ghost use Rattle.forms.specs.Forms.{broken, uneven, unknownKind, wrongCount, spareP, spareQ, unusedSet, roomOf, malformedIn};
+ghost use Rattle.forms.specs.Forms.{malformedRow, malformedPart, illFormedTables, illFormedEdge};
 
 fn broken(points: &[f64], curves: &[u32], reals: &[f64], parts: &[u32], ranges: &[f64]) -> bool
     ensures { λ r. ⌜ r ≡ broken (lent (points .entry) (curves .entry) (reals .entry) (parts .entry) (ranges .entry)) ⌝ }
@@ -68,22 +69,15 @@ fn unused_set(kind: u32, p: f64, q: f64) -> bool
 }
 
 // How many there are of what a row of this kind refers to.
-fn room(
-    points: &[f64],
-    curves: &[u32],
-    reals: &[f64],
-    parts: &[u32],
-    ranges: &[f64],
-    kind: u32,
-) -> usize
-    ensures { λ r. ⌜ r ≡ room (lent (points .entry) (curves .entry) (reals .entry) (parts .entry) (ranges .entry)) kind ⌝ }
+fn room(points: usize, rows: usize, segments: usize, kind: u32) -> usize
+    ensures { λ r. ⌜ r ≡ roomOf points rows segments kind ⌝ }
 {
     if kind <= 5 {
-        points.len() / 3
+        points
     } else if kind == 6 {
-        curves.len() / 3
+        rows
     } else {
-        parts.len() / 2
+        segments
     }
 }
 
@@ -94,24 +88,12 @@ fn outside(room: usize, first: u32, count: u32) -> bool
     room < first as usize + count as usize
 }
 
-fn malformed(
-    points: &[f64],
-    curves: &[u32],
-    reals: &[f64],
-    parts: &[u32],
-    ranges: &[f64],
-    kind: u32,
-    first: u32,
-    count: u32,
-    p: f64,
-    q: f64,
-) -> bool
-    ensures { λ r. ⌜ r ≡ malformed (lent (points .entry) (curves .entry) (reals .entry) (parts .entry) (ranges .entry)) kind first count p q ⌝ }
+fn malformed(room: usize, kind: u32, first: u32, count: u32, p: f64, q: f64) -> bool
+    ensures { λ r. ⌜ r ≡ malformedIn room kind first count p q ⌝ }
 {
     let shape = either(unknown_kind(kind), wrong_count(kind, count));
     let unused = unused_set(kind, p, q);
-    let n = room(points, curves, reals, parts, ranges, kind);
-    either(shape, either(unused, outside(n, first, count)))
+    either(shape, either(unused, outside(room, first, count)))
 }
 
 fn malformed_row(
@@ -131,18 +113,8 @@ fn malformed_row(
     let count = brep::int_at(curves, at + 2);
     let p = brep::float_at(reals, row * 2);
     let q = brep::float_at(reals, row * 2 + 1);
-    malformed(
-        points,
-        curves,
-        reals,
-        parts,
-        ranges,
-        kind,
-        first,
-        count,
-        p,
-        q,
-    )
+    let n = room(points.len() / 3, curves.len() / 3, parts.len() / 2, kind);
+    malformed(n, kind, first, count, p, q)
 }
 
 fn any_row(points: &[f64], curves: &[u32], reals: &[f64], parts: &[u32], ranges: &[f64]) -> bool
@@ -159,29 +131,22 @@ fn any_row(points: &[f64], curves: &[u32], reals: &[f64], parts: &[u32], ranges:
     false
 }
 
-fn malformed_segment(
-    points: &[f64],
-    curves: &[u32],
-    reals: &[f64],
-    parts: &[u32],
-    ranges: &[f64],
-    i: usize,
-) -> bool
+fn malformed_segment(parts: &[u32], rows: usize, i: usize) -> bool
     requires { ⌜ i * 2 + 2 ≤ length (now parts) ⌝ }
-    ensures { λ r. ⌜ r ≡ malformedSegment (lent (points .entry) (curves .entry) (reals .entry) (parts .entry) (ranges .entry)) i ⌝ }
+    ensures { λ r. ⌜ r ≡ malformedPart (now (parts .entry)) rows i ⌝ }
 {
     let curve = brep::int_at(parts, i * 2);
     let sense = brep::int_at(parts, i * 2 + 1);
-    either(curves.len() / 3 <= curve as usize, 1 < sense)
+    either(rows <= curve as usize, 1 < sense)
 }
 
-fn any_segment(points: &[f64], curves: &[u32], reals: &[f64], parts: &[u32], ranges: &[f64]) -> bool
-    ensures { λ r. ⌜ r ≡ someBelow (length (now (parts .entry)) / 2) (malformedSegment (lent (points .entry) (curves .entry) (reals .entry) (parts .entry) (ranges .entry))) ⌝ }
+fn any_segment(parts: &[u32], rows: usize) -> bool
+    ensures { λ r. ⌜ r ≡ someBelow (length (now (parts .entry)) / 2) (malformedPart (now (parts .entry)) rows) ⌝ }
 {
     let segments = parts.len() / 2;
     let mut i: usize = 0;
     while i < segments {
-        if malformed_segment(points, curves, reals, parts, ranges, i) {
+        if malformed_segment(parts, rows, i) {
             return true;
         }
         i += 1;
@@ -205,7 +170,7 @@ pub fn ill_formed_tables(
     );
     let rows = either(
         any_row(points, curves, reals, parts, ranges),
-        any_segment(points, curves, reals, parts, ranges),
+        any_segment(parts, curves.len() / 3),
     );
     either(ragged, rows)
 }

@@ -8,7 +8,7 @@ ghost use lib.ListN.{length, getD};
 ghost use Rattle.brep.specs.Rows.{lent};
 ghost use Rattle.bounds.specs.Some.{someBelow};
 ghost use Rattle.nest.specs.Nest.{deepRow, Falling, Inside};
-ghost use Rattle.nest.specs.Levels.{Agrees, nests, segmentMarked, countBelow, nextMark, TrimsFall};
+ghost use Rattle.nest.specs.Levels.{Agrees, nests, segmentMarked, countBelow, nextMark, TrimsFall, TellsDeep};
 
 // Mark number i; past the end there is none.
 fn mark_at(marks: &[bool], i: usize) -> bool
@@ -104,22 +104,12 @@ fn mark_deeper(curves: &[u32], marks: &mut [bool], sums: &[u32], rows: u32) -> b
 
 // With room for a mark of each row, and for a count before each segment and after the last. Where nothing reaches a depth,
 // nothing reaches a greater one.
-fn deep_in(
-    points: &[f64],
-    curves: &[u32],
-    reals: &[f64],
-    parts: &[u32],
-    ranges: &[f64],
-    marks: &mut [bool],
-    sums: &mut [u32],
-    rows: u32,
-) -> bool
+fn deep_in(curves: &[u32], parts: &[u32], marks: &mut [bool], sums: &mut [u32], rows: u32) -> bool
     requires { ⌜ rows ≤ length (now marks) ⌝ }
     requires { ⌜ length (now parts) / 2 ≤ 4096 ⌝ }
     requires { ⌜ length (now parts) / 2 < length (now sums) ⌝ }
-    requires { ⌜ Falling (lent points curves reals parts ranges) rows ⌝ }
-    requires { ⌜ Inside (lent points curves reals parts ranges) rows ⌝ }
-    ensures { λ r. ⌜ r ≡ someBelow rows (deepRow (lent (points .entry) (curves .entry) (reals .entry) (parts .entry) (ranges .entry))) ⌝ }
+    requires { ⌜ TrimsFall (now curves) rows ⌝ }
+    ensures { λ r. ⌜ TellsDeep (now (curves .entry)) (now (parts .entry)) rows r ⌝ }
 {
     let mut some = mark_nested(curves, marks, rows);
     let mut depth: u32 = 1;
@@ -152,27 +142,9 @@ pub fn too_deep(
     if rows <= 32 && parts.len() / 2 <= 32 {
         let mut few = [false; 32];
         let mut sums = [0u32; 33];
-        return deep_in(
-            points,
-            curves,
-            reals,
-            parts,
-            ranges,
-            &mut few,
-            &mut sums,
-            rows,
-        );
+        return deep_in(curves, parts, &mut few, &mut sums, rows);
     }
     let mut marks = [false; 4096];
     let mut sums = [0u32; 4097];
-    deep_in(
-        points,
-        curves,
-        reals,
-        parts,
-        ranges,
-        &mut marks,
-        &mut sums,
-        rows,
-    )
+    deep_in(curves, parts, &mut marks, &mut sums, rows)
 }

@@ -59,9 +59,13 @@ hasScale o = finite (o .scale) && lt nought (o .scale)
 abbrev pub leastPositive : Float
 leastPositive = bits 0x0010000000000000
 
+-- the deflection, or that times the scale where it is relative and there is a scale
+abbrev pub distance : Options → Float
+distance o = cond (isRelative o && hasScale o) (o .deflection ⊗ o .scale) (o .deflection)
+
 -- the sag of the whole model
 unfoldable pub resolvedSag : Options → Float
-resolvedSag o = maxOf (cond (isRelative o && hasScale o) (o .deflection ⊗ o .scale) (o .deflection)) leastPositive
+resolvedSag o = maxOf (distance o) leastPositive
 
 -- the scale, or 0 for none
 unfoldable pub resolvedModel : Options → Float
@@ -104,15 +108,14 @@ forExtent r extent = record {
   depth = r .depth;
 }
 
--- the step that keeps the arc of a radius above the sag within it
-abbrev pub stepBySag : Float → Float → Float
-stepBySag sag radius = two ⊗ acosOf (clampOf (one ⊖ sag ⊘ radius) (neg one) one)
+-- the step that keeps an arc of a radius above the sag within it, and the angle for any other
+abbrev pub stepBySag : Resolved → Float → Float
+stepBySag r radius =
+    cond (lt (r .sag) radius) (two ⊗ acosOf (clampOf (one ⊖ r .sag ⊘ radius) (neg one) one)) (r .angle)
 
 -- Resolved::angle_step_for_radius: at least 1e-3
 unfoldable pub angleStep : Resolved → Float → Float
-angleStep r radius =
-    maxOf (minOf (cond (lt (r .sag) (absOf radius)) (stepBySag (r .sag) (absOf radius)) (r .angle)) (r .angle))
-    (bits 0x3F50624DD2F1A9FC)
+angleStep r radius = maxOf (minOf (stepBySag r (absOf radius)) (r .angle)) (bits 0x3F50624DD2F1A9FC)
 
 -- Resolved::segments_for_arc: segments that sweep `total` radians on a radius
 unfoldable pub segmentsForArc : Resolved → Float → Float → ℕ

@@ -1,7 +1,9 @@
 // Tessellation tolerances: options.rs.
 ghost use mathlib.Core.Path.{_≡_};
 ghost use Prim.Native.Nat.{min, max};
-ghost use Rattle.options.specs.Options.{preset, hasScale, resolvedSag, resolvedModel, resolvedRelative, isRelativeTo, stepBySag, radians, degrees, isClamped, defaultOptions, draftOptions, fineOptions, resolve, sagFor, forExtent, angleStep, segmentsForArc};
+ghost use Rattle.options.specs.Options.{radians, degrees, isClamped, preset, defaultOptions, draftOptions, fineOptions};
+ghost use Rattle.options.specs.Options.{hasScale, distance, resolvedModel, resolvedRelative, resolve};
+ghost use Rattle.options.specs.Options.{isRelativeTo, sagFor, forExtent, stepBySag, angleStep, segmentsForArc};
 
 const MIN_POSITIVE: f64 = 2.2250738585072014e-308;
 
@@ -97,16 +99,15 @@ impl Options {
         arith::is_finite(self.scale) && 0.0 < self.scale
     }
 
-    fn resolved_sag(self) -> f64
-        ensures { λ r. ⌜ r ≡ resolvedSag self ⌝ }
+    // Without a scale the deflection stands as it is.
+    fn distance(self) -> f64
+        ensures { λ r. ⌜ r ≡ distance self ⌝ }
     {
-        if self.relative == 0 {
-            return arith::max(self.deflection, MIN_POSITIVE);
+        if self.relative != 0 && self.has_scale() {
+            self.deflection * self.scale
+        } else {
+            self.deflection
         }
-        if self.has_scale() {
-            return arith::max(self.deflection * self.scale, MIN_POSITIVE);
-        }
-        arith::max(self.deflection, MIN_POSITIVE)
     }
 
     fn resolved_model(self) -> f64
@@ -126,12 +127,11 @@ impl Options {
         }
     }
 
-    // Without a scale the deflection stands as it is.
     pub fn resolve(self) -> Resolved
         ensures { λ r. ⌜ r ≡ resolve self ⌝ }
     {
         Resolved {
-            sag: self.resolved_sag(),
+            sag: arith::max(self.distance(), MIN_POSITIVE),
             model: self.resolved_model(),
             relative: self.resolved_relative(),
             angle: arith::clamp(self.angle.0, LEAST_ANGLE, LARGEST_ANGLE),
@@ -190,22 +190,22 @@ impl Resolved {
         }
     }
 
-    // The step that keeps the arc of a radius above the sag within it.
+    // The step that keeps an arc within the sag. A feature that is all within it has only the angle to respect.
     fn step_by_sag(self, radius: f64) -> f64
-        ensures { λ r. ⌜ r ≡ stepBySag (self .sag) radius ⌝ }
+        ensures { λ r. ⌜ r ≡ stepBySag self radius ⌝ }
     {
-        2.0 * trig::acos(arith::clamp(1.0 - self.sag / radius, -1.0, 1.0))
+        if self.sag < radius {
+            2.0 * trig::acos(arith::clamp(1.0 - self.sag / radius, -1.0, 1.0))
+        } else {
+            self.angle
+        }
     }
 
     pub fn angle_step_for_radius(self, radius: f64) -> f64
         ensures { λ r. ⌜ r ≡ angleStep self radius ⌝ }
     {
-        let r = arith::abs(radius);
-        if self.sag < r {
-            return arith::max(arith::min(self.step_by_sag(r), self.angle), LEAST_STEP);
-        }
-        // The whole feature is within the sag: only the angle is left to respect.
-        arith::max(arith::min(self.angle, self.angle), LEAST_STEP)
+        let by_sag = self.step_by_sag(arith::abs(radius));
+        arith::max(arith::min(by_sag, self.angle), LEAST_STEP)
     }
 
     pub fn segments_for_arc(self, radius: f64, total: f64) -> u64

@@ -1,7 +1,8 @@
-// Reads groups of lines from standard input, parted by lines `====`: options as a sheet's last line has them, then lines
-// `EXTENT RADIUS TOTAL`. Writes for each group the line `SAG MODEL RELATIVE ANGLE SEGMENTS DEPTH` of the options resolved,
-// then for each line `SAG STEP COUNT`: the sag for the extent, and there the step of the radius and the segments of the arc.
-// `?` stands for a malformed line; malformed options end their group. Floats are 16 lowercase hex digits of their bits.
+// Reads groups of lines from standard input, parted by lines `====`: options as a sheet's last line has them, or a preset's
+// name, then lines `EXTENT RADIUS TOTAL` and `degrees ANGLE`. Writes for each group the line `SAG MODEL RELATIVE ANGLE SEGMENTS
+// DEPTH` of the options resolved, then for each line of three floats `SAG STEP COUNT`: the sag for the extent, and there the
+// step of the radius and the segments of the arc; and for each angle its radians. `?` stands for a malformed line; malformed
+// options end their group. Floats are 16 lowercase hex digits of their bits.
 use libc::STDIN_FILENO;
 use options::Options;
 use options::Radians;
@@ -34,6 +35,28 @@ fn options_of(raw: RawOptions) -> Options {
     }
 }
 
+// Whether the line begins with this word.
+fn starts(line: &[u8; 128], word: &[u8]) -> bool {
+    match text::word(line, 0, word, 0) {
+        Num::Got(_, _) => true,
+        Num::Bad => false,
+    }
+}
+
+// The group that a preset's name begins.
+fn preset(line: &[u8; 128]) -> Group {
+    if starts(line, b"default\n") {
+        return Group::Begun(Options::default().resolve());
+    }
+    if starts(line, b"draft\n") {
+        return Group::Begun(Options::draft().resolve());
+    }
+    if starts(line, b"fine\n") {
+        return Group::Begun(Options::fine().resolve());
+    }
+    Group::Malformed
+}
+
 // The group that a line begins.
 fn begun(line: &[u8; 128]) -> Group {
     let row = layout::line(line, 0, b"ffwlwf");
@@ -41,7 +64,7 @@ fn begun(line: &[u8; 128]) -> Group {
         let numbers = row.numbers;
         return Group::Begun(options_of(rows::options_of(&numbers)).resolve());
     }
-    Group::Malformed
+    preset(line)
 }
 
 fn put_malformed(out: &mut [u8; 4096], at: usize) -> usize {
@@ -72,7 +95,20 @@ fn put_arc(
     replay_text::decimal_then(out, step, own.segments_for_arc(radius, total), b'\n')
 }
 
-// The answer to a line `EXTENT RADIUS TOTAL`.
+// The answer to a line `degrees ANGLE`.
+fn put_degrees(line: &[u8; 128], out: &mut [u8; 4096], at: usize) -> usize {
+    if starts(line, b"degrees ") {
+        let row = layout::line(line, 8, b"f");
+        if row.ok {
+            let numbers = row.numbers;
+            let angle = Radians::degrees(rows::float_of(numbers[0]));
+            return replay_text::float_then(out, at, angle.0, b'\n');
+        }
+    }
+    put_malformed(out, at)
+}
+
+// The answer to a line of three floats, or of degrees.
 fn answer(r: Resolved, line: &[u8; 128], out: &mut [u8; 4096], at: usize) -> usize {
     let row = layout::line(line, 0, b"fff");
     if row.ok {
@@ -82,7 +118,7 @@ fn answer(r: Resolved, line: &[u8; 128], out: &mut [u8; 4096], at: usize) -> usi
         let total = rows::float_of(numbers[2]);
         return put_arc(r, extent, radius, total, out, at);
     }
-    put_malformed(out, at)
+    put_degrees(line, out, at)
 }
 
 // The answer to a group's first line.

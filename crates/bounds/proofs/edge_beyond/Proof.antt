@@ -21,7 +21,7 @@ either-requires-2 c κs = search needs
 
 returns : tie.Need-returns
 unfolding edgeBeyond
-returns c = cc
+returns c = rw (c .either2 .ensures, c .before .either .ensures, c .before .before .beyond .ensures, c .before .before .before .finite-beyond2 .ensures, c .before .before .before .before .finite-beyond .ensures)
 
 pub edge-beyond-spec : {M : Type 1} → statement M
 edge-beyond-spec = tie.close (tie.spec finite-beyond-requires finite-beyond-requires-2 beyond-requires either-requires either-requires-2 returns)

@@ -15,7 +15,7 @@ both-requires c κs = search needs
 
 returns : tie.Need-returns
 unfolding finiteBeyond
-returns c = cc
+returns c = rw (c .both .ensures, c .before .beyond .ensures, c .before .before .is-finite .ensures)
 
 pub finite-beyond-spec : {M : Type 1} → statement M
 finite-beyond-spec = tie.close (tie.spec is-finite-requires beyond-requires both-requires returns)

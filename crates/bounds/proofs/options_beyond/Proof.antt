@@ -21,7 +21,7 @@ either-requires-2 c κs = search needs
 
 returns : tie.Need-returns
 unfolding optionsBeyond
-returns c = cc
+returns c = rw (c .either2 .ensures, c .before .either .ensures, c .before .before .finite-beyond .ensures, c .before .before .before .beyond2 .ensures, c .before .before .before .before .beyond .ensures)
 
 pub options-beyond-spec : {M : Type 1} → statement M
 options-beyond-spec = tie.close (tie.spec beyond-requires beyond-requires-2 finite-beyond-requires either-requires either-requires-2 returns)

@@ -13,7 +13,7 @@ either-requires : tie.Need-either-requires
 either-requires c κs = search needs
 
 returns : tie.Need-returns
-returns c = cc
+returns c = rw (c .either .ensures, c .before .options-beyond .ensures, c .before .before .edge-beyond .ensures)
 
 pub unbounded-edge-spec : {M : Type 1} → statement M
 unbounded-edge-spec =

@@ -19,7 +19,7 @@ either-requires-2 : tie.Need-either-requires-2
 either-requires-2 c κs = search needs
 
 returns : tie.Need-returns
-returns c = cc
+returns c = rw (c .either2 .ensures, c .before .either .ensures, c .before .before .any-beyond3 .ensures, c .before .before .before .any-beyond2 .ensures, c .before .before .before .before .any-beyond .ensures)
 
 pub unbounded-tables-spec : {M : Type 1} → statement M
 unbounded-tables-spec =

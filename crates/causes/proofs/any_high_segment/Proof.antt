@@ -4,28 +4,27 @@ use Prim.Native.Nat.{_+_, _-_, _<_, _≤_}
 use native.Mathlib.Omega.{arith}
 use lib.ListN.{length, length-set}
 use borrow.Author.Needs.{needs}
-use Rattle.brep.specs.Rows.{tables}
 use Rattle.causes.specs.Skips.{Seen}
 use Rattle.causes.proofs.Skips.{Passed, run-found, run-passed, begun-seen, begun-passed, looked-seen, looked-passed}
 use Rattle.causes.proofs.any_high_segment.Statement.{statement}
 use Rattle.causes.proofs.any_high_segment.Tie as tie
 
 abbrev Inv-loop : tie.InvT-loop
-Inv-loop points curves reals parts ranges skips₀ row first count end j₀ skips j =
-    Seen (tables points curves reals parts ranges) skips row × (first + count < length skips) × (first ≤ j) × (j < length skips)
-    × Passed (tables points curves reals parts ranges) row first j × (length skips ≡ length skips₀)
+Inv-loop parts skips₀ row first count end j₀ skips j =
+    Seen parts skips row × (first + count < length skips) × (first ≤ j) × (j < length skips)
+    × Passed parts row first j × (length skips ≡ length skips₀)
 
 abbrev μ-loop : tie.MeasureT-loop
-μ-loop points curves reals parts ranges skips₀ row first count end j₀ skips j = length skips₀ - j
+μ-loop parts skips₀ row first count end j₀ skips j = length skips₀ - j
 
 add-end : tie.Need-add-end Inv-loop μ-loop
-add-end c = omega (arith, c .before .before .before .before .before .before .pre .0 .leads .few)
+add-end c = omega (arith, c .before .before .pre .0 .leads .few)
 
 unseen-requires : tie.Need-unseen-requires Inv-loop μ-loop
-unseen-requires c κs = (c .before .before .before .before .before .before .before .pre .0 .leads, omega (arith, c .before .before .before .before .before .before .before .pre .1))
+unseen-requires c κs = (c .before .before .before .pre .0 .leads, omega (arith, c .before .before .before .pre .1))
 
 loop-holds : tie.Need-loop-holds Inv-loop μ-loop
-loop-holds c = (begun-seen (c .before .before .before .before .before .before .before .before .before .before .pre .0) (c .before .before .unseen .ensures), omega (arith, c .before .before .before .before .before .before .before .before .before .before .pre .1, c .before .before .unseen .ensures .same), c .before .before .unseen .ensures .low, c .before .before .unseen .ensures .high, begun-passed (c .before .before .before .before .before .before .before .before .before .before .pre .0) (c .before .before .unseen .ensures), refl)
+loop-holds c = (begun-seen (c .before .before .before .before .before .before .pre .0) (c .before .before .unseen .ensures), omega (arith, c .before .before .before .before .before .before .pre .1, c .before .before .unseen .ensures .same), c .before .before .unseen .ensures .low, c .before .before .unseen .ensures .high, begun-passed (c .before .before .before .before .before .before .pre .0) (c .before .before .unseen .ensures), refl)
 
 high-segment-requires : tie.Need-high-segment-requires Inv-loop μ-loop
 high-segment-requires c κs = search needs
@@ -34,7 +33,7 @@ same-length : tie.Need-same-length Inv-loop μ-loop
 same-length c = c .before .before .before .loop .inv .5 ∙ c .before .before .before .before .before .before .unseen .kept .0
 
 returns : tie.Need-returns Inv-loop μ-loop
-returns c = (run-found _ _ _ _ _ (c .before .before .before .loop .inv .2) (c .before .before .loop-test .taken) (c .before .high-segment .ensures) (c .if1 .taken), c .before .before .before .loop .inv .0)
+returns c = let a = c .before .before .before .before .before .before .before .before .before .before .args in (run-found (a .parts .now) (a .row) _ _ _ (c .before .before .before .loop .inv .2) (c .before .before .loop-test .taken) (c .before .high-segment .ensures) (c .if1 .taken), c .before .before .before .loop .inv .0)
 
 cast-skips : tie.Need-cast-skips Inv-loop μ-loop
 cast-skips c = search needs
@@ -68,7 +67,7 @@ same-length-2 : tie.Need-same-length-2 Inv-loop μ-loop
 same-length-2 c = c .before .loop .inv .5 ∙ c .before .before .before .before .unseen .kept .0
 
 returns-2 : tie.Need-returns-2 Inv-loop μ-loop
-returns-2 c = (run-passed _ _ _ _ _ (c .loop-test .left) (c .before .loop .inv .4), c .before .loop .inv .0)
+returns-2 c = let a = c .before .before .before .before .before .before .before .before .args in (run-passed (a .parts .now) (a .row) _ _ _ (c .loop-test .left) (c .before .loop .inv .4), c .before .loop .inv .0)
 
 pub any-high-segment-spec : {M : Type 1} → statement M
 any-high-segment-spec =

@@ -1,4 +1,5 @@
 -- `causes::check` meets its contract. Assumes nothing.
+use mathlib.Core.Path.{sym}
 use Rattle.causes.proofs.Apart.{verdict-apart}
 use borrow.Author.Needs.{needs}
 use Rattle.causes.proofs.check.Statement.{statement}
@@ -14,7 +15,7 @@ lower-requires : tie.Need-lower-requires
 lower-requires c κs = search needs
 
 returns : tie.Need-returns
-returns c = cc (verdict-apart _ _ _)
+returns c = rw (c .lower .ensures, c .before .check-edge .ensures, c .before .before .check-tables .ensures) (sym (verdict-apart _ _ _))
 
 pub check-spec : {M : Type 1} → statement M
 check-spec = tie.close (tie.spec check-tables-requires check-edge-requires lower-requires returns)

@@ -1,5 +1,5 @@
 -- `causes::check_edge` meets its contract. Assumes nothing.
-use Rattle.causes.specs.Causes.{edgeVerdict}
+use Rattle.causes.specs.Causes.{missing, edgeVerdict}
 use mathlib.Core.Path.{sym, _∙_}
 use borrow.Author.Needs.{needs}
 use Rattle.causes.proofs.check_edge.Statement.{statement}
@@ -23,11 +23,11 @@ missing-requires : tie.Need-missing-requires
 missing-requires c κs = search needs
 
 returns-3 : tie.Need-returns-3
-unfolding edgeVerdict
+unfolding edgeVerdict missing
 returns-3 c = rw (sym (c .before .before .before .before .before .unbounded-edge .ensures) ∙ c .before .before .before .before .if1 .left, sym (c .before .before .before .ill-formed-edge .ensures) ∙ c .before .before .if2 .left, sym (c .before .missing .ensures) ∙ c .if3 .taken)
 
 returns-4 : tie.Need-returns-4
-unfolding edgeVerdict
+unfolding edgeVerdict missing
 returns-4 c = rw (sym (c .before .before .before .before .before .unbounded-edge .ensures) ∙ c .before .before .before .before .if1 .left, sym (c .before .before .before .ill-formed-edge .ensures) ∙ c .before .before .if2 .left, sym (c .before .missing .ensures) ∙ c .if3 .left)
 
 pub check-edge-spec : {M : Type 1} → statement M

@@ -1,5 +1,4 @@
 -- `causes::high_segment` meets its contract. Assumes nothing.
-use Rattle.brep.specs.Rows.{segmentOf}
 use borrow.Author.Needs.{needs}
 use Rattle.causes.proofs.high_segment.Statement.{statement}
 use Rattle.causes.proofs.high_segment.Tie as tie
@@ -11,7 +10,6 @@ int-at-requires : tie.Need-int-at-requires
 int-at-requires c κs = search needs
 
 returns : tie.Need-returns
-unfolding segmentOf
 returns c = rw (c .int-at .ensures)
 
 pub high-segment-spec : {M : Type 1} → statement M

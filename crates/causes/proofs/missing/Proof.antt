@@ -1,5 +1,4 @@
 -- `causes::missing` meets its contract. Assumes nothing.
-use Rattle.causes.specs.Causes.{missing}
 use borrow.Author.Needs.{needs}
 use Rattle.causes.proofs.missing.Statement.{statement}
 use Rattle.causes.proofs.missing.Tie as tie
@@ -32,8 +31,7 @@ either-requires-4 : tie.Need-either-requires-4
 either-requires-4 c κs = search needs
 
 returns : tie.Need-returns
-unfolding missing
-returns c = cc
+returns c = rw (c .either4 .ensures, c .before .either3 .ensures, c .before .before .before .either2 .ensures, c .before .before .before .before .before .before .either .ensures)
 
 pub missing-spec : {M : Type 1} → statement M
 missing-spec = tie.close (tie.spec cast-either cast-either-2 either-requires cast-either-3 cast-either-4 either-requires-2 cast-either-5 either-requires-3 either-requires-4 returns)

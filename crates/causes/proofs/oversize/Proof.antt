@@ -18,7 +18,7 @@ either-requires-4 c κs = search needs
 
 returns : tie.Need-returns
 unfolding oversize
-returns c = cc
+returns c = rw (c .either4 .ensures, c .before .either3 .ensures, c .before .before .either2 .ensures, c .before .before .before .either .ensures)
 
 pub oversize-spec : {M : Type 1} → statement M
 oversize-spec = tie.close (tie.spec either-requires either-requires-2 either-requires-3 either-requires-4 returns)

@@ -4,30 +4,28 @@ use Prim.Native.Nat.{_≤_, _-_}
 use native.Mathlib.Omega.{arith}
 use lib.ListN.{length}
 use borrow.Author.Needs.{needs}
-use Rattle.brep.specs.Rows.{tables}
 use Rattle.bounds.proofs.Laws.{Clear, clear-none, clear-more, clear-found, clear-all}
-use Rattle.causes.specs.Skips.{Seen}
-use Rattle.causes.specs.Causes.{unorderedRow}
+use Rattle.causes.specs.Skips.{outOfOrder, Seen}
 use Rattle.causes.proofs.Skips.{seen-higher}
 use Rattle.causes.proofs.unordered_in.Statement.{statement}
 use Rattle.causes.proofs.unordered_in.Tie as tie
 
 abbrev Inv-loop : tie.InvT-loop
-Inv-loop points curves reals parts ranges skips₀ rows row₀ skips row =
-    (row ≤ rows) × Clear (unorderedRow (tables points curves reals parts ranges)) row
-    × Seen (tables points curves reals parts ranges) skips row × (length skips ≡ length skips₀)
+Inv-loop curves parts skips₀ rows row₀ skips row =
+    (row ≤ rows) × Clear (outOfOrder curves parts) row
+    × Seen parts skips row × (length skips ≡ length skips₀)
 
 abbrev μ-loop : tie.MeasureT-loop
-μ-loop points curves reals parts ranges skips₀ rows row₀ skips row = rows - row
+μ-loop curves parts skips₀ rows row₀ skips row = rows - row
 
 loop-holds : tie.Need-loop-holds Inv-loop μ-loop
-loop-holds c = (search needs, clear-none _, c .before .before .before .before .before .before .pre .0, refl)
+loop-holds c = (search needs, clear-none _, c .before .before .before .pre .0, refl)
 
 unordered-row-requires : tie.Need-unordered-row-requires Inv-loop μ-loop
-unordered-row-requires c κs = (c .before .before .loop .inv .2, λ first count r. omega (arith, c .before .before .before .before .before .before .before .before .before .pre .1, c .before .before .loop .inv .3, c .before .before .before .before .before .before .before .before .before .pre .2 _ first count (c .before .loop-test .taken) r))
+unordered-row-requires c κs = (c .before .before .loop .inv .2, λ k. omega (arith, c .before .before .before .before .before .before .pre .1, c .before .before .loop .inv .3, c .before .before .before .before .before .before .pre .2 _ (c .before .loop-test .taken) k))
 
 same-length : tie.Need-same-length Inv-loop μ-loop
-same-length c = c .before .before .before .unordered-row .kept .1 .1 .1 .1 .1 .0 ∙ c .before .before .before .before .before .before .loop .inv .3
+same-length c = c .before .before .before .unordered-row .kept .1 .1 .0 ∙ c .before .before .before .before .before .before .loop .inv .3
 
 returns : tie.Need-returns Inv-loop μ-loop
 returns c = clear-found (c .before .before .before .before .before .before .loop .inv .1) (c .before .before .before .before .before .loop-test .taken) (c .before .before .before .unordered-row .ensures .0) (c .if1 .taken)
@@ -39,7 +37,7 @@ loop-less : tie.Need-loop-less Inv-loop μ-loop
 loop-less c = omega arith
 
 loop-again : tie.Need-loop-again Inv-loop μ-loop
-loop-again c = (omega arith, clear-more (c .before .before .before .before .before .before .loop .inv .1) (c .before .before .before .unordered-row .ensures .0) (c .if1 .left), seen-higher _ _ _ (c .before .before .before .unordered-row .ensures .1), c .before .before .before .unordered-row .kept .1 .1 .1 .1 .1 .0 ∙ c .before .before .before .before .before .before .loop .inv .3)
+loop-again c = (omega arith, clear-more (c .before .before .before .before .before .before .loop .inv .1) (c .before .before .before .unordered-row .ensures .0) (c .if1 .left), seen-higher _ _ _ (c .before .before .before .unordered-row .ensures .1), c .before .before .before .unordered-row .kept .1 .1 .0 ∙ c .before .before .before .before .before .before .loop .inv .3)
 
 same-length-2 : tie.Need-same-length-2 Inv-loop μ-loop
 same-length-2 c = c .before .loop .inv .3

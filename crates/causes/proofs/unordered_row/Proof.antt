@@ -1,7 +1,6 @@
--- `causes::unordered_row` meets its contract: at each kind, by what the row is. Assumes nothing.
-use Rattle.brep.specs.Rows.{lent}
-use Rattle.causes.proofs.Laws.{composite-read, composite-unordered, trim-unordered, none-unordered}
-use mathlib.Core.Path.{_∙_}
+-- `causes::unordered_row` meets its contract: by the kind of its row. Assumes nothing.
+use Rattle.causes.proofs.Laws.{trim-read, composite-read, other-read}
+use mathlib.Core.Path.{sym, _∙_}
 use borrow.Author.Needs.{needs}
 use Rattle.causes.proofs.unordered_row.Statement.{statement}
 use Rattle.causes.proofs.unordered_row.Tie as tie
@@ -25,19 +24,19 @@ int-at-requires-3 : tie.Need-int-at-requires-3
 int-at-requires-3 c κs = search needs
 
 any-high-segment-requires : tie.Need-any-high-segment-requires
-any-high-segment-requires c κs = let a = c .before .before .before .before .before .before .before .before .before .before .before .args in (c .before .before .before .before .before .before .before .before .before .before .before .pre .0, c .before .before .before .before .before .before .before .before .before .before .before .pre .1 _ _ (composite-read (lent (a .points) (a .curves) (a .reals) (a .parts) (a .ranges)) (a .row) (c .before .before .before .before .int-at .ensures) (c .before .before .match .keys2) (c .before .before .before .int-at2 .ensures) (c .before .int-at3 .ensures)))
+any-high-segment-requires c κs = (c .before .before .before .before .before .before .before .before .pre .0, rw (c .before .before .before .int-at2 .ensures, c .before .int-at3 .ensures) (c .before .before .before .before .before .before .before .before .pre .1 (sym (c .before .before .before .before .int-at .ensures) ∙ c .before .before .match .keys2)))
 
 returns : tie.Need-returns
-returns c = (trim-unordered _ _ (c .before .before .int-at .ensures) (c .match .keys1) (c .before .int-at2 .ensures), c .before .before .before .before .before .before .before .before .before .pre .0)
+returns c = (trim-read _ _ _ (c .before .before .int-at .ensures) (c .before .int-at2 .ensures) (c .match .keys1), c .before .before .before .before .before .before .pre .0)
 
 same-length : tie.Need-same-length
 same-length c = search needs
 
 returns-2 : tie.Need-returns-2
-returns-2 c = (c .before .before .any-high-segment .ensures .0 ∙ composite-unordered _ _ (c .before .before .before .before .before .before .before .int-at .ensures) (c .before .before .before .before .before .match .keys2) (c .before .before .before .before .before .before .int-at2 .ensures) (c .before .before .before .before .int-at3 .ensures), c .before .before .any-high-segment .ensures .1)
+returns-2 c = (c .before .before .any-high-segment .ensures .0 ∙ composite-read _ _ _ (c .before .before .before .before .before .before .before .int-at .ensures) (c .before .before .before .before .before .before .int-at2 .ensures) (c .before .before .before .before .before .match .keys2) (c .before .before .before .before .int-at3 .ensures), c .before .before .any-high-segment .ensures .1)
 
 returns-3 : tie.Need-returns-3
-returns-3 c = (none-unordered _ _ (c .before .before .int-at .ensures) (c .match .rest .0 .1) (c .match .rest .1), c .before .before .before .before .before .before .before .before .before .pre .0)
+returns-3 c = (other-read _ _ _ (c .before .before .int-at .ensures) (c .before .int-at2 .ensures) (c .match .rest .0 .1) (c .match .rest .1), c .before .before .before .before .before .before .pre .0)
 
 pub unordered-row-spec : {M : Type 1} → statement M
 unordered-row-spec =

@@ -1,19 +1,18 @@
 -- `forms::any_segment` meets its contract. The invariant: none of the segments passed is malformed. Assumes nothing.
-use Rattle.bounds.proofs.Laws.{Clear, clear-none, clear-more, clear-found, clear-all}
-use Rattle.brep.specs.Rows.{tables}
-use Rattle.forms.specs.Forms.{malformedSegment}
 use Prim.Native.Nat.{_≤_, _-_, _/_}
 use native.Mathlib.Omega.{arith}
 use lib.ListN.{length}
 use borrow.Author.Needs.{needs}
+use Rattle.bounds.proofs.Laws.{Clear, clear-none, clear-more, clear-found, clear-all}
+use Rattle.forms.specs.Forms.{malformedPart}
 use Rattle.forms.proofs.any_segment.Statement.{statement}
 use Rattle.forms.proofs.any_segment.Tie as tie
 
 abbrev Inv-loop : tie.InvT-loop
-Inv-loop points curves reals parts ranges segments₀ i₀ i = (i ≤ length parts / 2) × Clear (malformedSegment (tables points curves reals parts ranges)) i
+Inv-loop parts rows segments i₀ i = (i ≤ length parts / 2) × Clear (malformedPart parts rows) i
 
 abbrev μ-loop : tie.MeasureT-loop
-μ-loop points curves reals parts ranges segments₀ i₀ i = length parts / 2 - i
+μ-loop parts rows segments i₀ i = length parts / 2 - i
 
 loop-holds : tie.Need-loop-holds Inv-loop μ-loop
 loop-holds c = (search needs, clear-none _)

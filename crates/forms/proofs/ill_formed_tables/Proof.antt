@@ -1,4 +1,5 @@
 -- `forms::ill_formed_tables` meets its contract. Assumes nothing.
+use Rattle.forms.specs.Forms.{malformedSegment}
 use borrow.Author.Needs.{needs}
 use Rattle.forms.proofs.ill_formed_tables.Statement.{statement}
 use Rattle.forms.proofs.ill_formed_tables.Tie as tie
@@ -25,7 +26,8 @@ either-requires-3 : tie.Need-either-requires-3
 either-requires-3 c κs = search needs
 
 returns : tie.Need-returns
-returns c = cc
+unfolding malformedSegment
+returns c = rw (c .either3 .ensures, c .before .either2 .ensures, c .before .before .any-segment .ensures, c .before .before .before .any-row .ensures, c .before .before .before .before .either .ensures, c .before .before .before .before .before .uneven .ensures, c .before .before .before .before .before .before .broken .ensures)
 
 pub ill-formed-tables-spec : {M : Type 1} → statement M
 ill-formed-tables-spec =

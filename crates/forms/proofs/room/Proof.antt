@@ -1,19 +1,15 @@
 -- `forms::room` meets its contract, by the kind. Assumes nothing.
-use Rattle.forms.specs.Forms.{room}
 use borrow.Author.Tests.{eq-eqb, ne-eqb, le-leb, lt-leb}
 use Rattle.forms.proofs.room.Statement.{statement}
 use Rattle.forms.proofs.room.Tie as tie
 
 returns : tie.Need-returns
-unfolding room
 returns c = rw (le-leb _ _ (c .if1 .taken))
 
 returns-2 : tie.Need-returns-2
-unfolding room
 returns-2 c = rw (lt-leb _ _ (c .before .if1 .left), eq-eqb _ _ (c .if2 .taken))
 
 returns-3 : tie.Need-returns-3
-unfolding room
 returns-3 c = rw (lt-leb _ _ (c .before .if1 .left), ne-eqb _ _ (c .if2 .left))
 
 pub room-spec : {M : Type 1} → statement M

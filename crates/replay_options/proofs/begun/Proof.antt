@@ -39,6 +39,9 @@ resolve-requires c κs = search needs
 returns : tie.Need-returns
 returns c = search needs
 
+preset-requires : tie.Need-preset-requires
+preset-requires c κs = search needs
+
 returns-2 : tie.Need-returns-2
 returns-2 c = search needs
 
@@ -52,4 +55,5 @@ begun-spec =
     options-of-requires-2
     resolve-requires
     returns
+    preset-requires
     returns-2)

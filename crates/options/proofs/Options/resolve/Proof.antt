@@ -1,11 +1,14 @@
 -- `options::Options::resolve` meets its contract. Assumes nothing.
-use Rattle.options.specs.Options.{resolve}
+use Rattle.options.specs.Options.{resolvedSag, resolve}
 use borrow.Author.Needs.{needs}
 use Rattle.options.proofs.Options.resolve.Statement.{statement}
 use Rattle.options.proofs.Options.resolve.Tie as tie
 
-resolved-sag-requires : tie.Need-resolved-sag-requires
-resolved-sag-requires c κs = search needs
+distance-requires : tie.Need-distance-requires
+distance-requires c κs = search needs
+
+max-requires : tie.Need-max-requires
+max-requires c κs = search needs
 
 resolved-model-requires : tie.Need-resolved-model-requires
 resolved-model-requires c κs = search needs
@@ -23,14 +26,15 @@ clamp-depth-requires : tie.Need-clamp-depth-requires
 clamp-depth-requires c κs = search needs
 
 returns : tie.Need-returns
-unfolding resolve
-returns c = cc
+unfolding resolve resolvedSag
+returns c = rw (c .clamp-depth .ensures, c .before .larger .ensures, c .before .before .clamp .ensures, c .before .before .before .resolved-relative .ensures, c .before .before .before .before .resolved-model .ensures, c .before .before .before .before .before .max .ensures, c .before .before .before .before .before .before .distance .ensures)
 
 pub resolve-spec : {M : Type 1} → statement M
 resolve-spec =
     tie.close
     (tie.spec
-    resolved-sag-requires
+    distance-requires
+    max-requires
     resolved-model-requires
     resolved-relative-requires
     clamp-requires

@@ -1,5 +1,4 @@
 -- `options::Resolved::angle_step_for_radius` meets its contract. Assumes nothing.
-use mathlib.Core.Path.{sym, ap, _∙_}
 use Rattle.options.specs.Options.{angleStep}
 use borrow.Author.Needs.{needs}
 use Rattle.options.proofs.Resolved.angle_step_for_radius.Statement.{statement}
@@ -19,27 +18,8 @@ max-requires c κs = search needs
 
 returns : tie.Need-returns
 unfolding angleStep
-returns c = rw (← c .before .before .before .before .before .abs .ensures, c .before .before .before .if1 .taken) (cc)
-
-min-requires-2 : tie.Need-min-requires-2
-min-requires-2 c κs = search needs
-
-max-requires-2 : tie.Need-max-requires-2
-max-requires-2 c κs = search needs
-
-returns-2 : tie.Need-returns-2
-unfolding angleStep
-returns-2 c = rw (← c .before .before .before .before .abs .ensures, c .before .before .if1 .left) (cc)
+returns c = rw (c .max .ensures, c .before .min .ensures, c .before .before .step-by-sag .ensures, c .before .before .before .abs .ensures)
 
 pub angle-step-for-radius-spec : {M : Type 1} → statement M
 angle-step-for-radius-spec =
-    tie.close
-    (tie.spec
-    abs-requires
-    step-by-sag-requires
-    min-requires
-    max-requires
-    returns
-    min-requires-2
-    max-requires-2
-    returns-2)
+    tie.close (tie.spec abs-requires step-by-sag-requires min-requires max-requires returns)

@@ -9,7 +9,7 @@ sag-for-requires c κs = search needs
 
 returns : tie.Need-returns
 unfolding forExtent
-returns c = cc
+returns c = rw (c .sag-for .ensures)
 
 pub for-extent-spec : {M : Type 1} → statement M
 for-extent-spec = tie.close (tie.spec sag-for-requires returns)

@@ -16,7 +16,7 @@ max-requires c κs = search needs
 
 returns : tie.Need-returns
 unfolding sagFor
-returns c = rw (sym (c .before .before .before .before .before .before .is-relative-to .ensures) ∙ c .before .before .before .before .before .if1 .taken) (cc)
+returns c = rw (sym (c .before .before .before .before .before .before .is-relative-to .ensures) ∙ c .before .before .before .before .before .if1 .taken) (rw (c .max .ensures, c .before .before .before .clamp .ensures))
 
 returns-2 : tie.Need-returns-2
 unfolding sagFor

@@ -24,7 +24,7 @@ larger-requires-2 c κs = search needs
 
 returns : tie.Need-returns
 unfolding segmentsForArc
-returns c = cc
+returns c = rw (c .larger2 .ensures, c .before .larger .ensures, c .before .before .to-u64 .ensures, c .before .before .before .ceil .ensures, c .before .before .before .before .abs .ensures, c .before .before .before .before .before .angle-step-for-radius .ensures)
 
 pub segments-for-arc-spec : {M : Type 1} → statement M
 segments-for-arc-spec =

@@ -10,7 +10,10 @@ acos-requires : tie.Need-acos-requires
 acos-requires c κs = search needs
 
 returns : tie.Need-returns
-returns c = cc
+returns c = rw (c .before .before .before .if1 .taken, c .acos .ensures, c .before .clamp .ensures)
+
+returns-2 : tie.Need-returns-2
+returns-2 c = rw (c .if1 .left)
 
 pub step-by-sag-spec : {M : Type 1} → statement M
-step-by-sag-spec = tie.close (tie.spec clamp-requires acos-requires returns)
+step-by-sag-spec = tie.close (tie.spec clamp-requires acos-requires returns returns-2)
