@@ -1,8 +1,8 @@
--- `ffi::number_of` meets its contract. Assumes nothing.
-use Rattle.ffi.specs.Numbers.{numberOf}
+-- `numbers::number_of` meets its contract. Assumes nothing.
+use Rattle.numbers.specs.Numbers.{numberOf}
 use borrow.Author.Needs.{needs}
-use Rattle.ffi.proofs.number_of.Statement.{statement}
-use Rattle.ffi.proofs.number_of.Tie as tie
+use Rattle.numbers.proofs.number_of.Statement.{statement}
+use Rattle.numbers.proofs.number_of.Tie as tie
 
 enum-told : tie.Need-enum-told
 enum-told c = search needs

@@ -1,8 +1,8 @@
--- `ffi::cause_of` meets its contract. Assumes nothing.
-use Rattle.ffi.specs.Numbers.{causeOf}
+-- `numbers::cause_of` meets its contract. Assumes nothing.
+use Rattle.numbers.specs.Numbers.{causeOf}
 use borrow.Author.Needs.{needs}
-use Rattle.ffi.proofs.cause_of.Statement.{statement}
-use Rattle.ffi.proofs.cause_of.Tie as tie
+use Rattle.numbers.proofs.cause_of.Statement.{statement}
+use Rattle.numbers.proofs.cause_of.Tie as tie
 
 enum-told : tie.Need-enum-told
 enum-told c = search needs
