@@ -136,9 +136,9 @@ pub extern "C" fn cs_check(
 ) -> u32
     ensures { λ r. ⌜ r ≡ causeOf (verdict (lent (points .entry) (curves .entry) (reals .entry) (parts .entry) (ranges .entry)) (edgeOf curve start end sense lo hi tolerance low high) (optionsOf deflection angle relative segments depth scale)) ⌝ }
 {
-    let edge = numbers::edge_of(curve, start, end, sense, lo, hi, tolerance, low, high);
-    let options = numbers::options_of(deflection, angle, relative, segments, depth, scale);
-    numbers::cause_of(causes::check(points, curves, reals, parts, ranges, edge, options))
+    let e = numbers::edge_of(curve, start, end, sense, lo, hi, tolerance, low, high);
+    let o = numbers::options_of(deflection, angle, relative, segments, depth, scale);
+    numbers::cause_of(causes::check(points, curves, reals, parts, ranges, e, o))
 }
 
 // The lowest of the causes 1 to 5 that the tables alone have, or 0.
