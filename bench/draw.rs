@@ -491,7 +491,9 @@ fn time_part() -> Figures {
     // every edge is drawn as the oracle draws it
     let one = |e: &Edge| Case { name: c.name, tables: c.tables.clone(), edge: *e, options: c.options };
     check_tables(&c.tables);
-    let total: usize = edges.iter().map(|e| compare(&one(e), n).1).sum();
+    let drawn: Vec<(u32, usize)> = edges.iter().map(|e| compare(&one(e), n)).collect();
+    assert!(drawn.iter().all(|&(way, _)| way == 1), "each edge is drawn, not repaired");
+    let total: usize = drawn.iter().map(|&(_, count)| count).sum();
     let (froad, nroad) = (fixed::part_road(&c, &edges, n), native::part_road(&c, &edges, n));
     assert_eq!(total, froad());
     let few = &edges[..FEW];
@@ -636,7 +638,7 @@ fn seeded(n: usize) -> Case {
     }
     let row = d.tables.push_row(Row { kind: COMPOSITE, first: 0, count: n as u32, p: 0.0, q: 0.0 });
     let e = d.edge(row, 0.0, n as f64, 1e4);
-    d.case("composite", e, Options { deflection: 100.0, angle: 1.5, relative: 0, ..options(0.0, 480.0) })
+    d.case("composite", e, Options { deflection: 8.0, angle: 1.5, relative: 0, ..options(0.0, 480.0) })
 }
 
 /// Cost against size: ns of one draw, check or sort, and that by the size.

@@ -1,0 +1,13 @@
+-- `ffi::cs_default` meets its contract: what it stores are the preset's six numbers. Assumes nothing.
+use borrow.Author.Needs.{needs}
+use Rattle.ffi.proofs.cs_default.Statement.{statement}
+use Rattle.ffi.proofs.cs_default.Tie as tie
+
+default-requires : tie.Need-default-requires
+default-requires c κs = search needs
+
+returns : tie.Need-returns
+returns c = c .default .ensures
+
+pub cs-default-spec : {M : Type 1} → statement M
+cs-default-spec = tie.close (tie.spec default-requires returns)

@@ -1,0 +1,13 @@
+-- `ffi::cs_draft` meets its contract: what it stores are the preset's six numbers. Assumes nothing.
+use borrow.Author.Needs.{needs}
+use Rattle.ffi.proofs.cs_draft.Statement.{statement}
+use Rattle.ffi.proofs.cs_draft.Tie as tie
+
+draft-requires : tie.Need-draft-requires
+draft-requires c κs = search needs
+
+returns : tie.Need-returns
+returns c = c .draft .ensures
+
+pub cs-draft-spec : {M : Type 1} → statement M
+cs-draft-spec = tie.close (tie.spec draft-requires returns)
