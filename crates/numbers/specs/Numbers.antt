@@ -56,8 +56,8 @@ numberOf Runaway = 5
 
 -- an answer's three numbers: the refusal's, 0 for a chain; the way's, 0 for a refusal; how many points the chain has
 unfoldable pub codesOf : Drawn → Codes
-codesOf (Refused n) = record { refusal = n; way = 0; count = 0; }
-codesOf (Chain way n) = record { refusal = 0; way = numberOf way; count = n; }
+codesOf (Refused n) = record { refusal = n; way = 0; count = 0 }
+codesOf (Chain way n) = record { refusal = 0; way = numberOf way; count = n }
 
 -- 1 for a step that passed a point, else 0
 unfoldable pub passed : Step → ℕ

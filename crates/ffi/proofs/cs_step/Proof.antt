@@ -16,11 +16,12 @@ has-passed-requires : tie.Need-has-passed-requires
 has-passed-requires c κs = search needs
 
 returns : tie.Need-returns
-returns c = 
-    let e = c .before .before .before .step-at .ensures in
-    (c .has-passed .ensures ∙ ap (λ (s : Stepped). passed (s .step)) e,
-    ap (λ (s : Stepped). s .at) e,
-    c .before .point-after .ensures ∙ ap (λ (s : Stepped). pointAfter (c .before .before .before .before .before .before .args .point .now) (s .step)) e)
+returns c =
+    let e = c .before .before .before .step-at .ensures in (
+      c .has-passed .ensures ∙ ap (λ (s : Stepped). passed (s .step)) e,
+      ap (λ (s : Stepped). s .at) e,
+      c .before .point-after .ensures ∙ ap (λ (s : Stepped). pointAfter (c .before .before .before .before .before .before .args .point .now) (s .step)) e,
+    )
 
 pub cs-step-spec : {M : Type 1} → statement M
 cs-step-spec =
