@@ -129,19 +129,46 @@ fn apart(call: fn(f64) -> f64, args: &[f64]) -> f64 {
     black_box(&answers)[COUNT - 1]
 }
 
+// what is timed, latency and throughput of ours and of theirs, and how theirs is described
+struct Figures {
+    ours: &'static str,
+    theirs: &'static str,
+    latency: [f64; 2],
+    throughput: [f64; 2],
+}
+
 // ours against each of theirs, all of them in the same rounds
-fn compare(ours: Case, theirs: &[Case], args: &[f64]) {
+fn compare(ours: Case, theirs: &[Case], args: &[f64]) -> Vec<Figures> {
     let mut cases = vec![("", nothing as fn(f64) -> f64), ours];
     cases.extend(theirs);
     let latency = least(&cases, |call| chained(call, args));
     let throughput = least(&cases, |call| apart(call, args));
-    for (i, (name, _)) in cases.iter().enumerate().skip(2) {
-        let report = |what, a: f64, b: f64| {
-            let (x, ratio) = (ours.0, a / b);
-            println!("{x:<8} {what:<10} {a:6.2} ns   {name:<27} {b:6.2} ns   ratio {ratio:.2}");
-        };
-        report("latency", latency[1] - latency[0], latency[i] - latency[0]);
-        report("throughput", throughput[1], throughput[i]);
+    let figures = |i: usize| Figures {
+        ours: ours.0,
+        theirs: cases[i].0,
+        latency: [latency[1] - latency[0], latency[i] - latency[0]],
+        throughput: [throughput[1], throughput[i]],
+    };
+    (2..cases.len()).map(figures).collect()
+}
+
+// both times and their ratio as cells of a table
+fn cells([a, b]: [f64; 2], more: &str) -> String {
+    let digits = if a < b { 2 } else { 1 };
+    format!("{a:.1} ns | {b:.1} ns{more} | {:.*}", digits, a / b)
+}
+
+// the table of bench/README.md, then that of README.md
+fn report(all: &[Figures]) {
+    println!("| | latency | Rust | ratio | throughput | Rust | ratio |\n|---|---|---|---|---|---|---|");
+    for f in all {
+        let (x, y) = (f.ours, f.theirs);
+        println!("| {x}, against {y} | {} | {} |", cells(f.latency, ""), cells(f.throughput, ""));
+    }
+    println!("\n| | ours | Rust | ratio |\n|---|---|---|---|");
+    for f in all {
+        println!("| `{}`, latency | {} |", f.ours, cells(f.latency, &format!(" ({})", f.theirs)));
+        println!("| `{}`, throughput | {} |", f.ours, cells(f.throughput, ""));
     }
 }
 
@@ -178,16 +205,17 @@ fn agree(random: &mut Random) -> usize {
 
 fn main() {
     let mut random = Random(0x9E3779B97F4A7C15);
-    println!("{} arguments give the same bits", agree(&mut random));
+    println!("{} arguments give the same bits\n", agree(&mut random));
     let args: Vec<f64> = (0..COUNT).map(|_| random.float()).collect();
     let angles: Vec<f64> = (0..COUNT).map(|_| random.float() % 6.5).collect();
-    compare(("root", root), &[("f64::sqrt", rust_sqrt)], &args);
-    compare(
+    let mut all = compare(("root", root), &[("`f64::sqrt`", rust_sqrt)], &args);
+    all.extend(compare(
         ("sin_cos", sin_cos),
         &[
             ("the same steps, inlined", inlined_sin_cos),
             ("the same steps, by a call", called_sin_cos),
         ],
         &angles,
-    );
+    ));
+    report(&all);
 }

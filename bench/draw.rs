@@ -300,7 +300,7 @@ fn complement() -> Case {
     d.case("repair: complement", e, options(4e-4, 480.0))
 }
 
-/// A polyline that runs away, and whose middle part joins the vertices.
+/// A trimmed parabola that runs away, and whose middle part joins the vertices.
 fn short_arc() -> Case {
     let mut d = Draft::new();
     let row = d.frame(PARABOLA, [0.0; 3], 5.0, 0.0);
@@ -319,7 +319,8 @@ fn runaway() -> Case {
     d.case("repair: runaway chord", e, options(4e-4, 480.0))
 }
 
-/// A part: lines, arcs, ellipses and polylines of five points, 4,000 rows, and 10,000 edges over them.
+/// A part: lines, arcs, ellipses and polylines of five points, 4,000 rows, and 10,000 edges over them. The edges of one row
+/// share its range and its vertices, which lie on the curve.
 fn part() -> (Case, Vec<Edge>) {
     let mut d = Draft::new();
     let mut rows = vec![];
@@ -332,18 +333,21 @@ fn part() -> (Case, Vec<Edge>) {
             _ => d.row(POLYLINE, &[[x, 0.0, 0.0], [x + 1.0, 0.2, 0.0], [x + 2.0, 0.1, 0.0], [x + 3.0, 0.4, 0.0], [x + 4.0, 0.0, 0.0]], 0.0, 0.0),
         });
     }
-    let whole = d.edge(rows[0], 0.0, 1.0, 1e4);
-    let mut edges = vec![];
-    for i in 0..10_000usize {
-        let row = rows[(i * 7) % rows.len()];
-        let (lo, hi) = match ((i * 7) % rows.len()) % 4 {
-            0 => (0.0, 10.0),
-            3 => (0.0, 4.0),
-            _ => (0.1, 1.7),
-        };
-        // every edge shares the first edge's vertices and box: the road does not ask that they lie on the curve
-        edges.push(Edge { curve: row, lo, hi, ..whole });
-    }
+    let (low, high) = (d.tables.push_point([-1e4; 3]), d.tables.push_point([1e4; 3]));
+    let whole: Vec<Edge> = rows
+        .iter()
+        .map(|&curve| {
+            let (lo, hi) = match curve % 4 {
+                0 => (0.0, 10.0),
+                3 => (0.0, 4.0),
+                _ => (0.1, 1.7),
+            };
+            let at = fixed::point_at(&d.tables, curve);
+            let (start, end) = (d.tables.push_point(at(lo)), d.tables.push_point(at(hi)));
+            Edge { curve, start, end, sense: 1, lo, hi, tolerance: 1e-6, low, high }
+        })
+        .collect();
+    let edges: Vec<Edge> = (0..10_000).map(|i| whole[i * 7 % whole.len()]).collect();
     (d.case("part of 10,000 edges, per edge", edges[0], options(4e-4, 480.0)), edges)
 }
 
@@ -381,6 +385,16 @@ fn compare(c: &Case, n: usize) -> (u32, usize) {
 const ROUNDS: usize = 60;
 const ROUND: u128 = 400_000;
 
+/// How many edges of a part are drawn with the check of the whole tables for each.
+const FEW: usize = 20;
+
+/// A number rounded to a whole one, its digits in threes.
+fn whole(x: f64) -> String {
+    let digits = format!("{x:.0}");
+    let threes: Vec<&str> = digits.as_bytes().rchunks(3).rev().map(|c| std::str::from_utf8(c).unwrap()).collect();
+    threes.join(",")
+}
+
 /// Nanoseconds a call of each, by turns, the least over the rounds.
 fn least<const N: usize>(mut calls: [&mut dyn FnMut(); N]) -> [f64; N] {
     let run = |call: &mut dyn FnMut(), times: u32| {
@@ -405,7 +419,10 @@ fn least<const N: usize>(mut calls: [&mut dyn FnMut(); N]) -> [f64; N] {
     best
 }
 
-fn row(name: &str, points: usize, way: u32, t: [f64; 6]) {
+/// A case's name and its six figures, in the order of the table's columns.
+type Figures = (&'static str, [f64; 6]);
+
+fn row(name: &'static str, points: usize, way: u32, t: [f64; 6]) -> Figures {
     let [draw, over, fixed_draw, fixed_road, native_draw, native_road] = t;
     let ways = ["as drawn", "chord", "complement", "short arc", "runaway"];
     println!(
@@ -416,9 +433,25 @@ fn row(name: &str, points: usize, way: u32, t: [f64; 6]) {
         native_draw / draw,
         native_road / over
     );
+    (name, t)
 }
 
-fn time(c: &Case) {
+/// The entry points' figures as README.md has them.
+fn entries(cases: &[Figures], part: Figures) {
+    println!("\n| | `draw` | oracle | original's entry | oracle / `draw` | original / `draw` |");
+    println!("|---|---|---|---|---|---|");
+    for (name, [draw, _, fixed, _, native, _]) in cases {
+        let (name, d, f, n) = (name.trim_start_matches("repair: "), whole(*draw), whole(*fixed), whole(*native));
+        println!("| {name} | {d} | {f} | {n} | {:.2} | {:.2} |", fixed / draw, native / draw);
+    }
+    let [draw, over, fixed, fixed_road, native, native_road] = part.1.map(whole);
+    println!(
+        "\nMany edges over one table: {over} ns an edge over tables that were checked once (the oracle's road alone {fixed_road}, the \
+         original's {native_road}), {draw} ns where each draw checks them (oracle {fixed}, original {native})."
+    );
+}
+
+fn time(c: &Case) -> Figures {
     let n = least_floats(c);
     check_tables(&c.tables);
     let (way, size) = compare(c, n);
@@ -448,20 +481,22 @@ fn time(c: &Case) {
             black_box(nroad());
         },
     ]);
-    row(c.name, size, way, t);
+    row(c.name, size, way, t)
 }
 
-fn time_part() {
+fn time_part() -> Figures {
     let (c, edges) = part();
     let n = 4 * 128;
     let (mut a, mut b) = (vec![0.0; n], vec![0.0; n]);
     // every edge is drawn as the oracle draws it
     let one = |e: &Edge| Case { name: c.name, tables: c.tables.clone(), edge: *e, options: c.options };
     check_tables(&c.tables);
-    let total: usize = edges.iter().map(|e| compare(&one(e), n).1).sum();
+    let drawn: Vec<(u32, usize)> = edges.iter().map(|e| compare(&one(e), n)).collect();
+    assert!(drawn.iter().all(|&(way, _)| way == 1), "each edge is drawn, not repaired");
+    let total: usize = drawn.iter().map(|&(_, count)| count).sum();
     let (froad, nroad) = (fixed::part_road(&c, &edges, n), native::part_road(&c, &edges, n));
     assert_eq!(total, froad());
-    let few = &edges[..20];
+    let few = &edges[..FEW];
     let fixed_few: Vec<_> = few.iter().map(|e| fixed::drawing(&one(e))).collect();
     let native_few: Vec<_> = few.iter().map(|e| native::drawing(&one(e))).collect();
     let (mut a2, mut b2) = (vec![0.0; n], vec![0.0; n]);
@@ -497,8 +532,8 @@ fn time_part() {
             black_box(nroad());
         },
     ]);
-    let k = edges.len() as f64;
-    row(c.name, total, 1, [t[0] / 20.0, t[1] / k, t[2] / 20.0, t[3] / k, t[4] / 20.0, t[5] / k]);
+    let (all, few) = (edges.len() as f64, FEW as f64);
+    row(c.name, total, 1, [t[0] / few, t[1] / all, t[2] / few, t[3] / all, t[4] / few, t[5] / all])
 }
 
 fn others() {
@@ -537,7 +572,7 @@ fn others() {
             black_box(n(us[k]));
         },
     ]);
-    println!("\npoint_at on a circle through two trims: {:.1} ns, oracle {:.1} ns, native {:.1} ns", r[0], r[1], r[2]);
+    println!("\n- point_at on a circle through two trims: {:.1} ns, oracle {:.1} ns, native {:.1} ns.", r[0], r[1], r[2]);
     // breaks
     let up: Vec<f64> = (0..8192).map(|i| i as f64).collect();
     let down: Vec<f64> = up.iter().rev().copied().collect();
@@ -553,15 +588,32 @@ fn others() {
             black_box(unsafe { cs_breaks(two.as_mut_ptr(), 8192, -1.0, 1e4) });
         },
     ]);
-    println!("8,192 breaks: in order {:.0} ns, in reverse order {:.0} ns, ratio {:.1}", r[0], r[1], r[1] / r[0]);
+    println!("- 8,192 breaks: in order {} ns, in reverse order {} ns, ratio {:.1}.", whole(r[0]), whole(r[1]), r[1] / r[0]);
     // zeroing
     let mut one = vec![1.0; 65536];
     let mut two = one.clone();
+    let (mut first, mut second, mut third, mut fourth) = (one.clone(), one.clone(), one.clone(), one.clone());
+    let c = line();
     let r = least([
         &mut || unsafe { cs_clear(black_box(one.as_mut_ptr()), 65536) },
         &mut || black_box(&mut two).fill(0.0),
+        &mut || {
+            black_box(draw(&c, &mut first, &mut second));
+        },
+        &mut || {
+            black_box(draw(&c, &mut [0.0; 8], &mut [0.0; 8]));
+        },
+        &mut || {
+            black_box(&mut third).fill(0.0);
+            black_box(&mut fourth).fill(0.0);
+        },
     ]);
-    println!("zeroing 65,536 floats: {:.0} ns, a plain fill {:.0} ns", r[0], r[1]);
+    println!("- zeroing 65,536 floats: {} ns, a plain fill {} ns.", whole(r[0]), whole(r[1]));
+    println!("- the line in two buffers of 65,536 floats less the line in two of 8: {} ns, two plain fills {} ns.", whole(r[2] - r[3]), whole(r[4]));
+}
+
+fn draw(c: &Case, first: &mut [f64], second: &mut [f64]) -> Answer {
+    ours(black_box(&c.tables), &c.edge, &c.options, first, second)
 }
 
 /// So many composites that all have the same run of as many segments, and an edge over the line that those refer to.
@@ -576,34 +628,50 @@ fn composites(n: usize) -> Case {
     c
 }
 
+/// A composite of n arcs of one radian, each over the part of the circle that the composite's own parameter has there: the
+/// breaks, which are the segments' lo and hi, part it where it passes from segment to segment, and seed the walk.
+fn seeded(n: usize) -> Case {
+    let mut d = Draft::new();
+    let row = d.frame(CIRCLE, [1.0, 2.0, 3.0], 50.0, 0.0);
+    for i in 0..n {
+        d.tables.push_segment(Segment { curve: row, lo: i as f64, hi: i as f64 + 1.0, sense: 1 });
+    }
+    let row = d.tables.push_row(Row { kind: COMPOSITE, first: 0, count: n as u32, p: 0.0, q: 0.0 });
+    let e = d.edge(row, 0.0, n as f64, 1e4);
+    d.case("composite", e, Options { deflection: 8.0, angle: 1.5, relative: 0, ..options(0.0, 480.0) })
+}
+
 /// Cost against size: ns of one draw, check or sort, and that by the size.
 fn sizes() {
     println!("| what | size | ns | ns / size |");
     println!("|---|---|---|---|");
     let show = |what: &str, n: usize, ns: f64| println!("| {what} | {n} | {ns:.0} | {:.1} |", ns / n as f64);
-    let draw = |c: &Case| {
+    let time = |c: &Case| {
         let n = least_floats(c);
         let (mut a, mut b) = (vec![0.0; n], vec![0.0; n]);
         let [ns] = least([&mut || {
-            black_box(ours(black_box(&c.tables), &c.edge, &c.options, &mut a, &mut b));
+            black_box(draw(c, &mut a, &mut b));
         }]);
         ns
     };
     for n in [25, 100, 400, 1600, 4000] {
-        show("circle, points", n, draw(&circle("circle", n)));
+        show("circle, points", n, time(&circle("circle", n)));
     }
     for n in [2000, 8000, 32000] {
-        show("polyline, its points", n, draw(&polyline("polyline", n)));
+        show("polyline, its points", n, time(&polyline("polyline", n)));
     }
     for n in [3, 6, 12, 24, 48] {
-        show("composite, segments", n, draw(&composite("composite", n, 1.0)));
+        show("composite, half turns", n, time(&composite("composite", n, 1.0)));
+    }
+    for n in [16, 64, 256, 1024, 4096] {
+        show("composite, breaks", n, time(&seeded(n)));
     }
     for n in [4, 16, 64, 256, 1024, 4096] {
         let mut c = line();
         while c.tables.lent().row_count() < n {
             c.tables.push_row(Row { kind: LINE, first: 0, count: 2, p: 0.0, q: 0.0 });
         }
-        show("line, rows of the tables", n, draw(&c));
+        show("line, rows of the tables", n, time(&c));
     }
     for n in [64, 256, 1024, 4095] {
         let c = composites(n);
@@ -657,9 +725,8 @@ fn main() {
     }
     println!("| case | points | way | draw | draw_over | oracle | its road | native | its road | oracle / draw | its road / over | native / draw | its road / over |");
     println!("|---|---|---|---|---|---|---|---|---|---|---|---|---|");
-    for c in cases() {
-        time(&c);
-    }
-    time_part();
+    let cases: Vec<Figures> = cases().iter().map(time).collect();
+    let part = time_part();
     others();
+    entries(&cases, part);
 }

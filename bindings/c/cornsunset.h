@@ -1,4 +1,5 @@
-/* Cornsunset in C: an edge of a part becomes a chain of points. Link with target/staticlib/libffi.a (rt staticlib ffi).
+/* Cornsunset in C: an edge of a part becomes a chain of points. Link with target/staticlib/libffi.a (rt staticlib ffi),
+ * by its path or under a name of its own, since -lffi is GNU libffi.
  *
  * Every function is proved to answer as its definition says for any numbers and any contents of any lengths; cs_draw_over
  * alone asks for tables that cs_check_tables accepted. What else is left to the caller is what C leaves to every caller: a
@@ -16,7 +17,9 @@
 extern "C" {
 #endif
 
-/* ---- angles: a type of its own, so that 8 degrees are not handed over as 8 radians */
+/* ---- angles: a type of its own, so that 8 degrees are not handed over as 8 radians. In an initialiser C lets a bare number
+ * stand for the struct, {0.01, 8, 1, 1, 12, 4}: name the fields or write cs_angle_degrees(8). -Wall warns of it
+ * (-Wmissing-braces). */
 
 typedef struct {
     double radians;
@@ -40,7 +43,9 @@ static inline cs_angle cs_angle_radians(double x) {
 
 static inline bool cs_angle_is_clamped(cs_angle a) { return cs_is_clamped(a.radians); }
 
-/* ---- tables, edge and options; coordinates, deflection and tolerance are in the part's own unit of length */
+/* ---- tables, edge and options; coordinates, deflection and tolerance are in the part's own unit of length. Each lo and hi,
+ * and a trim's p and q, are in the curve's own parameter: radians on a circle or an ellipse, the point's index on a polyline,
+ * the segment's index on a composite, the base's parameter on a trim */
 
 typedef struct {
     const double *points; /* x y z of each point; at most 65,536 points */
@@ -107,7 +112,9 @@ static inline const char *cs_sentence(uint32_t refusal) {
     case CS_DRAWN: return "Nothing was refused.";
     case CS_OVERSIZE: return "A table is above its size: 65,536 points, 4,096 curve rows, 4,096 segments.";
     case CS_UNBOUNDED: return "A float is not finite, or above 1e9 in magnitude.";
-    case CS_ILL_FORMED: return "The tables, the edge or the options are not well formed.";
+    case CS_ILL_FORMED:
+        return "Points are not in threes, a kind is unknown, a count is wrong, an unused p or q is not zero, a sense or relative is "
+               "neither 0 nor 1, or a run, base or segment's curve is outside its table.";
     case CS_UNORDERED: return "A trim's base, or the curve of a composite's segment, is not in a lower row than its own.";
     case CS_TOO_DEEP: return "Trims and composites are nested deeper than 8.";
     case CS_MISSING: return "The edge's curve, or one of its points, is outside its table.";

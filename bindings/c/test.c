@@ -71,6 +71,11 @@ static void tables(void) {
     t = LINE, t.parts_len = 2 * 4096 + 1, EXPECT(refusal_of(t) == CS_OVERSIZE);
     t = LINE, t.ranges_len = 2 * 4096 + 1, EXPECT(refusal_of(t) == CS_OVERSIZE);
     t = LINE, t.parts_len = t.ranges_len = 2 * 4096, EXPECT(refusal_of(t) == CS_DRAWN);
+    for (size_t i = 3; i < 3 * 4096; i++) curves[i] = curves[i % 3];
+    cs_edge last = EDGE;
+    last.curve = 4095;
+    t = LINE, t.curves_len = 3 * 4096, t.reals_len = 2 * 4096, EXPECT(draw(t, last, OPTIONS, 400, 401) == CS_DRAWN && count == 5);
+    last.curve = 4096, EXPECT(draw(t, last, OPTIONS, 400, 401) == CS_MISSING);
     t = LINE, t.points_len = 10, EXPECT(refusal_of(t) == CS_ILL_FORMED);
     t = LINE, t.points_len = 8, EXPECT(refusal_of(t) == CS_ILL_FORMED);
     t = LINE, t.curves_len = 4, EXPECT(refusal_of(t) == CS_ILL_FORMED);
@@ -110,7 +115,7 @@ static void once(void) {
     EXPECT(draw_over(LINE, EDGE, OPTIONS, 400, 19) == CS_NO_ROOM);
 }
 
-/* Two chords copy lo and hi with their bits. */
+/* A chord without a usable range copies lo and hi with their bits, a runaway's lo twice. */
 static void nans(void) {
     const uint64_t bits[2] = {0x7ff80000deadbeef, 0xfffc0123456789ab};
     cs_edge e = EDGE;
@@ -118,6 +123,11 @@ static void nans(void) {
     EXPECT(draw(LINE, e, OPTIONS, 30, 41) == CS_DRAWN && way == CS_CHORD && count == 2);
     EXPECT(memcmp(first + 3, bits, 8) == 0 && memcmp(first + 7, bits + 1, 8) == 0);
     EXPECT(all(first + 8, 22, 0) && all(second, 41, 0));
+    cs_options o = OPTIONS;
+    e.high = 1, o.deflection = 0.01;
+    EXPECT(draw(LINE, e, o, 30, 41) == CS_DRAWN && way == CS_RUNAWAY && count == 2);
+    EXPECT(memcmp(second + 3, bits, 8) == 0 && memcmp(second + 7, bits, 8) == 0);
+    EXPECT(all(first, 30, 0) && all(second + 8, 33, 0));
 }
 
 static void walks(void) {

@@ -34,15 +34,16 @@ pub struct Tables<'a> {
     pub points: &'a [f64],
     /// kind first count of each curve row.
     pub curves: &'a [u32],
-    /// p q of each curve row.
+    /// p q of each curve row; a trim's range is in its base's own parameter.
     pub reals: &'a [f64],
     /// curve sense of each segment.
     pub parts: &'a [u32],
-    /// lo hi of each segment.
+    /// lo hi of each segment, in its curve's own parameter.
     pub ranges: &'a [f64],
 }
 
-/// An edge: rows of the tables, and a range of its curve.
+/// An edge: rows of the tables, and a range in its curve's own parameter: radians on a circle or an ellipse, the point's index
+/// on a polyline, the segment's index on a composite, the base's parameter on a trim.
 #[derive(Debug, Clone, Copy, PartialEq)]
 pub struct Edge {
     /// Its curve row.
@@ -193,7 +194,10 @@ impl fmt::Display for Refusal {
         f.write_str(match self {
             Refusal::Oversize => "A table is above its size: 65,536 points, 4,096 curve rows, 4,096 segments.",
             Refusal::Unbounded => "A float is not finite, or above 1e9 in magnitude.",
-            Refusal::IllFormed => "The tables, the edge or the options are not well formed.",
+            Refusal::IllFormed => {
+                "Points are not in threes, a kind is unknown, a count is wrong, an unused p or q is not zero, a sense or relative is \
+                 neither 0 nor 1, or a run, base or segment's curve is outside its table."
+            }
             Refusal::Unordered => {
                 "A trim's base, or the curve of a composite's segment, is not in a lower row than its own."
             }

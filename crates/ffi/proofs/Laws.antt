@@ -1,5 +1,4 @@
--- Drawing with an edge and options that are put together from their numbers, tables that were accepted, and a step with no
--- point left. Assumes nothing.
+-- Drawing with an edge and options that are put together from their numbers, and tables that were accepted. Assumes nothing.
 use mathlib.Core.Path.{_≡_, refl, sym, ap, subst, _∙_}
 use mathlib.Core.Logic.{inl, inr}
 use mathlib.Core.Bool.{Bool, true, false, cond}
@@ -24,10 +23,9 @@ use Rattle.chains.specs.Repair.{Got}
 use Rattle.chains.specs.Draw.{drawn, answerOf, Outcome}
 use Rattle.chains.proofs.Sound.{drawn-numbers}
 use Rattle.chains.proofs.Held.{fits-first, fits-second}
-use Rattle.walker.specs.declared.Step.{Step}
-use Rattle.walker.specs.declared.Step.the-variants.{Done}
-use Rattle.walker.specs.declared.Stepped.{Stepped}
-use Rattle.ffi.specs.Numbers.{causeOf, answerTo, refusalOf, numberOf, wayOf, countOf, Numbered, Told, passed, pointAfter}
+use Rattle.numbers.specs.declared.Codes.{Codes}
+use Rattle.numbers.specs.Numbers.{causeOf, numberOf, codesOf}
+use Rattle.ffi.specs.Told.{answerTo, Numbered, Told}
 
 -- ways are numbered from 1 to 5
 way-numbers : (w : Way) → (1 ≤ numberOf w) × (numberOf w ≤ 5)
@@ -38,43 +36,42 @@ way-numbers Complement = (omega arith, omega arith)
 way-numbers ShortArc = (omega arith, omega arith)
 way-numbers Runaway = (omega arith, omega arith)
 
+-- what a caller may rely on, of an answer's numbers
+abbrev Sound : ℕ → ℕ → Codes → Type 0
+Sound first second x = Numbered first second (x .refusal) (x .way) (x .count)
+
 module _ (T : Tables) (e : Edge) (o : Options) (first second : List Float) where
-  by-result : (d : Result Got) → drawn T e o (length first) (length second) ≡ d
-      → Numbered (length first) (length second) (refusalOf (answerOf d)) (wayOf (answerOf d)) (countOf (answerOf d))
-  unfolding answerOf refusalOf wayOf countOf
+  by-result : (d : Result Got) → drawn T e o (length first) (length second) ≡ d → Sound (length first) (length second) (codesOf (answerOf d))
+  unfolding answerOf codesOf
   by-result (refused n) q = let k = drawn-numbers T e o (length first) (length second) n q in inl (k .0, k .1, refl, refl)
   by-result (got g) q =
       let k = way-numbers (g .way) in
       inr (refl, k .0, k .1, fits-first T e o first second g q, fits-second T e o first second g q)
 
-  -- what a caller may rely on holds of every answer
-  numbers : Numbered (length first) (length second) (refusalOf (answerTo T e o first second)) (wayOf (answerTo T e o first second)) (countOf (answerTo T e o first second))
-  numbers = by-result (drawn T e o (length first) (length second)) refl
+  -- holds of every answer
+  sound : Sound (length first) (length second) (codesOf (answerTo T e o first second))
+  sound = by-result (drawn T e o (length first) (length second)) refl
 
-module _ (T : Tables) (first second : List Float) (r way count : ℕ) (f s : List Float) where
+module _ (T : Tables) (first second : List Float) (x : Codes) (f s : List Float) where
   -- the answer's numbers are told of the answer that the definition gives
-  by-answer : (e : Edge) (o : Options) (a : Drawn) → Outcome T e o first second a f s
-      → (r ≡ refusalOf a) × (way ≡ wayOf a) × (count ≡ countOf a)
-      → Told T e o first second r way count f s
+  by-answer : (e : Edge) (o : Options) (a : Drawn) → Outcome T e o first second a f s → x ≡ codesOf a
+      → Told T e o first second (x .refusal) (x .way) (x .count) f s
   by-answer e o a h p =
-      let x = p .0 ∙ ap refusalOf (h .answered) in
-      let y = p .1 ∙ ap wayOf (h .answered) in
-      let z = p .2 ∙ ap countOf (h .answered) in
+      let w = p ∙ ap codesOf (h .answered) in
       record {
-        itsRefusal = x;
-        itsWay = y;
-        itsCount = z;
-        numbered = rw (x, y, z) (numbers T e o first second);
+        itsRefusal = ap (λ (c : Codes). c .refusal) w;
+        itsWay = ap (λ (c : Codes). c .way) w;
+        itsCount = ap (λ (c : Codes). c .count) w;
+        numbered = subst (Sound (length first) (length second)) (sym w) (sound T e o first second);
         outcome = subst (λ (x : Drawn). Outcome T e o first second x f s) (h .answered) h;
       }
 
   -- and of the edge and the options that the numbers stand for
-  pub by-numbers : (e e' : Edge) (o o' : Options) (a : Drawn) → e ≡ e' → o ≡ o' → Outcome T e o first second a f s
-      → (r ≡ refusalOf a) × (way ≡ wayOf a) × (count ≡ countOf a)
-      → Told T e' o' first second r way count f s
+  pub by-numbers : (e e' : Edge) (o o' : Options) (a : Drawn) → e ≡ e' → o ≡ o' → Outcome T e o first second a f s → x ≡ codesOf a
+      → Told T e' o' first second (x .refusal) (x .way) (x .count) f s
   by-numbers e e' o o' a p q h w =
-      subst (λ (x : Edge). Told T x o' first second r way count f s) p
-      (subst (λ (x : Options). Told T e x first second r way count f s) q (by-answer e o a h w))
+      subst (λ (z : Edge). Told T z o' first second (x .refusal) (x .way) (x .count) f s) p
+      (subst (λ (z : Options). Told T e z first second (x .refusal) (x .way) (x .count) f s) q (by-answer e o a h w))
 
 -- no cause of the tables has the number 0
 by-causes : (a b c d e : Bool) (v : Verdict)
@@ -92,11 +89,3 @@ by-causes false false false false false v p q = p
 pub accepted : (T : Tables) (r : ℕ) → r ≡ causeOf (tablesVerdict T) → r ≡ 0 → tablesVerdict T ≡ verdicts.Accepted
 unfolding tablesVerdict
 accepted T r p q = by-causes (oversize T) (unboundedTables (T .points) (T .reals) (T .ranges)) (illFormedTables T) (unordered T) (tooDeep T) (tablesVerdict T) refl (sym p ∙ q)
-
--- a step that answered Done passed no point
-pub none-left : (x y : Stepped) (point : List Float) → x ≡ y → x .step ≡ Done
-    → (0 ≡ passed (y .step)) × (point ≡ pointAfter point (y .step))
-unfolding passed pointAfter
-none-left x y point p d =
-    let w = sym d ∙ ap (λ (s : Stepped). s .step) p in
-    (ap passed w, ap (pointAfter point) w)

@@ -16,7 +16,7 @@ cause-of-requires : tie.Need-cause-of-requires
 cause-of-requires c κs = search needs
 
 returns : tie.Need-returns
-returns c = cc
+returns c = rw (c .cause-of .ensures, c .before .check .ensures, c .before .before .options-of .ensures, c .before .before .before .edge-of .ensures)
 
 pub cs-check-spec : {M : Type 1} → statement M
 cs-check-spec =

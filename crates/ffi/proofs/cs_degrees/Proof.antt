@@ -1,4 +1,6 @@
 -- `ffi::cs_degrees` meets its contract. Assumes nothing.
+use mathlib.Core.Path.{ap}
+use Rattle.options.specs.declared.Radians.{Radians}
 use borrow.Author.Needs.{needs}
 use Rattle.ffi.proofs.cs_degrees.Statement.{statement}
 use Rattle.ffi.proofs.cs_degrees.Tie as tie
@@ -7,7 +9,7 @@ degrees-requires : tie.Need-degrees-requires
 degrees-requires c κs = search needs
 
 returns : tie.Need-returns
-returns c = cc
+returns c = ap (λ (r : Radians). r .0) (c .degrees .ensures)
 
 pub cs-degrees-spec : {M : Type 1} → statement M
 cs-degrees-spec = tie.close (tie.spec degrees-requires returns)

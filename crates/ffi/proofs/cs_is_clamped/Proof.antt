@@ -1,4 +1,6 @@
 -- `ffi::cs_is_clamped` meets its contract. Assumes nothing.
+use mathlib.Core.Path.{ap, _∙_}
+use Rattle.options.specs.Options.{isClamped}
 use borrow.Author.Needs.{needs}
 use Rattle.ffi.proofs.cs_is_clamped.Statement.{statement}
 use Rattle.ffi.proofs.cs_is_clamped.Tie as tie
@@ -10,7 +12,7 @@ is-clamped-requires : tie.Need-is-clamped-requires
 is-clamped-requires c κs = search needs
 
 returns : tie.Need-returns
-returns c = cc
+returns c = c .is-clamped .ensures ∙ ap isClamped (c .before .of .ensures)
 
 pub cs-is-clamped-spec : {M : Type 1} → statement M
 cs-is-clamped-spec = tie.close (tie.spec of-requires is-clamped-requires returns)

@@ -1,0 +1,13 @@
+-- `ffi::cs_start` meets its contract. Assumes nothing.
+use borrow.Author.Needs.{needs}
+use Rattle.ffi.proofs.cs_start.Statement.{statement}
+use Rattle.ffi.proofs.cs_start.Tie as tie
+
+start-at-requires : tie.Need-start-at-requires
+start-at-requires c κs = search needs
+
+returns : tie.Need-returns
+returns c = c .start-at .ensures
+
+pub cs-start-spec : {M : Type 1} → statement M
+cs-start-spec = tie.close (tie.spec start-at-requires returns)

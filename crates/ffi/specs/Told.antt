@@ -1,0 +1,32 @@
+-- What drawing returns and stores through C names. Definitions only.
+use mathlib.Core.Path.{_≡_}
+use mathlib.Core.List.{List}
+use mathlib.Core.Logic.{_⊎_}
+use Prim.Native.Nat.{ℕ, _*_, _≤_}
+use lib.ListN.{length}
+use lib.Ieee.{Float}
+use Rattle.brep.specs.declared.Edge.{Edge}
+use Rattle.brep.specs.Rows.{Tables}
+use Rattle.options.specs.declared.Options.{Options}
+use Rattle.chains.specs.declared.Drawn.{Drawn}
+use Rattle.chains.specs.Draw.{drawn, answerOf, Outcome}
+use Rattle.samples.specs.Chain.{width}
+use Rattle.numbers.specs.Numbers.{codesOf}
+
+-- the answer of drawing into buffers that hold these floats
+abbrev pub answerTo : Tables → Edge → Options → List Float → List Float → Drawn
+answerTo T e o first second = answerOf (drawn T e o (length first) (length second))
+
+-- what a caller may rely on: a number from 1 to 9 with no way and no points, or 0, a way from 1 to 5 and points that fit either buffer
+abbrev pub Numbered : ℕ → ℕ → ℕ → ℕ → ℕ → Type 0
+Numbered first second refusal way count =
+    ((1 ≤ refusal) × (refusal ≤ 9) × (way ≡ 0) × (count ≡ 0))
+    ⊎ ((refusal ≡ 0) × (1 ≤ way) × (way ≤ 5) × (width * count ≤ first) × (width * count ≤ second))
+
+-- what drawing returns and stores: the answer's three numbers, and buffers with all that `Outcome` says of them
+pub record Told (T : Tables) (e : Edge) (o : Options) (first second : List Float) (refusal way count : ℕ) (first' second' : List Float) : Type 0 where
+  pub itsRefusal : refusal ≡ codesOf (answerTo T e o first second) .refusal
+  pub itsWay : way ≡ codesOf (answerTo T e o first second) .way
+  pub itsCount : count ≡ codesOf (answerTo T e o first second) .count
+  pub numbered : Numbered (length first) (length second) refusal way count
+  pub outcome : Outcome T e o first second (answerTo T e o first second) first' second'

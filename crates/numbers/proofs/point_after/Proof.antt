@@ -1,0 +1,22 @@
+-- `numbers::point_after` meets its contract. Assumes nothing.
+use Rattle.numbers.specs.Numbers.{pointAfter}
+use borrow.Author.Needs.{needs}
+use Rattle.numbers.proofs.point_after.Statement.{statement}
+use Rattle.numbers.proofs.point_after.Tie as tie
+
+enum-known-step : tie.Need-enum-known-step
+enum-known-step c = search needs
+
+enum-told : tie.Need-enum-told
+enum-told c = search needs
+
+returns : tie.Need-returns
+unfolding pointAfter
+returns c = rw (c .before .step .given .1)
+
+returns-2 : tie.Need-returns-2
+unfolding pointAfter
+returns-2 c = rw (c .enum-told .given .1)
+
+pub point-after-spec : {M : Type 1} → statement M
+point-after-spec = tie.close (tie.spec enum-known-step enum-told returns returns-2)
