@@ -104,7 +104,18 @@ fn answer_read(
             hi,
         } => {
             let drawn = draw_rows(
-                points, curves, reals, parts, ranges, n, m, k, edge, options, first, second,
+                points,
+                curves,
+                reals,
+                parts,
+                ranges,
+                n,
+                m,
+                k,
+                edge,
+                options,
+                first,
+                second,
             );
             show(drawn, first, second, lo, hi, out)
         }
@@ -130,7 +141,15 @@ pub fn answer(text: &[u8], first: &mut [f64], second: &mut [f64], out: &mut [u8]
         &mut ranges,
     );
     answer_read(
-        read, &points, &curves, &reals, &parts, &ranges, first, second, out,
+        read,
+        &points,
+        &curves,
+        &reals,
+        &parts,
+        &ranges,
+        first,
+        second,
+        out,
     )
 }
 
