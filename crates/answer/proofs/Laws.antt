@@ -77,8 +77,8 @@ module _ (t : Tables) (e : Edge) (o : Options) (first second : List Float) (d : 
           let w = filled-long (length second) (cond (inFirst (g .way)) [] (flat (g .chain))) in
           (omega arith, omega arith)
 
-  pub held-in-room : (bytes : ℕ) → 29 + 68 * roomOf (length first) (length second) ≤ bytes
-      → (floatsOf d ≤ length f) × (floatsOf d ≤ length s) × (29 + 17 * floatsOf d ≤ bytes)
+  pub held-in-room : (bytes : ℕ) → 19 + 68 * roomOf (length first) (length second) ≤ bytes
+      → (floatsOf d ≤ length f) × (floatsOf d ≤ length s) × (19 + 17 * floatsOf d ≤ bytes)
   held-in-room bytes fits = let k = floats-few in (buffers-hold .0, buffers-hold .1, omega arith)
 
   -- what is shown of the answer and the buffers is what is printed for the drawing

@@ -5,12 +5,6 @@ use libc::STDOUT_FILENO;
 // One byte more than a sheet may have: a text that fills it is too long.
 const SIZE: usize = 65537;
 
-// The floats of each chain buffer: 2,048 points.
-const FLOATS: usize = 8192;
-
-// Enough for every listing: 68 bytes a point, and 29 for its names or a refusal.
-const BYTES: usize = 139293;
-
 // Reads what a text that is too long has left, so that whoever writes it can end. The loop counts its turns down, from a
 // number that no run uses up, since nothing says that an input ends.
 fn drain() {
@@ -27,13 +21,13 @@ fn drain() {
 
 fn main() {
     let mut text = [0u8; SIZE];
-    let mut first = [0.0f64; FLOATS];
-    let mut second = [0.0f64; FLOATS];
-    let mut out = [0u8; BYTES];
+    let mut out = [0u8; answer::BYTES];
     let n = io::read_full(STDIN_FILENO, &mut text);
     drain();
-    let written = answer::answer(&text[..n], &mut first, &mut second, &mut out);
-    if written <= BYTES {
+    let written = answer::print(&text[..n], &mut out);
+    // Always so, but the contract of `print` names the bytes and not how many they are at most.
+    if written <= answer::BYTES {
+        // A program has no exit status: what cannot be written, as to a full disk, is lost without a word.
         io::write_all(STDOUT_FILENO, &out[..written]);
     }
 }

@@ -1,4 +1,4 @@
--- Columns by letters, as the code names them; rows of nine numbers.
+-- For the code's own use, but for `padded`: columns by letters, as the code names them; rows of nine numbers.
 use mathlib.Core.Bool.{true, false, cond}
 use mathlib.Core.List.{List, [], map, _++_}
 use Prim.Native.Nat.{ℕ, _-_}

@@ -2,7 +2,7 @@
 use mathlib.Core.Path.{_≡_, refl, sym, ap, _∙_}
 use mathlib.Core.Bool.{Bool, true, false, cond}
 use mathlib.Core.List.{List, [], _∷_, _++_, append-assoc, flatMap}
-use Prim.Native.Nat.{ℕ, zero, suc, _+_, _-_, _*_, _^_, _≤_}
+use Prim.Native.Nat.{ℕ, zero, suc, _+_, _-_, _*_, _^_, _<_, _≤_}
 use native.Mathlib.Omega.{arith}
 use lib.ListN.{length, length-append}
 use lib.Dec.{ltb}
@@ -17,6 +17,7 @@ use Rattle.formats.proofs.Lines.{lines-law}
 use Rattle.formats.proofs.Tables.{Good, line-law, no-line}
 use Rattle.samples.specs.Chain.{samples}
 use Rattle.listing.specs.Listing.{columns, lineOf, listing, refusal}
+use Rattle.listing.proofs.Written.{width-ten}
 use Rattle.listing.proofs.Lines.{linesFrom, lines-length, listing-is}
 
 names-length : length (names columns) ≡ 8
@@ -38,10 +39,11 @@ width-few (suc k) n = go (ltb n (10 ^ suc k)) (width-few k n)
     go true h = omega arith
     go false h = omega arith
 
-pub refusal-length : (cause : ℕ) → length (refusal cause) ≤ 29
+pub refusal-length : (cause : ℕ) → cause < 10 ^ 10 → length (refusal cause) ≤ 19
 unfolding refusal decimal bytes
-refusal-length cause =
-    let w = width-few 19 cause in
+refusal-length cause small =
+    let w = width-few 9 cause in
+    let t = width-ten cause small in
     let d = digits-length 10 (widthUpTo 19 cause) cause in
     let l = length-append (decimal cause) (10 ∷ []) in
     omega arith

@@ -65,3 +65,9 @@ width-here n count power h e l = (let j : count ≡ suc (count - 1) = omega arit
 pub width-one : (n count : ℕ) → count ≡ 1 → count ≡ widthUpTo (count - 1) n
 unfolding widthUpTo
 width-one n count e = e ∙ ap (λ z. widthUpTo (z - 1) n) (sym e)
+
+-- ten digits are enough below 10^10
+pub width-ten : (n : ℕ) → n < 10 ^ 10 → widthUpTo 19 n ≡ widthUpTo 9 n
+unfolding widthUpTo
+width-ten n l =
+    rw (lt-ltb n (10 ^ 19) (omega arith), lt-ltb n (10 ^ 18) (omega arith), lt-ltb n (10 ^ 17) (omega arith), lt-ltb n (10 ^ 16) (omega arith), lt-ltb n (10 ^ 15) (omega arith), lt-ltb n (10 ^ 14) (omega arith), lt-ltb n (10 ^ 13) (omega arith), lt-ltb n (10 ^ 12) (omega arith), lt-ltb n (10 ^ 11) (omega arith), lt-ltb n (10 ^ 10) l)

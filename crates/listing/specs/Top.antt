@@ -1,4 +1,4 @@
--- The first digit of a plain decimal. Definitions only.
+-- For the code's own use: the first digit of a plain decimal. Definitions only.
 use mathlib.Core.Path.{_≡_}
 use Prim.Native.Nat.{ℕ, _-_, _^_, _<_, _≤_}
 use Rattle.formats.specs.Format.{widthUpTo}
@@ -9,5 +9,5 @@ pub record TopOf (n : ℕ) (t : Top) : Type 0 where
   pub width : t .count ≡ widthUpTo 19 n
   pub power : t .power ≡ 10 ^ (t .count - 1)
   pub some : 0 < t .count
-  pub few : t .count ≤ 20
+  pub few : t .count ≤ 10
   pub below : n < 10 ^ t .count

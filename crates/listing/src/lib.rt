@@ -108,12 +108,13 @@ pub fn write_chain(chain: &[f64], n: usize, first: u64, last: u64, out: &mut [u8
     at
 }
 
-// How many digits n has, and the power of ten that the first stands for.
+// The same of n, which has at most ten digits.
 fn top_of(n: u64) -> Top
+    requires { ⌜ n < 10 ^ 10 ⌝ }
     ensures { λ r. ⌜ TopOf n r ⌝ }
 {
-    let mut count = 20usize;
-    let mut power = 10000000000000000000u64;
+    let mut count = 10usize;
+    let mut power = 1000000000u64;
     while 1 < count {
         if power <= n {
             return Top { count, power };
@@ -126,7 +127,7 @@ fn top_of(n: u64) -> Top
 
 // The listing of a refusal, at the buffer's start; answers how many bytes it has.
 pub fn write_refusal(cause: u32, out: &mut [u8]) -> usize
-    requires { ⌜ 29 ≤ length (now out) ⌝ }
+    requires { ⌜ 19 ≤ length (now out) ⌝ }
     ensures { λ r. ⌜ (r ≡ length (refusal cause)) × (now (out .exit) ≡ sets (now (out .entry)) 0 (refusal cause)) ⌝ }
 {
     let at = put_bytes(b"refusal\n", out, 0);

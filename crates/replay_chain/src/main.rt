@@ -15,8 +15,8 @@ const SIZE: usize = 65541;
 // The most floats of a chain buffer: room for 16,384 points, the longest chain.
 const FLOATS: usize = 65536;
 
-// Enough for every listing: 68 bytes a point, and 29 for its names or a refusal.
-const BYTES: usize = 1114141;
+// Enough for every listing: 68 bytes a point, and 19 for its names or a refusal.
+const BYTES: usize = 1114131;
 
 // How many bytes of the part are kept, how many equals signs end them (at most 4), and the floats of the chain buffers.
 struct Kept {
@@ -65,11 +65,12 @@ fn at_most(n: usize) -> usize
 
 // Writes the answer to a sheet, drawn in the first floats of both buffers.
 fn put_answer(text: &[u8], first: &mut [f64], second: &mut [f64], out: &mut [u8], kept: Kept)
-    requires { ⌜ (length (now first) ≡ 65536) × (length (now second) ≡ 65536) × (length (now out) ≡ 1114141) ⌝ }
+    requires { ⌜ (length (now first) ≡ 65536) × (length (now second) ≡ 65536) × (length (now out) ≡ 1114131) ⌝ }
 {
     let n = at_most(kept.first);
     let m = at_most(kept.second);
     let written = answer::answer(text, &mut first[..n], &mut second[..m], out);
+    // Always so, but the contract of `answer` names the bytes and not how many they are at most.
     if written <= out.len() {
         io::write_all(STDOUT_FILENO, &out[..written]);
     }

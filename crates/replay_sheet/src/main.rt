@@ -226,6 +226,46 @@ fn put_tables(
     )
 }
 
+// The answer to what was read into the tables.
+fn put_told(
+    read: Sheet,
+    points: &[f64; sheet::POINTS],
+    curves: &[u32; sheet::CURVES],
+    reals: &[f64; sheet::REALS],
+    parts: &[u32; sheet::PARTS],
+    ranges: &[f64; sheet::RANGES],
+    out: &mut [u8; 4096],
+    at: usize,
+) -> usize {
+    match read {
+        Sheet::Read {
+            points: n,
+            curves: m,
+            segments: k,
+            edge,
+            options,
+            lo,
+            hi,
+        } => put_tables(
+            points,
+            curves,
+            reals,
+            parts,
+            ranges,
+            n,
+            m,
+            k,
+            edge,
+            options,
+            lo,
+            hi,
+            out,
+            at,
+        ),
+        Sheet::Refused(cause) => put_refusal(cause, out, at),
+    }
+}
+
 // The answer to a sheet.
 fn put_sheet(sheet: &[u8], out: &mut [u8; 4096], at: usize) -> usize {
     let mut points = [0.0f64; sheet::POINTS];
@@ -241,33 +281,7 @@ fn put_sheet(sheet: &[u8], out: &mut [u8; 4096], at: usize) -> usize {
         &mut parts,
         &mut ranges,
     );
-    match read {
-        Sheet::Read {
-            points: n,
-            curves: m,
-            segments: k,
-            edge,
-            options,
-            lo,
-            hi,
-        } => put_tables(
-            &points,
-            &curves,
-            &reals,
-            &parts,
-            &ranges,
-            n,
-            m,
-            k,
-            edge,
-            options,
-            lo,
-            hi,
-            out,
-            at,
-        ),
-        Sheet::Refused(cause) => put_refusal(cause, out, at),
-    }
+    put_told(read, &points, &curves, &reals, &parts, &ranges, out, at)
 }
 
 // The answer to the sheet that is the first bytes of the text.

@@ -26,7 +26,7 @@ use Rattle.ends.specs.declared.Last.the-variants.{Pair, NoPair}
 use Rattle.brep.specs.Rows.{Tables, tables as tables-of}
 use Rattle.brep.specs.declared.Edge.{Edge}
 use Rattle.options.specs.declared.Options.{Options}
-use Rattle.sheet.specs.Sheet.{floatOf, edgeFrom, optionsFrom, answer, tablesOf, stored, left}
+use Rattle.sheet.specs.Sheet.{floatOf, edgeFrom, optionsFrom, answer, tablesOf, none, stored, left}
 use Rattle.sheet.specs.Told.{Three, toldTables, onlyTables, Held, Kept}
 use Rattle.sheet.specs.declared.Sheet.the-variants.{Read as ReadSheet, Refused}
 use Rattle.sheet.specs.declared.Counted.the-variants.{Counts, NoTables}
@@ -72,6 +72,13 @@ pub stored-is : (a b c : List (List ℕ)) (points : List Float) (curves : List �
     → tables-of points curves reals parts ranges ≡ stored (tablesOf (onlyTables (a, (b, c))))
 unfolding stored tablesOf
 stored-is a b c points curves reals parts ranges d e f g h = rw (d, e, f, g, h)
+
+pub cleared : (points : List Float) (curves : List ℕ) (reals : List Float) (parts : List ℕ) (ranges : List Float)
+    → points ≡ replicate 3855 (floatOf 0) → curves ≡ replicate 4914 0 → reals ≡ replicate 3276 (floatOf 0) → parts ≡ replicate 3448 0
+    → ranges ≡ replicate 3448 (floatOf 0) → tables-of points curves reals parts ranges ≡ stored none
+unfolding stored
+cleared points curves reals parts ranges d e f g h =
+    rw (d ∙ zeros-padded (floatOf 0) 3855, e ∙ zeros-padded 0 4914, f ∙ zeros-padded (floatOf 0) 3276, g ∙ zeros-padded 0 3448, h ∙ zeros-padded (floatOf 0) 3448)
 
 -- ---- what was read of them, by what was told
 pub record TablesRead (s : List ℕ) (n m k p : ℕ) : Type 0 where
@@ -202,15 +209,12 @@ module _ (r : Result RawSheet) where
   kept-is t edge options new e f = rw (e, Kept) f
 
   -- ---- at the end
-  pub left-no : (cause : ℕ) (points : List Float) (curves : List ℕ) (reals : List Float) (parts : List ℕ) (ranges : List Float) → Refused cause ≡ answer r
-      → points ≡ replicate 3855 (floatOf 0) → curves ≡ replicate 4914 0 → reals ≡ replicate 3276 (floatOf 0) → parts ≡ replicate 3448 0
-      → ranges ≡ replicate 3448 (floatOf 0) → tables-of points curves reals parts ranges ≡ left r
-  unfolding answer left stored
-  left-no cause points curves reals parts ranges a d e f g h = go r a
+  pub left-no : (cause : ℕ) (new : Tables) → Refused cause ≡ answer r → new ≡ stored none → new ≡ left r
+  unfolding answer left
+  left-no cause new a e = go r a
     where
-      go : (r : Result RawSheet) → Refused cause ≡ answer r → tables-of points curves reals parts ranges ≡ left r
-      go (refused n) a =
-          rw (d ∙ zeros-padded (floatOf 0) 3855, e ∙ zeros-padded 0 4914, f ∙ zeros-padded (floatOf 0) 3276, g ∙ zeros-padded 0 3448, h ∙ zeros-padded (floatOf 0) 3448)
+      go : (r : Result RawSheet) → Refused cause ≡ answer r → new ≡ left r
+      go (refused n) a = e
       go (accepted raw) a = absurd (let z : _≡_ {A = ℕ} 0 1 = cc in omega arith)
 
   pub left-is : (n m k : ℕ) (e : Edge) (o : Options) (lo hi : ℕ) (new : Tables) → ReadSheet n m k e o lo hi ≡ answer r → Kept r new → new ≡ left r

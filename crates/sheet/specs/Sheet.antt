@@ -69,9 +69,12 @@ stored t =
     tables (padded 3855 (floatOf 0) (t .points)) (padded 4914 0 (t .curves)) (padded 3276 (floatOf 0) (t .reals)) (padded 3448 0 (t .parts))
     (padded 3448 (floatOf 0) (t .ranges))
 
+abbrev pub none : Tables
+none = tables [] [] [] [] []
+
 -- WHAT IS LEFT in the tables: those of the sheet that was read; zeros alone after a refusal
 unfoldable pub left : Result RawSheet → Tables
-left (refused cause) = stored (tables [] [] [] [] [])
+left (refused cause) = stored none
 left (got raw) = stored (tablesOf raw)
 
 -- the leading rows of tables: so many points, curves and segments

@@ -1,4 +1,4 @@
--- What the parts of the reader answer, and what they leave in the tables. Where nothing was read, nothing is said of the tables.
+-- For the code's own use: what the parts of the reader answer, and what they leave in the tables. Where nothing was read, nothing is said of the tables.
 use mathlib.Core.Path.{_≡_}
 use mathlib.Core.List.{List, []}
 use Prim.Native.Nat.{ℕ, _-_}

@@ -4,7 +4,7 @@ ghost use Prim.Native.Nat.{_≤_};
 ghost use lib.ListN.{length};
 ghost use Rattle.layout.specs.Layout.{size, tables, readSheet, Means};
 ghost use Rattle.brep.specs.Rows.{lent};
-ghost use Rattle.sheet.specs.Sheet.{edgeFrom, optionsFrom, answer, left};
+ghost use Rattle.sheet.specs.Sheet.{edgeFrom, optionsFrom, answer, none, stored, left};
 ghost use Rattle.sheet.specs.Told.{toldTables, Held, Kept};
 use brep::Edge;
 use ends::Last;
@@ -142,6 +142,23 @@ fn try_sheet(
     }
 }
 
+// Zeros in all tables.
+fn clear(
+    points: &mut [f64; POINTS],
+    curves: &mut [u32; CURVES],
+    reals: &mut [f64; REALS],
+    parts: &mut [u32; PARTS],
+    ranges: &mut [f64; RANGES],
+)
+    ensures { λ _. ⌜ lent (points .exit) (curves .exit) (reals .exit) (parts .exit) (ranges .exit) ≡ stored none ⌝ }
+{
+    rows::clear_floats(points);
+    rows::clear_wholes(curves);
+    rows::clear_floats(reals);
+    rows::clear_wholes(parts);
+    rows::clear_floats(ranges);
+}
+
 // The sheet that the text stands for: its numbers in the tables, zeros behind them. Zeros alone, and cause 10, where it
 // stands for none.
 pub fn read(
@@ -158,11 +175,7 @@ pub fn read(
 {
     let sheet = try_sheet(text, points, curves, reals, parts, ranges);
     if let Sheet::Refused(_) = sheet {
-        rows::clear_floats(points);
-        rows::clear_wholes(curves);
-        rows::clear_floats(reals);
-        rows::clear_wholes(parts);
-        rows::clear_floats(ranges);
+        clear(points, curves, reals, parts, ranges);
     }
     sheet
 }

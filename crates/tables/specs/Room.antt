@@ -1,4 +1,4 @@
--- How many rows a sheet can have, and so what room its tables need.
+-- For the code's own use: how many rows a sheet can have, and so what room its tables need.
 use mathlib.Core.Path.{_≡_}
 use mathlib.Core.Bool.{Bool, true, false, cond, not}
 use mathlib.Core.List.{List, [], _∷_}

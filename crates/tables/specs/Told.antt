@@ -1,4 +1,4 @@
--- Tables by their names and letters, and what their readers leave in the tables that they were lent.
+-- For the code's own use, but for `flat` and `numbersOf`: tables by their names and letters, and what their readers leave in the tables that they were lent.
 use mathlib.Core.Path.{_≡_}
 use mathlib.Core.List.{List, [], _∷_, _++_}
 use Prim.Native.Nat.{ℕ}

@@ -1,8 +1,7 @@
--- `chain::main` meets its contract: there is room for every listing. Assumes nothing.
+-- `chain::main` meets its contract. Assumes nothing.
 use mathlib.Core.Path.{sym}
 use native.Mathlib.Omega.{arith}
 use lib.Seq.{length-take-le}
-use Rattle.chains.specs.Draw.{roomOf}
 use borrow.Author.Needs.{needs}
 use Rattle.chain.proofs.main.Statement.{statement}
 use Rattle.chain.proofs.main.Tie as tie
@@ -19,21 +18,14 @@ drain-requires c κs = search needs
 array-share-prefix-text : tie.Need-array-share-prefix-text
 array-share-prefix-text c = search needs
 
-slice-aggregate-answer : tie.Need-slice-aggregate-answer
-slice-aggregate-answer c = search needs
+slice-aggregate-print : tie.Need-slice-aggregate-print
+slice-aggregate-print c = search needs
 
-slice-aggregate-answer-2 : tie.Need-slice-aggregate-answer-2
-slice-aggregate-answer-2 c = search needs
+slice-aggregate-print-2 : tie.Need-slice-aggregate-print-2
+slice-aggregate-print-2 c = search needs
 
-slice-aggregate-answer-3 : tie.Need-slice-aggregate-answer-3
-slice-aggregate-answer-3 c = search needs
-
-slice-aggregate-answer-4 : tie.Need-slice-aggregate-answer-4
-slice-aggregate-answer-4 c = search needs
-
-answer-requires : tie.Need-answer-requires
-unfolding roomOf
-answer-requires c κs = omega arith
+print-requires : tie.Need-print-requires
+print-requires c κs = search needs
 
 array-share-prefix-out : tie.Need-array-share-prefix-out
 array-share-prefix-out c = search needs
@@ -58,11 +50,9 @@ main-spec =
     read-full-requires
     drain-requires
     array-share-prefix-text
-    slice-aggregate-answer
-    slice-aggregate-answer-2
-    slice-aggregate-answer-3
-    slice-aggregate-answer-4
-    answer-requires
+    slice-aggregate-print
+    slice-aggregate-print-2
+    print-requires
     array-share-prefix-out
     slice-aggregate-write-all
     write-all-requires

@@ -4,19 +4,19 @@ use Prim.Native.Nat.{_-_, _^_, _<_, _≤_}
 use native.Mathlib.Omega.{arith}
 use borrow.Author.Needs.{needs}
 use Rattle.formats.specs.Format.{widthUpTo}
-use Rattle.listing.proofs.Written.{pow-next, width-less, width-here, width-one}
+use Rattle.listing.proofs.Written.{pow-next, width-less, width-here, width-one, width-ten}
 use Rattle.listing.proofs.top_of.Statement.{statement}
 use Rattle.listing.proofs.top_of.Tie as tie
 
 abbrev Inv-loop : tie.InvT-loop
 Inv-loop n count₀ power₀ count power =
-    (0 < count) × (count ≤ 20) × (power ≡ 10 ^ (count - 1)) × (n < 10 ^ count) × (widthUpTo 19 n ≡ widthUpTo (count - 1) n)
+    (0 < count) × (count ≤ 10) × (power ≡ 10 ^ (count - 1)) × (n < 10 ^ count) × (widthUpTo 19 n ≡ widthUpTo (count - 1) n)
 
 abbrev μ-loop : tie.MeasureT-loop
 μ-loop n count₀ power₀ count power = count
 
 loop-holds : tie.Need-loop-holds Inv-loop μ-loop
-loop-holds c = (omega arith, omega arith, refl, search needs, refl)
+loop-holds c = (omega arith, omega arith, refl, search needs, width-ten (c .args .n) (c .pre))
 
 returns : tie.Need-returns Inv-loop μ-loop
 returns c =
