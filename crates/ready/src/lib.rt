@@ -79,7 +79,7 @@ pub fn ready_at(
 ) -> Ready
     ensures { λ r. ⌜ r ≡ readyOf (tree (lent (points .entry) (curves .entry) (reals .entry) (parts .entry) (ranges .entry)) row) ⌝ }
 {
-    let r = curve::under_trims(curves, row);
+    let r = curve_run::under_trims(curves, row);
     let at = r as usize * 3;
     let kind = brep::int_at(curves, at);
     let first = brep::int_at(curves, at + 1);
@@ -149,7 +149,7 @@ pub fn point_of(
             y,
             focal_dist,
         } => parabola_point(origin, x, y, focal_dist, t),
-        Ready::Other => curve::point_at(points, curves, reals, parts, ranges, row, t),
+        Ready::Other => curve_point::point_at(points, curves, reals, parts, ranges, row, t),
     }
 }
 

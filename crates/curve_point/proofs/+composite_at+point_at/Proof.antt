@@ -1,9 +1,9 @@
 use Rattle.brep.specs.Rows.{lent}
--- `curve::composite_at` and `curve::point_at` meet their contracts. Assumes nothing.
-use Rattle.curve.proofs.Turn.{circle-around, ellipse-around, trim-stays}
-use Rattle.curve.proofs.Under.{under-same, under-low}
-use Rattle.curve.proofs.Laws.{composite-none, composite-some}
-use Rattle.curve.specs.Eval.{pointAt, polylinePoint}
+-- `curve_point::composite_at` and `curve_point::point_at` meet their contracts. Assumes nothing.
+use Rattle.curve_point.proofs.Turn.{circle-around, ellipse-around, trim-stays}
+use Rattle.curve_run.proofs.Under.{under-same, under-low}
+use Rattle.curve_point.proofs.Laws.{composite-none, composite-some}
+use Rattle.curve_point.specs.Point.{pointAt, polylinePoint}
 use Rattle.brep.proofs.Laws.{at-row, at-lower, at-high}
 use Rattle.brep.specs.Tree.{grown}
 use Rattle.math.specs.Math.{vAdd}
@@ -12,26 +12,26 @@ use borrow.Author.Needs.{needs}
 use Prim.Native.Nat.{ℕ, _<_, _+_, _*_}
 use borrow.Fn.Kinds.{In}
 use borrow.Fn.PlainCycle.{Measures, is, falls, and}
-use Rattle.curve.proofs.composite_at.Reads as composite-at
-use Rattle.curve.proofs.composite_at.Kinds as composite-at-kinds
-use Rattle.curve.proofs.+composite_at+point_at.Lts-composite_at as composite-at-lts
-use Rattle.curve.proofs.point_at.Reads as point-at
-use Rattle.curve.proofs.point_at.Kinds as point-at-kinds
-use Rattle.curve.proofs.+composite_at+point_at.Lts-point_at as point-at-lts
+use Rattle.curve_point.proofs.composite_at.Reads as composite-at
+use Rattle.curve_point.proofs.composite_at.Kinds as composite-at-kinds
+use Rattle.curve_point.proofs.+composite_at+point_at.Lts-composite_at as composite-at-lts
+use Rattle.curve_point.proofs.point_at.Reads as point-at
+use Rattle.curve_point.proofs.point_at.Kinds as point-at-kinds
+use Rattle.curve_point.proofs.+composite_at+point_at.Lts-point_at as point-at-lts
 use Rattle.arith.proofs.clamp.Reads as clamp-reads
 use Rattle.brep.proofs.row_at.Reads as row-at-reads
 use Rattle.brep.proofs.segment_at.Reads as segment-at-reads
-use Rattle.curve.proofs.around.Reads as around-reads
-use Rattle.curve.proofs.index_in.Reads as index-in-reads
-use Rattle.curve.proofs.own_parameter.Reads as own-parameter-reads
-use Rattle.curve.proofs.parabola_point.Reads as parabola-point-reads
-use Rattle.curve.proofs.polyline_point.Reads as polyline-point-reads
-use Rattle.curve.proofs.turn_at.Reads as turn-at-reads
-use Rattle.curve.proofs.under_trims.Reads as under-trims-reads
+use Rattle.curve_point.proofs.around.Reads as around-reads
+use Rattle.curve_run.proofs.index_in.Reads as index-in-reads
+use Rattle.curve_run.proofs.own_parameter.Reads as own-parameter-reads
+use Rattle.curve_point.proofs.parabola_point.Reads as parabola-point-reads
+use Rattle.curve_point.proofs.polyline_point.Reads as polyline-point-reads
+use Rattle.curve_point.proofs.turn_at.Reads as turn-at-reads
+use Rattle.curve_run.proofs.under_trims.Reads as under-trims-reads
 use Rattle.math.proofs.Vec3.add.Reads as add-reads
 use Rattle.math.proofs.Vec3.scale.Reads as scale-reads
-use Rattle.curve.proofs.+composite_at+point_at.{statement}
-use Rattle.curve.proofs.+composite_at+point_at.Tie.{close}
+use Rattle.curve_point.proofs.+composite_at+point_at.{statement}
+use Rattle.curve_point.proofs.+composite_at+point_at.Tie.{close}
 
 abbrev μ-composite-at : Measures 5 composite-at-kinds.ps ℕ
 μ-composite-at κs a = 2 * (a .1 .1 .1 .1 .1 .0)

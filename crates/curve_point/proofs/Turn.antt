@@ -18,10 +18,10 @@ use Rattle.brep.specs.declared.Curve.the-variants.{Line, Circle, Ellipse, Parab
 use Rattle.brep.specs.Rows.{Tables, pointOf, frameOf, kindOf, curveOf}
 use Rattle.brep.specs.Tree.{CurveTree, polyline, circle, ellipse, trimmed, rowIn, tree}
 use Rattle.brep.proofs.ByKind.{kindIn, firstIn, countIn, pIn, qIn}
-use Rattle.curve.specs.Eval.{around, ellipsePoint, pointAt}
-use Rattle.curve.specs.Under.{under}
-use Rattle.curve.specs.Turn.{turnOf}
-use Rattle.curve.proofs.Under.{Left, under-rest}
+use Rattle.curve_point.specs.Point.{around, ellipsePoint, pointAt}
+use Rattle.curve_run.specs.Under.{under}
+use Rattle.curve_point.specs.Turn.{turnOf}
+use Rattle.curve_run.proofs.Under.{Left, under-rest}
 
 -- a curve's number among the kinds
 numberOf : Curve → ℕ
