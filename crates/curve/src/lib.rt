@@ -56,14 +56,8 @@ pub fn natural_range(
             lo: -1e12,
             hi: 1e12,
         },
-        2 => Interval {
-            lo: 0.0,
-            hi: TAU,
-        },
-        3 => Interval {
-            lo: 0.0,
-            hi: TAU,
-        },
+        2 => Interval { lo: 0.0, hi: TAU },
+        3 => Interval { lo: 0.0, hi: TAU },
         4 => Interval { lo: -1e6, hi: 1e6 },
         5 => Interval {
             lo: 0.0,

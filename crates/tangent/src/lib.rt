@@ -32,7 +32,7 @@ fn signed_span(range: Interval, same_sense: bool) -> f64
     -1.0 * range.span()
 }
 
-// A circle is an ellipse with equal axes. The sine and cosine come before the frame, as in `curve`.
+// A circle is an ellipse with equal axes. The sine and cosine come before the frame, as in `curve_point`.
 fn ellipse_derivative(points: &[f64], first: u32, semi_major: f64, semi_minor: f64, t: f64) -> Vec3
     ensures { λ r. ⌜ r ≡ ellipseDerivative (frameOf (now (points .entry)) first) «semi_major» «semi_minor» t ⌝ }
 {
