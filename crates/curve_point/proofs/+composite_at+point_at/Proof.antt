@@ -1,10 +1,10 @@
-use Rattle.brep.specs.Rows.{lent}
 -- `curve_point::composite_at` and `curve_point::point_at` meet their contracts. Assumes nothing.
 use Rattle.curve_point.proofs.Turn.{circle-around, ellipse-around, trim-stays}
 use Rattle.curve_run.proofs.Under.{under-same, under-low}
 use Rattle.curve_point.proofs.Laws.{composite-none, composite-some}
 use Rattle.curve_point.specs.Point.{pointAt, polylinePoint}
 use Rattle.brep.proofs.Laws.{at-row, at-lower, at-high}
+use Rattle.brep.specs.Rows.{lent}
 use Rattle.brep.specs.Tree.{grown}
 use Rattle.math.specs.Math.{vAdd}
 use mathlib.Core.Path.{_≡_, refl, sym, ap, _∙_}
