@@ -4,7 +4,7 @@ use lib.Ieee.{Float}
 use Rattle.math.specs.declared.Vec3.{Vec3}
 use Rattle.math.specs.Math.{polar}
 use Rattle.brep.specs.Tree.{CurveTree, line, circle, ellipse, parabola, polyline, trimmed, composite}
-use Rattle.curve.specs.Eval as curves
+use Rattle.curve_point.specs.Point as curves
 use Rattle.tangent.specs.Derivative as derivatives
 use Rattle.ready.specs.declared.Ready.{Ready}
 use Rattle.ready.specs.Ready.{readyOf, roundPoint, parabolaPoint, readyPoint, roundDerivative, parabolaSlope, readyDerivative}

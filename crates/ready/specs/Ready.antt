@@ -7,7 +7,7 @@ use Rattle.math.specs.declared.Vec3.{Vec3}
 use Rattle.math.specs.declared.Frame.{Frame}
 use Rattle.math.specs.Math.{vAdd, vScale, yDir}
 use Rattle.brep.specs.Tree.{CurveTree, line, circle, ellipse, parabola, polyline, trimmed, composite}
-use Rattle.curve.specs.Eval.{pointAt}
+use Rattle.curve_point.specs.Point.{pointAt}
 use Rattle.tangent.specs.Derivative.{derivativeAt}
 use Rattle.ready.specs.declared.Ready.{Ready}
 use Rattle.ready.specs.declared.Ready.the-variants.{Line, Round, Parabola, Other}

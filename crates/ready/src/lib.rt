@@ -6,7 +6,8 @@ ghost use Prim.Native.Nat.{_+_};
 ghost use Rattle.brep.specs.Rows.{lent, pointOf};
 ghost use Rattle.brep.specs.Tree.{tree};
 ghost use Rattle.ready.specs.declared.Ready.the-variants.{Line};
-ghost use Rattle.ready.specs.Ready.{roundOf, parabolaOf, readyOf, roundPoint, parabolaPoint, readyPoint, roundDerivative, parabolaSlope, readyDerivative};
+ghost use Rattle.ready.specs.Ready.{roundOf, parabolaOf, readyOf, roundPoint, parabolaPoint, readyPoint};
+ghost use Rattle.ready.specs.Ready.{roundDerivative, parabolaSlope, readyDerivative};
 
 // Axes are as they are: nothing is normalised. A circle is round with equal axes.
 pub enum Ready {
@@ -68,7 +69,7 @@ fn line_of(points: &[f64], first: u32) -> Ready
     Ready::Line { origin, direction }
 }
 
-// The curve of a row, by the number of its kind under its trims.
+// The curve of a row, by the number of its kind under its trims: an arm for each kind, as in `curve`.
 pub fn ready_at(
     points: &[f64],
     curves: &[u32],
@@ -79,7 +80,7 @@ pub fn ready_at(
 ) -> Ready
     ensures { λ r. ⌜ r ≡ readyOf (tree (lent (points .entry) (curves .entry) (reals .entry) (parts .entry) (ranges .entry)) row) ⌝ }
 {
-    let r = curve::under_trims(curves, row);
+    let r = curve_run::under_trims(curves, row);
     let at = r as usize * 3;
     let kind = brep::int_at(curves, at);
     let first = brep::int_at(curves, at + 1);
@@ -149,7 +150,7 @@ pub fn point_of(
             y,
             focal_dist,
         } => parabola_point(origin, x, y, focal_dist, t),
-        Ready::Other => curve::point_at(points, curves, reals, parts, ranges, row, t),
+        Ready::Other => curve_point::point_at(points, curves, reals, parts, ranges, row, t),
     }
 }
 

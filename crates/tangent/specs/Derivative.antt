@@ -13,7 +13,7 @@ use Rattle.math.specs.declared.Direction.{Direction}
 use Rattle.math.specs.declared.Interval.{Interval}
 use Rattle.math.specs.Math.{vZero, vAdd, vSub, vScale, yDir, tryNormalized, spanOf}
 use Rattle.brep.specs.Tree.{CurveTree, line, circle, ellipse, parabola, polyline, trimmed, composite, Segments, none, segment}
-use Rattle.curve.specs.Eval.{countOf, indexIn, polylineParameter, segmentIndex, segmentLocal, ownParameter}
+use Rattle.curve_run.specs.Run.{countOf, indexIn, polylineParameter, segmentIndex, segmentLocal, ownParameter}
 
 -- polyline_derivative: the segment's own vector
 unfoldable pub polylineDerivative : List Vec3 → Float → Vec3

@@ -14,14 +14,15 @@ fn polyline_derivative(points: &[f64], first: u32, count: u32, t: f64) -> Vec3
     if count < 2 {
         return Vec3::ZERO;
     }
-    let u = curve::polyline_parameter(points, first, count, t);
-    let i = curve::index_in(count - 2, u);
+    let u = curve_run::polyline_parameter(points, first, count, t);
+    let i = curve_run::index_in(count - 2, u);
     let a = brep::point_in(points, first, i);
     let b = brep::point_in(points, first, i + 1);
     b.sub(a)
 }
 
 // A segment's span, or that the other way round where it is walked against its curve.
+// As in the Rust, a sign times the span.
 fn signed_span(range: Interval, same_sense: bool) -> f64
     ensures { λ r. ⌜ r ≡ signedSpan range «same_sense» ⌝ }
 {
@@ -31,7 +32,7 @@ fn signed_span(range: Interval, same_sense: bool) -> f64
     -1.0 * range.span()
 }
 
-// A circle is an ellipse with equal axes. The sine and cosine come before the frame, as in `curve`.
+// A circle is an ellipse with equal axes. The sine and cosine come before the frame, as in `curve_point`.
 fn ellipse_derivative(points: &[f64], first: u32, semi_major: f64, semi_minor: f64, t: f64) -> Vec3
     ensures { λ r. ⌜ r ≡ ellipseDerivative (frameOf (now (points .entry)) first) «semi_major» «semi_minor» t ⌝ }
 {
@@ -62,7 +63,7 @@ pub fn derivative_at(
 ) -> Vec3
     ensures { λ r. ⌜ r ≡ derivativeAt (tree (lent (points .entry) (curves .entry) (reals .entry) (parts .entry) (ranges .entry)) row) t ⌝ }
 {
-    let r = curve::under_trims(curves, row);
+    let r = curve_run::under_trims(curves, row);
     let at = r as usize * 3;
     let kind = brep::int_at(curves, at);
     let first = brep::int_at(curves, at + 1);
@@ -105,11 +106,11 @@ fn composite_derivative(
         return Vec3::ZERO;
     }
     let clamped = arith::clamp(t, 0.0, count as f64);
-    let i = curve::index_in(count - 1, clamped);
+    let i = curve_run::index_in(count - 1, clamped);
     let s = brep::segment_at(parts, ranges, first, i);
     let base = s.curve;
     let range = s.range;
-    let u = curve::own_parameter(range, s.same_sense, clamped - i as f64);
+    let u = curve_run::own_parameter(range, s.same_sense, clamped - i as f64);
     let k = signed_span(range, s.same_sense);
     if base < row {
         return derivative_at(points, curves, reals, parts, ranges, base, u).scale(k);

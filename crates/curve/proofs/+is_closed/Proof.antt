@@ -12,7 +12,7 @@ use Rattle.curve.proofs.is_closed.Kinds as is-closed-kinds
 use Rattle.curve.proofs.+is_closed.Lts-is_closed as is-closed-lts
 use Rattle.arith.proofs.abs.Reads as abs-reads
 use Rattle.brep.proofs.int_at.Reads as int-at-reads
-use Rattle.curve.proofs.closes_at.Reads as closes-at-reads
+use Rattle.curve_run.proofs.closes_at.Reads as closes-at-reads
 use Rattle.curve.proofs.natural_range.Reads as natural-range-reads
 use Rattle.curve.proofs.range_at.Reads as range-at-reads
 use Rattle.math.proofs.Interval.span.Reads as span-reads
@@ -77,7 +77,7 @@ is-closed-abs-requires-2 t c κs = search needs
 
 is-closed-returns : (t : ℕ) → is-closed-lts.Need-returns (is-closed-claims t) (is-closed-at t) is-closed.Post
 unfolding isClosed closes
-is-closed-returns t c = closed-trim _ _ _ _ (c .before .before .before .before .before .before .before .before .if1 .taken) (sym (c .before .before .before .before .before .before .before .is-closed .ensures) ∙ c .before .before .before .before .before .before .if2 .taken) _ (c .before .before .before .before .natural-range .ensures) _ (cc) ∙ at-trim isClosed _ _ (c .before .before .before .before .before .before .before .before .before .before .before .int-at .ensures) (c .before .before .before .before .before .before .before .before .before .match .keys6) (c .before .before .before .before .before .before .before .before .before .before .int-at2 .ensures) refl refl
+is-closed-returns t c = closed-trim _ _ _ _ (c .before .before .before .before .before .before .before .before .if1 .taken) (sym (c .before .before .before .before .before .before .before .is-closed .ensures) ∙ c .before .before .before .before .before .before .if2 .taken) _ _ (c .before .before .before .before .before .range-at .ensures) (c .before .before .before .before .natural-range .ensures) _ _ _ _ (c .before .before .before .span .ensures) (c .before .before .abs .ensures) (c .before .span2 .ensures) (c .abs2 .ensures) ∙ at-trim isClosed _ _ (c .before .before .before .before .before .before .before .before .before .before .before .int-at .ensures) (c .before .before .before .before .before .before .before .before .before .match .keys6) (c .before .before .before .before .before .before .before .before .before .before .int-at2 .ensures) refl refl
 
 is-closed-returns-2 : (t : ℕ) → is-closed-lts.Need-returns-2 (is-closed-claims t) (is-closed-at t) is-closed.Post
 unfolding isClosed closes

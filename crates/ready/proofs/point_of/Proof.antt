@@ -7,7 +7,7 @@ use Rattle.ready.proofs.point_of.Statement.{statement}
 use Rattle.ready.proofs.point_of.Tie as tie
 use Rattle.ready.proofs.point_of.Reads as reads
 use Rattle.ready.proofs.point_of.Lts as lts
-use Rattle.curve.proofs.point_at.Reads as point-at-reads
+use Rattle.curve_point.proofs.point_at.Reads as point-at-reads
 use Rattle.math.proofs.Vec3.add.Reads as add-reads
 use Rattle.math.proofs.Vec3.scale.Reads as scale-reads
 use Rattle.ready.proofs.parabola_point.Reads as parabola-point-reads

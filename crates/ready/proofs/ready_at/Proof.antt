@@ -1,6 +1,6 @@
 -- `ready::ready_at` meets its contract. Assumes nothing.
 use Rattle.ready.specs.Ready.{roundOf, parabolaOf, readyOf}
-use Rattle.curve.proofs.Under.{under-same, under-rest}
+use Rattle.curve_run.proofs.Under.{under-same, under-rest}
 use Rattle.brep.proofs.ByKind.{at-line, at-circle, at-ellipse, at-parabola, at-polyline, at-composite}
 use mathlib.Core.Path.{refl, ap, _∙_}
 use borrow.Author.Needs.{needs}

@@ -3,7 +3,7 @@ use mathlib.Core.Path.{refl, ap, _∙_}
 use Rattle.math.specs.Math.{vScale}
 use Rattle.brep.proofs.Laws.{at-lower, at-high}
 use Rattle.brep.proofs.ByKind.{at-line, at-circle, at-ellipse, at-parabola, at-polyline, at-composite}
-use Rattle.curve.proofs.Under.{under-low, under-same, under-rest}
+use Rattle.curve_run.proofs.Under.{under-low, under-same, under-rest}
 use Rattle.tangent.specs.Derivative.{derivativeAt, polylineDerivative}
 use Rattle.tangent.proofs.Laws.{derivative-none, derivative-some}
 use borrow.Author.Needs.{needs}
@@ -21,9 +21,9 @@ use Rattle.brep.proofs.float_at.Reads as float-at-reads
 use Rattle.brep.proofs.int_at.Reads as int-at-reads
 use Rattle.brep.proofs.point_in.Reads as point-in-reads
 use Rattle.brep.proofs.segment_at.Reads as segment-at-reads
-use Rattle.curve.proofs.index_in.Reads as index-in-reads
-use Rattle.curve.proofs.own_parameter.Reads as own-parameter-reads
-use Rattle.curve.proofs.under_trims.Reads as under-trims-reads
+use Rattle.curve_run.proofs.index_in.Reads as index-in-reads
+use Rattle.curve_run.proofs.own_parameter.Reads as own-parameter-reads
+use Rattle.curve_run.proofs.under_trims.Reads as under-trims-reads
 use Rattle.math.proofs.Vec3.scale.Reads as scale-reads
 use Rattle.tangent.proofs.ellipse_derivative.Reads as ellipse-derivative-reads
 use Rattle.tangent.proofs.parabola_derivative.Reads as parabola-derivative-reads

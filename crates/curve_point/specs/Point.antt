@@ -1,0 +1,56 @@
+-- eval/curve.rs: a curve's point, by recursion on the curve, as the Rust's `match`. Definitions only.
+use mathlib.Core.Bool.{cond}
+use mathlib.Core.List.{List}
+use Prim.Native.Nat.{ℕ, zero, suc, _+_, _-_}
+use lib.ListN.{length, getD}
+use lib.Dec.{eqb}
+use lib.Ieee.{Float}
+use Rattle.arith.specs.Notation.{_⊖_, _⊗_, count, two}
+use Rattle.trig.specs.declared.SinCos.{SinCos}
+use Rattle.trig.specs.Trig.{sinOf, cosOf}
+use Rattle.math.specs.declared.Vec3.{Vec3}
+use Rattle.math.specs.declared.Frame.{Frame}
+use Rattle.math.specs.Math.{vZero, vAdd, vScale, vLerp, yDir, polar}
+use Rattle.brep.specs.Tree.{CurveTree, line, circle, ellipse, parabola, polyline, trimmed, composite, Segments, none, segment}
+use Rattle.curve_run.specs.Run.{countOf, indexIn, polylineParameter, segmentIndex, segmentLocal, ownParameter}
+
+-- from point i towards the next, by what t has above i
+abbrev pub alongFrom : List Vec3 → ℕ → Float → Vec3
+alongFrom ps i t = vLerp (getD ps i vZero) (getD ps (i + 1) vZero) (t ⊖ count i)
+
+-- polyline_point: without points zero, with one that one
+unfoldable pub polylinePoint : List Vec3 → Float → Vec3
+polylinePoint ps t =
+    let u = polylineParameter ps t in
+    cond (eqb (length ps) 0) vZero
+    (cond (eqb (length ps) 1) (getD ps 0 vZero)
+    (alongFrom ps (indexIn (length ps - 2) u) u))
+
+-- O + x (a c) + y (b s), of a cosine c and a sine s that are at hand
+abbrev pub around : Frame → Float → Float → SinCos → Vec3
+around f a b sc = vAdd (vAdd (f .origin) (vScale (f .«ref_dir») (a ⊗ sc .cos))) (vScale (yDir f) (b ⊗ sc .sin))
+
+-- an ellipse's point: O + x (a cos t) + y (b sin t)
+unfoldable pub ellipsePoint : Frame → Float → Float → Float → Vec3
+ellipsePoint f a b t = vAdd (vAdd (f .origin) (vScale (f .«ref_dir») (a ⊗ cosOf t))) (vScale (yDir f) (b ⊗ sinOf t))
+
+-- a parabola's point: O + x (F t t) + y (2 F t)
+unfoldable pub parabolaPoint : Frame → Float → Float → Vec3
+parabolaPoint f d t = vAdd (vAdd (f .origin) (vScale (f .«ref_dir») (d ⊗ t ⊗ t))) (vScale (yDir f) (two ⊗ d ⊗ t))
+
+-- Curve::point_at
+unfoldable mutual
+  pub pointAt : CurveTree → Float → Vec3
+  pointAt (line o d) t = vAdd o (vScale d t)
+  pointAt (circle f r) t = polar f r t
+  pointAt (ellipse f a b) t = ellipsePoint f a b t
+  pointAt (parabola f d) t = parabolaPoint f d t
+  pointAt (polyline ps) t = polylinePoint ps t
+  pointAt (trimmed base range) t = pointAt base t
+  pointAt (composite ss) t = segmentPoint ss (segmentIndex (countOf ss) t) (segmentLocal (countOf ss) t)
+
+  -- the point of composite_at: segment i's curve at its own parameter
+  pub segmentPoint : Segments → ℕ → Float → Vec3
+  segmentPoint none i local = vZero
+  segmentPoint (segment curve range same rest) zero local = pointAt curve (ownParameter range same local)
+  segmentPoint (segment curve range same rest) (suc i) local = segmentPoint rest i local
