@@ -37,6 +37,10 @@ derivatives-of (composite ss) c t e = e
 pub ready-derivative : (c : CurveTree) (t : Float) → readyDerivative (readyOf c) c t ≡ derivatives.derivativeAt c t
 ready-derivative c t = derivatives-of c c t refl
 
+-- a point of a curve made ready is the curve's own
+pub own-point : (c : CurveTree) (t : Float) {ready : Ready} → ready ≡ readyOf c → {p : Vec3} → p ≡ readyPoint ready c t → p ≡ curves.pointAt c t
+own-point c t R P = P ∙ ap (λ (x : Ready). readyPoint x c t) R ∙ ready-point c t
+
 -- what is so at the kind k that a ready curve has is so at it
 module _ (c : CurveTree) (t : Float) {r k : Ready} {p : Vec3} where
   pub point-by : r ≡ k → p ≡ readyPoint k c t → p ≡ readyPoint r c t

@@ -3,7 +3,7 @@ use borrow.Author.Needs.{needs}
 use Rattle.brep.specs.Rows.{tables}
 use Rattle.brep.specs.Tree.{tree}
 use Rattle.params.specs.Params.{midpoint}
-use Rattle.bisect.proofs.Laws.{own-point}
+use Rattle.ready.proofs.Laws.{own-point}
 use Rattle.closed.specs.Worst.{missSquare}
 use Rattle.closed.proofs.miss_square.Statement.{statement}
 use Rattle.closed.proofs.miss_square.Tie as tie

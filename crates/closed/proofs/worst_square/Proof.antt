@@ -10,7 +10,7 @@ use Rattle.roots.specs.Root.{rootOf}
 use Rattle.brep.specs.Rows.{tables}
 use Rattle.brep.specs.Tree.{CurveTree, tree}
 use Rattle.curve.specs.Eval.{pointAt}
-use Rattle.bisect.proofs.Laws.{own-point}
+use Rattle.ready.proofs.Laws.{own-point}
 use Rattle.arith.specs.Notation.{nought}
 use Rattle.closed.specs.Worst.{Alike}
 use Rattle.closed.specs.Miss.{missOf}
