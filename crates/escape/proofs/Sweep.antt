@@ -13,7 +13,7 @@ use Rattle.brep.specs.Tree.{CurveTree}
 use Rattle.curve.specs.Eval.{naturalRange, pointAt}
 use Rattle.ready.specs.declared.Ready.{Ready}
 use Rattle.ready.specs.Ready.{readyOf, readyPoint}
-use Rattle.ready.proofs.Laws.{ready-point}
+use Rattle.ready.proofs.Laws.{own-point}
 use Rattle.chains.specs.Repair.{sweepAt, nearestOf, nearest}
 use Rattle.escape.specs.declared.Best.{Best}
 use Rattle.escape.specs.Best.{measured, nearerOf}
@@ -32,10 +32,6 @@ module _ (best next : Best) (o : Bool) (h : o ≡ lt (rootOf (next .square)) (ro
 -- a parameter with its own point
 abbrev own : CurveTree → Vec3 → Float → Best
 own c target t = measured target t (pointAt c t)
-
--- a point of the curve made ready is one of the curve
-at-ready : (c : CurveTree) (p : Vec3) (t : Float) (r : Ready) → r ≡ readyOf c → p ≡ readyPoint r c t → p ≡ pointAt c t
-at-ready c p t r e f = f ∙ ap (λ (x : Ready). readyPoint x c t) e ∙ ready-point c t
 
 -- what the sweep holds after n steps
 pub record Swept (c : CurveTree) (natural : Interval) (target : Vec3) (n : ℕ) (b : Best) : Type 0 where
@@ -56,11 +52,11 @@ nearest-more c natural target n = nearer-own c target (nearestOf c natural targe
 module _ {c : CurveTree} {natural : Interval} {target : Vec3} where
   pub swept-first : (t : Float) (p : Vec3) (r : Ready) {b : Best} → t ≡ sweepAt natural 0 → r ≡ readyOf c → p ≡ readyPoint r c t → b ≡ measured target t p → Swept c natural target 0 b
   unfolding nearestOf
-  swept-first t p r e d f g = record { held = cc (at-ready c p t r d f) }
+  swept-first t p r e d f g = record { held = cc (own-point c t d f) }
 
   module _ {n : ℕ} {b : Best} (w : Swept c natural target n b) where
     pub swept-more : (t : Float) (p : Vec3) (r : Ready) {x : Best} → t ≡ sweepAt natural (n + 1) → r ≡ readyOf c → p ≡ readyPoint r c t → x ≡ nearerOf b (measured target t p) → Swept c natural target (n + 1) x
-    swept-more t p r e d f g = record { held = rw add-one (cc (nearest-more c natural target n, w .held, rw add-one at e, at-ready c p t r d f)) }
+    swept-more t p r e d f g = record { held = rw add-one (cc (nearest-more c natural target n, w .held, rw add-one at e, own-point c t d f)) }
 
     pub swept-all : natural ≡ naturalRange c → n ≤ 512 → 512 ≤ n → b .param ≡ nearest c target
     unfolding measured
