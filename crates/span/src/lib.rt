@@ -24,7 +24,8 @@ pub enum Decision {
     Refuse,
 }
 
-// The first point of those furthest from the chord; a itself where no distance is above zero.
+// The first point of those furthest from the chord; a itself where no distance is above zero. Distances are compared by their squares,
+// and only the largest one's root is taken, save where two squares are too close to tell.
 fn find_worst(chain: &[f64], a: usize, b: usize) -> Worst
     requires { ⌜ (a < b) × (width * b + width ≤ length (now chain)) ⌝ }
     ensures { λ r. ⌜ r ≡ worstOf (pointAt (now (chain .entry))) a b ⌝ }
@@ -33,18 +34,18 @@ fn find_worst(chain: &[f64], a: usize, b: usize) -> Worst
     let pb = samples::point_at(chain, b);
     let axis = pb.sub(pa);
     let len2 = axis.length_squared();
-    let mut far = 0.0;
+    let mut far2 = 0.0;
     let mut at = a;
     for i in a + 1..b {
         let p = samples::point_at(chain, i);
-        let d = chord::span_distance(pa, axis, len2, p);
-        if d > far {
-            far = d;
+        let d2 = chord::span_offset(pa, axis, len2, p).length_squared();
+        if cuts::is_below(far2, d2) {
+            far2 = d2;
             at = i;
         }
     }
     Worst {
-        distance: far,
+        distance: roots::root(far2),
         index: at,
     }
 }
