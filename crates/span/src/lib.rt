@@ -2,8 +2,10 @@
 use math::Direction;
 use math::Vec3;
 ghost use mathlib.Core.Path.{_≡_};
+ghost use mathlib.Core.Bool.{_||_};
 ghost use Prim.Native.Nat.{_+_, _*_, _-_, _<_, _≤_};
 ghost use lib.ListN.{length};
+ghost use lib.Ieee.{lt};
 ghost use Rattle.math.specs.Math.{vSub, tryNormalized};
 ghost use Rattle.samples.specs.Chain.{width, pointAt};
 ghost use Rattle.span.specs.Span.{worstOf, directions, firstIn, lastIn, angleBetween, turnOf, decision};
@@ -119,7 +121,17 @@ fn turn(chain: &[f64], a: usize, b: usize) -> f64
     angle_between(f, chord) + angle_between(chord, l)
 }
 
-// The turn is worked out only where the distance alone does not split the span.
+// Whether a span whose points lie so far off at most is split. The turn is worked out only where the distance alone does not tell.
+fn is_split(chain: &[f64], distance: f64, tolerance: f64, angle: f64, a: usize, b: usize) -> bool
+    requires { ⌜ (a < b) × (width * b + width ≤ length (now chain)) ⌝ }
+    ensures { λ r. ⌜ r ≡ lt tolerance distance || lt angle (turnOf (pointAt (now (chain .entry))) a b) ⌝ }
+{
+    if distance > tolerance {
+        return true;
+    }
+    turn(chain, a, b) > angle
+}
+
 pub fn decide(chain: &[f64], tolerance: f64, angle: f64, a: usize, b: usize) -> Decision
     requires { ⌜ (a < b) × (width * b + width ≤ length (now chain)) ⌝ }
     ensures { λ r. ⌜ r ≡ decision (pointAt (now (chain .entry))) tolerance angle a b ⌝ }
@@ -128,7 +140,7 @@ pub fn decide(chain: &[f64], tolerance: f64, angle: f64, a: usize, b: usize) -> 
         return Decision::Leave;
     }
     let w = find_worst(chain, a, b);
-    if w.distance > tolerance || turn(chain, a, b) > angle {
+    if is_split(chain, w.distance, tolerance, angle, a, b) {
         if w.index == a {
             return Decision::Refuse;
         }
