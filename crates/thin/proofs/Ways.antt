@@ -4,7 +4,6 @@ use mathlib.Core.Bool.{Bool, true, false, cond, not, _||_}
 use mathlib.Core.Logic.{_⊎_, inl, inr, ⊎-elim}
 use mathlib.Core.List.{List, [], _∷_, _++_}
 use Prim.Native.Nat.{ℕ, zero, suc, _<_, _≤_, min}
-use native.Mathlib.Nat.{min-eq-left, min-eq-right}
 use native.Mathlib.Omega.{arith}
 use lib.ListN.{length, take, replicate, length-replicate}
 use lib.Seq.{sets}
@@ -23,12 +22,6 @@ use Rattle.spans.proofs.Same.{flagged-same}
 use Rattle.thin.specs.Thin.{count, evens, restored, floored, retained, thinned}
 
 -- ---- `flag`
-pub want-all : (floor n want : ℕ) → n < floor → want ≡ n → want ≡ min floor n
-want-all floor n want h e = e ∙ sym (min-eq-right (omega arith))
-
-pub want-floor : (floor n want : ℕ) → floor ≤ n → want ≡ floor → want ≡ min floor n
-want-floor floor n want h e = e ∙ sym (min-eq-left (omega arith))
-
 -- k and b are what `mark` left and answered
 module _ (F : Result (List Bool)) (floor : ℕ) (k : List Bool) (b : Bool) (m : flags b k ≡ F) where
   pub flag-refused : b ≡ false → refused 9 ≡ each (floored floor) F

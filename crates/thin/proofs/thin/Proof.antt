@@ -2,7 +2,7 @@
 use borrow.Author.Tests.{not-true, not-false}
 use native.Mathlib.Omega.{arith}
 use mathlib.Core.Path.{sym, ap, _∙_}
-use mathlib.Core.Logic.{⊎-elim, inl, inr}
+use mathlib.Core.Logic.{inl, inr}
 use Prim.Native.Nat.{ℕ}
 use lib.Ieee.{lt}
 use Rattle.arith.specs.Notation.{nought}
@@ -19,8 +19,12 @@ use Rattle.thin.proofs.thin_with.Reads as thin-with-reads
 returns : tie.Need-returns
 returns c =
     let a = c .before .before .args in
-    said-as-it-was (a .tolerance) (a .angle) (a .floor) (a .n) (a .chain .now)
-    (⊎-elim (λ w. inl (w .taken)) (λ w. inr (not-true (lt nought (a .tolerance)) (w .1 .taken))) (c .if1 .came))
+    said-as-it-was (a .tolerance) (a .angle) (a .floor) (a .n) (a .chain .now) (inl (c .if1 .taken))
+
+returns-2 : tie.Need-returns-2
+returns-2 c =
+    let a = c .before .before .before .args in
+    said-as-it-was (a .tolerance) (a .angle) (a .floor) (a .n) (a .chain .now) (inr (not-true (lt nought (a .tolerance)) (c .if2 .taken)))
 
 array-borrow-prefix-few : tie.Need-array-borrow-prefix-few
 array-borrow-prefix-few c = search needs
@@ -37,12 +41,8 @@ thin-with-requires c κs =
 same-length : tie.Need-same-length
 same-length c = search needs
 
-returns-2 : tie.Need-returns-2
-returns-2 c =
-    let a = c .before .before .before .before .before .before .before .before .before .before .args in
-    let e = lent-length (a .n) 128 (omega arith) in
-    let w = c .before .before .before .thin-with .ensures in
-    (w .0 ∙ ap (λ (k : ℕ). answerOf (thinned (a .tolerance) (a .angle) (a .floor) (samples k (a .chain .now)))) e, w .1 ∙ ap (λ (k : ℕ). after (a .chain .now) (thinned (a .tolerance) (a .angle) (a .floor) (samples k (a .chain .now)))) e)
+returns-3 : tie.Need-returns-3
+returns-3 c = rw (lent-length (c .before .before .before .before .before .before .before .before .before .before .args .n) 128 (omega arith)) at (c .before .before .before .thin-with .ensures)
 
 array-borrow-prefix-keep : tie.Need-array-borrow-prefix-keep
 array-borrow-prefix-keep c = search needs
@@ -59,25 +59,22 @@ thin-with-requires-2 c κs =
 same-length-2 : tie.Need-same-length-2
 same-length-2 c = search needs
 
-returns-3 : tie.Need-returns-3
-returns-3 c =
-    let a = c .before .before .before .before .before .before .before .before .before .before .args in
-    let e = lent-length (a .n) most (omega arith) in
-    let w = c .before .before .before .thin-with2 .ensures in
-    (w .0 ∙ ap (λ (k : ℕ). answerOf (thinned (a .tolerance) (a .angle) (a .floor) (samples k (a .chain .now)))) e, w .1 ∙ ap (λ (k : ℕ). after (a .chain .now) (thinned (a .tolerance) (a .angle) (a .floor) (samples k (a .chain .now)))) e)
+returns-4 : tie.Need-returns-4
+returns-4 c = rw (lent-length (c .before .before .before .before .before .before .before .before .before .before .args .n) most (omega arith)) at (c .before .before .before .thin-with2 .ensures)
 
 pub thin-spec : {M : Type 1} → statement M
 thin-spec =
     tie.close
     (tie.spec
     returns
+    returns-2
     array-borrow-prefix-few
     slice-aggregate-thin-with
     thin-with-requires
     same-length
-    returns-2
+    returns-3
     array-borrow-prefix-keep
     slice-aggregate-thin-with-2
     thin-with-requires-2
     same-length-2
-    returns-3)
+    returns-4)
