@@ -64,6 +64,13 @@ module _ (tolerance angle : Float) (floor n : ℕ) (c : List Float) where
   said : (r : Counted) (d : List Float) (x : Result (List Sample)) → r ≡ answerOf x → d ≡ after c x → x ≡ thinning → Said r d
   said r d x a b e = (a ∙ ap answerOf e, b ∙ ap (after c) e)
 
+  -- of as many records as there are flags
+  pub said-lent : {j : ℕ} {r : Counted} {d : List Float} → j ≡ n → (r ≡ answerOf (thinned tolerance angle floor (samples j c))) × (d ≡ after c (thinned tolerance angle floor (samples j c))) → Said r d
+  said-lent e w = (
+    w .0 ∙ ap (λ (k : ℕ). answerOf (thinned tolerance angle floor (samples k c))) e,
+    w .1 ∙ ap (λ (k : ℕ). after c (thinned tolerance angle floor (samples k c))) e,
+  )
+
   few : (l : List Sample) → (length l < 3) ⊎ (lt nought tolerance ≡ false) → got l ≡ thinned tolerance angle floor l
   unfolding thinned
   few l h = ⊎-elim (λ s. sym (rw (lt-ltb (length l) 3 s))) (λ s. sym (rw s (either (ltb (length l) 3)))) h

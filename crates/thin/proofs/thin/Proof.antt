@@ -1,20 +1,15 @@
 -- `thin` meets its contract: a short chain or no tolerance leaves the chain as it is; else it is thinned with the first n flags of a local array. Assumes nothing.
 use borrow.Author.Tests.{not-true, not-false}
 use native.Mathlib.Omega.{arith}
-use mathlib.Core.Path.{sym, ap, _∙_}
+use mathlib.Core.Path.{sym}
 use mathlib.Core.Logic.{inl, inr}
-use Prim.Native.Nat.{ℕ}
 use lib.Ieee.{lt}
 use Rattle.arith.specs.Notation.{nought}
-use Rattle.samples.specs.Chain.{most, samples, answerOf, after}
-use Rattle.thin.specs.Thin.{thinned}
-use Rattle.thin.proofs.Ways.{lent-length, lent-false, said-as-it-was}
+use Rattle.samples.specs.Chain.{most}
+use Rattle.thin.proofs.Ways.{lent-length, lent-false, said-as-it-was, said-lent}
 use borrow.Author.Needs.{needs}
 use Rattle.thin.proofs.thin.Statement.{statement}
 use Rattle.thin.proofs.thin.Tie as tie
-use Rattle.thin.proofs.thin.Reads as reads
-use Rattle.thin.proofs.thin.Lts as lts
-use Rattle.thin.proofs.thin_with.Reads as thin-with-reads
 
 returns : tie.Need-returns
 returns c =
@@ -42,7 +37,9 @@ same-length : tie.Need-same-length
 same-length c = search needs
 
 returns-3 : tie.Need-returns-3
-returns-3 c = rw (lent-length (c .before .before .before .before .before .before .before .before .before .before .args .n) 128 (omega arith)) at (c .before .before .before .thin-with .ensures)
+returns-3 c =
+    let a = c .before .before .before .before .before .before .before .before .before .before .args in
+    said-lent (a .tolerance) (a .angle) (a .floor) (a .n) (a .chain .now) (lent-length (a .n) 128 (omega arith)) (c .before .before .before .thin-with .ensures)
 
 array-borrow-prefix-keep : tie.Need-array-borrow-prefix-keep
 array-borrow-prefix-keep c = search needs
@@ -60,7 +57,9 @@ same-length-2 : tie.Need-same-length-2
 same-length-2 c = search needs
 
 returns-4 : tie.Need-returns-4
-returns-4 c = rw (lent-length (c .before .before .before .before .before .before .before .before .before .before .args .n) most (omega arith)) at (c .before .before .before .thin-with2 .ensures)
+returns-4 c =
+    let a = c .before .before .before .before .before .before .before .before .before .before .args in
+    said-lent (a .tolerance) (a .angle) (a .floor) (a .n) (a .chain .now) (lent-length (a .n) most (omega arith)) (c .before .before .before .thin-with2 .ensures)
 
 pub thin-spec : {M : Type 1} → statement M
 thin-spec =
