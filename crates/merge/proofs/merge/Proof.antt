@@ -53,15 +53,17 @@ loop-less : tie.Need-loop-less Inv-loop μ-loop
 loop-less c = search needs
 
 loop-again : tie.Need-loop-again Inv-loop μ-loop
-loop-again c = 
+loop-again c =
     let l = c .before .before .before .before .before .loop in
     let within = c .before .before .before .before .loop-test .taken in
     let p = c .before .before .sample-at .ensures in
-    let far = c .before .is-apart .ensures in
-    (refl, ⊎-elim
-    (λ w. rw (w .6, w .7, w .8) (kept-push _ _ _ (l .inv .1) within p far (w .0 .taken) (w .2 .ensures)))
-    (λ w. rw (w .1, w .2, w .3) (kept-pass _ _ _ (l .inv .1) within p far (w .0 .left)))
-    (c .if3 .came))
+    let far = c .before .is-apart .ensures in (
+      refl,
+      ⊎-elim
+          (λ w. rw (w .6, w .7, w .8) (kept-push _ _ _ (l .inv .1) within p far (w .0 .taken) (w .2 .ensures)))
+          (λ w. rw (w .1, w .2, w .3) (kept-pass _ _ _ (l .inv .1) within p far (w .0 .left)))
+          (c .if3 .came),
+    )
 
 sub-sample-at : tie.Need-sub-sample-at Inv-loop μ-loop
 sub-sample-at c = search needs
