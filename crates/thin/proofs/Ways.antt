@@ -3,7 +3,7 @@ use mathlib.Core.Path.{_≡_, refl, sym, ap, _∙_}
 use mathlib.Core.Bool.{Bool, true, false, cond, not, _||_}
 use mathlib.Core.Logic.{_⊎_, inl, inr, ⊎-elim}
 use mathlib.Core.List.{List, [], _∷_, _++_}
-use Prim.Native.Nat.{ℕ, zero, suc, _<_, _≤_, min}
+use Prim.Native.Nat.{ℕ, zero, suc, _*_, _<_, _≤_, min}
 use native.Mathlib.Omega.{arith}
 use lib.ListN.{length, take, replicate, length-replicate}
 use lib.Seq.{sets}
@@ -15,7 +15,7 @@ use Rattle.lists.specs.Result.{Result, refused, got, each}
 use Rattle.samples.specs.declared.Sample.{Sample}
 use Rattle.samples.specs.declared.Counted.{Counted}
 use Rattle.samples.specs.declared.Counted.the-variants.{Refused, Count}
-use Rattle.samples.specs.Chain.{flat, pointAt, samples, pointOf, answerOf, after, Stored}
+use Rattle.samples.specs.Chain.{width, most, flat, pointAt, samples, pointOf, answerOf, after, Stored}
 use Rattle.samples.proofs.Laws.{samplesFrom-length, samples-own, pointOf-samples}
 use Rattle.spans.specs.Spans.{marks, flagged, flags}
 use Rattle.spans.proofs.Same.{flagged-same}
@@ -49,6 +49,10 @@ take-replicate (suc n) (suc m) h = ap (λ (l : List Bool). false ∷ l) (take-re
 module _ (n m : ℕ) (h : n ≤ m) where
   pub lent-length : length (take n (replicate m false)) ≡ n
   lent-length = ap length (take-replicate n m h) ∙ length-replicate n false
+
+  pub lent-fits : {room : ℕ} → 2 < n → n ≤ most → width * n ≤ room
+      → (2 < length (take n (replicate m false))) × (length (take n (replicate m false)) ≤ most) × (width * length (take n (replicate m false)) ≤ room)
+  lent-fits a b c = rw lent-length (a, b, c)
 
   pub lent-false : take n (replicate m false) ≡ replicate (length (take n (replicate m false))) false
   lent-false = take-replicate n m h ∙ ap (λ (k : ℕ). replicate k false) (sym lent-length)

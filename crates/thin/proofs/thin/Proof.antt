@@ -6,7 +6,7 @@ use mathlib.Core.Logic.{inl, inr}
 use lib.Ieee.{lt}
 use Rattle.arith.specs.Notation.{nought}
 use Rattle.samples.specs.Chain.{most}
-use Rattle.thin.proofs.Ways.{lent-length, lent-false, said-as-it-was, said-lent}
+use Rattle.thin.proofs.Ways.{lent-length, lent-fits, lent-false, said-as-it-was, said-lent}
 use borrow.Author.Needs.{needs}
 use Rattle.thin.proofs.thin.Statement.{statement}
 use Rattle.thin.proofs.thin.Tie as tie
@@ -29,9 +29,10 @@ slice-aggregate-thin-with c = sym (lent-length (c .before .before .before .befor
 
 thin-with-requires : tie.Need-thin-with-requires
 thin-with-requires c κs =
-    let a = c .before .before .before .before .before .before .args in
-    let e = lent-length (a .n) 128 (omega arith) in
-    (omega arith, omega arith, omega arith, lent-false (a .n) 128 (omega arith), not-false (lt nought (a .tolerance)) (c .before .before .before .if2 .left))
+    let st = c .before .before .before .before .before .before in
+    let n = st .args .n in
+    let fits = lent-fits n 128 (c .before .before .if3 .taken) (c .before .before .before .before .if1 .left) (st .pre .0) (st .pre .1) in
+    (fits .0, fits .1, fits .2, lent-false n 128 (c .before .before .if3 .taken), not-false (lt nought (st .args .tolerance)) (c .before .before .before .if2 .left))
 
 same-length : tie.Need-same-length
 same-length c = search needs
@@ -49,9 +50,10 @@ slice-aggregate-thin-with-2 c = sym (lent-length (c .before .before .before .bef
 
 thin-with-requires-2 : tie.Need-thin-with-requires-2
 thin-with-requires-2 c κs =
-    let a = c .before .before .before .before .before .before .args in
-    let e = lent-length (a .n) most (omega arith) in
-    (omega arith, omega arith, omega arith, lent-false (a .n) most (omega arith), not-false (lt nought (a .tolerance)) (c .before .before .before .if2 .left))
+    let st = c .before .before .before .before .before .before in
+    let n = st .args .n in
+    let fits = lent-fits n most (st .pre .0) (c .before .before .before .before .if1 .left) (st .pre .0) (st .pre .1) in
+    (fits .0, fits .1, fits .2, lent-false n most (st .pre .0), not-false (lt nought (st .args .tolerance)) (c .before .before .before .if2 .left))
 
 same-length-2 : tie.Need-same-length-2
 same-length-2 c = search needs
