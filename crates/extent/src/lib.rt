@@ -11,6 +11,11 @@ ghost use Rattle.brep.specs.Rows.{lent};
 ghost use Rattle.brep.specs.Tree.{tree};
 ghost use Rattle.chains.specs.Edge.{probed, extentBox, edgeExtent};
 
+// The range is probed at each eighth, both ends included.
+const PROBES: u32 = 8;
+
+const EIGHTHS: f64 = 8.0;
+
 // A point that is not finite leaves the box as it is.
 fn add_finite(b: Aabb, p: Vec3) -> Aabb
     ensures { λ r. ⌜ r ≡ cond (vFinite p) (addPoint b p) b ⌝ }
@@ -37,8 +42,8 @@ fn probe(
     let ready = ready::ready_at(points, curves, reals, parts, ranges, row);
     let mut found = b;
     let mut i: u32 = 0;
-    while i < 9 {
-        let t = range.at(i as f64 / 8.0);
+    while i <= PROBES {
+        let t = range.at(i as f64 / EIGHTHS);
         let p = ready::point_of(ready, points, curves, reals, parts, ranges, row, t);
         found = add_finite(found, p);
         i += 1;

@@ -1,16 +1,15 @@
 -- The loop of `merge` and its ways out: what is kept so far, with what is left to be kept, is the whole. Assumes nothing.
 use mathlib.Core.Path.{_≡_, refl, sym, ap, _∙_}
-use mathlib.Core.Logic.{_⊎_, ⊎-elim}
 use mathlib.Core.Bool.{Bool, true, false, cond, _&&_}
 use mathlib.Core.List.{List, [], _∷_, _++_, dropLast}
 use Prim.Native.Nat.{ℕ, zero, suc, _+_, _-_, _*_, _<_, _≤_}
 use native.Mathlib.Nat.{add-zero, add-suc, suc-add}
 use native.Mathlib.Omega.{arith}
 use lib.ListN.{length, length-append}
-use lib.Seq.{sets}
+use lib.Seq.{sets, length-sets}
 use lib.Dec.{ltb}
 use lib.Ieee.{Float, lt, le}
-use borrow.Author.Tests.{lt-ltb, le-ltb}
+use borrow.Author.Tests.{lt-ltb, le-ltb, ltb-true, ltb-false}
 use Rattle.arith.specs.Notation.{nought}
 use Rattle.math.specs.declared.Vec3.{Vec3}
 use Rattle.math.specs.Math.{distance}
@@ -47,14 +46,24 @@ module _ (c : List Float) (n : ℕ) (floor : Float) where
 
   -- where the loop stands: of the records before i k are kept, the last of them at `last`
   pub record Kept (chain : List Float) (last : Vec3) (k i : ℕ) : Type 0 where
+    pub many : 2 < n
+    pub some : 1 ≤ k
+    pub behind : k ≤ i
+    pub inside : i ≤ n - 1
+    pub same-length : length chain ≡ length c
     pub kept : List Sample
     pub number : length kept ≡ k
     pub moved : Compacted c (n - 1) all (spaced floor last) chain kept i
     pub top : lastOf first kept .point ≡ last
 
-  pub kept-first : (last : Vec3) → last ≡ first .point → Kept c last 1 1
+  pub kept-first : 2 < n → (last : Vec3) → last ≡ first .point → Kept c last 1 1
   unfolding lastOf
-  kept-first last e = record {
+  kept-first h last e = record {
+    many = h;
+    some = omega arith;
+    behind = omega arith;
+    inside = omega arith;
+    same-length = refl;
     kept = first ∷ [];
     number = refl;
     moved = record {
@@ -64,26 +73,44 @@ module _ (c : List Float) (n : ℕ) (floor : Float) where
     top = sym e;
   }
 
-  module _ (chain : List Float) (last : Vec3) (k i : ℕ) (w : Kept chain last k i) (inside : i < n - 1) (p : Sample) (e : p ≡ sampleAt chain i) (behind : k ≤ i) where
-    pub kept-push : (d : List Float) → lt floor (distance (p .point) last) ≡ true → d ≡ sets chain (width * k) (row p) → Kept d (p .point) (k + 1) (i + 1)
+  -- b: whether record i, p, is apart from the last one kept
+  module _ {chain : List Float} {last : Vec3} {k i : ℕ} (w : Kept chain last k i) (inside : i < n - 1) {p : Sample} (e : p ≡ sampleAt chain i) {b : Bool} (f : b ≡ lt floor (distance (p .point) last)) where
+    pub kept-push : {d : List Float} → b ≡ true → d ≡ sets chain (width * k) (row p) → Kept d (p .point) (k + 1) (i + 1)
     unfolding spaced
-    kept-push d t b =
+    kept-push {d} t b =
         let q = w .number in
+        let h = w .behind in
         record {
+          many = w .many;
+          some = omega arith;
+          behind = omega arith;
+          inside = omega arith;
+          same-length = ap length b ∙ length-sets chain (width * k) (row p) ∙ w .same-length;
           kept = w .kept ++ (p ∷ []);
           number = simp length-append (omega arith);
           moved =
-              compact-keep (w .moved) (spaced floor (p .point)) inside p d e (omega arith) (rw t)
+              compact-keep (w .moved) (spaced floor (p .point)) inside p d e (omega arith) (rw (sym f ∙ t))
               (b ∙ ap (λ (j : ℕ). sets chain (width * j) (row p)) (sym q));
           top = ap (λ (s : Sample). s .point) (last-snoc first (w .kept) p);
         }
 
-    pub kept-pass : lt floor (distance (p .point) last) ≡ false → Kept chain last k (i + 1)
+    pub kept-pass : b ≡ false → Kept chain last k (i + 1)
     unfolding spaced
     kept-pass t =
         let q = w .number in
+        let h = w .behind in
         let same : p ≡ sampleAt c i = e ∙ compact-behind (w .moved) i (omega arith) in
-        record { kept = w .kept; number = q; moved = compact-skip (w .moved) (spaced floor last) inside (rw (sym same, t)); top = w .top }
+        record {
+          many = w .many;
+          some = w .some;
+          behind = omega arith;
+          inside = omega arith;
+          same-length = w .same-length;
+          kept = w .kept;
+          number = q;
+          moved = compact-skip (w .moved) (spaced floor last) inside (rw (sym same, sym f ∙ t));
+          top = w .top;
+        }
 
   -- ---- the ways out
   pub as-it-was : merged floor (samples n c) ≡ samples n c → Stored c c n (merged floor (samples n c))
@@ -129,16 +156,17 @@ module _ (c : List Float) (n : ℕ) (floor : Float) where
         last-samples first c 1 m,
       )
 
-  module _ (above : lt nought floor ≡ true) (enough : 2 < n) (chain : List Float) (last : Vec3) (k i : ℕ) (w : Kept chain last k i) (within : k ≤ n - 1)
-      (done : n - 1 ≤ i) (end : Sample) (e : end ≡ sampleAt chain (n - 1)) where
+  module _ (above : lt nought floor ≡ true) {chain : List Float} {last : Vec3} {k i : ℕ} (w : Kept chain last k i) (done : n - 1 ≤ i) {end : Sample} (e : end ≡ sampleAt chain (n - 1)) where
     meant : merged floor (samples n c) ≡ withEnd floor first (w .kept) end
     unfolding spaced
     meant =
         let q = w .number in
-        many above enough ∙ rw (sym (compact-all (w .moved) refl done), sym (e ∙ compact-behind (w .moved) (n - 1) (omega arith)))
+        let h = w .behind in
+        let g = w .inside in
+        many above (w .many) ∙ rw (sym (compact-all (w .moved) refl done), sym (e ∙ compact-behind (w .moved) (n - 1) (omega arith)))
 
     -- r is the number of records before the end
-    module _ (d : List Float) (r : ℕ) (b : d ≡ sets chain (width * r) (row end)) where
+    module _ {d : List Float} {r : ℕ} (b : d ≡ sets chain (width * r) (row end)) where
       popped : r ≡ k - 1 → le (distance (end .point) last) floor ≡ true → 1 < k → Stored c d (r + 1) (merged floor (samples n c))
       unfolding withEnd
       popped f t h =
@@ -185,7 +213,11 @@ module _ (c : List Float) (n : ℕ) (floor : Float) where
       unfolding withEnd
       apart f t = stays f (meant ∙ rw (w .top, t))
 
-      -- what the test at the end found
-      pub ended : ((le (distance (end .point) last) floor ≡ true) × (1 < k) × (r ≡ k - 1)) ⊎ (((k ≤ 1) ⊎ (le (distance (end .point) last) floor ≡ false)) × (r ≡ k))
-          → Stored c d (r + 1) (merged floor (samples n c))
-      ended = ⊎-elim (λ v. popped (v .2) (v .0) (v .1)) (λ v. ⊎-elim (alone (v .1)) (apart (v .1)) (v .0))
+      -- by the tests of `before_end`
+      pub ended : r ≡ cond (ltb 1 k && le (distance (end .point) last) floor) (k - 1) k → Stored c d (r + 1) (merged floor (samples n c))
+      ended f = go (ltb 1 k) (le (distance (end .point) last) floor) refl refl
+        where
+          go : (x y : Bool) → ltb 1 k ≡ x → le (distance (end .point) last) floor ≡ y → Stored c d (r + 1) (merged floor (samples n c))
+          go false y p q = alone (f ∙ rw p) (ltb-false 1 k p)
+          go true true p q = popped (f ∙ rw (p, q)) q (ltb-true 1 k p)
+          go true false p q = apart (f ∙ rw (p, q)) q

@@ -1,10 +1,11 @@
 // The merge block of `discretise`: points of a chain that lie too near the one before them go.
 use math::Vec3;
 ghost use mathlib.Core.Path.{_≡_};
-ghost use mathlib.Core.Bool.{true};
-ghost use Prim.Native.Nat.{_*_, _≤_};
+ghost use mathlib.Core.Bool.{true, cond, _&&_};
+ghost use Prim.Native.Nat.{_*_, _-_, _≤_};
 ghost use lib.ListN.{length};
-ghost use lib.Ieee.{lt};
+ghost use lib.Dec.{ltb};
+ghost use lib.Ieee.{lt, le};
 ghost use Rattle.roots.specs.Root.{rootOf};
 ghost use Rattle.math.specs.Math.{distance};
 ghost use Rattle.samples.specs.Chain.{width, samples, Stored};
@@ -33,12 +34,29 @@ fn is_apart(p: Vec3, q: Vec3, floor: f64, cut: f64, has_cut: bool) -> bool
     cuts::is_over(p.sub(q).length_squared(), floor, cut, has_cut)
 }
 
+// How many of the k records kept stay before the end. Where the end is too close to the last of them, that one goes, unless it is the only
+// one, and not the end, which is the edge's vertex.
+fn before_end(k: usize, last: Vec3, end: Vec3, floor: f64) -> usize
+    ensures { λ r. ⌜ (r ≡ cond (ltb 1 k && le (distance end last) floor) (k - 1) k) × (r ≤ k) ⌝ }
+{
+    if k <= 1 {
+        return k;
+    }
+    if math::distance(end, last) <= floor {
+        return k - 1;
+    }
+    k
+}
+
 // Merges the first n records in place. What is kept is moved to the buffer's start; answers how many there are.
 pub fn merge(chain: &mut [f64], n: usize, floor: f64) -> usize
     requires { ⌜ width * n ≤ length (now chain) ⌝ }
     ensures { λ r. ⌜ Stored (now (chain .entry)) (now (chain .exit)) r (merged floor (samples n (now (chain .entry)))) ⌝ }
 {
-    if floor > 0.0 && n > 2 {
+    if n <= 2 {
+        return n;
+    }
+    if floor > 0.0 {
         // A little above the square, so that the cut's root is above the floor.
         let cut = floor * floor * 1.000001;
         let has_cut = floor < roots::root(cut);
@@ -53,12 +71,9 @@ pub fn merge(chain: &mut [f64], n: usize, floor: f64) -> usize
             }
         }
         let end = samples::sample_at(chain, n - 1);
-        // Where the end is too close to the last one kept, that one goes, and not the end, which is the edge's vertex.
-        if math::distance(end.point, last) <= floor && k > 1 {
-            k -= 1;
-        }
-        samples::put(chain, k, end);
-        return k + 1;
+        let m = before_end(k, last, end.point, floor);
+        samples::put(chain, m, end);
+        return m + 1;
     }
     n
 }

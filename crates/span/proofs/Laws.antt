@@ -93,24 +93,19 @@ module _ (points : ℕ → Vec3) (tolerance angle : Float) where
           (worst-in points (points a) (vSub (points b) (points a)) (b - (a + 1)) (a + 1) a (worstIs nought a) (omega arith) (inl refl))
 
   -- by the code's tests
-  module _ (a b : ℕ) (wide : a + 1 < b) (w : Worst) (e : w ≡ worstOf points a b) where
-    by-tests : (x : Bool) → lt tolerance (w .distance) || lt angle (turnOf points a b) ≡ x → cond x (cond (eqb (w .index) a) Refuse (Split (w .index))) Leave ≡ decision points tolerance angle a b
+  module _ (a b : ℕ) (wide : a + 1 < b) {w : Worst} {x : Bool} (e : w ≡ worstOf points a b) (s : x ≡ lt tolerance (w .distance) || lt angle (turnOf points a b)) where
+    by-test : cond x (cond (eqb (w .index) a) Refuse (Split (w .index))) Leave ≡ decision points tolerance angle a b
     unfolding decision
-    by-tests x t = rw (lt-leb b (a + 1) wide, sym e, t)
+    by-test = rw (s, lt-leb b (a + 1) wide, e)
 
-    either : (x y : Bool) → (x ≡ true) ⊎ (y ≡ true) → x || y ≡ true
-    either true y h = refl
-    either false true h = refl
-    either false false h = ⊎-elim (λ p. p) (λ p. p) h
+    pub refuses : x ≡ true → w .index ≡ a → Refuse ≡ decision points tolerance angle a b
+    refuses t h = sym (rw (t, eq-eqb (w .index) a h)) ∙ by-test
 
-    pub refuses : (lt tolerance (w .distance) ≡ true) ⊎ (lt angle (turnOf points a b) ≡ true) → w .index ≡ a → Refuse ≡ decision points tolerance angle a b
-    refuses t h = sym (rw (eq-eqb (w .index) a h)) ∙ by-tests true (either (lt tolerance (w .distance)) (lt angle (turnOf points a b)) t)
+    pub splits : x ≡ true → (w .index ≡ a → ⊥) → Split (w .index) ≡ decision points tolerance angle a b
+    splits t h = sym (rw (t, ne-eqb (w .index) a h)) ∙ by-test
 
-    pub splits : (lt tolerance (w .distance) ≡ true) ⊎ (lt angle (turnOf points a b) ≡ true) → (w .index ≡ a → ⊥) → Split (w .index) ≡ decision points tolerance angle a b
-    splits t h = sym (rw (ne-eqb (w .index) a h)) ∙ by-tests true (either (lt tolerance (w .distance)) (lt angle (turnOf points a b)) t)
-
-    pub leaves : lt tolerance (w .distance) ≡ false → lt angle (turnOf points a b) ≡ false → Leave ≡ decision points tolerance angle a b
-    leaves t u = by-tests false (rw (t, u))
+    pub leaves : x ≡ false → Leave ≡ decision points tolerance angle a b
+    leaves t = sym (rw t) ∙ by-test
 
 -- ---- the decision looks at the points of its span alone
 module _ (p q : ℕ → Vec3) (n : ℕ) (same : (j : ℕ) → j < n → p j ≡ q j) where

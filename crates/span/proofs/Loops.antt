@@ -1,19 +1,21 @@
 -- The loops over a span: of what is left they find what they would find of the whole. Assumes nothing.
 use mathlib.Core.Path.{_≡_, refl, sym, ap, _∙_}
-use mathlib.Core.Bool.{true, false, cond}
+use mathlib.Core.Bool.{Bool, true, false, cond}
 use mathlib.Core.List.{List, [], _∷_, _++_, append-nil}
 use Prim.Native.Nat.{ℕ, zero, suc, _+_, _-_, _<_, _≤_}
 use native.Mathlib.Nat.{add-zero, add-suc, suc-add}
 use native.Mathlib.Numerals.{add-one}
 use native.Mathlib.Omega.{arith}
-use lib.Ieee.{Float, lt}
+use lib.Ieee.{Float, lt, ofBits}
+use Rattle.arith.specs.Notation.{nought}
+use Rattle.roots.specs.Root.{rootOf}
 use Rattle.math.specs.declared.Vec3.{Vec3}
 use Rattle.math.specs.declared.Direction.{Direction}
 use Rattle.math.specs.declared.Direction.the-variants.{Unit, Nothing}
-use Rattle.math.specs.Math.{vSub, vLengthSquared, tryNormalized}
+use Rattle.math.specs.Math.{vSub, vLengthSquared, vLength, tryNormalized}
 use Rattle.samples.specs.Chain.{lastOf}
 use Rattle.samples.proofs.Shorter.{last-snoc}
-use Rattle.chord.specs.Chord.{spanDistance}
+use Rattle.chord.specs.Chord.{chordDistance, spanOffset, spanDistance}
 use Rattle.span.specs.declared.Worst.{Worst}
 use Rattle.span.specs.Span.{worse, worstFrom, worstOf, joined, directions, firstIn, lastIn}
 
@@ -21,21 +23,30 @@ abbrev pub worstIs : Float → ℕ → Worst
 worstIs d i = record { distance = d; index = i }
 
 -- ---- `find_worst`
+pub root-none : rootOf nought ≡ nought
+unfolding ofBits rootOf
+root-none = refl
+
 module _ (points : ℕ → Vec3) (pa axis : Vec3) (b : ℕ) where
   -- the points from i on, after those that gave `far` and `at`
   abbrev pub worstLeft : Float → ℕ → ℕ → Worst
   worstLeft far at i = worstFrom points pa axis (b - i) i (worstIs far at)
 
-  module _ (far d : Float) (at i : ℕ) (h : i < b) (e : d ≡ spanDistance pa axis (vLengthSquared axis) (points i)) where
-    one-more : worstLeft far at i ≡ worstFrom points pa axis (b - (i + 1)) (i + 1) (worse (worstIs far at) d i)
+  module _ (far : Float) (at i : ℕ) (h : i < b) {len2 d2 : Float} {p v : Vec3} {below : Bool} (el : len2 ≡ vLengthSquared axis) (ep : p ≡ points i) (ev : v ≡ spanOffset pa axis len2 p) (ed : d2 ≡ vLengthSquared v) (et : below ≡ lt far (rootOf d2)) where
+    -- the root of an offset's square is the distance
+    rooted : rootOf d2 ≡ spanDistance pa axis (vLengthSquared axis) (points i)
+    unfolding spanDistance chordDistance spanOffset vLength
+    rooted = rw (ed, ev, ep, el)
+
+    one-more : worstLeft far at i ≡ worstFrom points pa axis (b - (i + 1)) (i + 1) (worse (worstIs far at) (rootOf d2) i)
     unfolding worstFrom
-    one-more = let q : b - i ≡ suc (b - (i + 1)) = omega arith in rw (q, add-one i, e)
+    one-more = let q : b - i ≡ suc (b - (i + 1)) = omega arith in rw (q, add-one i, rooted)
 
-    pub worst-new : lt far d ≡ true → worstLeft d i (i + 1) ≡ worstLeft far at i
-    worst-new t = sym (one-more ∙ rw t)
+    pub worst-new : below ≡ true → worstLeft (rootOf d2) i (i + 1) ≡ worstLeft far at i
+    worst-new s = sym (one-more ∙ rw (sym et ∙ s))
 
-    pub worst-old : lt far d ≡ false → worstLeft far at (i + 1) ≡ worstLeft far at i
-    worst-old t = sym (one-more ∙ rw t)
+    pub worst-old : below ≡ false → worstLeft far at (i + 1) ≡ worstLeft far at i
+    worst-old s = sym (one-more ∙ rw (sym et ∙ s))
 
   pub worst-end : (far : Float) (at i : ℕ) → b ≤ i → worstIs far at ≡ worstLeft far at i
   unfolding worstFrom

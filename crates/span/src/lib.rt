@@ -2,8 +2,10 @@
 use math::Direction;
 use math::Vec3;
 ghost use mathlib.Core.Path.{_≡_};
+ghost use mathlib.Core.Bool.{_||_};
 ghost use Prim.Native.Nat.{_+_, _*_, _-_, _<_, _≤_};
 ghost use lib.ListN.{length};
+ghost use lib.Ieee.{lt};
 ghost use Rattle.math.specs.Math.{vSub, tryNormalized};
 ghost use Rattle.samples.specs.Chain.{width, pointAt};
 ghost use Rattle.span.specs.Span.{worstOf, directions, firstIn, lastIn, angleBetween, turnOf, decision};
@@ -24,7 +26,8 @@ pub enum Decision {
     Refuse,
 }
 
-// The first point of those furthest from the chord; a itself where no distance is above zero.
+// The first point of those furthest from the chord; a itself where no distance is above zero. Distances are compared by their squares,
+// and only the largest one's root is taken, save where two squares are too close to tell.
 fn find_worst(chain: &[f64], a: usize, b: usize) -> Worst
     requires { ⌜ (a < b) × (width * b + width ≤ length (now chain)) ⌝ }
     ensures { λ r. ⌜ r ≡ worstOf (pointAt (now (chain .entry))) a b ⌝ }
@@ -33,18 +36,18 @@ fn find_worst(chain: &[f64], a: usize, b: usize) -> Worst
     let pb = samples::point_at(chain, b);
     let axis = pb.sub(pa);
     let len2 = axis.length_squared();
-    let mut far = 0.0;
+    let mut far2 = 0.0;
     let mut at = a;
     for i in a + 1..b {
         let p = samples::point_at(chain, i);
-        let d = chord::span_distance(pa, axis, len2, p);
-        if d > far {
-            far = d;
+        let d2 = chord::span_offset(pa, axis, len2, p).length_squared();
+        if cuts::is_below(far2, d2) {
+            far2 = d2;
             at = i;
         }
     }
     Worst {
-        distance: far,
+        distance: roots::root(far2),
         index: at,
     }
 }
@@ -118,7 +121,17 @@ fn turn(chain: &[f64], a: usize, b: usize) -> f64
     angle_between(f, chord) + angle_between(chord, l)
 }
 
-// The turn is worked out only where the distance alone does not split the span.
+// Whether a span whose points lie so far off at most is split. The turn is worked out only where the distance alone does not tell.
+fn is_split(chain: &[f64], distance: f64, tolerance: f64, angle: f64, a: usize, b: usize) -> bool
+    requires { ⌜ (a < b) × (width * b + width ≤ length (now chain)) ⌝ }
+    ensures { λ r. ⌜ r ≡ lt tolerance distance || lt angle (turnOf (pointAt (now (chain .entry))) a b) ⌝ }
+{
+    if distance > tolerance {
+        return true;
+    }
+    turn(chain, a, b) > angle
+}
+
 pub fn decide(chain: &[f64], tolerance: f64, angle: f64, a: usize, b: usize) -> Decision
     requires { ⌜ (a < b) × (width * b + width ≤ length (now chain)) ⌝ }
     ensures { λ r. ⌜ r ≡ decision (pointAt (now (chain .entry))) tolerance angle a b ⌝ }
@@ -127,7 +140,7 @@ pub fn decide(chain: &[f64], tolerance: f64, angle: f64, a: usize, b: usize) -> 
         return Decision::Leave;
     }
     let w = find_worst(chain, a, b);
-    if w.distance > tolerance || turn(chain, a, b) > angle {
+    if is_split(chain, w.distance, tolerance, angle, a, b) {
         if w.index == a {
             return Decision::Refuse;
         }

@@ -1,4 +1,5 @@
-// The spans of `thin`. The Rust keeps the spans to come on a stack; here the flags that are set say where each span ends, and the spans are taken in the chain's order.
+// The spans of `thin`. The Rust keeps the spans to come on a stack; here the flags that are set say where each span ends, and the spans
+// are taken in the chain's order.
 use span::Decision;
 ghost use mathlib.Core.Path.{_≡_};
 ghost use mathlib.Core.Bool.{false};

@@ -3,8 +3,7 @@ use mathlib.Core.Path.{_≡_, refl, sym, ap, _∙_}
 use mathlib.Core.Bool.{Bool, true, false, cond, not, _||_}
 use mathlib.Core.Logic.{_⊎_, inl, inr, ⊎-elim}
 use mathlib.Core.List.{List, [], _∷_, _++_}
-use Prim.Native.Nat.{ℕ, zero, suc, _<_, _≤_, min}
-use native.Mathlib.Nat.{min-eq-left, min-eq-right}
+use Prim.Native.Nat.{ℕ, zero, suc, _*_, _<_, _≤_, min}
 use native.Mathlib.Omega.{arith}
 use lib.ListN.{length, take, replicate, length-replicate}
 use lib.Seq.{sets}
@@ -16,19 +15,13 @@ use Rattle.lists.specs.Result.{Result, refused, got, each}
 use Rattle.samples.specs.declared.Sample.{Sample}
 use Rattle.samples.specs.declared.Counted.{Counted}
 use Rattle.samples.specs.declared.Counted.the-variants.{Refused, Count}
-use Rattle.samples.specs.Chain.{flat, pointAt, samples, pointOf, answerOf, after, Stored}
+use Rattle.samples.specs.Chain.{width, most, flat, pointAt, samples, pointOf, answerOf, after, Stored}
 use Rattle.samples.proofs.Laws.{samplesFrom-length, samples-own, pointOf-samples}
 use Rattle.spans.specs.Spans.{marks, flagged, flags}
 use Rattle.spans.proofs.Same.{flagged-same}
 use Rattle.thin.specs.Thin.{count, evens, restored, floored, retained, thinned}
 
 -- ---- `flag`
-pub want-all : (floor n want : ℕ) → n < floor → want ≡ n → want ≡ min floor n
-want-all floor n want h e = e ∙ sym (min-eq-right (omega arith))
-
-pub want-floor : (floor n want : ℕ) → floor ≤ n → want ≡ floor → want ≡ min floor n
-want-floor floor n want h e = e ∙ sym (min-eq-left (omega arith))
-
 -- k and b are what `mark` left and answered
 module _ (F : Result (List Bool)) (floor : ℕ) (k : List Bool) (b : Bool) (m : flags b k ≡ F) where
   pub flag-refused : b ≡ false → refused 9 ≡ each (floored floor) F
@@ -57,6 +50,10 @@ module _ (n m : ℕ) (h : n ≤ m) where
   pub lent-length : length (take n (replicate m false)) ≡ n
   lent-length = ap length (take-replicate n m h) ∙ length-replicate n false
 
+  pub lent-fits : {room : ℕ} → 2 < n → n ≤ most → width * n ≤ room
+      → (2 < length (take n (replicate m false))) × (length (take n (replicate m false)) ≤ most) × (width * length (take n (replicate m false)) ≤ room)
+  lent-fits a b c = rw lent-length (a, b, c)
+
   pub lent-false : take n (replicate m false) ≡ replicate (length (take n (replicate m false))) false
   lent-false = take-replicate n m h ∙ ap (λ (k : ℕ). replicate k false) (sym lent-length)
 
@@ -70,6 +67,13 @@ module _ (tolerance angle : Float) (floor n : ℕ) (c : List Float) where
 
   said : (r : Counted) (d : List Float) (x : Result (List Sample)) → r ≡ answerOf x → d ≡ after c x → x ≡ thinning → Said r d
   said r d x a b e = (a ∙ ap answerOf e, b ∙ ap (after c) e)
+
+  -- of as many records as there are flags
+  pub said-lent : {j : ℕ} {r : Counted} {d : List Float} → j ≡ n → (r ≡ answerOf (thinned tolerance angle floor (samples j c))) × (d ≡ after c (thinned tolerance angle floor (samples j c))) → Said r d
+  said-lent e w = (
+    w .0 ∙ ap (λ (k : ℕ). answerOf (thinned tolerance angle floor (samples k c))) e,
+    w .1 ∙ ap (λ (k : ℕ). after c (thinned tolerance angle floor (samples k c))) e,
+  )
 
   few : (l : List Sample) → (length l < 3) ⊎ (lt nought tolerance ≡ false) → got l ≡ thinned tolerance angle floor l
   unfolding thinned

@@ -2,7 +2,7 @@
 use samples::Counted;
 ghost use mathlib.Core.Path.{_≡_};
 ghost use mathlib.Core.Bool.{true, false};
-ghost use Prim.Native.Nat.{_*_, _<_, _≤_};
+ghost use Prim.Native.Nat.{_*_, _<_, _≤_, min};
 ghost use lib.ListN.{length, replicate};
 ghost use lib.Ieee.{lt};
 ghost use Rattle.arith.specs.Notation.{nought};
@@ -39,6 +39,16 @@ fn mark_evenly(keep: &mut [bool], want: usize)
     }
 }
 
+// The segment floor, of a chain of n points at most all of them.
+fn wanted(floor: usize, n: usize) -> usize
+    ensures { λ r. ⌜ (r ≡ min floor n) × (r ≤ n) ⌝ }
+{
+    if n < floor {
+        return n;
+    }
+    floor
+}
+
 // Sets the flags of the points that stay; there is a flag for each point. False means refused with 9.
 fn flag(chain: &[f64], tolerance: f64, angle: f64, floor: usize, keep: &mut [bool]) -> bool
     requires { ⌜ (1 < length (now keep)) × (length (now keep) ≤ most) × (width * length (now keep) ≤ length (now chain)) × (now keep ≡ replicate (length (now keep)) false) ⌝ }
@@ -48,10 +58,7 @@ fn flag(chain: &[f64], tolerance: f64, angle: f64, floor: usize, keep: &mut [boo
         return false;
     }
     // The segment floor is the tessellator's own: where thinning would go below it, points are put back evenly.
-    let mut want = floor;
-    if keep.len() < floor {
-        want = keep.len();
-    }
+    let want = wanted(floor, keep.len());
     if count_kept(keep) < want {
         mark_evenly(keep, want);
     }
@@ -98,7 +105,10 @@ pub fn thin(chain: &mut [f64], n: usize, tolerance: f64, angle: f64, floor: usiz
     ensures { λ r. ⌜ (r ≡ answerOf (thinned tolerance angle floor (samples n (now (chain .entry)))))
         × (now (chain .exit) ≡ after (now (chain .entry)) (thinned tolerance angle floor (samples n (now (chain .entry))))) ⌝ }
 {
-    if n < 3 || !(tolerance > 0.0) {
+    if n < 3 {
+        return Counted::Count(n);
+    }
+    if !(tolerance > 0.0) {
         return Counted::Count(n);
     }
     if n <= 128 {

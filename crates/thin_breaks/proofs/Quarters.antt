@@ -12,4 +12,4 @@ module _ (at : Float → Vec3) (a b : Float) where
 
   pub deviation-is : {pa pb p1 p2 p3 : Vec3} → pa ≡ at a → pb ≡ at b → p1 ≡ at (a ⊕ (b ⊖ a) ⊗ bits 0x3FD0000000000000) → p2 ≡ at (a ⊕ (b ⊖ a) ⊗ half) → p3 ≡ at (a ⊕ (b ⊖ a) ⊗ bits 0x3FE8000000000000)
       → worstOf pa pb p1 p2 p3 ≡ deviation at a b
-  deviation-is e f g h i = cc quarters
+  deviation-is e f g h i = rw (e, f, g, h, i) quarters

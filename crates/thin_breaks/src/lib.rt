@@ -72,14 +72,12 @@ pub fn thin_breaks(
             let b = breaks[i];
             let next = next_of(breaks, i, hi);
             let d = deviation(points, curves, reals, parts, ranges, row, start, next, pa);
+            i += 1;
             if sag < d {
                 breaks[k] = b;
                 k += 1;
                 start = b;
                 pa = curve::point_at(points, curves, reals, parts, ranges, row, b);
-                i += 1;
-            } else {
-                i += 1;
             }
         }
         lists::clear_from(breaks, k);

@@ -55,7 +55,7 @@ loop-again : tie.Need-loop-again Inv-loop μ-loop
 loop-again c =
     let a = c .before .before .before .before .before .before .before .args in
     let l = c .before .before .before .before .loop in
-    let h = steps-push (a .range) (a .n) (l .i) (l .inv .2) (c .at .result) (cc) (search needs) in
+    let h = steps-push (a .range) (a .n) (l .i) (l .inv .2) (c .at .result) (rw (c .at .ensures, c .before .nearest-u64-to-f642 .ensures, c .before .before .before .before .before .nearest-u64-to-f64 .ensures)) (search needs) in
     (search needs, held-length h, h)
 
 same-length-2 : tie.Need-same-length-2 Inv-loop μ-loop

@@ -15,7 +15,7 @@ is-over-requires c κs = search needs
 
 returns : tie.Need-returns
 unfolding vLength
-returns c = cc
+returns c = rw (c .is-over .ensures, c .before .length-squared .ensures, c .before .before .sub .ensures)
 
 pub is-apart-spec : {M : Type 1} → statement M
 is-apart-spec = tie.close (tie.spec sub-requires length-squared-requires is-over-requires returns)

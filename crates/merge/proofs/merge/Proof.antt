@@ -2,13 +2,11 @@
 -- The measure is what is left of the records. Assumes nothing.
 use borrow.Author.Needs.{needs}
 use native.Mathlib.Omega.{arith}
-use mathlib.Core.Path.{_≡_, refl, sym, ap, _∙_}
-use mathlib.Core.Logic.{⊎-elim, inl, inr}
-use Prim.Native.Nat.{_≤_, _<_, _-_, _*_}
+use mathlib.Core.Path.{_≡_, refl, ap, _∙_}
+use mathlib.Core.Logic.{⊎-elim}
+use Prim.Native.Nat.{_-_, _*_}
 use lib.ListN.{length}
 use lib.Seq.{length-sets}
-use lib.Ieee.{lt, le}
-use borrow.Author.Tests.{ltb-true, ltb-false}
 use Rattle.cuts.proofs.Roots.{root-beyond}
 use Rattle.samples.specs.Chain.{width, row}
 use Rattle.merge.proofs.Loop.{Kept, kept-first, kept-push, kept-pass, as-it-was, no-floor, few, ended}
@@ -16,26 +14,25 @@ use Rattle.merge.proofs.merge.Statement.{statement}
 use Rattle.merge.proofs.merge.Tie as tie
 
 abbrev Inv-loop : tie.InvT-loop
-Inv-loop chain₀ n floor cut has-cut last₀ k₀ i₀ i-end chain last k i =
-    (2 < n) × (1 ≤ k) × (k ≤ i) × (i ≤ n - 1) × (i-end ≡ n - 1) × (length chain ≡ length chain₀) × Kept chain₀ n floor chain last k i
+Inv-loop chain₀ n floor cut has-cut last₀ k₀ i₀ i-end chain last k i = (i-end ≡ n - 1) × Kept chain₀ n floor chain last k i
 
 abbrev μ-loop : tie.MeasureT-loop
 μ-loop chain₀ n floor cut has-cut last₀ k₀ i₀ i-end chain last k i = n - i
+
+returns : tie.Need-returns Inv-loop μ-loop
+returns c = as-it-was _ _ _ (few _ _ _ (c .if1 .taken))
 
 root-requires : tie.Need-root-requires Inv-loop μ-loop
 root-requires c κs = search needs
 
 point-at-requires : tie.Need-point-at-requires Inv-loop μ-loop
-point-at-requires c κs = omega (arith, ltb-true)
+point-at-requires c κs = search needs
 
 sub-i-end : tie.Need-sub-i-end Inv-loop μ-loop
-sub-i-end c = omega (arith, ltb-true)
+sub-i-end c = search needs
 
 loop-holds : tie.Need-loop-holds Inv-loop μ-loop
-loop-holds c =
-    let a = c .before .before .before .before .before .before .args in
-    let h : 2 < a .n = omega (arith, ltb-true) in
-    (h, omega arith, omega arith, omega arith, refl, refl, kept-first (a .chain .now) (a .n) (a .floor) (c .point-at .result) (c .point-at .ensures))
+loop-holds c = (refl, kept-first _ _ _ (c .before .before .before .before .if1 .left) _ (c .point-at .ensures))
 
 sample-at-requires : tie.Need-sample-at-requires Inv-loop μ-loop
 sample-at-requires c κs = search needs
@@ -57,32 +54,16 @@ loop-less c = search needs
 
 loop-again : tie.Need-loop-again Inv-loop μ-loop
 loop-again c =
-    let a = c .before .before .before .before .before .before .before .before .before .before .before .before .args in
     let l = c .before .before .before .before .before .loop in
-    let s = c .before .before .sample-at in
-    let far = sym (c .before .is-apart .ensures) in
-    ⊎-elim
-    (λ w. (
-      omega arith,
-      omega arith,
-      omega arith,
-      omega arith,
+    let within = c .before .before .before .before .loop-test .taken in
+    let p = c .before .before .sample-at .ensures in
+    let far = c .before .is-apart .ensures in (
       refl,
-      ap length (w .6 ∙ w .2 .ensures) ∙ length-sets (l .chain) (width * l .k) (row (s .result)) ∙ l .inv .5,
-      rw (w .6, w .7, w .8)
-          (kept-push (a .chain .now) (a .n) (a .floor) (l .chain) (l .last) (l .k) (l .i) (l .inv .6) (omega arith) (s .result) (s .ensures) (l .inv .2) _ (far ∙ w .0 .taken) (w .2 .ensures)),
-    ))
-    (λ w. (
-      omega arith,
-      omega arith,
-      omega arith,
-      omega arith,
-      refl,
-      ap length (w .1) ∙ l .inv .5,
-      rw (w .1, w .2, w .3)
-          (kept-pass (a .chain .now) (a .n) (a .floor) (l .chain) (l .last) (l .k) (l .i) (l .inv .6) (omega arith) (s .result) (s .ensures) (l .inv .2) (far ∙ w .0 .left)),
-    ))
-    (c .if3 .came)
+      ⊎-elim
+          (λ w. rw (w .6, w .7, w .8) (kept-push _ _ _ (l .inv .1) within p far (w .0 .taken) (w .2 .ensures)))
+          (λ w. rw (w .1, w .2, w .3) (kept-pass _ _ _ (l .inv .1) within p far (w .0 .left)))
+          (c .if3 .came),
+    )
 
 sub-sample-at : tie.Need-sub-sample-at Inv-loop μ-loop
 sub-sample-at c = search needs
@@ -90,41 +71,23 @@ sub-sample-at c = search needs
 sample-at-requires-2 : tie.Need-sample-at-requires-2 Inv-loop μ-loop
 sample-at-requires-2 c κs = search needs
 
-distance-requires : tie.Need-distance-requires Inv-loop μ-loop
-distance-requires c κs = search needs
-
-sub-k : tie.Need-sub-k Inv-loop μ-loop
-sub-k c = search needs
+before-end-requires : tie.Need-before-end-requires Inv-loop μ-loop
+before-end-requires c κs = search needs
 
 put-requires-2 : tie.Need-put-requires-2 Inv-loop μ-loop
-put-requires-2 c κs = ⊎-elim (λ w. omega arith) (λ w. omega arith) (c .before .if4 .came)
+put-requires-2 c κs = search needs
 
 add-result : tie.Need-add-result Inv-loop μ-loop
-add-result c = ⊎-elim (λ w. omega arith) (λ w. omega arith) (c .before .before .before .before .before .if4 .came)
+add-result c = search needs
 
 same-length : tie.Need-same-length Inv-loop μ-loop
-same-length c =
-    let l = c .before .before .before .before .before .before .before .before .before .before .loop in
-    ap length (c .before .before .before .put2 .ensures) ∙ length-sets (l .chain) (width * c .before .before .before .before .before .if4 .k) (row (c .before .before .before .before .before .before .before .sample-at2 .result)) ∙ l .inv .5
-
-returns : tie.Need-returns Inv-loop μ-loop
-returns c =
-    let a = c .before .before .before .before .before .before .before .before .before .before .before .before .before .before .before .before .before .args in
-    let l = c .before .before .before .before .before .before .before .before .before .before .loop in
-    let e = c .before .before .before .before .before .before .before .sample-at2 in
-    let above = c .before .before .before .before .before .before .before .before .before .before .before .before .before .before .before .if1 .taken in
-    let near = ap (λ d. le d (a .floor)) (sym (c .before .before .before .before .before .before .distance .ensures)) in
-    ended (a .chain .now) (a .n) (a .floor) above (l .inv .0) (l .chain) (l .last) (l .k) (l .i) (l .inv .6) (omega arith) (omega arith) (e .result) (e .ensures) _ (c .before .before .before .before .before .if4 .k) (c .before .before .before .put2 .ensures)
-    (⊎-elim
-    (λ w. inl (near ∙ w .0 .taken, omega (arith, ltb-true), w .2))
-    (λ w. inr (⊎-elim (λ v. inl (omega (arith, ltb-false))) (λ v. inr (near ∙ v .left)) (w .0 .came), w .1))
-    (c .before .before .before .before .before .if4 .came))
+same-length c = ap length (c .before .before .put2 .ensures) ∙ length-sets (c .before .before .before .before .before .before .before .before .loop .chain) (width * c .before .before .before .before .before-end .result) (row (c .before .before .before .before .before .sample-at2 .result)) ∙ c .before .before .before .before .before .before .before .before .loop .inv .1 .same-length
 
 returns-2 : tie.Need-returns-2 Inv-loop μ-loop
-returns-2 c =
-    let a = c .before .before .args in
-    as-it-was (a .chain .now) (a .n) (a .floor)
-    (⊎-elim (λ w. few (a .chain .now) (a .n) (a .floor) (omega (arith, ltb-false))) (λ w. no-floor (a .chain .now) (a .n) (a .floor) (w .left)) (c .if1 .came))
+returns-2 c = ended _ _ _ (c .before .before .before .before .before .before .before .before .before .before .before .before .if2 .taken) (c .before .before .before .before .before .before .before .before .loop .inv .1) (c .before .before .before .before .before .before .before .loop-test .left) (c .before .before .before .before .before .sample-at2 .ensures) (c .before .before .put2 .ensures) (c .before .before .before .before .before-end .ensures .0)
+
+returns-3 : tie.Need-returns-3 Inv-loop μ-loop
+returns-3 c = as-it-was _ _ _ (no-floor _ _ _ (c .if2 .left))
 
 pub merge-spec : {M : Type 1} → statement M
 merge-spec =
@@ -132,6 +95,7 @@ merge-spec =
     (tie.spec
     Inv-loop
     μ-loop
+    returns
     root-requires
     point-at-requires
     sub-i-end
@@ -145,10 +109,9 @@ merge-spec =
     loop-again
     sub-sample-at
     sample-at-requires-2
-    distance-requires
-    sub-k
+    before-end-requires
     put-requires-2
     add-result
     same-length
-    returns
-    returns-2)
+    returns-2
+    returns-3)

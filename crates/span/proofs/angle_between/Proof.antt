@@ -15,7 +15,7 @@ acos-requires c κs = search needs
 
 returns : tie.Need-returns
 unfolding angleBetween
-returns c = cc
+returns c = rw (c .acos .ensures, c .before .clamp .ensures, c .before .before .dot .ensures)
 
 pub angle-between-spec : {M : Type 1} → statement M
 angle-between-spec = tie.close (tie.spec dot-requires clamp-requires acos-requires returns)

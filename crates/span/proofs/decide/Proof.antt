@@ -1,8 +1,6 @@
 -- `decide` meets its contract: each way out is a case of `decision`. Assumes nothing.
 use borrow.Author.Needs.{needs}
-use mathlib.Core.Path.{sym, ap, _∙_}
-use mathlib.Core.Logic.{⊎-elim, inl, inr}
-use lib.Ieee.{lt}
+use mathlib.Core.Path.{sym}
 use Rattle.samples.specs.Chain.{pointAt}
 use Rattle.span.proofs.Laws.{narrow, refuses, splits, leaves}
 use Rattle.span.proofs.decide.Statement.{statement}
@@ -19,32 +17,19 @@ returns c =
 find-worst-requires : tie.Need-find-worst-requires
 find-worst-requires c κs = search needs
 
-turn-requires : tie.Need-turn-requires
-turn-requires c κs = search needs
+is-split-requires : tie.Need-is-split-requires
+is-split-requires c κs = search needs
 
 returns-2 : tie.Need-returns-2
-returns-2 c =
-    let a = c .before .before .before .before .before .before .before .args in
-    let w = c .before .before .before .before .find-worst in
-    refuses (pointAt (a .chain .now)) (a .tolerance) (a .angle) (a .a) (a .b) (c .before .before .before .before .before .if1 .left) (w .result) (w .ensures)
-    (⊎-elim (λ v. inl (v .taken)) (λ v. inr (ap (lt (a .angle)) (sym (v .1 .ensures)) ∙ v .2 .taken)) (c .before .before .if2 .came))
-    (c .if4 .taken)
+returns-2 c = refuses _ _ _ _ _ (c .before .before .before .before .before .if1 .left) (c .before .before .before .before .find-worst .ensures) (c .before .before .before .is-split .ensures) (c .before .before .if2 .taken) (c .if3 .taken)
 
 returns-3 : tie.Need-returns-3
-returns-3 c =
-    let a = c .before .before .before .before .before .before .before .args in
-    let w = c .before .before .before .before .find-worst in
-    splits (pointAt (a .chain .now)) (a .tolerance) (a .angle) (a .a) (a .b) (c .before .before .before .before .before .if1 .left) (w .result) (w .ensures)
-    (⊎-elim (λ v. inl (v .taken)) (λ v. inr (ap (lt (a .angle)) (sym (v .1 .ensures)) ∙ v .2 .taken)) (c .before .before .if2 .came))
-    (c .if4 .left)
+returns-3 c = splits _ _ _ _ _ (c .before .before .before .before .before .if1 .left) (c .before .before .before .before .find-worst .ensures) (c .before .before .before .is-split .ensures) (c .before .before .if2 .taken) (c .if3 .left)
 
 returns-4 : tie.Need-returns-4
-returns-4 c =
-    let a = c .before .before .before .before .before .before .before .args in
-    let w = c .before .before .before .before .find-worst in
-    leaves (pointAt (a .chain .now)) (a .tolerance) (a .angle) (a .a) (a .b) (c .before .before .before .before .before .if1 .left) (w .result) (w .ensures) (c .before .before .if2 .left) (ap (lt (a .angle)) (sym (c .before .turn .ensures)) ∙ c .if3 .left)
+returns-4 c = leaves _ _ _ _ _ (c .before .before .before .if1 .left) (c .before .before .find-worst .ensures) (c .before .is-split .ensures) (c .if2 .left)
 
 pub decide-spec : {M : Type 1} → statement M
 decide-spec =
     tie.close
-    (tie.spec add-if1 returns find-worst-requires turn-requires returns-2 returns-3 returns-4)
+    (tie.spec add-if1 returns find-worst-requires is-split-requires returns-2 returns-3 returns-4)

@@ -19,7 +19,7 @@ try-normalized-requires : tie.Need-try-normalized-requires
 try-normalized-requires c κs = search needs
 
 returns : tie.Need-returns
-returns c = cc
+returns c = rw (c .try-normalized .ensures, c .before .sub .ensures, c .before .before .point-at2 .ensures, c .before .before .before .point-at .ensures)
 
 pub direction-spec : {M : Type 1} → statement M
 direction-spec =

@@ -5,19 +5,20 @@ use native.Mathlib.Omega.{arith}
 use mathlib.Core.Path.{_≡_, ap, _∙_}
 use mathlib.Core.Logic.{⊎-elim}
 use Prim.Native.Nat.{_≤_, _+_, _-_}
+use Rattle.roots.specs.Root.{rootOf}
 use Rattle.math.specs.Math.{vSub, vLengthSquared}
 use Rattle.samples.specs.Chain.{pointAt}
 use Rattle.span.specs.Span.{worstOf}
-use Rattle.span.proofs.Loops.{worstLeft, worst-new, worst-old, worst-end}
+use Rattle.span.proofs.Loops.{root-none, worstLeft, worst-new, worst-old, worst-end}
 use Rattle.span.proofs.find_worst.Statement.{statement}
 use Rattle.span.proofs.find_worst.Tie as tie
 
 abbrev Inv-loop : tie.InvT-loop
-Inv-loop chain a b pa axis len2 far₀ at₀ i₀ far at i =
-    (a + 1 ≤ i) × (i ≤ b) × (len2 ≡ vLengthSquared axis) × (worstLeft (pointAt chain) pa axis b far at i ≡ worstOf (pointAt chain) a b)
+Inv-loop chain a b pa axis len2 far2₀ at₀ i₀ far2 at i =
+    (a + 1 ≤ i) × (i ≤ b) × (len2 ≡ vLengthSquared axis) × (worstLeft (pointAt chain) pa axis b (rootOf far2) at i ≡ worstOf (pointAt chain) a b)
 
 abbrev μ-loop : tie.MeasureT-loop
-μ-loop chain a b pa axis len2 far₀ at₀ i₀ far at i = b - i
+μ-loop chain a b pa axis len2 far2₀ at₀ i₀ far2 at i = b - i
 
 point-at-requires : tie.Need-point-at-requires Inv-loop μ-loop
 point-at-requires c κs = search needs
@@ -37,15 +38,20 @@ add-i c = search needs
 loop-holds : tie.Need-loop-holds Inv-loop μ-loop
 unfolding worstOf
 loop-holds c =
-    let a = c .before .before .before .before .before .args in
-    let axis = c .before .sub .ensures ∙ ap (λ q. vSub q (c .before .before .before .point-at .result)) (c .before .before .point-at2 .ensures) ∙ ap (vSub (pointAt (a .chain .now) (a .b))) (c .before .before .before .point-at .ensures) in
-    (search needs, search needs, c .length-squared .ensures, rw (c .before .before .before .point-at .ensures, axis))
+    let q = c .before .before .before .point-at .ensures in
+    (search needs, search needs, c .length-squared .ensures, rw (root-none, c .before .sub .ensures, c .before .before .point-at2 .ensures, q))
 
 point-at-requires-3 : tie.Need-point-at-requires-3 Inv-loop μ-loop
 point-at-requires-3 c κs = search needs
 
-span-distance-requires : tie.Need-span-distance-requires Inv-loop μ-loop
-span-distance-requires c κs = search needs
+span-offset-requires : tie.Need-span-offset-requires Inv-loop μ-loop
+span-offset-requires c κs = search needs
+
+length-squared-requires-2 : tie.Need-length-squared-requires-2 Inv-loop μ-loop
+length-squared-requires-2 c κs = search needs
+
+is-below-requires : tie.Need-is-below-requires Inv-loop μ-loop
+is-below-requires c κs = search needs
 
 add-i-2 : tie.Need-add-i-2 Inv-loop μ-loop
 add-i-2 c = search needs
@@ -55,19 +61,25 @@ loop-less c = search needs
 
 loop-again : tie.Need-loop-again Inv-loop μ-loop
 loop-again c =
-    let a = c .before .before .before .before .before .before .before .before .before .before .args in
-    let l = c .before .before .before .before .loop in
-    let p = pointAt (a .chain .now) in
-    let e = c .before .span-distance .ensures in
+    let a = c .before .before .before .before .before .before .before .before .before .before .before .before .args in
+    let l = c .before .before .before .before .before .before .loop in
+    let q = c .before .before .before .before .point-at3 .ensures in
+    let v = c .before .before .before .span-offset .ensures in
+    let d = c .before .before .length-squared2 .ensures in
+    let t = c .before .is-below .ensures in
     ⊎-elim
-    (λ w. (omega arith, omega arith, l .inv .2, rw (w .1, w .2) (worst-new p _ _ (a .b) (l .far) _ (l .at) (l .i) (omega arith) (e ∙ rw (l .inv .2, c .before .before .point-at3 .ensures)) (w .0 .taken) ∙ l .inv .3)))
-    (λ w. (omega arith, omega arith, l .inv .2, rw (w .1, w .2) (worst-old p _ _ (a .b) (l .far) _ (l .at) (l .i) (omega arith) (e ∙ rw (l .inv .2, c .before .before .point-at3 .ensures)) (w .0 .left) ∙ l .inv .3)))
+    (λ w. (omega arith, omega arith, l .inv .2, rw (w .1, w .2) (worst-new (pointAt (a .chain .now)) _ _ (a .b) _ (l .at) (l .i) (omega arith) (l .inv .2) q v d t (w .0 .taken) ∙ l .inv .3)))
+    (λ w. (omega arith, omega arith, l .inv .2, rw (w .1, w .2) (worst-old (pointAt (a .chain .now)) _ _ (a .b) _ (l .at) (l .i) (omega arith) (l .inv .2) q v d t (w .0 .left) ∙ l .inv .3)))
     (c .if1 .came)
+
+root-requires : tie.Need-root-requires Inv-loop μ-loop
+root-requires c κs = search needs
 
 returns : tie.Need-returns Inv-loop μ-loop
 returns c =
-    let l = c .before .loop in
-    worst-end (pointAt (c .before .before .before .before .before .before .before .args .chain .now)) _ _ (c .before .before .before .before .before .before .before .args .b) (l .far) (l .at) (l .i) (omega arith) ∙ l .inv .3
+    let l = c .before .before .loop in
+    let a = c .before .before .before .before .before .before .before .before .args in
+    rw (c .root .ensures) (worst-end (pointAt (a .chain .now)) _ _ (a .b) _ (l .at) (l .i) (omega arith) ∙ l .inv .3)
 
 pub find-worst-spec : {M : Type 1} → statement M
 find-worst-spec =
@@ -82,8 +94,11 @@ find-worst-spec =
     add-i
     loop-holds
     point-at-requires-3
-    span-distance-requires
+    span-offset-requires
+    length-squared-requires-2
+    is-below-requires
     add-i-2
     loop-less
     loop-again
+    root-requires
     returns)

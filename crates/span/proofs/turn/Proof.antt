@@ -8,6 +8,10 @@ use Rattle.span.proofs.Laws.{no-chord, no-first, no-last, turn-is}
 use Rattle.span.proofs.turn.Statement.{statement}
 use Rattle.span.proofs.turn.Tie as tie
 
+-- the direction of the chord
+chord-of : (t : tie.After-try-normalized) → let a = t .before .before .before .before .before .args in let p = pointAt (a .chain .now) in t .try-normalized .result ≡ tryNormalized (vSub (p (a .b)) (p (a .a)))
+chord-of t = rw (t .try-normalized .ensures, t .before .sub .ensures, t .before .before .point-at2 .ensures, t .before .before .before .point-at .ensures)
+
 point-at-requires : tie.Need-point-at-requires
 point-at-requires c κs = search needs
 
@@ -29,7 +33,7 @@ enum-told c = search needs
 returns : tie.Need-returns
 returns c =
     let a = c .before .before .before .before .before .before .before .args in
-    no-chord (pointAt (a .chain .now)) (a .a) (a .b) (c .before .before .try-normalized .result) (cc) (c .enum-told .given .1)
+    no-chord (pointAt (a .chain .now)) (a .a) (a .b) (c .before .before .try-normalized .result) (chord-of (c .before .before)) (c .enum-told .given .1)
 
 first-direction-requires : tie.Need-first-direction-requires
 first-direction-requires c κs = search needs
@@ -74,8 +78,7 @@ returns-4 c =
     let f = c .before .before .before .before .before .before .before .first .given in
     let l = c .before .before .before .last .given in
     let k = c .before .before .before .before .before .before .before .before .before .before .before .axis .given in
-    let x : Unit (k .0 .0) ≡ tryNormalized (vSub (p (a .b)) (p (a .a))) = cc in
-    rw (c .before .angle-between .ensures, c .angle-between2 .ensures) (turn-is p (a .a) (a .b) (f .0 .0) (l .0 .0) (k .0 .0) (sym (f .1) ∙ c .before .before .before .before .before .before .before .before .before .first-direction .ensures) (sym (l .1) ∙ c .before .before .before .before .before .last-direction .ensures) x)
+    rw (c .before .angle-between .ensures, c .angle-between2 .ensures) (turn-is p (a .a) (a .b) (f .0 .0) (l .0 .0) (k .0 .0) (sym (f .1) ∙ c .before .before .before .before .before .before .before .before .before .first-direction .ensures) (sym (l .1) ∙ c .before .before .before .before .before .last-direction .ensures) (sym (k .1) ∙ chord-of (c .before .before .before .before .before .before .before .before .before .before .before .before .before)))
 
 pub turn-spec : {M : Type 1} → statement M
 turn-spec =

@@ -3,10 +3,7 @@
 use borrow.Author.Needs.{needs}
 use borrow.Author.Tests.{not-true, not-false}
 use native.Mathlib.Omega.{arith}
-use mathlib.Core.Path.{_≡_, ap, _∙_}
-use mathlib.Core.Logic.{⊎-elim}
-use lib.ListN.{length}
-use Rattle.thin.proofs.Ways.{want-all, want-floor, flag-refused, flag-few, flag-enough}
+use Rattle.thin.proofs.Ways.{flag-refused, flag-few, flag-enough}
 use Rattle.thin.proofs.flag.Statement.{statement}
 use Rattle.thin.proofs.flag.Tie as tie
 
@@ -18,45 +15,35 @@ same-length c = search needs
 
 returns : tie.Need-returns
 returns c =
-    let a = c .before .before .before .before .before .before .before .args in
     let m = c .before .before .before .mark in
-    flag-refused _ (a .floor) _ (m .result) (m .ensures) (not-true (m .result) (c .if1 .taken))
+    flag-refused _ _ _ (m .result) (m .ensures) (not-true (m .result) (c .if1 .taken))
+
+wanted-requires : tie.Need-wanted-requires
+wanted-requires c κs = search needs
 
 count-kept-requires : tie.Need-count-kept-requires
 count-kept-requires c κs = search needs
 
 mark-evenly-requires : tie.Need-mark-evenly-requires
-mark-evenly-requires c κs = (omega arith, ⊎-elim (λ v. omega arith) (λ v. omega arith) (c .before .before .before .before .if2 .came), omega arith)
+mark-evenly-requires c κs = (omega arith, c .before .before .before .before .wanted .ensures .1, omega arith)
 
 same-length-2 : tie.Need-same-length-2
 same-length-2 c = search needs
 
 returns-2 : tie.Need-returns-2
 returns-2 c =
-    let a = c .before .before .before .before .before .before .before .before .before .before .before .before .before .before .before .args in
     let m = c .before .before .before .before .before .before .before .before .before .before .before .mark in
-    let n = length (c .before .before .before .before .before .before .before .before .before .before .before .mark .last .1 .1 .1 .0) in
-    let w = ⊎-elim
-    (λ v. want-all (a .floor) n (c .before .before .before .before .before .before .before .if2 .want) (v .0 .taken) (v .1))
-    (λ v. want-floor (a .floor) n (c .before .before .before .before .before .before .before .if2 .want) (v .0 .left) (v .1))
-    (c .before .before .before .before .before .before .before .if2 .came) in
     let r = c .before .before .before .before .before .count-kept in
-    flag-few _ (a .floor) _ (m .result) (m .ensures) (not-false (m .result) (c .before .before .before .before .before .before .before .before .if1 .left)) _ w (r .result) _ (r .ensures) (c .before .before .before .before .if3 .taken) (c .before .before .mark-evenly .ensures)
+    flag-few _ _ _ (m .result) (m .ensures) (not-false (m .result) (c .before .before .before .before .before .before .before .before .if1 .left)) _ (c .before .before .before .before .before .before .before .wanted .ensures .0) (r .result) _ (r .ensures) (c .before .before .before .before .if2 .taken) (c .before .before .mark-evenly .ensures)
 
 same-length-3 : tie.Need-same-length-3
 same-length-3 c = search needs
 
 returns-3 : tie.Need-returns-3
 returns-3 c =
-    let a = c .before .before .before .before .before .before .before .before .before .before .before .args in
     let m = c .before .before .before .before .before .before .before .mark in
-    let n = length (c .before .before .before .before .before .before .before .mark .last .1 .1 .1 .0) in
-    let w = ⊎-elim
-    (λ v. want-all (a .floor) n (c .before .before .before .if2 .want) (v .0 .taken) (v .1))
-    (λ v. want-floor (a .floor) n (c .before .before .before .if2 .want) (v .0 .left) (v .1))
-    (c .before .before .before .if2 .came) in
     let r = c .before .count-kept in
-    flag-enough _ (a .floor) _ (m .result) (m .ensures) (not-false (m .result) (c .before .before .before .before .if1 .left)) _ w (r .result) (r .ensures) (c .if3 .left)
+    flag-enough _ _ _ (m .result) (m .ensures) (not-false (m .result) (c .before .before .before .before .if1 .left)) _ (c .before .before .before .wanted .ensures .0) (r .result) (r .ensures) (c .if2 .left)
 
 pub flag-spec : {M : Type 1} → statement M
 flag-spec =
@@ -65,6 +52,7 @@ flag-spec =
     mark-requires
     same-length
     returns
+    wanted-requires
     count-kept-requires
     mark-evenly-requires
     same-length-2

@@ -1,26 +1,25 @@
 -- `thin` meets its contract: a short chain or no tolerance leaves the chain as it is; else it is thinned with the first n flags of a local array. Assumes nothing.
 use borrow.Author.Tests.{not-true, not-false}
 use native.Mathlib.Omega.{arith}
-use mathlib.Core.Path.{sym, ap, _∙_}
-use mathlib.Core.Logic.{⊎-elim, inl, inr}
-use Prim.Native.Nat.{ℕ}
+use mathlib.Core.Path.{sym}
+use mathlib.Core.Logic.{inl, inr}
 use lib.Ieee.{lt}
 use Rattle.arith.specs.Notation.{nought}
-use Rattle.samples.specs.Chain.{most, samples, answerOf, after}
-use Rattle.thin.specs.Thin.{thinned}
-use Rattle.thin.proofs.Ways.{lent-length, lent-false, said-as-it-was}
+use Rattle.samples.specs.Chain.{most}
+use Rattle.thin.proofs.Ways.{lent-length, lent-fits, lent-false, said-as-it-was, said-lent}
 use borrow.Author.Needs.{needs}
 use Rattle.thin.proofs.thin.Statement.{statement}
 use Rattle.thin.proofs.thin.Tie as tie
-use Rattle.thin.proofs.thin.Reads as reads
-use Rattle.thin.proofs.thin.Lts as lts
-use Rattle.thin.proofs.thin_with.Reads as thin-with-reads
 
 returns : tie.Need-returns
 returns c =
     let a = c .before .before .args in
-    said-as-it-was (a .tolerance) (a .angle) (a .floor) (a .n) (a .chain .now)
-    (⊎-elim (λ w. inl (w .taken)) (λ w. inr (not-true (lt nought (a .tolerance)) (w .1 .taken))) (c .if1 .came))
+    said-as-it-was (a .tolerance) (a .angle) (a .floor) (a .n) (a .chain .now) (inl (c .if1 .taken))
+
+returns-2 : tie.Need-returns-2
+returns-2 c =
+    let a = c .before .before .before .args in
+    said-as-it-was (a .tolerance) (a .angle) (a .floor) (a .n) (a .chain .now) (inr (not-true (lt nought (a .tolerance)) (c .if2 .taken)))
 
 array-borrow-prefix-few : tie.Need-array-borrow-prefix-few
 array-borrow-prefix-few c = search needs
@@ -30,19 +29,18 @@ slice-aggregate-thin-with c = sym (lent-length (c .before .before .before .befor
 
 thin-with-requires : tie.Need-thin-with-requires
 thin-with-requires c κs =
-    let a = c .before .before .before .before .before .before .args in
-    let e = lent-length (a .n) 128 (omega arith) in
-    (omega arith, omega arith, omega arith, lent-false (a .n) 128 (omega arith), not-false (lt nought (a .tolerance)) (c .before .before .before .if2 .left))
+    let st = c .before .before .before .before .before .before in
+    let n = st .args .n in
+    let fits = lent-fits n 128 (c .before .before .if3 .taken) (c .before .before .before .before .if1 .left) (st .pre .0) (st .pre .1) in
+    (fits .0, fits .1, fits .2, lent-false n 128 (c .before .before .if3 .taken), not-false (lt nought (st .args .tolerance)) (c .before .before .before .if2 .left))
 
 same-length : tie.Need-same-length
 same-length c = search needs
 
-returns-2 : tie.Need-returns-2
-returns-2 c =
+returns-3 : tie.Need-returns-3
+returns-3 c =
     let a = c .before .before .before .before .before .before .before .before .before .before .args in
-    let e = lent-length (a .n) 128 (omega arith) in
-    let w = c .before .before .before .thin-with .ensures in
-    (w .0 ∙ ap (λ (k : ℕ). answerOf (thinned (a .tolerance) (a .angle) (a .floor) (samples k (a .chain .now)))) e, w .1 ∙ ap (λ (k : ℕ). after (a .chain .now) (thinned (a .tolerance) (a .angle) (a .floor) (samples k (a .chain .now)))) e)
+    said-lent (a .tolerance) (a .angle) (a .floor) (a .n) (a .chain .now) (lent-length (a .n) 128 (omega arith)) (c .before .before .before .thin-with .ensures)
 
 array-borrow-prefix-keep : tie.Need-array-borrow-prefix-keep
 array-borrow-prefix-keep c = search needs
@@ -52,32 +50,32 @@ slice-aggregate-thin-with-2 c = sym (lent-length (c .before .before .before .bef
 
 thin-with-requires-2 : tie.Need-thin-with-requires-2
 thin-with-requires-2 c κs =
-    let a = c .before .before .before .before .before .before .args in
-    let e = lent-length (a .n) most (omega arith) in
-    (omega arith, omega arith, omega arith, lent-false (a .n) most (omega arith), not-false (lt nought (a .tolerance)) (c .before .before .before .if2 .left))
+    let st = c .before .before .before .before .before .before in
+    let n = st .args .n in
+    let fits = lent-fits n most (st .pre .0) (c .before .before .before .before .if1 .left) (st .pre .0) (st .pre .1) in
+    (fits .0, fits .1, fits .2, lent-false n most (st .pre .0), not-false (lt nought (st .args .tolerance)) (c .before .before .before .if2 .left))
 
 same-length-2 : tie.Need-same-length-2
 same-length-2 c = search needs
 
-returns-3 : tie.Need-returns-3
-returns-3 c =
+returns-4 : tie.Need-returns-4
+returns-4 c =
     let a = c .before .before .before .before .before .before .before .before .before .before .args in
-    let e = lent-length (a .n) most (omega arith) in
-    let w = c .before .before .before .thin-with2 .ensures in
-    (w .0 ∙ ap (λ (k : ℕ). answerOf (thinned (a .tolerance) (a .angle) (a .floor) (samples k (a .chain .now)))) e, w .1 ∙ ap (λ (k : ℕ). after (a .chain .now) (thinned (a .tolerance) (a .angle) (a .floor) (samples k (a .chain .now)))) e)
+    said-lent (a .tolerance) (a .angle) (a .floor) (a .n) (a .chain .now) (lent-length (a .n) most (omega arith)) (c .before .before .before .thin-with2 .ensures)
 
 pub thin-spec : {M : Type 1} → statement M
 thin-spec =
     tie.close
     (tie.spec
     returns
+    returns-2
     array-borrow-prefix-few
     slice-aggregate-thin-with
     thin-with-requires
     same-length
-    returns-2
+    returns-3
     array-borrow-prefix-keep
     slice-aggregate-thin-with-2
     thin-with-requires-2
     same-length-2
-    returns-3)
+    returns-4)

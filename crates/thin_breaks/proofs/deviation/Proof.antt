@@ -1,5 +1,4 @@
 -- `thin_breaks::deviation` meets its contract. Assumes nothing.
-use mathlib.Core.Path.{_∙_}
 use Rattle.brep.specs.Rows.{tables}
 use Rattle.brep.specs.Tree.{tree}
 use Rattle.curve.specs.Eval.{pointAt}
@@ -27,8 +26,7 @@ returns : tie.Need-returns
 returns c =
     let st = c .before .before .before .before .before .before .before .before .before .before in
     let a = st .args in
-    c .worst-of .ensures
-    ∙ deviation-is (pointAt (tree (tables (a .points .now) (a .curves .now) (a .reals .now) (a .parts .now) (a .ranges .now)) (a .row))) (a .a) (a .b) (st .pre) (c .before .before .before .before .point-at .ensures) (c .before .before .before .point-at2 .ensures) (c .before .before .point-at3 .ensures) (c .before .point-at4 .ensures)
+    rw (c .worst-of .ensures) (deviation-is (pointAt (tree (tables (a .points .now) (a .curves .now) (a .reals .now) (a .parts .now) (a .ranges .now)) (a .row))) (a .a) (a .b) (st .pre) (c .before .before .before .before .point-at .ensures) (c .before .before .before .point-at2 .ensures) (c .before .before .point-at3 .ensures) (c .before .point-at4 .ensures))
 
 pub deviation-spec : {M : Type 1} → statement M
 deviation-spec =

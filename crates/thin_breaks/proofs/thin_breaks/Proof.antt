@@ -44,6 +44,11 @@ next-of-requires c κs =
 deviation-requires : tie.Need-deviation-requires Inv-loop μ-loop
 deviation-requires c κs = c .before .before .before .before .loop .inv .0
 
+add-i : tie.Need-add-i Inv-loop μ-loop
+add-i c =
+    let l = c .before .before .before .before .before .loop in
+    omega (arith, c .before .before .before .before .loop-test .taken, l .inv .1 .small)
+
 mul-breaks : tie.Need-mul-breaks Inv-loop μ-loop
 mul-breaks c =
     let l = c .before .before .before .before .before .before .loop in
@@ -62,11 +67,6 @@ add-k c =
 point-at-requires-2 : tie.Need-point-at-requires-2 Inv-loop μ-loop
 point-at-requires-2 c κs = search needs
 
-add-i : tie.Need-add-i Inv-loop μ-loop
-add-i c =
-    let l = c .before .before .before .before .before .before .before .loop in
-    omega (arith, c .before .before .before .before .before .before .loop-test .taken, l .inv .1 .small)
-
 loop-less : tie.Need-loop-less Inv-loop μ-loop
 loop-less c = search needs
 
@@ -75,11 +75,6 @@ loop-again c =
     let l = c .before .before .before .before .before .before .before .loop in
     let a = c .before .before .before .before .before .before .before .before .before .before .before .before .before .before .before .before .args in
     (c .point-at2 .ensures, thinning-keep (deviation (pointAt (tree (tables (a .points .now) (a .curves .now) (a .reals .now) (a .parts .now) (a .ranges .now)) (a .row)))) (a .sag) (a .hi) (a .lo) (l .inv .1) (c .before .before .before .before .before .before .loop-test .taken) (c .before .before .before .next-of .result) (c .before .before .deviation .result) (c .before .before .before .next-of .ensures) (c .before .before .deviation .ensures) (c .before .if2 .taken))
-
-add-i-2 : tie.Need-add-i-2 Inv-loop μ-loop
-add-i-2 c =
-    let l = c .before .before .before .before .before .before .loop in
-    omega (arith, c .before .before .before .before .before .loop-test .taken, l .inv .1 .small)
 
 loop-less-2 : tie.Need-loop-less-2 Inv-loop μ-loop
 loop-less-2 c = search needs
@@ -120,14 +115,13 @@ thin-breaks-spec =
     slice-read-b
     next-of-requires
     deviation-requires
+    add-i
     mul-breaks
     slice-write-breaks
     add-k
     point-at-requires-2
-    add-i
     loop-less
     loop-again
-    add-i-2
     loop-less-2
     loop-again-2
     clear-from-requires
