@@ -9,6 +9,8 @@ use Rattle.arith.specs.Notation.{_⊕_, nought}
 use Rattle.lists.specs.Result.{Result, got, bind}
 use Rattle.math.specs.Math.{interval, spanOf, isEmpty, diagonal}
 use Rattle.math.specs.declared.Interval.{Interval}
+use Rattle.math.specs.declared.Aabb.{Aabb}
+use Rattle.math.specs.declared.Vec3.{Vec3}
 use Rattle.brep.specs.declared.Edge.{Edge}
 use Rattle.brep.specs.Rows.{Tables}
 use Rattle.curve.specs.declared.Repeats.{Repeats}
@@ -17,20 +19,23 @@ use Rattle.options.specs.declared.Resolved.{Resolved}
 use Rattle.samples.specs.declared.Sample.{Sample}
 use Rattle.chains.specs.declared.Way.the-variants.{Complement, ShortArc}
 use Rattle.chains.specs.Edge.{edgeCurve, edgeStart, edgeEnd, discretised}
-use Rattle.chains.specs.Repair.{Got, by, withRange, reference, escapes, reaches, nearest, runaway, arcOrChord, byShortArc, byComplement, byPeriod, repaired}
+use Rattle.chains.specs.Repair.{Got, by, withRange, reference, escapes, reaches, nearest, ordered, runaway, arcOrChord, byShortArc, byComplement, byPeriod, repaired}
 use Rattle.place.specs.Place.{ofPoints}
 use Rattle.repair.specs.Redrawn.{stays, isShortArc, shortRange, drawnShort, drawnComplement}
 
 -- ---- the range of the short arc
 module _ (T : Tables) (e : Edge) where
-  module _ (a b : Float) (p : a ≡ nearest (edgeCurve T e) (edgeStart T e)) (q : b ≡ nearest (edgeCurve T e) (edgeEnd T e)) where
-    pub short-rising : le a b ≡ true → interval a b ≡ shortRange T e
+  module _ {start end : Vec3} {a b : Float} (s : start ≡ edgeStart T e) (t : end ≡ edgeEnd T e)
+      (p : a ≡ nearest (edgeCurve T e) start) (q : b ≡ nearest (edgeCurve T e) end) where
+    from-nearest : ordered a b ≡ shortRange T e
     unfolding shortRange
-    short-rising h = sym (ap (λ (t : Bool). cond t (interval a b) (interval b a)) h) ∙ rw (p, q)
+    from-nearest = rw (p, q, s, t)
+
+    pub short-rising : le a b ≡ true → interval a b ≡ shortRange T e
+    short-rising h = sym (ap (λ (x : Bool). cond x (interval a b) (interval b a)) h) ∙ from-nearest
 
     pub short-falling : le a b ≡ false → interval b a ≡ shortRange T e
-    unfolding shortRange
-    short-falling h = sym (ap (λ (t : Bool). cond t (interval a b) (interval b a)) h) ∙ rw (p, q)
+    short-falling h = sym (ap (λ (x : Bool). cond x (interval a b) (interval b a)) h) ∙ from-nearest
 
   -- whether it is drawn
   abbrev pub hasShort : Bool
@@ -38,10 +43,10 @@ module _ (T : Tables) (e : Edge) where
 
   module _ {natural : Interval} {span : Float} {bounded : Bool} (p : natural ≡ naturalRange (edgeCurve T e)) (q : span ≡ spanOf natural) (b : bounded ≡ finite span) where
     natural-finite : finite (spanOf (naturalRange (edgeCurve T e))) ≡ bounded
-    natural-finite = cc
+    natural-finite = rw (b, q, p)
 
     natural-long : lt nought (spanOf (naturalRange (edgeCurve T e))) ≡ lt nought span
-    natural-long = cc
+    natural-long = rw (q, p)
 
     pub short-endless : bounded ≡ false → hasShort ≡ false
     short-endless h = rw (natural-finite, h)
@@ -52,7 +57,7 @@ module _ (T : Tables) (e : Edge) where
     pub short-span : {short : Interval} {width : Float} (v : Bool) → short ≡ shortRange T e → width ≡ spanOf short → bounded ≡ true → lt nought span ≡ true → lt nought width ≡ v
         → hasShort ≡ v
     short-span v f g h k l =
-        let w : lt nought (spanOf (shortRange T e)) ≡ v = cc in
+        let w : lt nought (spanOf (shortRange T e)) ≡ v = ap (λ (i : Interval). lt nought (spanOf i)) (sym f) ∙ ap (lt nought) (sym g) ∙ l in
         rw (natural-finite, h, natural-long, k) w
 
 -- ---- what the tests decide
@@ -132,28 +137,43 @@ module _ (T : Tables) (e : Edge) (r : Resolved) where
     unfolding repaired stays
     repaired-by p q h = ap (byPeriod room T e r) q ∙ sym (ap (λ (b : Bool). elim b [ true ↦ got g | false ↦ byPeriod room T e r (period (edgeCurve T e)) ]) h)
 
-  -- ---- the tests
-  module _ (chain : List Sample) where
-    pub stays-empty : isEmpty (reference T e) ≡ true → true ≡ stays T e r chain
-    unfolding stays
-    stays-empty h = rw h
+  -- ---- the tests, by what the calls answer
+  module _ (chain : List Sample) {box : Aabb} (b : box ≡ reference T e) where
+    pub escapes-is : {out : Bool} (v : Bool) → out ≡ escapes box r chain → out ≡ v → escapes (reference T e) r chain ≡ v
+    escapes-is v o h = ap (λ (x : Aabb). escapes x r chain) (sym b) ∙ sym o ∙ h
 
-    pub stays-flat : isEmpty (reference T e) ≡ false → lt nought (diagonal (reference T e)) ≡ false → true ≡ stays T e r chain
-    unfolding stays
-    stays-flat h k = rw (h, k)
+    empty-is : {none : Bool} (v : Bool) → none ≡ isEmpty box → none ≡ v → isEmpty (reference T e) ≡ v
+    empty-is v n h = ap isEmpty (sym b) ∙ sym n ∙ h
 
-    pub stays-inside : isEmpty (reference T e) ≡ false → lt nought (diagonal (reference T e)) ≡ true → not (escapes (reference T e) r chain) ≡ stays T e r chain
-    unfolding stays
-    stays-inside h k = rw (h, k)
+    long-is : {d : Float} (v : Bool) → d ≡ diagonal box → lt nought d ≡ v → lt nought (diagonal (reference T e)) ≡ v
+    long-is v q h = ap (λ (x : Aabb). lt nought (diagonal x)) (sym b) ∙ ap (lt nought) (sym q) ∙ h
 
-    pub arc-outside : escapes (reference T e) r chain ≡ true → false ≡ isShortArc T e r chain
-    unfolding isShortArc
-    arc-outside h = rw h
+    module _ {none : Bool} (n : none ≡ isEmpty box) where
+      pub stays-empty : none ≡ true → true ≡ stays T e r chain
+      unfolding stays
+      stays-empty h = rw (empty-is true n h)
 
-    pub arc-start : escapes (reference T e) r chain ≡ false → reaches e r (edgeStart T e) chain ≡ false → reaches e r (edgeStart T e) chain ≡ isShortArc T e r chain
-    unfolding isShortArc
-    arc-start h k = rw (h, k)
+      pub stays-flat : {d : Float} → none ≡ false → d ≡ diagonal box → lt nought d ≡ false → true ≡ stays T e r chain
+      unfolding stays
+      stays-flat h q k = rw (empty-is false n h, long-is false q k)
 
-    pub arc-end : escapes (reference T e) r chain ≡ false → reaches e r (edgeStart T e) chain ≡ true → reaches e r (edgeEnd T e) chain ≡ isShortArc T e r chain
-    unfolding isShortArc
-    arc-end h k = rw (h, k)
+      pub stays-inside : {d : Float} {out : Bool} → none ≡ false → d ≡ diagonal box → lt nought d ≡ true → out ≡ escapes box r chain → not out ≡ stays T e r chain
+      unfolding stays
+      stays-inside h q k o = rw (empty-is false n h, long-is true q k) (ap not o ∙ ap (λ (x : Aabb). not (escapes x r chain)) b)
+
+    module _ {out : Bool} (o : out ≡ escapes box r chain) where
+      pub arc-outside : out ≡ true → false ≡ isShortArc T e r chain
+      unfolding isShortArc
+      arc-outside h = rw (escapes-is true o h)
+
+      module _ {start : Vec3} {first : Bool} (s : start ≡ edgeStart T e) (f : first ≡ reaches e r start chain) (h : out ≡ false) where
+        start-is : reaches e r (edgeStart T e) chain ≡ first
+        start-is = ap (λ (p : Vec3). reaches e r p chain) (sym s) ∙ sym f
+
+        pub arc-start : first ≡ false → first ≡ isShortArc T e r chain
+        unfolding isShortArc
+        arc-start k = rw (escapes-is false o h, start-is, k)
+
+        pub arc-end : {end : Vec3} {last : Bool} → first ≡ true → end ≡ edgeEnd T e → last ≡ reaches e r end chain → last ≡ isShortArc T e r chain
+        unfolding isShortArc
+        arc-end k t l = rw (escapes-is false o h, start-is, k) (l ∙ ap (λ (p : Vec3). reaches e r p chain) t)

@@ -4,7 +4,7 @@ use Rattle.repair.proofs.Ways.{arc-kept, arc-chord}
 use Rattle.chains.specs.declared.Way.the-variants.{ShortArc}
 use Rattle.place.specs.Place.{ofPoints}
 use denote.Ref.{now}
-use mathlib.Core.Path.{refl}
+use mathlib.Core.Path.{refl, sym, _∙_}
 use borrow.Author.Needs.{needs}
 use Rattle.repair.proofs.arc_or_chord.Statement.{statement}
 use Rattle.repair.proofs.arc_or_chord.Tie as tie
@@ -20,7 +20,7 @@ returns c =
     let a = c .before .before .before .before .before .before .args in
     let T = ofPoints (now (a .points)) in
     redrawn-is (redrawn-kept ShortArc (a .n) (now (a .first)) (now (a .second)) (now (a .first)) (now (a .second)) refl refl (c .before .before .before .before .before .before .pre .4) (c .before .before .before .before .before .before .pre .3))
-    _ (arc-kept T (a .edge) (a .r) _ (cc))
+    _ (arc-kept T (a .edge) (a .r) _ (sym (c .before .is-short-arc .ensures) ∙ c .if1 .taken))
 
 runaway-requires : tie.Need-runaway-requires
 runaway-requires c κs = search needs
@@ -36,7 +36,7 @@ returns-2 c =
     let a = c .before .before .before .before .before .before .before .before .before .before .before .before .before .args in
     let T = ofPoints (now (a .points)) in
     redrawn-is (c .before .before .before .before .runaway .ensures)
-    _ (arc-chord T (a .edge) (a .r) _ (cc))
+    _ (arc-chord T (a .edge) (a .r) _ (sym (c .before .before .before .before .before .before .before .before .is-short-arc .ensures) ∙ c .before .before .before .before .before .before .before .if1 .left))
 
 pub arc-or-chord-spec : {M : Type 1} → statement M
 arc-or-chord-spec =

@@ -21,7 +21,7 @@ returns c =
     let a = c .before .before .before .before .before .before .before .before .before .before .args in
     let T = lent (a .points) (a .curves) (a .reals) (a .parts) (a .ranges) in
     kept-after _ (a .way) (a .n) (now (a .first)) (now (a .second))
-    (repaired-kept T (a .edge) (a .r) (by (a .way) (samples (a .n) (now (a .first)))) _ (cc)) (c .before .before .before .before .before .before .before .before .before .before .pre .6) (c .before .before .before .before .before .before .before .before .before .before .pre .4) (c .before .before .before .before .before .before .before .before .before .before .pre .5)
+    (repaired-kept T (a .edge) (a .r) (by (a .way) (samples (a .n) (now (a .first)))) _ (sym (c .before .stays .ensures) ∙ c .if1 .taken)) (c .before .before .before .before .before .before .before .before .before .before .pre .6) (c .before .before .before .before .before .before .before .before .before .before .pre .4) (c .before .before .before .before .before .before .before .before .before .before .pre .5)
 
 period-requires : tie.Need-period-requires
 period-requires c κs = search needs
