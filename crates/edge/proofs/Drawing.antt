@@ -30,15 +30,14 @@ use Rattle.sample.proofs.Laws.{sampled-two, sampled-room}
 use Rattle.chains.specs.Edge.{edgeCurve, atLeastTwo, chordOf, placed, finished, discretised}
 use Rattle.chains.specs.Draw.{roomOf}
 use Rattle.place.proofs.Laws.{placed-length}
-use Rattle.edge.specs.Discretised.{chainOf, thinnedMerged, overRange}
+use Rattle.edge.specs.Discretised.{chainOf, thinnedMerged, overRange, Drew}
 use Rattle.edge.proofs.Thinning.{read-back}
 
--- w and g are what a function answers and leaves in a chain buffer of n floats, by D
-abbrev pub Drew : ℕ → Result (List Sample) → Counted → List Float → Type 0
-Drew n D w g = (w ≡ answerOf D) × (g ≡ filled n (flat (chainOf D)))
-
 drew : (n m : ℕ) (D E : Result (List Sample)) {w : Counted} {g : List Float} → n ≡ m → D ≡ E → Drew n D w g → Drew m E w g
-drew n m D E k e p = (p .0 ∙ ap answerOf e, p .1 ∙ ap (λ (i : ℕ). filled i (flat (chainOf D))) k ∙ ap (λ (x : Result (List Sample)). filled m (flat (chainOf x))) e)
+drew n m D E k e p = record {
+  answered = p .answered ∙ ap answerOf e;
+  holds = p .holds ∙ ap (λ (i : ℕ). filled i (flat (chainOf D))) k ∙ ap (λ (x : Result (List Sample)). filled m (flat (chainOf x))) e;
+}
 
 -- ---- `draw_range`
 two-or-more : (range : Interval) (l : List Float) → 2 ≤ length l → atLeastTwo range l ≡ l
@@ -102,7 +101,7 @@ module _ {room : ℕ} (T : Tables) (e : Edge) (r : Resolved) (range : Interval) 
 pub drew-none : (S : Result (List Float)) (f : List Float → Result (List Sample)) (w : Listed) (chain g : List Float) → said w ≡ each length S → w ≡ listed.Refused
     → g ≡ filled (length chain) (take 0 chain) → Drew (length chain) (bind S f) (Refused 8) g
 unfolding flat
-drew-none (refused n) f w chain g a e b = let q : refused 8 ≡ refused n = ap said (sym e) ∙ a in (cc, b)
+drew-none (refused n) f w chain g a e b = let q : refused 8 ≡ refused n = ap said (sym e) ∙ a in record { answered = cc; holds = b }
 drew-none (got l) f w chain g a e b = let q : refused 8 ≡ got (length l) = ap said (sym e) ∙ a in let z : _≡_ {A = ℕ} 0 1 = cc in absurd (omega arith)
 
 -- ---- `discretise`
@@ -134,4 +133,4 @@ module _ (room : ℕ) (T : Tables) (e : Edge) (r : Resolved) (k : ℕ) {w : Coun
 
   pub drew-chord : u ≡ Unusable → w ≡ Count 2 → g ≡ filled k (flat (chordOf T e (e .range .lo) (e .range .hi))) → Drew k (discretised room T e r) w g
   unfolding discretised
-  drew-chord q a b = rw (sym own ∙ q, discretised) (a, b)
+  drew-chord q a b = rw (sym own ∙ q, discretised) (record { answered = a; holds = b })

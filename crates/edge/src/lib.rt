@@ -20,7 +20,7 @@ ghost use Rattle.sample.specs.Sample.{sampled, listOf};
 ghost use Rattle.chains.specs.Edge.{thinnedIf, chordOf, discretised};
 ghost use Rattle.chains.specs.Draw.{roomOf};
 ghost use Rattle.place.specs.Place.{ofPoints};
-ghost use Rattle.edge.specs.Discretised.{chainOf, thinnedMerged, overRange};
+ghost use Rattle.edge.specs.Discretised.{thinnedMerged, overRange, Drew, Discretised};
 
 // The smaller of two.
 fn least(a: usize, b: usize) -> usize
@@ -76,8 +76,7 @@ fn finish(
     n: usize,
 ) -> Counted
     requires { ⌜ (2 ≤ n) × (n ≤ most) × (width * n ≤ length (now chain)) ⌝ }
-    ensures { λ w. ⌜ (w ≡ answerOf (thinnedMerged (lent (points .entry) (curves .entry) (reals .entry) (parts .entry) (ranges .entry)) edge r (samples n (now (chain .entry)))))
-        × (now (chain .exit) ≡ filled (length (now (chain .entry))) (flat (chainOf (thinnedMerged (lent (points .entry) (curves .entry) (reals .entry) (parts .entry) (ranges .entry)) edge r (samples n (now (chain .entry))))))) ⌝ }
+    ensures { λ w. ⌜ Drew (length (now (chain .entry))) (thinnedMerged (lent (points .entry) (curves .entry) (reals .entry) (parts .entry) (ranges .entry)) edge r (samples n (now (chain .entry)))) w (now (chain .exit)) ⌝ }
 {
     let thinned = thin_sampled(
         points,
@@ -145,8 +144,7 @@ fn draw_range(
 ) -> Counted
     requires { ⌜ (length (now scratch) ≤ most) × (width * length (now scratch) ≤ length (now chain))
         × (length (curveKnots (tree (lent points curves reals parts ranges) (edge .curve))) ≤ 8192) ⌝ }
-    ensures { λ w. ⌜ (w ≡ answerOf (overRange (length (now (scratch .entry))) (lent (points .entry) (curves .entry) (reals .entry) (parts .entry) (ranges .entry)) edge r range))
-        × (now (chain .exit) ≡ filled (length (now (chain .entry))) (flat (chainOf (overRange (length (now (scratch .entry))) (lent (points .entry) (curves .entry) (reals .entry) (parts .entry) (ranges .entry)) edge r range))))
+    ensures { λ w. ⌜ Drew (length (now (chain .entry))) (overRange (length (now (scratch .entry))) (lent (points .entry) (curves .entry) (reals .entry) (parts .entry) (ranges .entry)) edge r range) w (now (chain .exit))
         × (now (scratch .exit) ≡ filled (length (now (scratch .entry))) (listOf (sampled (length (now (scratch .entry))) (tree (lent (points .entry) (curves .entry) (reals .entry) (parts .entry) (ranges .entry)) (edge .curve)) range r))) ⌝ }
 {
     let listed = sample::sample_params(
@@ -190,9 +188,7 @@ pub fn discretise(
     scratch: &mut [f64],
 ) -> Counted
     requires { ⌜ (8 ≤ length (now chain)) × (8 ≤ length (now scratch)) × (length (curveKnots (tree (lent points curves reals parts ranges) (edge .curve))) ≤ 8192) ⌝ }
-    ensures { λ w. ⌜ (w ≡ answerOf (discretised (roomOf (length (now (chain .entry))) (length (now (scratch .entry)))) (lent (points .entry) (curves .entry) (reals .entry) (parts .entry) (ranges .entry)) edge r))
-        × (now (chain .exit) ≡ filled (length (now (chain .entry))) (flat (chainOf (discretised (roomOf (length (now (chain .entry))) (length (now (scratch .entry)))) (lent (points .entry) (curves .entry) (reals .entry) (parts .entry) (ranges .entry)) edge r))))
-        × (now (scratch .exit) ≡ filled (length (now (scratch .entry))) []) ⌝ }
+    ensures { λ w. ⌜ Discretised (λ room. discretised room (lent (points .entry) (curves .entry) (reals .entry) (parts .entry) (ranges .entry)) edge r) (now (chain .entry)) (now (scratch .entry)) w (now (chain .exit)) (now (scratch .exit)) ⌝ }
 {
     let usable = usable::usable_range(points, curves, reals, parts, ranges, edge.curve, edge.range);
     let Usable::Range(range) = usable else {

@@ -50,7 +50,7 @@ returns : tie.Need-returns
 returns c =
     let st = c .before .before .before .before .before .before .before .before .before .before .before .before .before .before .before .before .before .before in
     let z = drew-chord (room-of st) (tables-of st) (st .args .edge) (st .args .r) (length (now (st .args .chain))) _ (c .before .before .before .before .before .before .before .before .before .before .usable-range .ensures) (c .before .before .before .before .before .before .before .before .enum-told .given .1) refl (c .before .before .before .before .before .before .chord .ensures) in
-    (z .0, z .1, c .before .before .clear-from .ensures)
+    record { drew = z; cleared = c .before .before .clear-from .ensures }
 
 room-requires : tie.Need-room-requires
 room-requires c κs = search needs
@@ -82,8 +82,8 @@ returns-2 c =
     let d = c .before .before .before .before .before .before .before .before .draw-range in
     let z =
     drew-range (room-of st) (tables-of st) (st .args .edge) (st .args .r) (length (now (st .args .chain))) _ (c .before .before .before .before .before .before .before .before .before .before .before .before .before .before .before .usable-range .ensures) _ _ (c .before .before .before .before .before .before .before .before .before .before .before .before .before .usable .given .1)
-    (told (c .before .before .before .before .before .before .before .before .before .before .before) .size ∙ n .ensures) (d .ensures .0, d .ensures .1) in
-    (z .0, z .1, c .before .before .clear-from2 .ensures ∙ ap (λ (i : ℕ). filled i []) (whole-length (n .result) (d .last .1 .1 .1 .1 .1 .1 .1 .1 .1 .0) (now (st .args .scratch)) (c .before .before .before .before .before .before .before .scratch2 .given .0)))
+    (told (c .before .before .before .before .before .before .before .before .before .before .before) .size ∙ n .ensures) (d .ensures .0) in
+    record { drew = z; cleared = c .before .before .clear-from2 .ensures ∙ ap (λ (i : ℕ). filled i []) (whole-length (n .result) (d .last .1 .1 .1 .1 .1 .1 .1 .1 .1 .0) (now (st .args .scratch)) (c .before .before .before .before .before .before .before .scratch2 .given .0)) }
 
 pub discretise-spec : {M : Type 1} → statement M
 discretise-spec =

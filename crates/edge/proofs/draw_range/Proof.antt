@@ -56,7 +56,7 @@ returns c =
     let d =
     drew-none (sampling st) _ _
     (now (st .args .chain)) _ (p .0) (c .before .before .before .before .enum-told .given .1) (c .before .before .clear-from .ensures) in
-    (d .0, d .1, p .1)
+    (d, p .1)
 
 slice-reshare-prefix-place : tie.Need-slice-reshare-prefix-place
 slice-reshare-prefix-place c = part-room (told (c .before))
@@ -89,7 +89,7 @@ returns-2 c =
     drew-some (tables-of st)
     (st .args .edge) (st .args .r) (st .args .range) s (now (st .args .chain)) _ (omega (arith, s .fits, st .pre .1))
     (c .before .before .before .before .before .before .place .ensures) _ _ (c .before .before .finish .ensures) in
-    (d .0, d .1, c .before .before .before .before .before .before .before .before .before .before .before .before .before .before .sample-params .ensures .1)
+    (d, c .before .before .before .before .before .before .before .before .before .before .before .before .before .before .sample-params .ensures .1)
 
 pub draw-range-spec : {M : Type 1} → statement M
 draw-range-spec =
