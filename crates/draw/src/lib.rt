@@ -22,8 +22,9 @@ ghost use Rattle.causes.specs.declared.Verdict.the-variants.{Accepted};
 ghost use Rattle.causes.specs.Causes.{verdict, tablesVerdict};
 ghost use Rattle.knots.specs.Knots.{curveKnots};
 ghost use Rattle.samples.specs.Chain.{width};
-ghost use Rattle.chains.specs.Draw.{firstWay, localOptions, drawnIn, roomOf, answerOf, firstAfter, secondAfter, inFirst, liesInFirst, floatsOf, Outcome};
+ghost use Rattle.chains.specs.Draw.{firstWay, localOptions, drawnIn, roomOf, inFirst, liesInFirst, floatsOf, Outcome};
 ghost use Rattle.chains.specs.Binary.{Fitting};
+ghost use Rattle.repair.specs.Redrawn.{Left};
 
 // The way of the first drawing: the chord where the edge has no usable range.
 fn first_way(usable: Usable) -> Way
@@ -78,9 +79,7 @@ fn drawn_in(
     second: &mut [f64],
 ) -> Drawn
     requires { ⌜ (8 ≤ length (now first)) × (8 ≤ length (now second)) × (length (curveKnots (tree (lent points curves reals parts ranges) (edge .curve))) ≤ 8192) ⌝ }
-    ensures { λ w. ⌜ (w ≡ answerOf (drawnIn (roomOf (length (now (first .entry))) (length (now (second .entry)))) (lent (points .entry) (curves .entry) (reals .entry) (parts .entry) (ranges .entry)) edge r))
-        × (now (first .exit) ≡ firstAfter (now (first .entry)) (drawnIn (roomOf (length (now (first .entry))) (length (now (second .entry)))) (lent (points .entry) (curves .entry) (reals .entry) (parts .entry) (ranges .entry)) edge r))
-        × (now (second .exit) ≡ secondAfter (now (second .entry)) (drawnIn (roomOf (length (now (first .entry))) (length (now (second .entry)))) (lent (points .entry) (curves .entry) (reals .entry) (parts .entry) (ranges .entry)) edge r)) ⌝ }
+    ensures { λ w. ⌜ Left (drawnIn (roomOf (length (now (first .entry))) (length (now (second .entry)))) (lent (points .entry) (curves .entry) (reals .entry) (parts .entry) (ranges .entry)) edge r) (now (first .entry)) (now (second .entry)) w (now (first .exit)) (now (second .exit)) ⌝ }
 {
     let counted = edge::discretise(points, curves, reals, parts, ranges, edge, r, first, second);
     match counted {

@@ -3,8 +3,6 @@ use Rattle.chains.specs.Draw.{firstWay}
 use borrow.Author.Needs.{needs}
 use Rattle.draw.proofs.first_way.Statement.{statement}
 use Rattle.draw.proofs.first_way.Tie as tie
-use Rattle.draw.proofs.first_way.Reads as reads
-use Rattle.draw.proofs.first_way.Lts as lts
 
 enum-told : tie.Need-enum-told
 enum-told c = search needs
