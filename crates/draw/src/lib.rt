@@ -22,14 +22,23 @@ ghost use Rattle.causes.specs.declared.Verdict.the-variants.{Accepted};
 ghost use Rattle.causes.specs.Causes.{verdict, tablesVerdict};
 ghost use Rattle.knots.specs.Knots.{curveKnots};
 ghost use Rattle.samples.specs.Chain.{width};
+ghost use Rattle.usable.specs.Usable.{usableRange};
 ghost use Rattle.chains.specs.Draw.{firstWay, localOptions, drawnIn, roomOf, inFirst, liesInFirst, floatsOf, Outcome};
 ghost use Rattle.chains.specs.Binary.{Fitting};
 ghost use Rattle.repair.specs.Redrawn.{Left};
 
 // The way of the first drawing: the chord where the edge has no usable range.
-fn first_way(usable: Usable) -> Way
-    ensures { λ w. ⌜ w ≡ firstWay usable ⌝ }
+fn first_way(
+    points: &[f64],
+    curves: &[u32],
+    reals: &[f64],
+    parts: &[u32],
+    ranges: &[f64],
+    edge: Edge,
+) -> Way
+    ensures { λ w. ⌜ w ≡ firstWay (usableRange (tree (lent (points .entry) (curves .entry) (reals .entry) (parts .entry) (ranges .entry)) (edge .curve)) (edge .range)) ⌝ }
 {
+    let usable = usable::usable_range(points, curves, reals, parts, ranges, edge.curve, edge.range);
     match usable {
         Usable::Range(_) => Way::AsDrawn,
         Usable::Unusable => Way::Chord,
@@ -85,16 +94,7 @@ fn drawn_in(
     match counted {
         Counted::Refused(n) => Drawn::Refused(n),
         Counted::Count(n) => {
-            let usable = usable::usable_range(
-                points,
-                curves,
-                reals,
-                parts,
-                ranges,
-                edge.curve,
-                edge.range,
-            );
-            let way = first_way(usable);
+            let way = first_way(points, curves, reals, parts, ranges, edge);
             repair::repair_runaway(
                 points,
                 curves,

@@ -3,6 +3,7 @@ use brep::Edge;
 use listed::Listed;
 use math::Interval;
 use options::Resolved;
+use sample::sample_params;
 use samples::Counted;
 use samples::Sample;
 use usable::Usable;
@@ -16,7 +17,6 @@ ghost use Rattle.brep.specs.Tree.{tree};
 ghost use Rattle.curve.specs.Eval.{isSampled};
 ghost use Rattle.knots.specs.Knots.{curveKnots};
 ghost use Rattle.samples.specs.Chain.{width, most, flat, samples, answerOf, after};
-ghost use Rattle.sample.specs.Sample.{sampled, listOf};
 ghost use Rattle.chains.specs.Edge.{thinnedIf, chordOf, discretised};
 ghost use Rattle.chains.specs.Draw.{roomOf};
 ghost use Rattle.place.specs.Place.{ofPoints};
@@ -129,7 +129,7 @@ pub fn chord(points: &[f64], edge: Edge, a: f64, b: f64, chain: &mut [f64])
     lists::clear_from(chain, 2 * samples::WIDTH);
 }
 
-// Samples a usable range into scratch, whose length is the room, and finishes the chain.
+// Samples a usable range into scratch, whose length is the room, finishes the chain, and leaves scratch cleared.
 fn draw_range(
     points: &[f64],
     curves: &[u32],
@@ -145,33 +145,18 @@ fn draw_range(
     requires { ⌜ (length (now scratch) ≤ most) × (width * length (now scratch) ≤ length (now chain))
         × (length (curveKnots (tree (lent points curves reals parts ranges) (edge .curve))) ≤ 8192) ⌝ }
     ensures { λ w. ⌜ Drew (length (now (chain .entry))) (overRange (length (now (scratch .entry))) (lent (points .entry) (curves .entry) (reals .entry) (parts .entry) (ranges .entry)) edge r range) w (now (chain .exit))
-        × (now (scratch .exit) ≡ filled (length (now (scratch .entry))) (listOf (sampled (length (now (scratch .entry))) (tree (lent (points .entry) (curves .entry) (reals .entry) (parts .entry) (ranges .entry)) (edge .curve)) range r))) ⌝ }
+        × (now (scratch .exit) ≡ filled (length (now (scratch .entry))) []) ⌝ }
 {
-    let listed = sample::sample_params(
-        points,
-        curves,
-        reals,
-        parts,
-        ranges,
-        edge.curve,
-        range,
-        r,
-        scratch,
-    );
+    let row = edge.curve;
+    let listed = sample_params(points, curves, reals, parts, ranges, row, range, r, scratch);
     let Listed::Count(n) = listed else {
         lists::clear_from(chain, 0);
         return Counted::Refused(8);
     };
-    place::place(
-        points,
-        curves,
-        reals,
-        parts,
-        ranges,
-        edge,
-        &scratch[..n],
-        chain,
-    );
+    let params = &scratch[..n];
+    place::place(points, curves, reals, parts, ranges, edge, params, chain);
+    let used = &mut scratch[..n];
+    lists::clear_from(used, 0);
     finish(points, curves, reals, parts, ranges, edge, r, chain, n)
 }
 
@@ -210,6 +195,6 @@ pub fn discretise(
         chain,
         part,
     );
-    lists::clear_from(scratch, 0);
+    lists::clear_from(scratch, n);
     drawn
 }

@@ -2,7 +2,7 @@
 use Rattle.brep.specs.Rows.{Tables, lent}
 use mathlib.Core.Path.{ap, _∙_}
 use denote.Ref.{now}
-use Rattle.chains.specs.Draw.{firstWay, inFirst}
+use Rattle.chains.specs.Draw.{inFirst}
 use Rattle.draw.proofs.Laws.{not-drawn, Counts, counts, first-in-first, drawn-on}
 use borrow.Author.Needs.{needs}
 use Rattle.draw.proofs.drawn_in.Statement.{statement}
@@ -28,16 +28,13 @@ enum-known-counted c = search needs
 enum-known-counted-2 : tie.Need-enum-known-counted-2
 enum-known-counted-2 c = search needs
 
-usable-range-requires : tie.Need-usable-range-requires
-usable-range-requires c κs = search needs
-
 first-way-requires : tie.Need-first-way-requires
 first-way-requires c κs = search needs
 
 repair-runaway-requires : tie.Need-repair-runaway-requires
 repair-runaway-requires c κs =
-    let k = told (c .before .before .before .before .before) in
-    (k .first-enough, k .second-enough, c .before .before .before .before .before .before .before .before .before .before .before .before .before .before .before .before .before .before .before .before .before .pre .2, k .fits, k .alone, k .clear, ap inFirst (c .before .before .first-way .ensures) ∙ first-in-first _)
+    let k = told (c .before .before .before .before) in
+    (k .first-enough, k .second-enough, c .before .before .before .before .before .before .before .before .before .before .before .before .before .before .before .before .before .before .before .before .pre .2, k .fits, k .alone, k .clear, ap inFirst (c .before .before .first-way .ensures) ∙ first-in-first _)
 
 same-length : tie.Need-same-length
 same-length c = search needs
@@ -58,9 +55,8 @@ same-length-4 c = search needs
 
 returns-2 : tie.Need-returns-2
 returns-2 c =
-    let s = c .before .before .before .before .before .before .before .before .before .before .before .before .before .before .before .before .before .before .before .before .before .before .before .before .before .before in
-    drawn-on (tables-of s) (s .args .edge) (s .args .r) (now (s .args .first)) (now (s .args .second)) (s .pre .0) (s .pre .1) (c .before .before .before .before .before .before .before .before .before .before .before .before .before .before .before .before .discretise .ensures) _ (told (c .before .before .before .before .before .before .before .before .before .before)) _
-    (c .before .before .before .before .before .before .before .first-way .ensures ∙ ap firstWay (c .before .before .before .before .before .before .before .before .usable-range .ensures)) (c .before .before .before .before .repair-runaway .ensures)
+    let s = c .before .before .before .before .before .before .before .before .before .before .before .before .before .before .before .before .before .before .before .before .before .before .before .before .before in
+    drawn-on (tables-of s) (s .args .edge) (s .args .r) (now (s .args .first)) (now (s .args .second)) (s .pre .0) (s .pre .1) (c .before .before .before .before .before .before .before .before .before .before .before .before .before .before .before .discretise .ensures) _ (told (c .before .before .before .before .before .before .before .before .before)) _ (c .before .before .before .before .before .before .before .first-way .ensures) (c .before .before .before .before .repair-runaway .ensures)
 
 pub drawn-in-spec : {M : Type 1} → statement M
 drawn-in-spec =
@@ -69,7 +65,6 @@ drawn-in-spec =
     discretise-requires
     enum-known-counted
     enum-known-counted-2
-    usable-range-requires
     first-way-requires
     repair-runaway-requires
     same-length

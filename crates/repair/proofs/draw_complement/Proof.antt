@@ -48,7 +48,7 @@ reference-requires : tie.Need-reference-requires
 reference-requires c κs = search needs
 
 escapes-requires : tie.Need-escapes-requires
-escapes-requires c κs = drew-room (drew (told (c .before .before .before .before .before .before .before .before .before)) _ (c .before .before .before .drawn2 .given .1) (c .before .before .before .before .before .before .before .before .second .given))
+escapes-requires c κs = omega (arith, drew-room (drew (told (c .before .before .before .before .before .before .before .before .before)) _ (c .before .before .before .drawn2 .given .1) (c .before .before .before .before .before .before .before .before .second .given)))
 
 by-short-arc-requires : tie.Need-by-short-arc-requires
 by-short-arc-requires c κs =
