@@ -255,6 +255,15 @@ pub fn repair_runaway(
         return by_short_arc(points, curves, reals, parts, ranges, edge, r, first, second);
     };
     draw_complement(
-        points, curves, reals, parts, ranges, edge, r, complement, first, second,
+        points,
+        curves,
+        reals,
+        parts,
+        ranges,
+        edge,
+        r,
+        complement,
+        first,
+        second,
     )
 }

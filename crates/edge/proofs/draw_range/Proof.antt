@@ -91,9 +91,10 @@ same-length-4 c = search needs
 returns-2 : tie.Need-returns-2
 returns-2 c =
     let s = told (c .before .before .before .before .before .before .before .before .before .before .before .before .before .before) in
-    let st = c .before .before .before .before .before .before .before .before .before .before .before .before .before .before .before .before .before .before .before .before .before .before .before .before .before .before .before in
-    (drew-some (tables-of st) (st .args .edge) (st .args .r) (st .args .range) s (now (st .args .chain)) _ (omega (arith, s .fits, st .pre .1)) (c .before .before .before .before .before .before .before .before .before .before .place .ensures) _ _ (c .before .before .finish .ensures),
-    cleared-used s (c .before .before .before .before .before .before .clear-from2 .ensures))
+    let st = c .before .before .before .before .before .before .before .before .before .before .before .before .before .before .before .before .before .before .before .before .before .before .before .before .before .before .before in (
+      drew-some (tables-of st) (st .args .edge) (st .args .r) (st .args .range) s (now (st .args .chain)) _ (omega (arith, s .fits, st .pre .1)) (c .before .before .before .before .before .before .before .before .before .before .place .ensures) _ _ (c .before .before .finish .ensures),
+      cleared-used s (c .before .before .before .before .before .before .clear-from2 .ensures),
+    )
 
 pub draw-range-spec : {M : Type 1} → statement M
 draw-range-spec =
