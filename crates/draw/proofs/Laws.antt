@@ -42,7 +42,8 @@ use Rattle.chains.proofs.Sound.{Binary}
 use Rattle.chains.proofs.Accepted.{given, by-tables, by-buffers, refused-so}
 use Rattle.chains.proofs.Table.{lowest}
 use Rattle.chains.proofs.Held.{held, outcome}
-use Rattle.edge.specs.Discretised.{chainOf}
+use Rattle.edge.specs.Discretised.{chainOf, Discretised}
+use Rattle.repair.specs.Redrawn.{Left}
 use Rattle.chains.specs.Draw.{liesInFirst, floatsOf}
 
 -- ---- the room of buffers that are long enough
@@ -79,13 +80,9 @@ unfolding secondAfter
 same-second (refused n) a b h e = late n a (h n refl) ∙ ap (λ (m : ℕ). filled m []) e ∙ sym (late n b (h n refl))
 same-second (got g) a b h e = ap (λ (m : ℕ). filled m (cond (inFirst (g .way)) [] (flat (g .chain)))) e
 
--- the answer and the buffers, by what drawing gives
-abbrev pub Ended : Result Got → List Float → List Float → Drawn → List Float → List Float → Type 0
-Ended g first second answer f s = (answer ≡ draw.answerOf g) × (f ≡ firstAfter first g) × (s ≡ secondAfter second g)
-
-refused-ended : (n : ℕ) (first second : List Float) → (n ≡ 8) ⊎ (n ≡ 9) → Ended (refused n) first second (Refused n) (filled (length first) []) (filled (length second) [])
+refused-left : (n : ℕ) (first second : List Float) → (n ≡ 8) ⊎ (n ≡ 9) → Left (refused n) first second (Refused n) (filled (length first) []) (filled (length second) [])
 unfolding draw.answerOf firstAfter secondAfter
-refused-ended n first second h = (refl, sym (late n first h), sym (late n second h))
+refused-left n first second h = record { answered = refl; firstHolds = sym (late n first h); secondHolds = sym (late n second h) }
 
 -- ---- drawn_in, after discretise answered w and left f and s
 module _ (t : Tables) (e : Edge) (r : Resolved) (first second : List Float) (p : 8 ≤ length first) (q : 8 ≤ length second) where
@@ -120,20 +117,21 @@ module _ (t : Tables) (e : Edge) (r : Resolved) (first second : List Float) (p :
   unfolding drawnIn
   whole-got l h = rw h
 
-  module _ (w : Counted) (f s : List Float) (answered : w ≡ answerOf chain) (f-is : f ≡ filled (length first) (flat (chainOf chain))) (s-is : s ≡ filled (length second) []) where
+  module _ {w : Counted} {f s : List Float} (d : Discretised (λ room. discretised room t e r) first second w f s) where
     -- it refused
-    pub not-drawn : (n : ℕ) → w ≡ counted.Refused n → Ended whole first second (Refused n) f s
+    pub not-drawn : (n : ℕ) → w ≡ counted.Refused n → Left whole first second (Refused n) f s
     not-drawn n is = go chain refl
       where
-        go : (d : Result (List Sample)) → chain ≡ d → Ended whole first second (Refused n) f s
-        go (got l) h = absurd (let z : _≡_ {A = ℕ} 0 1 = cc in omega arith)
+        go : (c : Result (List Sample)) → chain ≡ c → Left whole first second (Refused n) f s
+        go (got l) h = absurd (let a : counted.Refused n ≡ answerOf (got l) = sym is ∙ d .drew .answered ∙ ap answerOf h in let z : _≡_ {A = ℕ} 0 1 = cc in omega arith)
         go (refused m) h =
+            let a : counted.Refused n ≡ answerOf (refused m) = sym is ∙ d .drew .answered ∙ ap answerOf h in
             let k : m ≡ n = cc in
             let c : chain ≡ refused n = h ∙ ap refused k in
-            subst (λ (x : Result Got). Ended x first second (Refused n) f s) (sym (whole-refused n c))
-            (subst (λ (x : List Float). Ended (refused n) first second (Refused n) x s) (sym (f-is ∙ ap (λ (d : Result (List Sample)). filled (length first) (flat (chainOf d))) c ∙ none))
-            (subst (λ (x : List Float). Ended (refused n) first second (Refused n) (filled (length first) []) x) (sym s-is)
-            (refused-ended n first second (chain-late n c))))
+            subst (λ (x : Result Got). Left x first second (Refused n) f s) (sym (whole-refused n c))
+            (subst (λ (x : List Float). Left (refused n) first second (Refused n) x s) (sym (d .drew .holds ∙ ap (λ (x : Result (List Sample)). filled (length first) (flat (chainOf x))) c ∙ none))
+            (subst (λ (x : List Float). Left (refused n) first second (Refused n) (filled (length first) []) x) (sym (d .cleared))
+            (refused-left n first second (chain-late n c))))
           where
             none : filled (length first) (flat []) ≡ filled (length first) []
             none = ap (filled (length first)) flat-none
@@ -143,6 +141,8 @@ module _ (t : Tables) (e : Edge) (r : Resolved) (first second : List Float) (p :
       pub is : chain ≡ got (samples n f)
       pub first-long : length f ≡ length first
       pub second-long : length s ≡ length second
+      pub first-enough : 8 ≤ length f
+      pub second-enough : 8 ≤ length s
       pub fits : width * n ≤ length f
       pub alone : f ≡ filled (length f) (flat (samples n f))
       pub clear : s ≡ filled (length s) []
@@ -150,14 +150,15 @@ module _ (t : Tables) (e : Edge) (r : Resolved) (first second : List Float) (p :
     pub counts : (n : ℕ) → w ≡ counted.Count n → Counts n
     counts n is = go chain refl
       where
-        go : (d : Result (List Sample)) → chain ≡ d → Counts n
-        go (refused m) h = absurd (let z : _≡_ {A = ℕ} 0 1 = cc in omega arith)
+        go : (c : Result (List Sample)) → chain ≡ c → Counts n
+        go (refused m) h = absurd (let a : counted.Count n ≡ answerOf (refused m) = sym is ∙ d .drew .answered ∙ ap answerOf h in let z : _≡_ {A = ℕ} 0 1 = cc in omega arith)
         go (got l) h =
+            let a : counted.Count n ≡ answerOf (got l) = sym is ∙ d .drew .answered ∙ ap answerOf h in
             let k : n ≡ length l = cc in
-            let g : f ≡ filled (length first) (flat l) = f-is ∙ ap (λ (d : Result (List Sample)). filled (length first) (flat (chainOf d))) h in
+            let g : f ≡ filled (length first) (flat l) = d .drew .holds ∙ ap (λ (x : Result (List Sample)). filled (length first) (flat (chainOf x))) h in
             let m : length (flat l) ≤ length first = omega (arith, length-flat l, chain-fits l h) in
             let long : length f ≡ length first = ap length g ∙ filled-length (length first) (flat l) m in
-            let short : length s ≡ length second = ap length s-is ∙ filled-length (length second) [] (omega arith) in
+            let short : length s ≡ length second = ap length (d .cleared) ∙ filled-length (length second) [] (omega arith) in
             let read : samples n f ≡ l =
             ap (λ (x : List Float). samples n x) g ∙ ap (λ (x : ℕ). samples x (filled (length first) (flat l))) k
             ∙ reads l (replicate (length first - length (flat l)) (ofBits binary64 0)) in
@@ -165,19 +166,15 @@ module _ (t : Tables) (e : Edge) (r : Resolved) (first second : List Float) (p :
               is = h ∙ ap got (sym read);
               first-long = long;
               second-long = short;
+              first-enough = omega (arith, long, p);
+              second-enough = omega (arith, short, q);
               fits = omega (arith, k, long, chain-fits l h);
               alone = g ∙ ap (λ (x : ℕ). filled x (flat l)) (sym long) ∙ ap (λ (x : List Sample). filled (length f) (flat x)) (sym read);
-              clear = s-is ∙ ap (λ (x : ℕ). filled x []) (sym short);
+              clear = d .cleared ∙ ap (λ (x : ℕ). filled x []) (sym short);
             }
 
     -- and repair_runaway went on from it
     module _ (n : ℕ) (c : Counts n) where
-      pub first-enough : 8 ≤ length f
-      first-enough = omega (arith, c .first-long, p)
-
-      pub second-enough : 8 ≤ length s
-      second-enough = omega (arith, c .second-long, q)
-
       module _ (v : Way) (v-is : v ≡ way) where
         abbrev mended : Result Got
         mended = repaired (roomOf (length f) (length s)) t e r (by v (samples n f))
@@ -188,10 +185,12 @@ module _ (t : Tables) (e : Edge) (r : Resolved) (first second : List Float) (p :
             ∙ ap (λ (m : ℕ). repaired (roomOf m (length s)) t e r (by way (samples n f))) (c .first-long)
             ∙ ap (λ (m : ℕ). repaired (roomOf (length first) m) t e r (by way (samples n f))) (c .second-long) ∙ sym (whole-got (samples n f) (c .is))
 
-        pub drawn-on : (answer : Drawn) (f' s' : List Float) → Ended mended f s answer f' s' → Ended whole first second answer f' s'
-        drawn-on answer f' s' h =
-            let k = subst (λ (g : Result Got). Ended g f s answer f' s') all-mended h in
-            (k .0, k .1 ∙ same-first whole f first whole-late (c .first-long), k .2 ∙ same-second whole s second whole-late (c .second-long))
+        pub drawn-on : {answer : Drawn} {f' s' : List Float} → Left mended f s answer f' s' → Left whole first second answer f' s'
+        drawn-on h = record {
+          answered = h .answered ∙ ap draw.answerOf all-mended;
+          firstHolds = h .firstHolds ∙ ap (firstAfter f) all-mended ∙ same-first whole f first whole-late (c .first-long);
+          secondHolds = h .secondHolds ∙ ap (secondAfter s) all-mended ∙ same-second whole s second whole-late (c .second-long);
+        }
 
 -- ---- draw: the outcome, by the way out
 module _ (t : Tables) (e : Edge) (o : Options) (first second : List Float) where
@@ -214,11 +213,11 @@ module _ (t : Tables) (e : Edge) (o : Options) (first second : List Float) where
 
   pub by-drawing : verdict t e o ≡ verdicts.Accepted → tooShort (length first) (length second) ≡ false → Binary t e
       → (r : Resolved) → r ≡ localOptions t e o
-      → (answer : Drawn) (f s : List Float) → Ended (drawnIn (roomOf (length first) (length second)) t e r) first second answer f s
+      → (answer : Drawn) (f s : List Float) → Left (drawnIn (roomOf (length first) (length second)) t e r) first second answer f s
       → Outcome t e o first second answer f s
   by-drawing a b k r is answer f s h =
       let d = ap (drawnIn (roomOf (length first) (length second)) t e) is ∙ sym (given t e o (length first) (length second) verdicts.Accepted false a b) in
-      outcome t e o first second answer f s (h .0 ∙ ap draw.answerOf d) (h .1 ∙ ap (firstAfter first) d) (h .2 ∙ ap (secondAfter second) d) k
+      outcome t e o first second answer f s (h .answered ∙ ap draw.answerOf d) (h .firstHolds ∙ ap (firstAfter first) d) (h .secondHolds ∙ ap (secondAfter second) d) k
 
 -- ---- the lengths that draw_checked looks at
 pub first-short : (a b : ℕ) → a < 8 → tooShort a b ≡ true

@@ -22,13 +22,23 @@ ghost use Rattle.causes.specs.declared.Verdict.the-variants.{Accepted};
 ghost use Rattle.causes.specs.Causes.{verdict, tablesVerdict};
 ghost use Rattle.knots.specs.Knots.{curveKnots};
 ghost use Rattle.samples.specs.Chain.{width};
-ghost use Rattle.chains.specs.Draw.{firstWay, localOptions, drawnIn, roomOf, answerOf, firstAfter, secondAfter, inFirst, liesInFirst, floatsOf, Outcome};
+ghost use Rattle.usable.specs.Usable.{usableRange};
+ghost use Rattle.chains.specs.Draw.{firstWay, localOptions, drawnIn, roomOf, inFirst, liesInFirst, floatsOf, Outcome};
 ghost use Rattle.chains.specs.Binary.{Fitting};
+ghost use Rattle.repair.specs.Redrawn.{Left};
 
 // The way of the first drawing: the chord where the edge has no usable range.
-fn first_way(usable: Usable) -> Way
-    ensures { λ w. ⌜ w ≡ firstWay usable ⌝ }
+fn first_way(
+    points: &[f64],
+    curves: &[u32],
+    reals: &[f64],
+    parts: &[u32],
+    ranges: &[f64],
+    edge: Edge,
+) -> Way
+    ensures { λ w. ⌜ w ≡ firstWay (usableRange (tree (lent (points .entry) (curves .entry) (reals .entry) (parts .entry) (ranges .entry)) (edge .curve)) (edge .range)) ⌝ }
 {
+    let usable = usable::usable_range(points, curves, reals, parts, ranges, edge.curve, edge.range);
     match usable {
         Usable::Range(_) => Way::AsDrawn,
         Usable::Unusable => Way::Chord,
@@ -78,24 +88,13 @@ fn drawn_in(
     second: &mut [f64],
 ) -> Drawn
     requires { ⌜ (8 ≤ length (now first)) × (8 ≤ length (now second)) × (length (curveKnots (tree (lent points curves reals parts ranges) (edge .curve))) ≤ 8192) ⌝ }
-    ensures { λ w. ⌜ (w ≡ answerOf (drawnIn (roomOf (length (now (first .entry))) (length (now (second .entry)))) (lent (points .entry) (curves .entry) (reals .entry) (parts .entry) (ranges .entry)) edge r))
-        × (now (first .exit) ≡ firstAfter (now (first .entry)) (drawnIn (roomOf (length (now (first .entry))) (length (now (second .entry)))) (lent (points .entry) (curves .entry) (reals .entry) (parts .entry) (ranges .entry)) edge r))
-        × (now (second .exit) ≡ secondAfter (now (second .entry)) (drawnIn (roomOf (length (now (first .entry))) (length (now (second .entry)))) (lent (points .entry) (curves .entry) (reals .entry) (parts .entry) (ranges .entry)) edge r)) ⌝ }
+    ensures { λ w. ⌜ Left (drawnIn (roomOf (length (now (first .entry))) (length (now (second .entry)))) (lent (points .entry) (curves .entry) (reals .entry) (parts .entry) (ranges .entry)) edge r) (now (first .entry)) (now (second .entry)) w (now (first .exit)) (now (second .exit)) ⌝ }
 {
     let counted = edge::discretise(points, curves, reals, parts, ranges, edge, r, first, second);
     match counted {
         Counted::Refused(n) => Drawn::Refused(n),
         Counted::Count(n) => {
-            let usable = usable::usable_range(
-                points,
-                curves,
-                reals,
-                parts,
-                ranges,
-                edge.curve,
-                edge.range,
-            );
-            let way = first_way(usable);
+            let way = first_way(points, curves, reals, parts, ranges, edge);
             repair::repair_runaway(
                 points,
                 curves,

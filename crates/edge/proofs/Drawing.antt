@@ -1,14 +1,14 @@
 -- The ways through `draw_range` and `discretise`. Assumes nothing.
 use mathlib.Core.Path.{_≡_, refl, sym, ap, _∙_}
 use mathlib.Core.List.{List, [], _∷_, _++_}
-use Prim.Native.Nat.{ℕ, _+_, _*_, _≤_}
+use Prim.Native.Nat.{ℕ, _+_, _-_, _*_, _≤_}
 use native.Mathlib.Omega.{arith}
-use lib.ListN.{length, take, drop, length-append, take-append-drop}
-use lib.Seq.{sets, length-sets, length-take-le}
-use lib.Ieee.{Float}
+use lib.ListN.{length, take, drop, replicate, length-append, length-replicate, replicate-append-replicate, take-append-drop}
+use lib.Seq.{sets, length-sets, length-take-le, take-at}
+use lib.Ieee.{Float, binary64, ofBits}
 use Rattle.lists.specs.Result.{Result, refused, got, bind, each}
 use Rattle.lists.specs.Room.{filled}
-use Rattle.lists.proofs.Filled.{filled-length, filled-front}
+use Rattle.lists.proofs.Filled.{filled-length, filled-front, filled-part}
 use Rattle.math.specs.declared.Interval.{Interval}
 use Rattle.brep.specs.declared.Edge.{Edge}
 use Rattle.brep.specs.Rows.{Tables}
@@ -24,21 +24,20 @@ use Rattle.samples.specs.Chain.{width, most, flat, samples, answerOf}
 use Rattle.usable.specs.declared.Usable.{Usable}
 use Rattle.usable.specs.declared.Usable.the-variants.{Range, Unusable}
 use Rattle.usable.specs.Usable.{usableRange}
-use Rattle.sample.specs.Sample.{sampled}
+use Rattle.sample.specs.Sample.{sampled, listOf}
 use Rattle.sample.specs.Answered.{Answered}
 use Rattle.sample.proofs.Laws.{sampled-two, sampled-room}
 use Rattle.chains.specs.Edge.{edgeCurve, atLeastTwo, chordOf, placed, finished, discretised}
 use Rattle.chains.specs.Draw.{roomOf}
 use Rattle.place.proofs.Laws.{placed-length}
-use Rattle.edge.specs.Discretised.{chainOf, thinnedMerged, overRange}
+use Rattle.edge.specs.Discretised.{chainOf, thinnedMerged, overRange, Drew}
 use Rattle.edge.proofs.Thinning.{read-back}
 
--- w and g are what a function answers and leaves in a chain buffer of n floats, by D
-abbrev pub Drew : ℕ → Result (List Sample) → Counted → List Float → Type 0
-Drew n D w g = (w ≡ answerOf D) × (g ≡ filled n (flat (chainOf D)))
-
 drew : (n m : ℕ) (D E : Result (List Sample)) {w : Counted} {g : List Float} → n ≡ m → D ≡ E → Drew n D w g → Drew m E w g
-drew n m D E k e p = (p .0 ∙ ap answerOf e, p .1 ∙ ap (λ (i : ℕ). filled i (flat (chainOf D))) k ∙ ap (λ (x : Result (List Sample)). filled m (flat (chainOf x))) e)
+drew n m D E k e p = record {
+  answered = p .answered ∙ ap answerOf e;
+  holds = p .holds ∙ ap (λ (i : ℕ). filled i (flat (chainOf D))) k ∙ ap (λ (x : Result (List Sample)). filled m (flat (chainOf x))) e;
+}
 
 -- ---- `draw_range`
 two-or-more : (range : Interval) (l : List Float) → 2 ≤ length l → atLeastTwo range l ≡ l
@@ -78,6 +77,12 @@ module _ {room : ℕ} {S : Result (List Float)} {n : ℕ} {out : List Float} (s 
   part : take n out ≡ s .params
   part = ap (take n) (s .floats) ∙ ap (λ (k : ℕ). take k (filled room (s .params))) (sym (s .size)) ∙ filled-front room (s .params)
 
+  -- scratch, with the parameters cleared
+  pub cleared-used : {left : List Float} → left ≡ filled (length (take n out)) (take 0 (take n out)) → left ++ drop n out ≡ filled room []
+  cleared-used h =
+      ap (λ (l : List Float). l ++ drop n out) (h ∙ ap (λ (k : ℕ). filled k []) part-length) ∙ ap (λ (l : List Float). filled n [] ++ drop n l) (s .floats)
+      ∙ filled-part room n (s .params) [] (s .size) (s .fits) (omega arith)
+
 module _ {room : ℕ} (T : Tables) (e : Edge) (r : Resolved) (range : Interval) {n : ℕ} {out : List Float} (s : Sampling room (sampled room (edgeCurve T e) range r) n out)
     (chain d : List Float) (fits : width * n ≤ length chain) (p : d ≡ sets chain 0 (flat (placed T e (take n out)))) where
   pub placed-room : width * n ≤ length d
@@ -102,8 +107,12 @@ module _ {room : ℕ} (T : Tables) (e : Edge) (r : Resolved) (range : Interval) 
 pub drew-none : (S : Result (List Float)) (f : List Float → Result (List Sample)) (w : Listed) (chain g : List Float) → said w ≡ each length S → w ≡ listed.Refused
     → g ≡ filled (length chain) (take 0 chain) → Drew (length chain) (bind S f) (Refused 8) g
 unfolding flat
-drew-none (refused n) f w chain g a e b = let q : refused 8 ≡ refused n = ap said (sym e) ∙ a in (cc, b)
+drew-none (refused n) f w chain g a e b = let q : refused 8 ≡ refused n = ap said (sym e) ∙ a in record { answered = cc; holds = b }
 drew-none (got l) f w chain g a e b = let q : refused 8 ≡ got (length l) = ap said (sym e) ∙ a in let z : _≡_ {A = ℕ} 0 1 = cc in absurd (omega arith)
+
+pub none-listed : (room : ℕ) (S : Result (List Float)) (w : Listed) {out : List Float} → said w ≡ each length S → w ≡ listed.Refused → out ≡ filled room (listOf S) → out ≡ filled room []
+none-listed room (refused n) w a e h = h
+none-listed room (got l) w a e h = let q : refused 8 ≡ got (length l) = ap said (sym e) ∙ a in let z : _≡_ {A = ℕ} 0 1 = cc in absurd (omega arith)
 
 -- ---- `discretise`
 -- n is the room that both buffers give, and scratch's first n floats are lent
@@ -125,6 +134,24 @@ whole-length n left scratch h =
     length-append left (drop n scratch) ∙ ap (λ (k : ℕ). k + length (drop n scratch)) h
     ∙ sym (length-append (take n scratch) (drop n scratch)) ∙ ap length (take-append-drop n scratch)
 
+filled-twice : (m n : ℕ) → n ≤ m → filled m (filled n []) ≡ filled m []
+filled-twice m n h =
+    let z = ofBits binary64 0 in
+    let k : n - 0 + (m - (n - 0)) ≡ m - 0 = omega arith in
+    ap (λ (i : ℕ). replicate (n - 0) z ++ replicate (m - i) z) (length-replicate (n - 0) z)
+    ∙ replicate-append-replicate (n - 0) (m - (n - 0)) z ∙ ap (λ (i : ℕ). replicate i z) k
+
+-- it is clear where that part is, and the rest is cleared
+pub cleared-whole : (n : ℕ) (left scratch : List Float) {g : List Float} → n ≤ length scratch → left ≡ filled (length (take n scratch)) []
+    → g ≡ filled (length (left ++ drop n scratch)) (take n (left ++ drop n scratch)) → g ≡ filled (length scratch) []
+cleared-whole n left scratch h l q =
+    let k : length (take n scratch) ≡ n = length-take-le n scratch h in
+    let clear : left ≡ filled n [] = l ∙ ap (λ (i : ℕ). filled i []) k in
+    let m : length left ≡ n = ap length clear ∙ filled-length n [] (omega arith) in
+    q ∙ ap (λ (i : ℕ). filled i (take n (left ++ drop n scratch))) (whole-length n left scratch (m ∙ sym k))
+    ∙ ap (filled (length scratch)) (take-at left (drop n scratch) n m ∙ clear)
+    ∙ filled-twice (length scratch) n h
+
 module _ (room : ℕ) (T : Tables) (e : Edge) (r : Resolved) (k : ℕ) {w : Counted} {g : List Float} (u : Usable) (own : u ≡ usableRange (edgeCurve T e) (e .range)) where
   pub drew-range : (range : Interval) (j : ℕ) → u ≡ Range range → j ≡ room → Drew k (overRange j T e r range) w g → Drew k (discretised room T e r) w g
   unfolding discretised
@@ -134,4 +161,4 @@ module _ (room : ℕ) (T : Tables) (e : Edge) (r : Resolved) (k : ℕ) {w : Coun
 
   pub drew-chord : u ≡ Unusable → w ≡ Count 2 → g ≡ filled k (flat (chordOf T e (e .range .lo) (e .range .hi))) → Drew k (discretised room T e r) w g
   unfolding discretised
-  drew-chord q a b = rw (sym own ∙ q, discretised) (a, b)
+  drew-chord q a b = rw (sym own ∙ q, discretised) (record { answered = a; holds = b })

@@ -30,7 +30,7 @@ use Rattle.thin.specs.Thin.{floored, restored, retained, thinned}
 use Rattle.thin.proofs.Loops.{length-marks}
 use Rattle.thin.proofs.Laws.{thin-shorter}
 use Rattle.chains.specs.Edge.{edgeStart, edgeEnd, thinnedIf, chordOf}
-use Rattle.edge.specs.Discretised.{chainOf}
+use Rattle.edge.specs.Discretised.{Drew}
 
 -- ---- a floor above the most samples says nothing more
 flagged-length : (points : ℕ → Vec3) (tolerance angle : Float) (n : ℕ) (keep : List Bool) → flagged points tolerance angle n ≡ got keep → length keep ≡ n
@@ -153,20 +153,20 @@ module _ {c : List Float} {X : Result (List Sample)} {m : ℕ} {d : List Float} 
     merged-room = omega (arith, stored .count, merged-fits, merged-length)
 
     pub finished-some : (g : List Float) → g ≡ filled (length f) (take (width * k) f)
-        → (Count k ≡ answerOf (each (merged floor) X)) × (g ≡ filled (length c) (flat (chainOf (each (merged floor) X))))
+        → Drew (length c) (each (merged floor) X) (Count k) g
     finished-some g e =
         let M = merged floor (t .chain) in
         let w : g ≡ filled (length c) (flat M) =
         e ∙ ap (λ (n : ℕ). filled (length f) (take (width * n) f)) (stored .count)
         ∙ ap (λ (l : List Float). filled (length l) (take (width * length M) l)) (stored .floats)
         ∙ rest-cleared d M merged-fits ∙ ap (λ (n : ℕ). filled n (flat M)) thin-length in
-        rw (t .is) (ap Count (stored .count), w)
+        rw (t .is) (record { answered = ap Count (stored .count); holds = w })
 
 pub finished-none : (c : List Float) (X : Result (List Sample)) (floor : Float) (w : Counted) (n : ℕ) (d g : List Float) → Passed c X w d → w ≡ Refused n
     → g ≡ filled (length d) (take 0 d)
-    → (Refused n ≡ answerOf (each (merged floor) X)) × (g ≡ filled (length c) (flat (chainOf (each (merged floor) X))))
+    → Drew (length c) (each (merged floor) X) (Refused n) g
 unfolding flat
-finished-none c (refused x) floor w n d g p e q = (sym e ∙ p .0, q ∙ ap (λ (l : List Float). filled (length l) []) (p .1))
+finished-none c (refused x) floor w n d g p e q = record { answered = sym e ∙ p .0; holds = q ∙ ap (λ (l : List Float). filled (length l) []) (p .1) }
 finished-none c (got l) floor w n d g p e q = let z : _≡_ {A = ℕ} 0 1 = cc in absurd (omega arith)
 
 -- ---- `chord`

@@ -3,6 +3,7 @@ use brep::Edge;
 use listed::Listed;
 use math::Interval;
 use options::Resolved;
+use sample::sample_params;
 use samples::Counted;
 use samples::Sample;
 use usable::Usable;
@@ -16,11 +17,10 @@ ghost use Rattle.brep.specs.Tree.{tree};
 ghost use Rattle.curve.specs.Eval.{isSampled};
 ghost use Rattle.knots.specs.Knots.{curveKnots};
 ghost use Rattle.samples.specs.Chain.{width, most, flat, samples, answerOf, after};
-ghost use Rattle.sample.specs.Sample.{sampled, listOf};
 ghost use Rattle.chains.specs.Edge.{thinnedIf, chordOf, discretised};
 ghost use Rattle.chains.specs.Draw.{roomOf};
 ghost use Rattle.place.specs.Place.{ofPoints};
-ghost use Rattle.edge.specs.Discretised.{chainOf, thinnedMerged, overRange};
+ghost use Rattle.edge.specs.Discretised.{thinnedMerged, overRange, Drew, Discretised};
 
 // The smaller of two.
 fn least(a: usize, b: usize) -> usize
@@ -76,8 +76,7 @@ fn finish(
     n: usize,
 ) -> Counted
     requires { ⌜ (2 ≤ n) × (n ≤ most) × (width * n ≤ length (now chain)) ⌝ }
-    ensures { λ w. ⌜ (w ≡ answerOf (thinnedMerged (lent (points .entry) (curves .entry) (reals .entry) (parts .entry) (ranges .entry)) edge r (samples n (now (chain .entry)))))
-        × (now (chain .exit) ≡ filled (length (now (chain .entry))) (flat (chainOf (thinnedMerged (lent (points .entry) (curves .entry) (reals .entry) (parts .entry) (ranges .entry)) edge r (samples n (now (chain .entry))))))) ⌝ }
+    ensures { λ w. ⌜ Drew (length (now (chain .entry))) (thinnedMerged (lent (points .entry) (curves .entry) (reals .entry) (parts .entry) (ranges .entry)) edge r (samples n (now (chain .entry)))) w (now (chain .exit)) ⌝ }
 {
     let thinned = thin_sampled(
         points,
@@ -130,7 +129,7 @@ pub fn chord(points: &[f64], edge: Edge, a: f64, b: f64, chain: &mut [f64])
     lists::clear_from(chain, 2 * samples::WIDTH);
 }
 
-// Samples a usable range into scratch, whose length is the room, and finishes the chain.
+// Samples a usable range into scratch, whose length is the room, finishes the chain, and leaves scratch cleared.
 fn draw_range(
     points: &[f64],
     curves: &[u32],
@@ -145,35 +144,19 @@ fn draw_range(
 ) -> Counted
     requires { ⌜ (length (now scratch) ≤ most) × (width * length (now scratch) ≤ length (now chain))
         × (length (curveKnots (tree (lent points curves reals parts ranges) (edge .curve))) ≤ 8192) ⌝ }
-    ensures { λ w. ⌜ (w ≡ answerOf (overRange (length (now (scratch .entry))) (lent (points .entry) (curves .entry) (reals .entry) (parts .entry) (ranges .entry)) edge r range))
-        × (now (chain .exit) ≡ filled (length (now (chain .entry))) (flat (chainOf (overRange (length (now (scratch .entry))) (lent (points .entry) (curves .entry) (reals .entry) (parts .entry) (ranges .entry)) edge r range))))
-        × (now (scratch .exit) ≡ filled (length (now (scratch .entry))) (listOf (sampled (length (now (scratch .entry))) (tree (lent (points .entry) (curves .entry) (reals .entry) (parts .entry) (ranges .entry)) (edge .curve)) range r))) ⌝ }
+    ensures { λ w. ⌜ Drew (length (now (chain .entry))) (overRange (length (now (scratch .entry))) (lent (points .entry) (curves .entry) (reals .entry) (parts .entry) (ranges .entry)) edge r range) w (now (chain .exit))
+        × (now (scratch .exit) ≡ filled (length (now (scratch .entry))) []) ⌝ }
 {
-    let listed = sample::sample_params(
-        points,
-        curves,
-        reals,
-        parts,
-        ranges,
-        edge.curve,
-        range,
-        r,
-        scratch,
-    );
+    let row = edge.curve;
+    let listed = sample_params(points, curves, reals, parts, ranges, row, range, r, scratch);
     let Listed::Count(n) = listed else {
         lists::clear_from(chain, 0);
         return Counted::Refused(8);
     };
-    place::place(
-        points,
-        curves,
-        reals,
-        parts,
-        ranges,
-        edge,
-        &scratch[..n],
-        chain,
-    );
+    let params = &scratch[..n];
+    place::place(points, curves, reals, parts, ranges, edge, params, chain);
+    let used = &mut scratch[..n];
+    lists::clear_from(used, 0);
     finish(points, curves, reals, parts, ranges, edge, r, chain, n)
 }
 
@@ -190,9 +173,7 @@ pub fn discretise(
     scratch: &mut [f64],
 ) -> Counted
     requires { ⌜ (8 ≤ length (now chain)) × (8 ≤ length (now scratch)) × (length (curveKnots (tree (lent points curves reals parts ranges) (edge .curve))) ≤ 8192) ⌝ }
-    ensures { λ w. ⌜ (w ≡ answerOf (discretised (roomOf (length (now (chain .entry))) (length (now (scratch .entry)))) (lent (points .entry) (curves .entry) (reals .entry) (parts .entry) (ranges .entry)) edge r))
-        × (now (chain .exit) ≡ filled (length (now (chain .entry))) (flat (chainOf (discretised (roomOf (length (now (chain .entry))) (length (now (scratch .entry)))) (lent (points .entry) (curves .entry) (reals .entry) (parts .entry) (ranges .entry)) edge r))))
-        × (now (scratch .exit) ≡ filled (length (now (scratch .entry))) []) ⌝ }
+    ensures { λ w. ⌜ Discretised (λ room. discretised room (lent (points .entry) (curves .entry) (reals .entry) (parts .entry) (ranges .entry)) edge r) (now (chain .entry)) (now (scratch .entry)) w (now (chain .exit)) (now (scratch .exit)) ⌝ }
 {
     let usable = usable::usable_range(points, curves, reals, parts, ranges, edge.curve, edge.range);
     let Usable::Range(range) = usable else {
@@ -214,6 +195,6 @@ pub fn discretise(
         chain,
         part,
     );
-    lists::clear_from(scratch, 0);
+    lists::clear_from(scratch, n);
     drawn
 }

@@ -1,4 +1,4 @@
--- A placed chain by its records: which way it runs, and what record i is. Definitions only.
+-- For the code's own use: a placed chain by its records: which way it runs, and what record i is. Definitions only.
 use mathlib.Core.Bool.{Bool, cond}
 use mathlib.Core.List.{List, []}
 use Prim.Native.Nat.{ℕ, _-_}

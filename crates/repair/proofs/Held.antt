@@ -5,7 +5,7 @@ use mathlib.Core.Bool.{Bool, true, false}
 use mathlib.Core.List.{List, []}
 use Prim.Native.Nat.{ℕ, _-_, _*_, _≤_, _<_}
 use native.Mathlib.Omega.{arith}
-use lib.ListN.{length, take, replicate}
+use lib.ListN.{length, replicate}
 use lib.Dec.{leb}
 use lib.Ieee.{Float, binary64, ofBits}
 use borrow.Author.Tests.{leb-true}
@@ -31,8 +31,8 @@ use Rattle.chains.specs.Repair.{Got, by, escapes, runaway}
 use Rattle.chains.specs.Draw.{roomOf, answerOf, inFirst, firstAfter, secondAfter}
 use Rattle.chains.proofs.Outcome.{outcome-refused}
 use Rattle.chains.proofs.Discretised.{Room, discretised-outcome}
-use Rattle.edge.specs.Discretised.{chainOf}
-use Rattle.repair.specs.Redrawn.{heldFirst, heldSecond, Redrawn, Redrew}
+use Rattle.edge.specs.Discretised.{chainOf, Discretised}
+use Rattle.repair.specs.Redrawn.{heldFirst, heldSecond, Redrawn, Left, InSecond}
 
 -- ---- `discretise` into the second buffer
 room-swap : (a b : ℕ) → roomOf a b ≡ roomOf b a
@@ -48,19 +48,25 @@ discretised-late T e r a b n h k q =
     ⊎-elim (λ (z : n ≡ 8). omega arith) (λ (z : n ≡ 9). omega arith)
     (outcome-refused n (discretised-outcome ⊥ T e (λ x. absurd x) (λ x. absurd x) (roomOf a b) (enough a b h k) r) q)
 
-pub redrew : (T : Tables) (e d : Edge) (r : Resolved) (first second : List Float) (w : Counted) (first' second' : List Float) → 8 ≤ length first → 8 ≤ length second → e ≡ d
-    → (w ≡ counted (discretised (roomOf (length second) (length first)) T e r))
-    × (second' ≡ filled (length second) (flat (chainOf (discretised (roomOf (length second) (length first)) T e r))))
-    × (first' ≡ filled (length first) [])
-    → Redrew (λ room. discretised room T d r) first second w first' second'
-redrew T e d r first second w first' second' h k s p =
+-- a chain that is drawn into the second buffer, with the first as scratch; no refusal is below 8
+pub record Redrew (X : Result (List Sample)) (first second : List Float) (answer : Counted) (first' second' : List Float) : Type 0 where
+  pub answered : answer ≡ counted X
+  pub firstHolds : first' ≡ filled (length first) []
+  pub secondHolds : second' ≡ filled (length second) (flat (chainOf X))
+  pub late : (n : ℕ) → answer ≡ counts.Refused n → 7 < n
+
+pub redrew : (T : Tables) (e d : Edge) (r : Resolved) {first second : List Float} {w : Counted} {first' second' : List Float} → 8 ≤ length first → 8 ≤ length second → e ≡ d
+    → Discretised (λ room. discretised room T e r) second first w second' first'
+    → Redrew (discretised (roomOf (length first) (length second)) T d r) first second w first' second'
+redrew T e d r {first} {second} h k s p =
     let q : discretised (roomOf (length second) (length first)) T e r ≡ discretised (roomOf (length first) (length second)) T d r =
     rw (s, room-swap (length second) (length first)) in
+    let a = p .drew .answered ∙ ap counted q in
     record {
-      answered = p .0 ∙ ap counted q;
-      firstHolds = p .2;
-      secondHolds = p .1 ∙ ap (λ (X : Result (List Sample)). filled (length second) (flat (chainOf X))) q;
-      late = λ n t. go n (discretised (roomOf (length first) (length second)) T d r) (discretised-late T d r (length first) (length second) n h k) (sym t ∙ p .0 ∙ ap counted q);
+      answered = a;
+      firstHolds = p .cleared;
+      secondHolds = p .drew .holds ∙ ap (λ (X : Result (List Sample)). filled (length second) (flat (chainOf X))) q;
+      late = λ n t. go n (discretised (roomOf (length first) (length second)) T d r) (discretised-late T d r (length first) (length second) n h k) (sym t ∙ a);
     }
   where
     go : (n : ℕ) (X : Result (List Sample)) → (X ≡ refused n → 7 < n) → counts.Refused n ≡ counted X → 7 < n
@@ -74,22 +80,19 @@ pub record Drew (X : Result (List Sample)) (n : ℕ) (c : List Float) : Type 0 w
   pub size : n ≡ length chain
   pub floats : c ≡ filled (length c) (flat chain)
 
-module _ {X : ℕ → Result (List Sample)} {first second : List Float} {w : Counted} {first' second' : List Float} (d : Redrew X first second w first' second') where
-  pub drew : (n : ℕ) → w ≡ counts.Count n → length second' ≡ length second → Drew (X (roomOf (length first) (length second))) n second'
-  drew n t e = go (X (roomOf (length first) (length second))) (sym t ∙ d .answered) (d .secondHolds)
+module _ {X : Result (List Sample)} {first second : List Float} {w : Counted} {first' second' : List Float} (d : Redrew X first second w first' second') where
+  pub drew : (n : ℕ) → w ≡ counts.Count n → length second' ≡ length second → Drew X n second'
+  drew n t e = go X (sym t ∙ d .answered) (d .secondHolds)
     where
       go : (Y : Result (List Sample)) → counts.Count n ≡ counted Y → second' ≡ filled (length second) (flat (chainOf Y)) → Drew Y n second'
       go (refused m) a b = absurd (let z : _≡_ {A = ℕ} 0 1 = cc in omega arith)
       go (got l) a b = record { chain = l; is = refl; size = cc; floats = b ∙ ap (λ (k : ℕ). filled k (flat l)) (sym e) }
 
-  pub redrew-first : length first' ≡ length first → first' ≡ filled (length first') []
-  redrew-first e = d .firstHolds ∙ ap (λ (k : ℕ). filled k []) (sym e)
-
   -- a refusal is carried on
   pub redrawn-refused : (D : ℕ → Result Got) (f : List Sample → Result Got) (n : ℕ) → w ≡ counts.Refused n
-      → D (roomOf (length first) (length second)) ≡ bind (X (roomOf (length first) (length second))) f → Redrawn D first second (Refused n) first' second'
+      → D (roomOf (length first) (length second)) ≡ bind X f → Redrawn D first second (Refused n) first' second'
   unfolding answerOf heldFirst heldSecond flat
-  redrawn-refused D f n t q = go (X (roomOf (length first) (length second))) (sym t ∙ d .answered) (d .secondHolds) q
+  redrawn-refused D f n t q = go X (sym t ∙ d .answered) (d .secondHolds) q
     where
       go : (Y : Result (List Sample)) → counts.Refused n ≡ counted Y → second' ≡ filled (length second) (flat (chainOf Y)) → D (roomOf (length first) (length second)) ≡ bind Y f → Redrawn D first second (Refused n) first' second'
       go (refused m) a b q = let z : n ≡ m = cc in record {
@@ -115,27 +118,35 @@ module _ {X : Result (List Sample)} {n : ℕ} {c : List Float} (d : Drew X n c) 
   drew-escapes r box b t v p q h = ap (escapes box r) (sym drew-reads) ∙ ap (λ (x : Aabb). escapes x r (samples n c)) (sym p) ∙ sym q ∙ h
 
 -- ---- a chain that is in the second buffer
-pub redrawn-kept : (way : Way) (n : ℕ) (first second first' second' : List Float) → inFirst way ≡ false → length second' ≡ length second
-    → first' ≡ filled (length first) [] → second' ≡ filled (length second') (flat (samples n second'))
-    → Redrawn (λ _. got (by way (samples n second'))) first second (Chain way n) first' second'
-unfolding answerOf heldFirst heldSecond
-redrawn-kept way n first second first' second' w l p q = record {
-  answered = ap (Chain way) (sym (samplesFrom-length second' 0 n));
-  firstHolds = rw w p;
-  secondHolds = rw w (q ∙ ap (λ (k : ℕ). filled k (flat (samples n second'))) l);
-  late = λ k t. absurd (let z : _≡_ {A = ℕ} 0 1 = cc in omega arith);
-}
+pub kept-second : (way : Way) (n : ℕ) (second : List Float) → inFirst way ≡ false → second ≡ filled (length second) (flat (samples n second))
+    → InSecond (by way (samples n second)) (length second) (Chain way n) second
+unfolding answerOf
+kept-second way n second w q = record { answered = ap (Chain way) (sym (samplesFrom-length second 0 n)); holds = q; there = w }
 
--- the chord of the vertices
-pub redrawn-runaway : (T : Tables) (e : Edge) (first second first' second' : List Float) → first' ≡ filled (length first) (take 0 first)
-    → second' ≡ filled (length second) (flat (chordOf T e (e .range .lo) (e .range .lo))) → Redrawn (λ _. got (runaway T e)) first second (Chain Runaway 2) first' second'
-unfolding answerOf heldFirst heldSecond
-redrawn-runaway T e first second first' second' p q = record {
-  answered = refl;
-  firstHolds = p;
-  secondHolds = q;
-  late = λ k t. absurd (let z : _≡_ {A = ℕ} 0 1 = cc in omega arith);
-}
+pub chord-second : (T : Tables) (e : Edge) (n : ℕ) (second : List Float) → second ≡ filled n (flat (chordOf T e (e .range .lo) (e .range .lo)))
+    → InSecond (runaway T e) n (Chain Runaway 2) second
+unfolding answerOf
+chord-second T e n second q = record { answered = refl; holds = q; there = refl }
+
+module _ {g : Got} {n : ℕ} {w : Drawn} {second' : List Float} (i : InSecond g n w second') where
+  -- another name for it
+  pub second-is : (h : Got) → g ≡ h → InSecond h n w second'
+  second-is h q = record {
+    answered = i .answered ∙ ap (λ (x : Got). answerOf (got x)) q;
+    holds = i .holds ∙ ap (λ (x : Got). filled n (flat (x .chain))) q;
+    there = ap (λ (x : Got). inFirst (x .way)) (sym q) ∙ i .there;
+  }
+
+  -- with the first buffer cleared it is a repair's answer
+  pub redrawn-second : (D : ℕ → Result Got) (first second first' : List Float) → n ≡ length second → first' ≡ filled (length first) []
+      → got g ≡ D (roomOf (length first) (length second)) → Redrawn D first second w first' second'
+  unfolding answerOf heldFirst heldSecond
+  redrawn-second D first second first' m p q = record {
+    answered = i .answered ∙ ap answerOf q;
+    firstHolds = rw (← q, i .there) p;
+    secondHolds = rw (← q, i .there) (i .holds ∙ ap (λ (k : ℕ). filled k (flat (g .chain))) m);
+    late = λ k t. absurd (let a = i .answered in let z : _≡_ {A = ℕ} 0 1 = cc in omega arith);
+  }
 
 above : (n : ℕ) → 7 < n → leb n 7 ≡ false
 above n h = go (leb n 7) refl
@@ -165,11 +176,13 @@ module _ {D : ℕ → Result Got} {first second : List Float} {w : Drawn} {first
       }
 
   -- no refusal leaves a buffer as before
-  pub redrawn-after : (w ≡ answerOf (D (roomOf (length first) (length second))))
-      × (first' ≡ firstAfter first (D (roomOf (length first) (length second))))
-      × (second' ≡ secondAfter second (D (roomOf (length first) (length second))))
+  pub redrawn-after : Left (D (roomOf (length first) (length second))) first second w first' second'
   unfolding answerOf heldFirst heldSecond firstAfter secondAfter
-  redrawn-after = (d .answered, go (D (roomOf (length first) (length second))) (d .answered) (d .firstHolds), to (D (roomOf (length first) (length second))) (d .answered) (d .secondHolds))
+  redrawn-after = record {
+    answered = d .answered;
+    firstHolds = go (D (roomOf (length first) (length second))) (d .answered) (d .firstHolds);
+    secondHolds = to (D (roomOf (length first) (length second))) (d .answered) (d .secondHolds);
+  }
     where
       go : (X : Result Got) → w ≡ answerOf X → first' ≡ filled (length first) (heldFirst X) → first' ≡ firstAfter first X
       go (refused n) a b = let z = above n (d .late n a) in rw z b
@@ -182,6 +195,6 @@ module _ {D : ℕ → Result Got} {first second : List Float} {w : Drawn} {first
 -- ---- a chain that stays in the first
 pub kept-after : (D : Result Got) (way : Way) (n : ℕ) (first second : List Float) → D ≡ got (by way (samples n first)) → inFirst way ≡ true
     → first ≡ filled (length first) (flat (samples n first)) → second ≡ filled (length second) []
-    → (Chain way n ≡ answerOf D) × (first ≡ firstAfter first D) × (second ≡ secondAfter second D)
+    → Left D first second (Chain way n) first second
 unfolding answerOf firstAfter secondAfter
-kept-after D way n first second q w p s = rw q (ap (Chain way) (sym (samplesFrom-length first 0 n)), (rw w p), (rw w s))
+kept-after D way n first second q w p s = rw q (record { answered = ap (Chain way) (sym (samplesFrom-length first 0 n)); firstHolds = rw w p; secondHolds = rw w s })

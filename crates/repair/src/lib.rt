@@ -7,22 +7,21 @@ use math::Aabb;
 use math::Interval;
 use options::Resolved;
 use samples::Counted;
+use usable::Usable;
 ghost use mathlib.Core.Path.{_≡_};
 ghost use mathlib.Core.Bool.{true};
 ghost use mathlib.Core.List.{[]};
 ghost use Prim.Native.Nat.{_*_, _≤_};
 ghost use lib.ListN.{length};
-ghost use Rattle.lists.specs.Result.{got};
 ghost use Rattle.lists.specs.Room.{filled};
 ghost use Rattle.brep.specs.Rows.{lent};
 ghost use Rattle.brep.specs.Tree.{tree};
 ghost use Rattle.knots.specs.Knots.{curveKnots};
 ghost use Rattle.samples.specs.Chain.{width, flat, samples};
-ghost use Rattle.chains.specs.Edge.{discretised};
-ghost use Rattle.chains.specs.Repair.{by, withRange, reference, runaway, arcOrChord, byShortArc, byComplement, byPeriod, repaired};
-ghost use Rattle.chains.specs.Draw.{roomOf, inFirst, answerOf, firstAfter, secondAfter};
+ghost use Rattle.chains.specs.Repair.{by, withRange, reference, runaway, arcOrChord, byShortArc, repaired};
+ghost use Rattle.chains.specs.Draw.{roomOf, inFirst};
 ghost use Rattle.place.specs.Place.{ofPoints};
-ghost use Rattle.repair.specs.Redrawn.{Redrawn, Redrew, stays, isShortArc, shortRange, drawnShort, drawnComplement};
+ghost use Rattle.repair.specs.Redrawn.{InSecond, Redrawn, Left, stays, isShortArc, shortRange, shortArc, complementArc, drawnComplement};
 
 // The edge with another range.
 fn with_range(edge: Edge, range: Interval) -> Edge
@@ -51,11 +50,10 @@ fn reference(points: &[f64], edge: Edge) -> Aabb
 }
 
 // The chord of the vertices in the second buffer. Its parameters are lo twice: it runs through nothing of the curve.
-fn runaway(points: &[f64], edge: Edge, first: &mut [f64], second: &mut [f64]) -> Drawn
-    requires { ⌜ (8 ≤ length (now first)) × (8 ≤ length (now second)) ⌝ }
-    ensures { λ w. ⌜ Redrawn (λ _. got (runaway (ofPoints (now (points .entry))) edge)) (now (first .entry)) (now (second .entry)) w (now (first .exit)) (now (second .exit)) ⌝ }
+fn runaway(points: &[f64], edge: Edge, second: &mut [f64]) -> Drawn
+    requires { ⌜ 8 ≤ length (now second) ⌝ }
+    ensures { λ w. ⌜ InSecond (runaway (ofPoints (now (points .entry))) edge) (length (now (second .entry))) w (now (second .exit)) ⌝ }
 {
-    lists::clear_from(first, 0);
     edge::chord(points, edge, edge.range.lo, edge.range.lo, second);
     Drawn::Chain(Way::Runaway, 2)
 }
@@ -74,21 +72,14 @@ fn is_short_arc(points: &[f64], edge: Edge, r: Resolved, chain: &[f64], n: usize
 }
 
 // The arc in the second buffer where it serves, else the chord.
-fn arc_or_chord(
-    points: &[f64],
-    edge: Edge,
-    r: Resolved,
-    n: usize,
-    first: &mut [f64],
-    second: &mut [f64],
-) -> Drawn
-    requires { ⌜ (8 ≤ length (now first)) × (8 ≤ length (now second)) × (width * n ≤ length (now second)) × (now second ≡ filled (length (now second)) (flat (samples n (now second)))) × (now first ≡ filled (length (now first)) []) ⌝ }
-    ensures { λ w. ⌜ Redrawn (λ _. got (arcOrChord (ofPoints (now (points .entry))) edge r (samples n (now (second .entry))))) (now (first .entry)) (now (second .entry)) w (now (first .exit)) (now (second .exit)) ⌝ }
+fn arc_or_chord(points: &[f64], edge: Edge, r: Resolved, second: &mut [f64], n: usize) -> Drawn
+    requires { ⌜ (8 ≤ length (now second)) × (width * n ≤ length (now second)) × (now second ≡ filled (length (now second)) (flat (samples n (now second)))) ⌝ }
+    ensures { λ w. ⌜ InSecond (arcOrChord (ofPoints (now (points .entry))) edge r (samples n (now (second .entry)))) (length (now (second .entry))) w (now (second .exit)) ⌝ }
 {
     if is_short_arc(points, edge, r, second, n) {
         return Drawn::Chain(Way::ShortArc, n);
     }
-    runaway(points, edge, first, second)
+    runaway(points, edge, second)
 }
 
 // From the parameter nearest to one vertex to that nearest to the other.
@@ -117,61 +108,29 @@ fn short_range(
     }
 }
 
-// The edge over another range, drawn into the second buffer.
-fn redraw(
+// The range of the arc between the parameters at which the vertices sit, where there is one.
+fn short_arc(
     points: &[f64],
     curves: &[u32],
     reals: &[f64],
     parts: &[u32],
     ranges: &[f64],
     edge: Edge,
-    r: Resolved,
-    range: Interval,
-    first: &mut [f64],
-    second: &mut [f64],
-) -> Counted
-    requires { ⌜ (8 ≤ length (now first)) × (8 ≤ length (now second)) × (length (curveKnots (tree (lent points curves reals parts ranges) (edge .curve))) ≤ 8192) ⌝ }
-    ensures { λ w. ⌜ Redrew (λ room. discretised room (lent (points .entry) (curves .entry) (reals .entry) (parts .entry) (ranges .entry)) (withRange edge range) r) (now (first .entry)) (now (second .entry)) w (now (first .exit)) (now (second .exit)) ⌝ }
+) -> Usable
+    ensures { λ u. ⌜ u ≡ shortArc (lent (points .entry) (curves .entry) (reals .entry) (parts .entry) (ranges .entry)) edge ⌝ }
 {
-    let d = with_range(edge, range);
-    edge::discretise(points, curves, reals, parts, ranges, d, r, second, first)
-}
-
-// The short arc, drawn and tried.
-fn draw_short(
-    points: &[f64],
-    curves: &[u32],
-    reals: &[f64],
-    parts: &[u32],
-    ranges: &[f64],
-    edge: Edge,
-    r: Resolved,
-    short: Interval,
-    first: &mut [f64],
-    second: &mut [f64],
-) -> Drawn
-    requires { ⌜ (8 ≤ length (now first)) × (8 ≤ length (now second)) × (length (curveKnots (tree (lent points curves reals parts ranges) (edge .curve))) ≤ 8192) ⌝ }
-    ensures { λ w. ⌜ Redrawn (drawnShort (lent (points .entry) (curves .entry) (reals .entry) (parts .entry) (ranges .entry)) edge r short) (now (first .entry)) (now (second .entry)) w (now (first .exit)) (now (second .exit)) ⌝ }
-{
-    let drawn = redraw(
-        points,
-        curves,
-        reals,
-        parts,
-        ranges,
-        edge,
-        r,
-        short,
-        first,
-        second,
-    );
-    match drawn {
-        Counted::Refused(cause) => Drawn::Refused(cause),
-        Counted::Count(n) => arc_or_chord(points, edge, r, n, first, second),
+    let natural = curve::natural_range(points, curves, reals, parts, ranges, edge.curve);
+    let span = natural.span();
+    if arith::is_finite(span) && 0.0 < span {
+        let short = short_range(points, curves, reals, parts, ranges, edge);
+        if 0.0 < short.span() {
+            return Usable::Range(short);
+        }
     }
+    Usable::Unusable
 }
 
-// Where the range itself ran away: the arc between the parameters at which the vertices sit, else the chord.
+// Where the range itself ran away: the short arc, drawn and tried, else the chord.
 fn by_short_arc(
     points: &[f64],
     curves: &[u32],
@@ -186,26 +145,17 @@ fn by_short_arc(
     requires { ⌜ (8 ≤ length (now first)) × (8 ≤ length (now second)) × (length (curveKnots (tree (lent points curves reals parts ranges) (edge .curve))) ≤ 8192) ⌝ }
     ensures { λ w. ⌜ Redrawn (λ room. byShortArc room (lent (points .entry) (curves .entry) (reals .entry) (parts .entry) (ranges .entry)) edge r) (now (first .entry)) (now (second .entry)) w (now (first .exit)) (now (second .exit)) ⌝ }
 {
-    let natural = curve::natural_range(points, curves, reals, parts, ranges, edge.curve);
-    let span = natural.span();
-    if arith::is_finite(span) && 0.0 < span {
-        let short = short_range(points, curves, reals, parts, ranges, edge);
-        if 0.0 < short.span() {
-            return draw_short(
-                points,
-                curves,
-                reals,
-                parts,
-                ranges,
-                edge,
-                r,
-                short,
-                first,
-                second,
-            );
-        }
+    let arc = short_arc(points, curves, reals, parts, ranges, edge);
+    let Usable::Range(short) = arc else {
+        lists::clear_from(first, 0);
+        return runaway(points, edge, second);
+    };
+    let d = with_range(edge, short);
+    let drawn = edge::discretise(points, curves, reals, parts, ranges, d, r, second, first);
+    match drawn {
+        Counted::Refused(cause) => Drawn::Refused(cause),
+        Counted::Count(n) => arc_or_chord(points, edge, r, second, n),
     }
-    runaway(points, edge, first, second)
 }
 
 // The complementary arc, drawn and tried; where it escapes too, the short arc.
@@ -224,18 +174,8 @@ fn draw_complement(
     requires { ⌜ (8 ≤ length (now first)) × (8 ≤ length (now second)) × (length (curveKnots (tree (lent points curves reals parts ranges) (edge .curve))) ≤ 8192) ⌝ }
     ensures { λ w. ⌜ Redrawn (drawnComplement (lent (points .entry) (curves .entry) (reals .entry) (parts .entry) (ranges .entry)) edge r complement) (now (first .entry)) (now (second .entry)) w (now (first .exit)) (now (second .exit)) ⌝ }
 {
-    let drawn = redraw(
-        points,
-        curves,
-        reals,
-        parts,
-        ranges,
-        edge,
-        r,
-        complement,
-        first,
-        second,
-    );
+    let d = with_range(edge, complement);
+    let drawn = edge::discretise(points, curves, reals, parts, ranges, d, r, second, first);
     match drawn {
         Counted::Refused(cause) => Drawn::Refused(cause),
         Counted::Count(n) => {
@@ -247,84 +187,30 @@ fn draw_complement(
     }
 }
 
-// The complement runs from where the arc ends back round to where it began.
-fn by_complement(
+// The range of the complementary arc, where there is one: it runs from where the arc ends back round to where it began, on
+// a periodic curve.
+fn complement_arc(
     points: &[f64],
     curves: &[u32],
     reals: &[f64],
     parts: &[u32],
     ranges: &[f64],
     edge: Edge,
-    r: Resolved,
-    p: f64,
-    first: &mut [f64],
-    second: &mut [f64],
-) -> Drawn
-    requires { ⌜ (8 ≤ length (now first)) × (8 ≤ length (now second)) × (length (curveKnots (tree (lent points curves reals parts ranges) (edge .curve))) ≤ 8192) ⌝ }
-    ensures { λ w. ⌜ Redrawn (λ room. byComplement room (lent (points .entry) (curves .entry) (reals .entry) (parts .entry) (ranges .entry)) edge r p) (now (first .entry)) (now (second .entry)) w (now (first .exit)) (now (second .exit)) ⌝ }
+) -> Usable
+    ensures { λ u. ⌜ u ≡ complementArc (lent (points .entry) (curves .entry) (reals .entry) (parts .entry) (ranges .entry)) edge ⌝ }
 {
+    let period = curve::period(points, curves, reals, parts, ranges, edge.curve);
+    let Repeats::Every(p) = period else {
+        return Usable::Unusable;
+    };
     let complement = Interval {
         lo: edge.range.hi,
         hi: edge.range.lo + p,
     };
     if 0.0 < complement.span() {
-        return draw_complement(
-            points,
-            curves,
-            reals,
-            parts,
-            ranges,
-            edge,
-            r,
-            complement,
-            first,
-            second,
-        );
+        return Usable::Range(complement);
     }
-    by_short_arc(points, curves, reals, parts, ranges, edge, r, first, second)
-}
-
-// Only a periodic curve has a complementary arc.
-fn by_period(
-    points: &[f64],
-    curves: &[u32],
-    reals: &[f64],
-    parts: &[u32],
-    ranges: &[f64],
-    edge: Edge,
-    r: Resolved,
-    period: Repeats,
-    first: &mut [f64],
-    second: &mut [f64],
-) -> Drawn
-    requires { ⌜ (8 ≤ length (now first)) × (8 ≤ length (now second)) × (length (curveKnots (tree (lent points curves reals parts ranges) (edge .curve))) ≤ 8192) ⌝ }
-    ensures { λ w. ⌜ Redrawn (λ room. byPeriod room (lent (points .entry) (curves .entry) (reals .entry) (parts .entry) (ranges .entry)) edge r period) (now (first .entry)) (now (second .entry)) w (now (first .exit)) (now (second .exit)) ⌝ }
-{
-    match period {
-        Repeats::Every(p) => by_complement(
-            points,
-            curves,
-            reals,
-            parts,
-            ranges,
-            edge,
-            r,
-            p,
-            first,
-            second,
-        ),
-        Repeats::Never => by_short_arc(
-            points,
-            curves,
-            reals,
-            parts,
-            ranges,
-            edge,
-            r,
-            first,
-            second,
-        ),
-    }
+    Usable::Unusable
 }
 
 // Whether a chain stays: a box of no extent cannot say that anything ran away from it.
@@ -359,15 +245,16 @@ pub fn repair_runaway(
 ) -> Drawn
     requires { ⌜ (8 ≤ length (now first)) × (8 ≤ length (now second)) × (length (curveKnots (tree (lent points curves reals parts ranges) (edge .curve))) ≤ 8192)
         × (width * n ≤ length (now first)) × (now first ≡ filled (length (now first)) (flat (samples n (now first)))) × (now second ≡ filled (length (now second)) []) × (inFirst way ≡ true) ⌝ }
-    ensures { λ w. ⌜ (w ≡ answerOf (repaired (roomOf (length (now (first .entry))) (length (now (second .entry)))) (lent (points .entry) (curves .entry) (reals .entry) (parts .entry) (ranges .entry)) edge r (by way (samples n (now (first .entry))))))
-        × (now (first .exit) ≡ firstAfter (now (first .entry)) (repaired (roomOf (length (now (first .entry))) (length (now (second .entry)))) (lent (points .entry) (curves .entry) (reals .entry) (parts .entry) (ranges .entry)) edge r (by way (samples n (now (first .entry))))))
-        × (now (second .exit) ≡ secondAfter (now (second .entry)) (repaired (roomOf (length (now (first .entry))) (length (now (second .entry)))) (lent (points .entry) (curves .entry) (reals .entry) (parts .entry) (ranges .entry)) edge r (by way (samples n (now (first .entry)))))) ⌝ }
+    ensures { λ w. ⌜ Left (repaired (roomOf (length (now (first .entry))) (length (now (second .entry)))) (lent (points .entry) (curves .entry) (reals .entry) (parts .entry) (ranges .entry)) edge r (by way (samples n (now (first .entry))))) (now (first .entry)) (now (second .entry)) w (now (first .exit)) (now (second .exit)) ⌝ }
 {
     if stays(points, edge, r, first, n) {
         return Drawn::Chain(way, n);
     }
-    let period = curve::period(points, curves, reals, parts, ranges, edge.curve);
-    by_period(
+    let arc = complement_arc(points, curves, reals, parts, ranges, edge);
+    let Usable::Range(complement) = arc else {
+        return by_short_arc(points, curves, reals, parts, ranges, edge, r, first, second);
+    };
+    draw_complement(
         points,
         curves,
         reals,
@@ -375,7 +262,7 @@ pub fn repair_runaway(
         ranges,
         edge,
         r,
-        period,
+        complement,
         first,
         second,
     )

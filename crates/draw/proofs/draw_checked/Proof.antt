@@ -10,12 +10,6 @@ use Rattle.draw.proofs.Laws.{by-length, by-drawing, first-short, second
 use borrow.Author.Needs.{needs}
 use Rattle.draw.proofs.draw_checked.Statement.{statement}
 use Rattle.draw.proofs.draw_checked.Tie as tie
-use Rattle.draw.proofs.draw_checked.Reads as reads
-use Rattle.draw.proofs.draw_checked.Lts as lts
-use Rattle.draw.proofs.drawn_in.Reads as drawn-in-reads
-use Rattle.draw.proofs.fitting.Reads as fitting-reads
-use Rattle.draw.proofs.fitting_ends.Reads as fitting-ends-reads
-use Rattle.draw.proofs.local_options.Reads as local-options-reads
 
 returns : tie.Need-returns
 returns c = let a = c .before .before .before .before .before .before .before .before .args in by-length (lent (a .points) (a .curves) (a .reals) (a .parts) (a .ranges)) (a .edge) (a .options) (a .first .now) (a .second .now) (c .before .before .before .before .before .before .before .before .pre) (elim (c .if1 .came) [ inl x ↦ first-short (length (a .first .now)) (length (a .second .now)) (x .taken) | inr y ↦ second-short (length (a .first .now)) (length (a .second .now)) (ltb-true (length (a .second .now)) 8 (y .1 .taken)) ])

@@ -1,17 +1,23 @@
 -- `draw::drawn_in` meets its contract. Assumes nothing.
-use Rattle.brep.specs.Rows.{lent}
+use Rattle.brep.specs.Rows.{Tables, lent}
 use mathlib.Core.Path.{ap, _∙_}
-use Rattle.chains.specs.Draw.{firstWay, inFirst}
-use Rattle.draw.proofs.Laws.{not-drawn, Counts, counts, first-enough, second-enough, first-in-first, drawn-on}
+use denote.Ref.{now}
+use Rattle.chains.specs.Draw.{inFirst}
+use Rattle.draw.proofs.Laws.{not-drawn, Counts, counts, first-in-first, drawn-on}
 use borrow.Author.Needs.{needs}
 use Rattle.draw.proofs.drawn_in.Statement.{statement}
 use Rattle.draw.proofs.drawn_in.Tie as tie
-use Rattle.draw.proofs.drawn_in.Reads as reads
-use Rattle.draw.proofs.drawn_in.Lts as lts
-use Rattle.edge.proofs.discretise.Reads as discretise-reads
-use Rattle.draw.proofs.first_way.Reads as first-way-reads
-use Rattle.repair.proofs.repair_runaway.Reads as repair-runaway-reads
-use Rattle.usable.proofs.usable_range.Reads as usable-range-reads
+
+-- the tables as they are lent
+abbrev tables-of : tie.Start → Tables
+tables-of s = let a = s .args in lent (a .points) (a .curves) (a .reals) (a .parts) (a .ranges)
+
+-- the chain that was drawn
+told : (f : tie.After-counted2) → let s = f .before .before .before .before .before .before .before .before .before .before .before .before .before .before .before .before in
+    Counts (tables-of s) (s .args .edge) (s .args .r) (now (s .args .first)) (now (s .args .second)) (s .pre .0) (s .pre .1) (f .before .before .before .before .before .before .discretise .ensures) (f .counted2 .given .0 .0)
+told f =
+    let s = f .before .before .before .before .before .before .before .before .before .before .before .before .before .before .before .before in
+    counts (tables-of s) (s .args .edge) (s .args .r) (now (s .args .first)) (now (s .args .second)) (s .pre .0) (s .pre .1) (f .before .before .before .before .before .before .discretise .ensures) _ (f .counted2 .given .1)
 
 discretise-requires : tie.Need-discretise-requires
 discretise-requires c κs = search needs
@@ -22,14 +28,13 @@ enum-known-counted c = search needs
 enum-known-counted-2 : tie.Need-enum-known-counted-2
 enum-known-counted-2 c = search needs
 
-usable-range-requires : tie.Need-usable-range-requires
-usable-range-requires c κs = search needs
-
 first-way-requires : tie.Need-first-way-requires
 first-way-requires c κs = search needs
 
 repair-runaway-requires : tie.Need-repair-runaway-requires
-repair-runaway-requires c κs = let a = c .before .before .before .before .before .before .before .before .before .before .before .before .before .before .before .before .before .before .before .before .before .args in let pre = c .before .before .before .before .before .before .before .before .before .before .before .before .before .before .before .before .before .before .before .before .before .pre in let d = c .before .before .before .before .before .before .before .before .before .before .before .discretise .ensures in let k = counts (lent (a .points) (a .curves) (a .reals) (a .parts) (a .ranges)) (a .edge) (a .r) (a .first .now) (a .second .now) (pre .0) (pre .1) _ _ _ (d .0) (d .1) (d .2) _ (c .before .before .before .before .before .counted2 .given .1) in (first-enough (lent (a .points) (a .curves) (a .reals) (a .parts) (a .ranges)) (a .edge) (a .r) (a .first .now) (a .second .now) (pre .0) (pre .1) _ _ _ (d .0) (d .1) (d .2) _ k, second-enough (lent (a .points) (a .curves) (a .reals) (a .parts) (a .ranges)) (a .edge) (a .r) (a .first .now) (a .second .now) (pre .0) (pre .1) _ _ _ (d .0) (d .1) (d .2) _ k, pre .2, k .fits, k .alone, k .clear, ap inFirst (c .before .before .first-way .ensures) ∙ first-in-first _)
+repair-runaway-requires c κs =
+    let k = told (c .before .before .before .before) in
+    (k .first-enough, k .second-enough, c .before .before .before .before .before .before .before .before .before .before .before .before .before .before .before .before .before .before .before .before .pre .2, k .fits, k .alone, k .clear, ap inFirst (c .before .before .first-way .ensures) ∙ first-in-first _)
 
 same-length : tie.Need-same-length
 same-length c = search needs
@@ -38,7 +43,9 @@ same-length-2 : tie.Need-same-length-2
 same-length-2 c = search needs
 
 returns : tie.Need-returns
-returns c = let a = c .before .before .before .before .before .before .before .before .before .before .before .before .before .before .before .before .before .args in let d = c .before .before .before .before .before .before .before .discretise .ensures in not-drawn (lent (a .points) (a .curves) (a .reals) (a .parts) (a .ranges)) (a .edge) (a .r) (a .first .now) (a .second .now) (c .before .before .before .before .before .before .before .before .before .before .before .before .before .before .before .before .before .pre .0) (c .before .before .before .before .before .before .before .before .before .before .before .before .before .before .before .before .before .pre .1) _ _ _ (d .0) (d .1) (d .2) _ (c .before .counted .given .1)
+returns c =
+    let s = c .before .before .before .before .before .before .before .before .before .before .before .before .before .before .before .before .before in
+    not-drawn (tables-of s) (s .args .edge) (s .args .r) (now (s .args .first)) (now (s .args .second)) (s .pre .0) (s .pre .1) (c .before .before .before .before .before .before .before .discretise .ensures) _ (c .before .counted .given .1)
 
 same-length-3 : tie.Need-same-length-3
 same-length-3 c = search needs
@@ -47,7 +54,9 @@ same-length-4 : tie.Need-same-length-4
 same-length-4 c = search needs
 
 returns-2 : tie.Need-returns-2
-returns-2 c = let a = c .before .before .before .before .before .before .before .before .before .before .before .before .before .before .before .before .before .before .before .before .before .before .before .before .before .before .args in let pre = c .before .before .before .before .before .before .before .before .before .before .before .before .before .before .before .before .before .before .before .before .before .before .before .before .before .before .pre in let d = c .before .before .before .before .before .before .before .before .before .before .before .before .before .before .before .before .discretise .ensures in let k = counts (lent (a .points) (a .curves) (a .reals) (a .parts) (a .ranges)) (a .edge) (a .r) (a .first .now) (a .second .now) (pre .0) (pre .1) _ _ _ (d .0) (d .1) (d .2) _ (c .before .before .before .before .before .before .before .before .before .before .counted2 .given .1) in drawn-on (lent (a .points) (a .curves) (a .reals) (a .parts) (a .ranges)) (a .edge) (a .r) (a .first .now) (a .second .now) (pre .0) (pre .1) _ _ _ (d .0) (d .1) (d .2) _ k _ (c .before .before .before .before .before .before .before .first-way .ensures ∙ ap firstWay (c .before .before .before .before .before .before .before .before .usable-range .ensures)) _ _ _ (c .before .before .before .before .repair-runaway .ensures)
+returns-2 c =
+    let s = c .before .before .before .before .before .before .before .before .before .before .before .before .before .before .before .before .before .before .before .before .before .before .before .before .before in
+    drawn-on (tables-of s) (s .args .edge) (s .args .r) (now (s .args .first)) (now (s .args .second)) (s .pre .0) (s .pre .1) (c .before .before .before .before .before .before .before .before .before .before .before .before .before .before .before .discretise .ensures) _ (told (c .before .before .before .before .before .before .before .before .before)) _ (c .before .before .before .before .before .before .before .first-way .ensures) (c .before .before .before .before .repair-runaway .ensures)
 
 pub drawn-in-spec : {M : Type 1} → statement M
 drawn-in-spec =
@@ -56,7 +65,6 @@ drawn-in-spec =
     discretise-requires
     enum-known-counted
     enum-known-counted-2
-    usable-range-requires
     first-way-requires
     repair-runaway-requires
     same-length

@@ -3,11 +3,6 @@ use Rattle.chains.specs.Draw.{localOptions}
 use borrow.Author.Needs.{needs}
 use Rattle.draw.proofs.local_options.Statement.{statement}
 use Rattle.draw.proofs.local_options.Tie as tie
-use Rattle.draw.proofs.local_options.Reads as reads
-use Rattle.draw.proofs.local_options.Lts as lts
-use Rattle.extent.proofs.edge_extent.Reads as edge-extent-reads
-use Rattle.options.proofs.Options.resolve.Reads as resolve-reads
-use Rattle.options.proofs.Resolved.for_extent.Reads as for-extent-reads
 
 edge-extent-requires : tie.Need-edge-extent-requires
 edge-extent-requires c κs = search needs
@@ -20,7 +15,7 @@ for-extent-requires c κs = search needs
 
 returns : tie.Need-returns
 unfolding localOptions
-returns c = cc
+returns c = rw (c .for-extent .ensures, c .before .resolve .ensures, c .before .before .edge-extent .ensures)
 
 pub local-options-spec : {M : Type 1} → statement M
 local-options-spec =

@@ -8,7 +8,7 @@ use lib.ListN.{length}
 use Rattle.lists.specs.Room.{filled}
 use Rattle.brep.specs.Rows.{Tables, lent}
 use Rattle.chains.specs.Draw.{roomOf}
-use Rattle.edge.proofs.Drawing.{Lent, lent-part, whole-length, drew-range, drew-chord}
+use Rattle.edge.proofs.Drawing.{Lent, lent-part, whole-length, cleared-whole, drew-range, drew-chord}
 use borrow.Author.Needs.{needs}
 use Rattle.edge.proofs.discretise.Statement.{statement}
 use Rattle.edge.proofs.discretise.Tie as tie
@@ -50,7 +50,7 @@ returns : tie.Need-returns
 returns c =
     let st = c .before .before .before .before .before .before .before .before .before .before .before .before .before .before .before .before .before .before in
     let z = drew-chord (room-of st) (tables-of st) (st .args .edge) (st .args .r) (length (now (st .args .chain))) _ (c .before .before .before .before .before .before .before .before .before .before .usable-range .ensures) (c .before .before .before .before .before .before .before .before .enum-told .given .1) refl (c .before .before .before .before .before .before .chord .ensures) in
-    (z .0, z .1, c .before .before .clear-from .ensures)
+    record { drew = z; cleared = c .before .before .clear-from .ensures }
 
 room-requires : tie.Need-room-requires
 room-requires c κs = search needs
@@ -67,7 +67,9 @@ draw-range-requires c κs =
     (omega (arith, l .few, l .size), omega (arith, l .fits, l .size), c .before .before .before .before .before .before .before .before .before .before .before .before .before .before .pre .2)
 
 clear-from-requires-2 : tie.Need-clear-from-requires-2
-clear-from-requires-2 c κs = search needs
+clear-from-requires-2 c κs =
+    let l = told (c .before .before .before .before .before .before .before .before) in
+    omega (arith, l .inside, whole-length (c .before .before .before .before .before .before .before .before .room .result) (c .before .before .before .before .before .draw-range .last .1 .1 .1 .1 .1 .1 .1 .1 .1 .0) (now (c .before .before .before .before .before .before .before .before .before .before .before .before .before .before .before .before .before .before .before .before .args .scratch)) (c .before .before .before .before .scratch2 .given .0))
 
 same-length-3 : tie.Need-same-length-3
 same-length-3 c = search needs
@@ -79,11 +81,14 @@ returns-2 : tie.Need-returns-2
 returns-2 c =
     let st = c .before .before .before .before .before .before .before .before .before .before .before .before .before .before .before .before .before .before .before .before .before .before .before in
     let n = c .before .before .before .before .before .before .before .before .before .before .before .room in
+    let l = told (c .before .before .before .before .before .before .before .before .before .before .before) in
     let d = c .before .before .before .before .before .before .before .before .draw-range in
-    let z =
-    drew-range (room-of st) (tables-of st) (st .args .edge) (st .args .r) (length (now (st .args .chain))) _ (c .before .before .before .before .before .before .before .before .before .before .before .before .before .before .before .usable-range .ensures) _ _ (c .before .before .before .before .before .before .before .before .before .before .before .before .before .usable .given .1)
-    (told (c .before .before .before .before .before .before .before .before .before .before .before) .size ∙ n .ensures) (d .ensures .0, d .ensures .1) in
-    (z .0, z .1, c .before .before .clear-from2 .ensures ∙ ap (λ (i : ℕ). filled i []) (whole-length (n .result) (d .last .1 .1 .1 .1 .1 .1 .1 .1 .1 .0) (now (st .args .scratch)) (c .before .before .before .before .before .before .before .scratch2 .given .0)))
+    record {
+      drew =
+          drew-range (room-of st) (tables-of st) (st .args .edge) (st .args .r) (length (now (st .args .chain))) _ (c .before .before .before .before .before .before .before .before .before .before .before .before .before .before .before .usable-range .ensures) _ _ (c .before .before .before .before .before .before .before .before .before .before .before .before .before .usable .given .1)
+          (l .size ∙ n .ensures) (d .ensures .0);
+      cleared = cleared-whole (n .result) (d .last .1 .1 .1 .1 .1 .1 .1 .1 .1 .0) (now (st .args .scratch)) (l .inside) (d .ensures .1) (c .before .before .clear-from2 .ensures);
+    }
 
 pub discretise-spec : {M : Type 1} → statement M
 discretise-spec =

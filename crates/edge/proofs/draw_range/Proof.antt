@@ -10,7 +10,7 @@ use Rattle.sample.specs.Sample.{sampled}
 use Rattle.chains.specs.Edge.{edgeCurve}
 use Rattle.brep.specs.Rows.{Tables, lent}
 use Rattle.lists.specs.Result.{Result}
-use Rattle.edge.proofs.Drawing.{Sampling, sampling-some, part-room, part-length, placed-room, drew-some, drew-none}
+use Rattle.edge.proofs.Drawing.{Sampling, sampling-some, part-room, part-length, cleared-used, placed-room, drew-some, drew-none, none-listed}
 use Rattle.edge.proofs.draw_range.Statement.{statement}
 use Rattle.edge.proofs.draw_range.Tie as tie
 
@@ -53,27 +53,34 @@ returns : tie.Need-returns
 returns c =
     let st = c .before .before .before .before .before .before .before .before .before .before .before .before .before .before .before .before .before in
     let p = c .before .before .before .before .before .before .before .before .sample-params .ensures in
-    let d =
-    drew-none (sampling st) _ _
-    (now (st .args .chain)) _ (p .0) (c .before .before .before .before .enum-told .given .1) (c .before .before .clear-from .ensures) in
-    (d .0, d .1, p .1)
+    let e = c .before .before .before .before .enum-told .given .1 in
+    (drew-none (sampling st) _ _ (now (st .args .chain)) _ (p .0) e (c .before .before .clear-from .ensures), none-listed _ (sampling st) _ (p .0) e (p .1))
 
-slice-reshare-prefix-place : tie.Need-slice-reshare-prefix-place
-slice-reshare-prefix-place c = part-room (told (c .before))
+slice-reshare-prefix-params : tie.Need-slice-reshare-prefix-params
+slice-reshare-prefix-params c = part-room (told (c .before))
 
-slice-aggregate-place : tie.Need-slice-aggregate-place
-slice-aggregate-place c = sym (part-length (told (c .before .before)))
+slice-aggregate-params : tie.Need-slice-aggregate-params
+slice-aggregate-params c = sym (part-length (told (c .before .before)))
 
 place-requires : tie.Need-place-requires
 place-requires c κs =
     let s = told (c .before .before .before) in
     (omega (arith, s .two, part-length s), omega (arith, s .fits, part-length s, c .before .before .before .before .before .before .before .before .before .before .before .before .before .before .before .before .pre .1))
 
+slice-relend-prefix-used : tie.Need-slice-relend-prefix-used
+slice-relend-prefix-used c = part-room (told (c .before .before .before .before .before .before))
+
+slice-aggregate-used : tie.Need-slice-aggregate-used
+slice-aggregate-used c = sym (part-length (told (c .before .before .before .before .before .before .before)))
+
+clear-from-requires-2 : tie.Need-clear-from-requires-2
+clear-from-requires-2 c κs = omega (arith, part-length (told (c .before .before .before .before .before .before .before)))
+
 finish-requires : tie.Need-finish-requires
 finish-requires c κs =
-    let s = told (c .before .before .before .before .before .before .before) in
-    let st = c .before .before .before .before .before .before .before .before .before .before .before .before .before .before .before .before .before .before .before .before in
-    (s .two, omega (arith, s .fits, st .pre .0), placed-room (tables-of st) (st .args .edge) (st .args .r) (st .args .range) s (now (st .args .chain)) _ (omega (arith, s .fits, st .pre .1)) (c .before .before .before .place .ensures))
+    let s = told (c .before .before .before .before .before .before .before .before .before .before .before) in
+    let st = c .before .before .before .before .before .before .before .before .before .before .before .before .before .before .before .before .before .before .before .before .before .before .before .before in
+    (s .two, omega (arith, s .fits, st .pre .0), placed-room (tables-of st) (st .args .edge) (st .args .r) (st .args .range) s (now (st .args .chain)) _ (omega (arith, s .fits, st .pre .1)) (c .before .before .before .before .before .before .before .place .ensures))
 
 same-length-3 : tie.Need-same-length-3
 same-length-3 c = search needs
@@ -83,13 +90,11 @@ same-length-4 c = search needs
 
 returns-2 : tie.Need-returns-2
 returns-2 c =
-    let s = told (c .before .before .before .before .before .before .before .before .before .before) in
-    let st = c .before .before .before .before .before .before .before .before .before .before .before .before .before .before .before .before .before .before .before .before .before .before .before in
-    let d =
-    drew-some (tables-of st)
-    (st .args .edge) (st .args .r) (st .args .range) s (now (st .args .chain)) _ (omega (arith, s .fits, st .pre .1))
-    (c .before .before .before .before .before .before .place .ensures) _ _ (c .before .before .finish .ensures) in
-    (d .0, d .1, c .before .before .before .before .before .before .before .before .before .before .before .before .before .before .sample-params .ensures .1)
+    let s = told (c .before .before .before .before .before .before .before .before .before .before .before .before .before .before) in
+    let st = c .before .before .before .before .before .before .before .before .before .before .before .before .before .before .before .before .before .before .before .before .before .before .before .before .before .before .before in (
+      drew-some (tables-of st) (st .args .edge) (st .args .r) (st .args .range) s (now (st .args .chain)) _ (omega (arith, s .fits, st .pre .1)) (c .before .before .before .before .before .before .before .before .before .before .place .ensures) _ _ (c .before .before .finish .ensures),
+      cleared-used s (c .before .before .before .before .before .before .clear-from2 .ensures),
+    )
 
 pub draw-range-spec : {M : Type 1} → statement M
 draw-range-spec =
@@ -102,9 +107,12 @@ draw-range-spec =
     same-length
     same-length-2
     returns
-    slice-reshare-prefix-place
-    slice-aggregate-place
+    slice-reshare-prefix-params
+    slice-aggregate-params
     place-requires
+    slice-relend-prefix-used
+    slice-aggregate-used
+    clear-from-requires-2
     finish-requires
     same-length-3
     same-length-4

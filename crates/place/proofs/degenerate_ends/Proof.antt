@@ -18,7 +18,7 @@ length-squared-requires c κs = search needs
 
 returns : tie.Need-returns
 unfolding degenerateEnds
-returns c = cc
+returns c = rw (c .length-squared .ensures, c .before .sub .ensures, c .before .before .before .point2 .ensures, c .before .before .before .before .point .ensures)
 
 pub degenerate-ends-spec : {M : Type 1} → statement M
 degenerate-ends-spec =

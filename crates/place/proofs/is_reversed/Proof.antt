@@ -51,7 +51,7 @@ returns-2 c =
     let a = c .before .before .before .before .before .before .before .before .before .before .before .before .before .before .before .before .before .args in
     let T = lent (a .points) (a .curves) (a .reals) (a .parts) (a .ranges) in
     let made = c .before .before .before .before .before .before .before .before .before .before .before .before .before .before .before .before .before .pre .1 in
-    simp (c .length-squared2 .ensures, c .before .sub2 .ensures, c .before .before .length-squared .ensures, c .before .before .before .sub .ensures, on-curve T (a .edge) _ made (c .before .before .before .before .point-of2 .ensures), on-curve T (a .edge) _ made (c .before .before .before .before .before .point-of .ensures), c .before .before .before .before .before .before .before .before .point .ensures)
+    rw (c .length-squared2 .ensures, c .before .sub2 .ensures, c .before .before .length-squared .ensures, c .before .before .before .sub .ensures, on-curve T (a .edge) _ made (c .before .before .before .before .point-of2 .ensures), on-curve T (a .edge) _ made (c .before .before .before .before .before .point-of .ensures), c .before .before .before .before .before .before .before .before .point .ensures)
     (back-by-ends T (a .edge) (now (a .params)) (sym (c .before .before .before .before .before .before .before .before .before .before .degenerate-ends .ensures) ∙ c .before .before .before .before .before .before .before .before .before .if1 .left))
 
 pub is-reversed-spec : {M : Type 1} → statement M

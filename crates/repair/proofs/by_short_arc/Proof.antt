@@ -1,30 +1,48 @@
--- `repair::by_short_arc` meets its contract, by the tests of the two spans. Assumes nothing.
-use Rattle.repair.proofs.Held.{redrawn-is}
-use Rattle.repair.proofs.Ways.{by-short, by-chord, short-span, short-endless, short-flat}
-use mathlib.Core.Logic.{⊎-elim}
-use Rattle.brep.specs.Rows.{lent}
-use mathlib.Core.Bool.{true, false}
+-- `repair::by_short_arc` meets its contract: the records in the second buffer are the arc that was drawn. Assumes nothing.
+use Rattle.repair.proofs.Held.{Redrew, redrew, drew, drew-room, drew-own, drew-reads, redrawn-refused, redrawn-second, second-is}
+use Rattle.repair.proofs.Ways.{arc-points, short-unusable, short-bind, short-drawn}
+use Rattle.chains.specs.Edge.{discretised}
+use Rattle.chains.specs.Repair.{withRange, arcOrChord}
+use Rattle.chains.specs.Draw.{roomOf}
+use Rattle.brep.specs.Rows.{Tables, lent}
+use denote.Ref.{now}
+use lib.ListN.{length}
+use native.Mathlib.Omega.{arith}
+use Prim.Native.Nat.{ℕ}
+use mathlib.Core.Path.{refl, ap, sym, _∙_}
 use borrow.Author.Needs.{needs}
 use Rattle.repair.proofs.by_short_arc.Statement.{statement}
 use Rattle.repair.proofs.by_short_arc.Tie as tie
 
-natural-range-requires : tie.Need-natural-range-requires
-natural-range-requires c κs = search needs
+-- the tables as they are lent, and the room that both buffers give
+abbrev tables-of : tie.Start → Tables
+tables-of s = let a = s .args in lent (a .points) (a .curves) (a .reals) (a .parts) (a .ranges)
 
-span-requires : tie.Need-span-requires
-span-requires c κs = search needs
+abbrev room-of : tie.Start → ℕ
+room-of s = roomOf (length (now (s .args .first))) (length (now (s .args .second)))
 
-is-finite-requires : tie.Need-is-finite-requires
-is-finite-requires c κs = search needs
+-- the arc that was drawn
+told : (f : tie.After-discretise) → let s = f .before .before .before .before .before .before .before .before .before .before .before .before .before .before .before in
+    Redrew (discretised (room-of s) (tables-of s) (withRange (s .args .edge) (f .before .before .before .before .before .arc .given .0 .0)) (s .args .r))
+    (now (s .args .first)) (now (s .args .second)) (f .discretise .result) (f .discretise .last .1 .1 .1 .1 .1 .1 .1 .1 .0) (f .discretise .last .1 .1 .1 .1 .1 .1 .1 .0)
+told f =
+    let s = f .before .before .before .before .before .before .before .before .before .before .before .before .before .before .before in
+    redrew (tables-of s) _ _ (s .args .r) (s .pre .0) (s .pre .1) (f .before .before .before .with-range .ensures) (f .discretise .ensures)
 
-short-range-requires : tie.Need-short-range-requires
-short-range-requires c κs = search needs
+short-arc-requires : tie.Need-short-arc-requires
+short-arc-requires c κs = search needs
 
-span-requires-2 : tie.Need-span-requires-2
-span-requires-2 c κs = search needs
+enum-known-arc : tie.Need-enum-known-arc
+enum-known-arc c = search needs
 
-draw-short-requires : tie.Need-draw-short-requires
-draw-short-requires c κs = search needs
+enum-told : tie.Need-enum-told
+enum-told c = search needs
+
+clear-from-requires : tie.Need-clear-from-requires
+clear-from-requires c κs = search needs
+
+runaway-requires : tie.Need-runaway-requires
+runaway-requires c κs = search needs
 
 same-length : tie.Need-same-length
 same-length c = search needs
@@ -34,16 +52,28 @@ same-length-2 c = search needs
 
 returns : tie.Need-returns
 returns c =
-    let a = c .before .before .before .before .before .before .before .before .before .before .before .before .before .before .before .before .before .before .before .before .before .before .args in
-    let T = lent (a .points) (a .curves) (a .reals) (a .parts) (a .ranges) in
-    let s = c .before .before .before .before .before .before .before .before in
-    let f = s .before .before .before .before in
-    redrawn-is (c .before .before .before .before .draw-short .ensures) _
-    (by-short T (a .edge) (a .r) _ _ (s .before .short-range .ensures)
-    (short-span T (a .edge) (f .before .before .natural-range .ensures) (f .before .span .ensures) (f .is-finite .ensures) true (s .before .short-range .ensures) (s .span2 .ensures) (s .before .before .before .if1 .taken) (s .before .before .if2 .taken) (c .before .before .before .before .before .before .before .if3 .taken)))
+    let s = c .before .before .before .before .before .before .before .before .before .before .before .before .before .before .before .before .before .before in
+    redrawn-second (c .before .before .runaway .ensures) _ (now (s .args .first)) (now (s .args .second)) _ refl (c .before .before .before .before .before .before .clear-from .ensures)
+    (short-unusable (tables-of s) (s .args .edge) (s .args .r) (room-of s) (c .before .before .before .before .before .before .before .before .before .before .short-arc .ensures) (c .before .before .before .before .before .before .before .before .enum-told .given .1))
 
-runaway-requires : tie.Need-runaway-requires
-runaway-requires c κs = search needs
+with-range-requires : tie.Need-with-range-requires
+with-range-requires c κs = search needs
+
+discretise-requires : tie.Need-discretise-requires
+discretise-requires c κs =
+    let p = c .before .before .before .before .before .before .before .before .before .before .before .before .before .before .pre in
+    (p .1, p .0, rw (c .before .before .with-range .ensures) (p .2))
+
+enum-known-drawn : tie.Need-enum-known-drawn
+enum-known-drawn c = search needs
+
+enum-known-drawn-2 : tie.Need-enum-known-drawn-2
+enum-known-drawn-2 c = search needs
+
+arc-or-chord-requires : tie.Need-arc-or-chord-requires
+arc-or-chord-requires c κs =
+    let d = drew (told (c .before .before .before .before .before .before .before .before)) _ (c .before .before .drawn2 .given .1) (c .before .before .before .before .before .before .before .second2 .given) in
+    (omega (arith, c .before .before .before .before .before .before .before .before .before .before .before .before .before .before .before .before .before .before .before .before .before .before .before .pre .1), drew-room d, drew-own d)
 
 same-length-3 : tie.Need-same-length-3
 same-length-3 c = search needs
@@ -53,32 +83,47 @@ same-length-4 c = search needs
 
 returns-2 : tie.Need-returns-2
 returns-2 c =
-    let a = c .before .before .before .before .before .before .before .before .before .before .before .before .before .before .before .before .before .before .args in
-    let T = lent (a .points) (a .curves) (a .reals) (a .parts) (a .ranges) in
-    let f = c .before .before .before .before .before .before .before .before in
-    let n = f .before .before .natural-range .ensures in
-    let s = f .before .span .ensures in
-    let i = f .is-finite .ensures in
-    redrawn-is (c .before .before .before .before .runaway .ensures) _
-    (by-chord T (a .edge) (a .r) _
-    (⊎-elim (λ w. short-span T (a .edge) n s i false (w .2 .ensures) (w .3 .ensures) (w .0 .taken) (w .1 .taken) (w .4 .left))
-    (λ w. ⊎-elim (λ v. short-flat T (a .edge) n s i (v .0 .taken) (v .1 .left)) (λ v. short-endless T (a .edge) n s i (v .left)) (w .came))
-    (c .before .before .before .before .before .before .before .if1 .came)))
+    let s = c .before .before .before .before .before .before .before .before .before .before .before .before .before .before .before .before .before .before .before .before .before .before in
+    redrawn-refused (told (c .before .before .before .before .before .before .before)) _ _ _ (c .before .drawn .given .1)
+    (short-bind (tables-of s) (s .args .edge) (s .args .r) (room-of s) (c .before .before .before .before .before .before .before .before .before .before .before .before .before .before .short-arc .ensures) _ (c .before .before .before .before .before .before .before .before .before .before .before .before .arc .given .1))
+
+same-length-5 : tie.Need-same-length-5
+same-length-5 c = search needs
+
+same-length-6 : tie.Need-same-length-6
+same-length-6 c = search needs
+
+returns-3 : tie.Need-returns-3
+returns-3 c =
+    let s = c .before .before .before .before .before .before .before .before .before .before .before .before .before .before .before .before .before .before .before .before .before .before .before .before .before .before in
+    let t = told (c .before .before .before .before .before .before .before .before .before .before .before) in
+    let l = c .before .before .before .before .before .before .before .before .before .before .second2 .given in
+    let d = drew t _ (c .before .before .before .before .before .drawn2 .given .1) l in
+    redrawn-second
+    (second-is (c .before .before .arc-or-chord .ensures) _ (arc-points (tables-of s) (s .args .edge) (s .args .r) _ ∙ ap (arcOrChord (tables-of s) (s .args .edge) (s .args .r)) (drew-reads d)))
+    _ (now (s .args .first)) (now (s .args .second)) _ l (t .firstHolds)
+    (short-drawn (tables-of s) (s .args .edge) (s .args .r) (room-of s) (c .before .before .before .before .before .before .before .before .before .before .before .before .before .before .before .before .before .before .short-arc .ensures) _ (d .chain) (c .before .before .before .before .before .before .before .before .before .before .before .before .before .before .before .before .arc .given .1) (d .is))
 
 pub by-short-arc-spec : {M : Type 1} → statement M
 by-short-arc-spec =
     tie.close
     (tie.spec
-    natural-range-requires
-    span-requires
-    is-finite-requires
-    short-range-requires
-    span-requires-2
-    draw-short-requires
+    short-arc-requires
+    enum-known-arc
+    enum-told
+    clear-from-requires
+    runaway-requires
     same-length
     same-length-2
     returns
-    runaway-requires
+    with-range-requires
+    discretise-requires
+    enum-known-drawn
+    enum-known-drawn-2
+    arc-or-chord-requires
     same-length-3
     same-length-4
-    returns-2)
+    returns-2
+    same-length-5
+    same-length-6
+    returns-3)

@@ -1,21 +1,42 @@
 -- `repair::draw_complement` meets its contract: the records in the second buffer are the arc that was drawn. Assumes nothing.
-use Rattle.repair.proofs.Held.{drew, drew-room, drew-own, drew-reads, drew-escapes, redrawn-refused, redrawn-is, redrawn-from, redrawn-kept}
+use Rattle.repair.proofs.Held.{Redrew, redrew, drew, drew-room, drew-own, drew-reads, drew-escapes, redrawn-refused, redrawn-is, redrawn-from, redrawn-second, kept-second, second-is}
 use Rattle.repair.proofs.Ways.{complement-bind, complement-escapes, complement-stays}
-use Rattle.chains.specs.Repair.{by}
 use Rattle.chains.specs.declared.Way.the-variants.{Complement}
-use Rattle.samples.specs.declared.Sample.{Sample}
-use Rattle.lists.specs.Result.{got}
-use Rattle.brep.specs.Rows.{lent}
+use Rattle.chains.specs.Edge.{discretised}
+use Rattle.chains.specs.Repair.{by, withRange}
+use Rattle.chains.specs.Draw.{roomOf}
+use Rattle.brep.specs.Rows.{Tables, lent}
 use denote.Ref.{now}
+use lib.ListN.{length}
 use native.Mathlib.Omega.{arith}
-use mathlib.Core.List.{List}
-use mathlib.Core.Path.{refl, ap, _∙_}
+use Prim.Native.Nat.{ℕ}
+use mathlib.Core.Path.{refl, ap}
 use borrow.Author.Needs.{needs}
 use Rattle.repair.proofs.draw_complement.Statement.{statement}
 use Rattle.repair.proofs.draw_complement.Tie as tie
 
-redraw-requires : tie.Need-redraw-requires
-redraw-requires c κs = search needs
+-- the tables as they are lent, and the room that both buffers give
+abbrev tables-of : tie.Start → Tables
+tables-of s = let a = s .args in lent (a .points) (a .curves) (a .reals) (a .parts) (a .ranges)
+
+abbrev room-of : tie.Start → ℕ
+room-of s = roomOf (length (now (s .args .first))) (length (now (s .args .second)))
+
+-- the arc that was drawn
+told : (f : tie.After-discretise) → let s = f .before .before .before .before .before .before .before .before .before .before .before in
+    Redrew (discretised (room-of s) (tables-of s) (withRange (s .args .edge) (s .args .complement)) (s .args .r))
+    (now (s .args .first)) (now (s .args .second)) (f .discretise .result) (f .discretise .last .1 .1 .1 .1 .1 .1 .1 .1 .0) (f .discretise .last .1 .1 .1 .1 .1 .1 .1 .0)
+told f =
+    let s = f .before .before .before .before .before .before .before .before .before .before .before in
+    redrew (tables-of s) _ _ (s .args .r) (s .pre .0) (s .pre .1) (f .before .before .before .with-range .ensures) (f .discretise .ensures)
+
+with-range-requires : tie.Need-with-range-requires
+with-range-requires c κs = search needs
+
+discretise-requires : tie.Need-discretise-requires
+discretise-requires c κs =
+    let p = c .before .before .before .before .before .before .before .before .before .before .pre in
+    (p .1, p .0, rw (c .before .before .with-range .ensures) (p .2))
 
 enum-known-drawn : tie.Need-enum-known-drawn
 enum-known-drawn c = search needs
@@ -27,11 +48,11 @@ reference-requires : tie.Need-reference-requires
 reference-requires c κs = search needs
 
 escapes-requires : tie.Need-escapes-requires
-escapes-requires c κs = omega (arith, drew-room (drew (c .before .before .before .before .before .before .before .before .before .redraw .ensures) _ (c .before .before .before .drawn2 .given .1) (search needs)))
+escapes-requires c κs = omega (arith, drew-room (drew (told (c .before .before .before .before .before .before .before .before .before)) _ (c .before .before .before .drawn2 .given .1) (c .before .before .before .before .before .before .before .before .second .given)))
 
 by-short-arc-requires : tie.Need-by-short-arc-requires
 by-short-arc-requires c κs =
-    let p = c .before .before .before .before .before .before .before .before .before .before .before .before .before .before .before .before .before .before .before .before .before .before .before .pre in
+    let p = c .before .before .before .before .before .before .before .before .before .before .before .before .before .before .before .before .before .before .before .before .before .before .before .before .pre in
     (omega (arith, p .0), omega (arith, p .1), p .2)
 
 same-length : tie.Need-same-length
@@ -42,13 +63,11 @@ same-length-2 c = search needs
 
 returns : tie.Need-returns
 returns c =
-    let a = c .before .before .before .before .before .before .before .before .before .before .before .before .before .before .before .before .before .before .before .before .before .before .before .before .before .before .before .before .args in
-    let T = lent (a .points) (a .curves) (a .reals) (a .parts) (a .ranges) in
-    let e = c .before .before .before .before .before .before .before .before .before in
-    let d = drew (c .before .before .before .before .before .before .before .before .before .before .before .before .before .before .before .before .before .before .redraw .ensures) _ (c .before .before .before .before .before .before .before .before .before .before .before .before .drawn2 .given .1) (search needs) in
-    redrawn-is (redrawn-from (c .before .before .before .before .by-short-arc .ensures) (now (a .first)) (now (a .second)) (search needs) (search needs)) _
-    (complement-escapes T (a .edge) (a .r) (a .complement) _ (d .chain) (d .is)
-    (drew-escapes d (a .r) _ _ _ _ (e .before .reference .ensures) (c .before .before .before .before .before .before .before .before .escapes .ensures) (c .before .before .before .before .before .before .before .if1 .taken)))
+    let s = c .before .before .before .before .before .before .before .before .before .before .before .before .before .before .before .before .before .before .before .before .before .before .before .before .before .before .before .before .before in
+    let d = drew (told (c .before .before .before .before .before .before .before .before .before .before .before .before .before .before .before .before .before .before)) _ (c .before .before .before .before .before .before .before .before .before .before .before .before .drawn2 .given .1) (c .before .before .before .before .before .before .before .before .before .before .before .before .before .before .before .before .before .second .given) in
+    redrawn-is (redrawn-from (c .before .before .before .before .by-short-arc .ensures) (now (s .args .first)) (now (s .args .second)) (c .before .before .before .before .before .before .before .before .before .before .before .before .before .before .before .first .given) (c .before .before .before .before .before .before .before .before .before .before .before .before .before .before .before .before .before .second .given)) _
+    (complement-escapes (tables-of s) (s .args .edge) (s .args .r) (room-of s) (s .args .complement) (d .chain) (d .is)
+    (drew-escapes d (s .args .r) _ _ _ _ (c .before .before .before .before .before .before .before .before .before .before .reference .ensures) (c .before .before .before .before .before .before .before .before .escapes .ensures) (c .before .before .before .before .before .before .before .if1 .taken)))
 
 same-length-3 : tie.Need-same-length-3
 same-length-3 c = search needs
@@ -58,9 +77,8 @@ same-length-4 c = search needs
 
 returns-2 : tie.Need-returns-2
 returns-2 c =
-    let a = c .before .before .before .before .before .before .before .before .before .before .before .before .before .before .before .before .before .args in
-    let T = lent (a .points) (a .curves) (a .reals) (a .parts) (a .ranges) in
-    redrawn-refused (c .before .before .before .before .before .before .before .redraw .ensures) _ _ _ (c .before .drawn .given .1) (complement-bind T (a .edge) (a .r) (a .complement) _)
+    let s = c .before .before .before .before .before .before .before .before .before .before .before .before .before .before .before .before .before .before in
+    redrawn-refused (told (c .before .before .before .before .before .before .before)) _ _ _ (c .before .drawn .given .1) (complement-bind (tables-of s) (s .args .edge) (s .args .r) (room-of s) (s .args .complement))
 
 same-length-5 : tie.Need-same-length-5
 same-length-5 c = search needs
@@ -70,19 +88,20 @@ same-length-6 c = search needs
 
 returns-3 : tie.Need-returns-3
 returns-3 c =
-    let a = c .before .before .before .before .before .before .before .before .before .before .before .before .before .before .before .before .before .before .before .before .before .args in
-    let T = lent (a .points) (a .curves) (a .reals) (a .parts) (a .ranges) in
-    let w = c .before .before .before .before .before .before .before .before .before .before .before .redraw .ensures in
-    let d = drew w _ (c .before .before .before .before .before .drawn2 .given .1) (search needs) in
-    redrawn-is (redrawn-kept Complement _ (now (a .first)) (now (a .second)) _ _ refl (search needs) (w .firstHolds) (drew-own d)) _
-    (ap (λ (l : List Sample). got (by Complement l)) (drew-reads d)
-    ∙ complement-stays T (a .edge) (a .r) (a .complement) _ (d .chain) (d .is) (drew-escapes d (a .r) _ _ _ _ (c .before .before .before .reference .ensures) (c .before .escapes .ensures) (c .if1 .left)))
+    let s = c .before .before .before .before .before .before .before .before .before .before .before .before .before .before .before .before .before .before .before .before .before .before in
+    let t = told (c .before .before .before .before .before .before .before .before .before .before .before) in
+    let l = c .before .before .before .before .before .before .before .before .before .before .second .given in
+    let d = drew t _ (c .before .before .before .before .before .drawn2 .given .1) l in
+    redrawn-second (second-is (kept-second Complement _ _ refl (drew-own d)) _ (ap (by Complement) (drew-reads d))) _ (now (s .args .first)) (now (s .args .second)) _ l (t .firstHolds)
+    (complement-stays (tables-of s) (s .args .edge) (s .args .r) (room-of s) (s .args .complement) (d .chain) (d .is)
+    (drew-escapes d (s .args .r) _ _ _ _ (c .before .before .before .reference .ensures) (c .before .escapes .ensures) (c .if1 .left)))
 
 pub draw-complement-spec : {M : Type 1} → statement M
 draw-complement-spec =
     tie.close
     (tie.spec
-    redraw-requires
+    with-range-requires
+    discretise-requires
     enum-known-drawn
     enum-known-drawn-2
     reference-requires

@@ -10,7 +10,7 @@ point-requires-2 : tie.Need-point-requires-2
 point-requires-2 c κs = search needs
 
 returns : tie.Need-returns
-returns c = cc
+returns c = rw (c .before .point .ensures, c .point2 .ensures)
 
 pub reference-spec : {M : Type 1} → statement M
 reference-spec = tie.close (tie.spec point-requires point-requires-2 returns)

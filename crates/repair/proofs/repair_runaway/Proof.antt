@@ -1,6 +1,6 @@
 -- `repair::repair_runaway` meets its contract: no refusal is below 8, so that one leaves both buffers all +0.0. Assumes nothing.
 use Rattle.repair.proofs.Held.{kept-after, redrawn-is, redrawn-after}
-use Rattle.repair.proofs.Ways.{repaired-kept, repaired-by}
+use Rattle.repair.proofs.Ways.{repaired-kept, repaired-complement, repaired-short}
 use Rattle.chains.specs.Repair.{by, repaired}
 use Rattle.samples.specs.Chain.{samples}
 use Rattle.brep.specs.Rows.{lent}
@@ -18,16 +18,22 @@ same-length c = search needs
 
 returns : tie.Need-returns
 returns c =
-    let a = c .before .before .before .before .before .before .before .before .before .before .args in
-    let T = lent (a .points) (a .curves) (a .reals) (a .parts) (a .ranges) in
+    let s = c .before .before .before .before .before .before .before .before .before .before in
+    let a = s .args in
     kept-after _ (a .way) (a .n) (now (a .first)) (now (a .second))
-    (repaired-kept T (a .edge) (a .r) (by (a .way) (samples (a .n) (now (a .first)))) _ (cc)) (c .before .before .before .before .before .before .before .before .before .before .pre .6) (c .before .before .before .before .before .before .before .before .before .before .pre .4) (c .before .before .before .before .before .before .before .before .before .before .pre .5)
+    (repaired-kept (lent (a .points) (a .curves) (a .reals) (a .parts) (a .ranges)) (a .edge) (a .r) _ (by (a .way) (samples (a .n) (now (a .first)))) (sym (c .before .stays .ensures) ∙ c .if1 .taken)) (s .pre .6) (s .pre .4) (s .pre .5)
 
-period-requires : tie.Need-period-requires
-period-requires c κs = search needs
+complement-arc-requires : tie.Need-complement-arc-requires
+complement-arc-requires c κs = search needs
 
-by-period-requires : tie.Need-by-period-requires
-by-period-requires c κs = search needs
+enum-known-arc : tie.Need-enum-known-arc
+enum-known-arc c = search needs
+
+enum-told : tie.Need-enum-told
+enum-told c = search needs
+
+by-short-arc-requires : tie.Need-by-short-arc-requires
+by-short-arc-requires c κs = search needs
 
 same-length-2 : tie.Need-same-length-2
 same-length-2 c = search needs
@@ -37,10 +43,30 @@ same-length-3 c = search needs
 
 returns-2 : tie.Need-returns-2
 returns-2 c =
-    let a = c .before .before .before .before .before .before .before .before .before .before .before .before .before .before .before .before .before .before .args in
+    let f = c .before .before .before .before .before .before .before .before .before .before in
+    let a = f .before .before .before .before .before .before .before .before .before .before .args in
     let T = lent (a .points) (a .curves) (a .reals) (a .parts) (a .ranges) in
-    redrawn-after (redrawn-is (c .before .before .before .before .by-period .ensures) (λ room. repaired room T (a .edge) (a .r) (by (a .way) (samples (a .n) (now (a .first)))))
-    (repaired-by T (a .edge) (a .r) (by (a .way) (samples (a .n) (now (a .first)))) _ _ (c .before .before .before .before .before .before .before .period .ensures) (sym (c .before .before .before .before .before .before .before .before .before .stays .ensures) ∙ c .before .before .before .before .before .before .before .before .if1 .left)))
+    let g = by (a .way) (samples (a .n) (now (a .first))) in
+    redrawn-after (redrawn-is (c .before .before .before .before .by-short-arc .ensures) (λ room. repaired room T (a .edge) (a .r) g)
+    (repaired-short T (a .edge) (a .r) _ g (sym (f .before .stays .ensures) ∙ f .if1 .left) (c .before .before .before .before .before .before .before .before .before .complement-arc .ensures) (c .before .before .before .before .before .before .before .enum-told .given .1)))
+
+draw-complement-requires : tie.Need-draw-complement-requires
+draw-complement-requires c κs = search needs
+
+same-length-4 : tie.Need-same-length-4
+same-length-4 c = search needs
+
+same-length-5 : tie.Need-same-length-5
+same-length-5 c = search needs
+
+returns-3 : tie.Need-returns-3
+returns-3 c =
+    let f = c .before .before .before .before .before .before .before .before .before .before .before in
+    let a = f .before .before .before .before .before .before .before .before .before .before .args in
+    let T = lent (a .points) (a .curves) (a .reals) (a .parts) (a .ranges) in
+    let g = by (a .way) (samples (a .n) (now (a .first))) in
+    redrawn-after (redrawn-is (c .before .before .before .before .draw-complement .ensures) (λ room. repaired room T (a .edge) (a .r) g)
+    (repaired-complement T (a .edge) (a .r) _ g (sym (f .before .stays .ensures) ∙ f .if1 .left) (c .before .before .before .before .before .before .before .before .before .before .complement-arc .ensures) _ (c .before .before .before .before .before .before .before .before .arc .given .1)))
 
 pub repair-runaway-spec : {M : Type 1} → statement M
 repair-runaway-spec =
@@ -49,8 +75,14 @@ repair-runaway-spec =
     stays-requires
     same-length
     returns
-    period-requires
-    by-period-requires
+    complement-arc-requires
+    enum-known-arc
+    enum-told
+    by-short-arc-requires
     same-length-2
     same-length-3
-    returns-2)
+    returns-2
+    draw-complement-requires
+    same-length-4
+    same-length-5
+    returns-3)

@@ -18,13 +18,13 @@ returns : tie.Need-returns
 returns c =
     let a = c .before .before .before .before .before .before .before .before .before .before .args in
     let T = lent (a .points) (a .curves) (a .reals) (a .parts) (a .ranges) in
-    short-rising T (a .edge) _ _ (cc) (cc) (c .if1 .taken)
+    short-rising T (a .edge) (c .before .before .before .before .point .ensures) (c .before .before .before .point2 .ensures) (c .before .before .nearest .ensures .0) (c .before .before .nearest .ensures .1) (c .if1 .taken)
 
 returns-2 : tie.Need-returns-2
 returns-2 c =
     let a = c .before .before .before .before .before .before .before .before .before .before .args in
     let T = lent (a .points) (a .curves) (a .reals) (a .parts) (a .ranges) in
-    short-falling T (a .edge) _ _ (cc) (cc) (c .if1 .left)
+    short-falling T (a .edge) (c .before .before .before .before .point .ensures) (c .before .before .before .point2 .ensures) (c .before .before .nearest .ensures .0) (c .before .before .nearest .ensures .1) (c .if1 .left)
 
 pub short-range-spec : {M : Type 1} → statement M
 short-range-spec =

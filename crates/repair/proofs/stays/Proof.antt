@@ -1,6 +1,5 @@
 -- `repair::stays` meets its contract, by the test that decides it. Assumes nothing.
 use Rattle.repair.proofs.Ways.{stays-empty, stays-inside, stays-flat}
-use Rattle.samples.specs.Chain.{samples}
 use Rattle.place.specs.Place.{ofPoints}
 use denote.Ref.{now}
 use borrow.Author.Needs.{needs}
@@ -17,7 +16,7 @@ returns : tie.Need-returns
 returns c =
     let a = c .before .before .before .before .before .args in
     let T = ofPoints (now (a .points)) in
-    stays-empty T (a .edge) (a .r) _ (cc)
+    stays-empty T (a .edge) (a .r) _ (c .before .before .reference .ensures) (c .before .is-empty .ensures) (c .if1 .taken)
 
 diagonal-requires : tie.Need-diagonal-requires
 diagonal-requires c κs = search needs
@@ -27,15 +26,17 @@ escapes-requires c κs = search needs
 
 returns-2 : tie.Need-returns-2
 returns-2 c =
-    let a = c .before .before .before .before .before .before .before .before .args in
-    let T = ofPoints (now (a .points)) in
-    cc (stays-inside T (a .edge) (a .r) (samples (a .n) (now (a .chain))) (cc) (cc))
+    let f = c .before .before .before in
+    let a = f .before .before .before .before .before .args in
+    stays-inside (ofPoints (now (a .points))) (a .edge) (a .r) _ (f .before .before .reference .ensures) (f .before .is-empty .ensures) (f .if1 .left)
+    (c .before .before .diagonal .ensures) (c .before .if2 .taken) (c .escapes .ensures)
 
 returns-3 : tie.Need-returns-3
 returns-3 c =
-    let a = c .before .before .before .before .before .before .before .args in
-    let T = ofPoints (now (a .points)) in
-    stays-flat T (a .edge) (a .r) _ (cc) (cc)
+    let f = c .before .before in
+    let a = f .before .before .before .before .before .args in
+    stays-flat (ofPoints (now (a .points))) (a .edge) (a .r) _ (f .before .before .reference .ensures) (f .before .is-empty .ensures) (f .if1 .left)
+    (c .before .diagonal .ensures) (c .if2 .left)
 
 pub stays-spec : {M : Type 1} → statement M
 stays-spec =
