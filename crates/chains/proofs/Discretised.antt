@@ -38,7 +38,7 @@ use Rattle.chains.proofs.Ranges.{Ends, Goods, usable-goods}
 use Rattle.chains.proofs.Placed.{Own, Placed, placed-holds, placed-length}
 use Rattle.chains.proofs.Outcome.{Outcome, answer, eight, nine}
 
--- a chain that fits the room, and of which demand 3 holds, given H
+-- a chain that fits the room, and of which the five clauses hold, given H
 pub record Chained (H : Type 0) (t : Tables) (e : Edge) (floor : Float) (room : ℕ) (l : List Sample) : Type 0 where
   pub sound : H → Sound t e floor l
   pub fits : length l ≤ room

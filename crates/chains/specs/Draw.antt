@@ -108,7 +108,7 @@ unfoldable pub chainIn : List Float → List Float → Drawn → List Sample
 chainIn first second (Refused n) = []
 chainIn first second (Chain way n) = samples n (cond (inFirst way) first second)
 
--- ---- demand 3
+-- ---- the five clauses that hold of every chain
 -- what holds of every chain of an edge, whichever way it was got, with its merge floor
 pub record Sound (T : Tables) (e : Edge) (floor : Float) (chain : List Sample) : Type 0 where
   -- it has at least two points
@@ -149,7 +149,7 @@ pub record Lowest (T : Tables) (e : Edge) (o : Options) (first second n : ℕ) :
   pub applies : Applies T e o first second n
   pub lowest : (m : ℕ) → m ≤ 7 → m < n → Applies T e o first second m → ⊥
 
--- the outcome of drawing: answer and buffers by the definition, and demand 3 of the chain that the buffers hold
+-- the outcome of drawing: answer and buffers by the definition, and the five clauses of the chain that the buffers hold
 pub record Outcome (T : Tables) (e : Edge) (o : Options) (first second : List Float) (answer : Drawn) (first' second' : List Float) : Type 0 where
   pub answered : answer ≡ answerOf (drawn T e o (length first) (length second))
   pub firstHolds : first' ≡ firstAfter first (drawn T e o (length first) (length second))

@@ -1,4 +1,4 @@
--- 01's polyline (0,0,0), (1,0,0), (1,1,0) with tolerance 0.25, by computation: sag 1 keeps three points, sag 2 makes the floor 1 and leaves the parameters 0, 2.
+-- The scope's polyline (0,0,0), (1,0,0), (1,1,0) with tolerance 0.25, by computation: sag 1 keeps three points, sag 2 makes the floor 1 and leaves the parameters 0, 2.
 use mathlib.Core.Path.{_≡_, refl}
 use mathlib.Core.List.{List, [], _∷_}
 use lib.Ieee.{Float, isNan, ofBits, add, sub, mul, lt, le}

@@ -111,7 +111,7 @@ merge-shorter floor (p ∷ q ∷ l) h =
       some = b .some;
     }
 
--- demand 3: no two neighbours, the last pair excepted, at or under the floor
+-- the clause of the merge floor: no two neighbours, the last pair excepted, at or under the floor
 pub merge-apart : (floor : Float) (l : List Sample) → 2 ≤ length l → T (lt nought floor) → Apart floor (dropLast (merged floor l))
 merge-apart floor [] h t = absurd (omega arith)
 merge-apart floor (p ∷ []) h t = absurd (omega arith)

@@ -42,7 +42,7 @@ merged floor (first ∷ l) =
     (withEnd floor first (first ∷ spaced floor (first .point) (dropLast l)) (lastOf first l))
     (first ∷ l)
 
--- demand 3: each point further than the floor from the one before it
+-- the clause of the merge floor: each point further than the floor from the one before it
 pub data Apart (floor : Float) : List Sample → Type 0 where
   none : Apart floor []
   one : {p : Sample} → Apart floor (p ∷ [])

@@ -24,14 +24,14 @@ hundredth = one ⊗ bits 0x3F847AE147AE147B
 abbrev angle : Float
 angle = bits 0x3FC1EB851EB851EC
 
--- 01's polyline (0,0,0), (1,0,0), (1,1,0), and three points in a row
+-- the scope's polyline (0,0,0), (1,0,0), (1,1,0), and three points in a row
 abbrev corner : List Sample
 corner = at nought nought nought ∷ at one nought one ∷ at one one two ∷ []
 
 abbrev row : List Sample
 row = at nought nought nought ∷ at one nought one ∷ at two nought two ∷ []
 
--- 01's polyline far from the origin, with u = 2^-23: (6e8,6e8,0), (6e8 + u,6e8,0), (6e8 + 10u,6e8 + 3u,0). It turns too much, and no distance is above zero
+-- the scope's polyline far from the origin, with u = 2^-23: (6e8,6e8,0), (6e8 + u,6e8,0), (6e8 + 10u,6e8 + 3u,0). It turns too much, and no distance is above zero
 abbrev far : List Sample
 far =
     at (bits 0x41C1E1A300000000) (bits 0x41C1E1A300000000) nought
