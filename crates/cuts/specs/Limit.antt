@@ -1,4 +1,4 @@
--- A limit for roots, with a cut on either side of it. For the code's own use. Definitions only.
+-- For the code's own use: a limit for roots, with a cut on either side of it. Definitions only.
 use mathlib.Core.Path.{_≡_}
 use mathlib.Core.Bool.{Bool, true, cond}
 use lib.Ieee.{Float, nan, lt, le}

@@ -68,7 +68,8 @@ pub fn is_below(s: f64, t: f64) -> bool
     false
 }
 
-fn cut_if(serves: bool, x: f64) -> f64
+// A cut that serves, or a NaN, with which no comparison holds.
+pub fn cut_if(serves: bool, x: f64) -> f64
     ensures { λ r. ⌜ r ≡ cutIf serves x ⌝ }
 {
     if serves { x } else { arith::nan() }

@@ -24,7 +24,8 @@ use Rattle.arith.specs.Notation.{_⊕_, _⊖_, _⊗_, _⊘_, nought, one, two, 
 use Rattle.roots.specs.Root.{rootOf}
 use Rattle.roots.proofs.Laws.{root-monotone}
 use Rattle.trig.specs.Trig.{halved, summed, arcOf, angleOf, acosBy, acosOf, pi}
-use Rattle.turning.specs.Turning.{tangentSquare, twiceTangent, cutFor, cutIf, turnCut, Serves}
+use Rattle.turning.specs.Turning.{tangentSquare, twiceTangent, cutFor, turnCut, Serves}
+use Rattle.cuts.specs.Limit.{cutIf}
 
 -- ---- a float not below zero, and one from 0 to 1
 abbrev pub Part : Float → Type 0

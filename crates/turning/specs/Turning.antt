@@ -1,9 +1,10 @@
--- A limit for angles, with a cut below which no arc cosine is taken. For the code's own use. Definitions only.
+-- For the code's own use: a limit for angles, with a cut below which no arc cosine is taken. Definitions only.
 use mathlib.Core.Path.{_≡_}
-use mathlib.Core.Bool.{Bool, true, cond}
-use lib.Ieee.{Float, nan, le}
+use mathlib.Core.Bool.{true}
+use lib.Ieee.{Float, le}
 use Rattle.arith.specs.Notation.{_⊕_, _⊖_, _⊗_, _⊘_, bits, count, half, one, two}
 use Rattle.roots.specs.Root.{rootOf}
+use Rattle.cuts.specs.Limit.{cutIf}
 
 -- the square of the tangent of half the angle whose cosine is a
 abbrev pub tangentSquare : Float → Float
@@ -16,10 +17,6 @@ twiceTangent q = count 16 ⊗ (rootOf q ⊘ two ⊘ two ⊘ two)
 -- a little under the square of half the limit
 abbrev pub cutFor : Float → Float
 cutFor limit = limit ⊗ half ⊗ (limit ⊗ half) ⊗ bits 0x3FEFFFFDE7210BE9
-
--- a cut that serves, or a NaN, with which no comparison holds
-abbrev pub cutIf : Bool → Float → Float
-cutIf serves cut = cond serves cut nan
 
 -- it serves where the bound at the cut is within the limit, and the tangent at most 1
 unfoldable pub turnCut : Float → Float

@@ -2,14 +2,7 @@
 ghost use mathlib.Core.Path.{_≡_};
 ghost use lib.Ieee.{le};
 ghost use Rattle.trig.specs.Trig.{acosOf};
-ghost use Rattle.turning.specs.Turning.{cutIf, turnCut, Serves};
-
-// A cut that serves, or a NaN, with which no comparison holds.
-fn cut_if(serves: bool, cut: f64) -> f64
-    ensures { λ r. ⌜ r ≡ cutIf serves cut ⌝ }
-{
-    if serves { cut } else { arith::nan() }
-}
+ghost use Rattle.turning.specs.Turning.{turnCut, Serves};
 
 // The cut for a limit, which costs a root: for many comparisons with one limit.
 pub fn turn_cut(limit: f64) -> f64
@@ -19,7 +12,7 @@ pub fn turn_cut(limit: f64) -> f64
     // A little under the square, so that the bound at the cut is not above the limit.
     let cut = half * half * 0.999999;
     let bound = 16.0 * (roots::root(cut) / 2.0 / 2.0 / 2.0);
-    cut_if(bound <= limit, cut_if(cut <= 1.0, cut))
+    cuts::cut_if(bound <= limit, cuts::cut_if(cut <= 1.0, cut))
 }
 
 // Whether the angle whose cosine is a is at most the limit. The arc cosine is taken only where the square of the tangent of half the

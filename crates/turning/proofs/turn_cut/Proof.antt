@@ -7,7 +7,6 @@ use Rattle.turning.proofs.turn_cut.Tie as tie
 use Rattle.turning.proofs.turn_cut.Reads as reads
 use Rattle.turning.proofs.turn_cut.Lts as lts
 use Rattle.roots.proofs.root.Reads as root-reads
-use Rattle.turning.proofs.cut_if.Reads as cut-if-reads
 
 root-requires : tie.Need-root-requires
 root-requires c κs = search needs
