@@ -24,6 +24,20 @@ or-false-second true b e = absurd (go e)
     go h = let z : _≡_ {A = ℕ} 0 1 = cc in omega arith
 or-false-second false b e = e
 
+-- tests none of which holds
+pub neither : (a b : Bool) → a || b ≡ false → (a ≡ false) × (b ≡ false)
+neither a b h = (or-false-first a b h, or-false-second a b h)
+
+pub three : (a b c : Bool) → a || (b || c) ≡ false → (a ≡ false) × (b ≡ false) × (c ≡ false)
+three a b c h = let k = neither a (b || c) h in let l = neither b c (k .1) in (k .0, l .0, l .1)
+
+pub four : (a b c d : Bool) → (a || b) || (c || d) ≡ false → (a ≡ false) × (b ≡ false) × (c ≡ false) × (d ≡ false)
+four a b c d h =
+    let k = neither (a || b) (c || d) h in
+    let l = neither a b (k .0) in
+    let m = neither c d (k .1) in
+    (l .0, l .1, m .0, m .1)
+
 -- one that holds is enough
 pub some-found : (P : ℕ → Bool) (n i : ℕ) → i < n → P i ≡ true → someBelow n P ≡ true
 unfolding someBelow

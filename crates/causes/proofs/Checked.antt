@@ -15,18 +15,17 @@ use Rattle.brep.specs.declared.Curve.the-variants.{Trimmed, Composite}
 use Rattle.brep.specs.declared.Edge.{Edge}
 use Rattle.brep.specs.Rows.{Tables, segmentOf}
 use Rattle.brep.specs.Tree.{segmentIn, rowIn, tree}
-use Rattle.nest.specs.Nest.{nesting, deepRow, Falling, Inside}
+use Rattle.nest.specs.Nest.{highSegment, notLower, unorderedRow, nesting, deepRow}
 use Rattle.options.specs.declared.Options.{Options}
 use Rattle.bounds.specs.Some.{someBelow, atIndex, some}
 use Rattle.bounds.specs.Bounds.{largest, within, beyond, finiteBeyond, edgeBeyond, optionsBeyond, unbounded}
-use Rattle.bounds.proofs.Laws.{some-none}
-use Rattle.forms.specs.Forms.{pointCount, curveCount, segmentCount, broken, uneven, unknownKind, wrongCount, unusedSet, room, malformed, malformedRow, malformedSegment, illFormedTables, illFormedEdge, illFormed}
+use Rattle.bounds.proofs.Laws.{some-none, neither, three, four}
+use Rattle.forms.specs.Forms.{pointCount, curveCount, segmentCount, broken, uneven, room, malformedRow, malformedSegment, illFormedTables, illFormedEdge, illFormed}
+use Rattle.forms.proofs.Laws.{row-inside}
 use Rattle.causes.specs.declared.Verdict.{Verdict}
 use Rattle.causes.specs.declared.Verdict.the-variants.{Accepted, Refused}
-use Rattle.causes.proofs.Laws.{neither, three, four, order-all, sizes}
-use Rattle.causes.proofs.Runs.{composite-row}
-use Rattle.causes.specs.Skips.{outOfOrder, RunsInside}
-use Rattle.causes.specs.Causes.{oversize, highSegment, notLower, unorderedRow, unordered, tooDeep, missing, verdict}
+use Rattle.causes.proofs.Laws.{sizes}
+use Rattle.causes.specs.Causes.{oversize, unordered, tooDeep, missing, verdict}
 
 -- at most 1e9 in magnitude
 abbrev pub Bounded : Float → Type 0
@@ -141,30 +140,6 @@ module _ (t : Tables) where
       let s = someBelow (segmentCount t) (malformedSegment t) in
       neither r s (neither (broken t || uneven t) (r || s) h .1)
 
-  run-inside : (kind first count : ℕ) (p q : Float) → malformed t kind first count p q ≡ false → first + count ≤ room t kind
-  unfolding malformed
-  run-inside kind first count p q h = ltb-false (room t kind) (first + count) (four (unknownKind kind) (wrongCount kind count) (unusedSet kind p q) (ltb (room t kind) (first + count)) h .3)
-
-  row-inside : (i : ℕ) → malformedRow t i ≡ false → getD (t .curves) (i * 3 + 1) 0 + getD (t .curves) (i * 3 + 2) 0 ≤ room t (getD (t .curves) (i * 3) 0)
-  unfolding malformedRow
-  row-inside i h = run-inside (getD (t .curves) (i * 3) 0) (getD (t .curves) (i * 3 + 1) 0) (getD (t .curves) (i * 3 + 2) 0) (getD (t .reals) (i * 2) nan) (getD (t .reals) (i * 2 + 1) nan) h
-
-  seven-segments : room t 7 ≡ segmentCount t
-  unfolding room
-  seven-segments = refl
-
-  -- the run of each composite lies inside the segments
-  pub numbers-inside : illFormedTables t ≡ false → RunsInside (t .curves) (segmentCount t) (curveCount t)
-  numbers-inside h i l k =
-      let m = row-inside i (some-none (malformedRow t) (curveCount t) i l (forms-of h .0)) in
-      omega (arith, ap (room t) k ∙ seven-segments)
-
-  pub runs-inside : illFormedTables t ≡ false → Inside t (curveCount t)
-  runs-inside h i first count l r =
-      let k = composite-row first count t i r in
-      let m = numbers-inside h i l (k .0) in
-      omega arith
-
   segment-inside : (i : ℕ) → malformedSegment t i ≡ false → segmentIn t i .curve < curveCount t
   unfolding malformedSegment segmentOf
   segment-inside i h = leb-false (curveCount t) (getD (t .parts) (i * 2) 0) (neither (leb (curveCount t) (getD (t .parts) (i * 2) 0)) (ltb 1 (getD (t .parts) (i * 2 + 1) 0)) h .0)
@@ -177,16 +152,6 @@ module _ (t : Tables) where
   segment-falls : (i first count j : ℕ) → unorderedRow t i ≡ false → rowIn t i ≡ Composite first count → j < count → segmentIn t (first + j) .curve < i
   unfolding unorderedRow notLower highSegment
   segment-falls i first count j h k l = leb-false i (segmentIn t (first + j) .curve) (some-none (highSegment t i first) count j l (ap (notLower t i) (sym k) ∙ h))
-
-  -- every reference falls
-  pub falling : unordered t ≡ false → Falling t (curveCount t)
-  falling h = record {
-    trimFalls = λ i base range l k. trim-falls i base range (some-none (unorderedRow t) (curveCount t) i l h) k;
-    segmentFalls = λ i first count j l k m. segment-falls i first count j (some-none (unorderedRow t) (curveCount t) i l h) k m;
-  }
-
-  pub numbers-falling : someBelow (curveCount t) (outOfOrder (t .curves) (t .parts)) ≡ false → Falling t (curveCount t)
-  numbers-falling h = falling (sym (order-all t (curveCount t)) ∙ h)
 
   -- ---- cause 5
   nesting-at-most : (i : ℕ) → deepRow t i ≡ false → nesting (tree t i) ≤ 8
@@ -280,8 +245,8 @@ module _ (t : Tables) (e : Edge) (o : Options) where
         scaleBounded = bounded-finite (o .scale) (bo .2);
         runInside = λ i l. row-inside t i (some-none (malformedRow t) (curveCount t) i l (f .0));
         segmentInside = λ i l. segment-inside t i (some-none (malformedSegment t) (segmentCount t) i l (f .1));
-        trimFalls = falling t (c .3) .trimFalls;
-        segmentFalls = falling t (c .3) .segmentFalls;
+        trimFalls = λ i base range l k. trim-falls t i base range (some-none (unorderedRow t) (curveCount t) i l (c .3)) k;
+        segmentFalls = λ i first count j l k m. segment-falls t i first count j (some-none (unorderedRow t) (curveCount t) i l (c .3)) k m;
         nestingAtMost = λ i l. nesting-at-most t i (some-none (deepRow t) (curveCount t) i l (c .4));
         curveInside = x .0;
         startInside = x .1;

@@ -1,14 +1,11 @@
 -- When an edge is turned away: causes 1 to 6 of the scope's table, each a predicate of its own, in order. Definitions only.
-use mathlib.Core.Bool.{Bool, false, cond, _||_}
-use Prim.Native.Nat.{ℕ, _+_, _*_, min}
+use mathlib.Core.Bool.{Bool, cond, _||_}
+use Prim.Native.Nat.{ℕ, _*_, min}
 use lib.ListN.{length}
 use lib.Dec.{ltb, leb}
-use Rattle.brep.specs.declared.Curve.{Curve}
-use Rattle.brep.specs.declared.Curve.the-variants.{Line, Circle, Ellipse, Parabola, Polyline, Trimmed, Composite}
 use Rattle.brep.specs.declared.Edge.{Edge}
 use Rattle.brep.specs.Rows.{Tables}
-use Rattle.brep.specs.Tree.{segmentIn, rowIn}
-use Rattle.nest.specs.Nest.{deepRow}
+use Rattle.nest.specs.Nest.{unorderedRow, deepRow}
 use Rattle.options.specs.declared.Options.{Options}
 use Rattle.bounds.specs.Some.{someBelow}
 use Rattle.bounds.specs.Bounds.{unboundedTables, unboundedEdge, unbounded}
@@ -23,25 +20,7 @@ oversize T =
     || ((ltb (3 * 4096) (length (T .curves)) || ltb (2 * 4096) (length (T .reals)))
     || (ltb (2 * 4096) (length (T .parts)) || ltb (2 * 4096) (length (T .ranges))))
 
--- 2 is `unbounded` of the crate bounds, and 3 `illFormed` of forms
-
--- segment j of the run that starts at first refers to row or a higher one
-unfoldable pub highSegment : Tables → ℕ → ℕ → ℕ → Bool
-highSegment T row first j = leb row (segmentIn T (first + j) .curve)
-
--- what a row of this kind refers to is not all in lower rows
-unfoldable pub notLower : Tables → ℕ → Curve → Bool
-notLower T row (Line origin direction) = false
-notLower T row (Circle frame radius) = false
-notLower T row (Ellipse frame major minor) = false
-notLower T row (Parabola frame focal) = false
-notLower T row (Polyline first count) = false
-notLower T row (Trimmed base range) = leb row base
-notLower T row (Composite first count) = someBelow count (highSegment T row first)
-
--- curve row number row
-unfoldable pub unorderedRow : Tables → ℕ → Bool
-unorderedRow T row = notLower T row (rowIn T row)
+-- 2 is `unbounded` of the crate bounds, and 3 `illFormed` of forms; 4 and 5 ask nest for a row
 
 -- 4: a trim's base, or the curve of a composite's segment, not in a lower row than its own
 abbrev pub unordered : Tables → Bool

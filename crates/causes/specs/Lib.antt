@@ -1,2 +1,1 @@
-pub mod Skips
 pub mod Causes

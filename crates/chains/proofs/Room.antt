@@ -20,7 +20,7 @@ use Rattle.curve.specs.declared.Repeats.the-variants.{Every, Never}
 use Rattle.curve.specs.Eval.{naturalRange, period}
 use Rattle.options.specs.declared.Options.{Options}
 use Rattle.options.specs.declared.Resolved.{Resolved}
-use Rattle.causes.proofs.Laws.{neither}
+use Rattle.bounds.proofs.Laws.{neither}
 use Rattle.params.specs.declared.Closed.{Closed}
 use Rattle.params.specs.declared.Closed.the-variants.{Unknown, Segments}
 use Rattle.params.specs.Params.{Sampler, evenly, fitting, bisected, floored, refined, sampleParams}

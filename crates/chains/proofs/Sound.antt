@@ -14,7 +14,7 @@ use Rattle.brep.specs.Rows.{Tables}
 use Rattle.options.specs.declared.Options.{Options}
 use Rattle.causes.specs.declared.Verdict.the-variants.{Accepted}
 use Rattle.causes.specs.Causes.{verdict}
-use Rattle.causes.proofs.Laws.{neither}
+use Rattle.bounds.proofs.Laws.{neither}
 use Rattle.causes.proofs.Checked.{checked, verdict-numbers}
 use Rattle.params.proofs.Ends.{size-grows, size-good}
 use Rattle.merge.specs.Merge.{mergeFloor}

@@ -32,6 +32,9 @@ broken T =
 unfoldable pub uneven : Tables → Bool
 uneven T = not (eqb (length (T .reals) / 2) (curveCount T)) || not (eqb (length (T .ranges) / 2) (segmentCount T))
 
+abbrev pub ragged : Tables → Bool
+ragged T = broken T || uneven T
+
 -- none of the seven kinds
 unfoldable pub unknownKind : ℕ → Bool
 unknownKind kind = ltb kind 1 || ltb 7 kind
@@ -90,7 +93,7 @@ malformedSegment T i = malformedPart (T .parts) (curveCount T) i
 -- the slices, the rows, or the segments
 abbrev pub illFormedTables : Tables → Bool
 illFormedTables T =
-    (broken T || uneven T)
+    ragged T
     || (someBelow (curveCount T) (malformedRow T) || someBelow (segmentCount T) (malformedSegment T))
 
 -- the edge's sense, or relative

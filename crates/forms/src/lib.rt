@@ -10,7 +10,7 @@ ghost use lib.Dec.{ltb};
 ghost use Rattle.brep.specs.Rows.{lent};
 ghost use Rattle.bounds.specs.Some.{someBelow};
 ghost use Rattle.forms.specs.Forms.{broken, uneven, unknownKind, wrongCount, spareP, spareQ, unusedSet, roomOf, malformedIn};
-ghost use Rattle.forms.specs.Forms.{malformedRow, malformedPart, illFormedTables, illFormedEdge};
+ghost use Rattle.forms.specs.Forms.{malformedRow, malformedPart, ragged, illFormedEdge};
 
 fn broken(points: &[f64], curves: &[u32], reals: &[f64], parts: &[u32], ranges: &[f64]) -> bool
     ensures { λ r. ⌜ r ≡ broken (lent (points .entry) (curves .entry) (reals .entry) (parts .entry) (ranges .entry)) ⌝ }
@@ -96,7 +96,8 @@ fn malformed(room: usize, kind: u32, first: u32, count: u32, p: f64, q: f64) -> 
     either(shape, either(unused, outside(room, first, count)))
 }
 
-fn malformed_row(
+// Row number row.
+pub fn malformed_row(
     points: &[f64],
     curves: &[u32],
     reals: &[f64],
@@ -117,20 +118,6 @@ fn malformed_row(
     malformed(n, kind, first, count, p, q)
 }
 
-fn any_row(points: &[f64], curves: &[u32], reals: &[f64], parts: &[u32], ranges: &[f64]) -> bool
-    ensures { λ r. ⌜ r ≡ someBelow (length (now (curves .entry)) / 3) (malformedRow (lent (points .entry) (curves .entry) (reals .entry) (parts .entry) (ranges .entry))) ⌝ }
-{
-    let rows = curves.len() / 3;
-    let mut row: usize = 0;
-    while row < rows {
-        if malformed_row(points, curves, reals, parts, ranges, row) {
-            return true;
-        }
-        row += 1;
-    }
-    false
-}
-
 fn malformed_segment(parts: &[u32], rows: usize, i: usize) -> bool
     requires { ⌜ i * 2 + 2 ≤ length (now parts) ⌝ }
     ensures { λ r. ⌜ r ≡ malformedPart (now (parts .entry)) rows i ⌝ }
@@ -140,7 +127,8 @@ fn malformed_segment(parts: &[u32], rows: usize, i: usize) -> bool
     either(rows <= curve as usize, 1 < sense)
 }
 
-fn any_segment(parts: &[u32], rows: usize) -> bool
+// Any of the segments, over so many rows.
+pub fn malformed_segments(parts: &[u32], rows: usize) -> bool
     ensures { λ r. ⌜ r ≡ someBelow (length (now (parts .entry)) / 2) (malformedPart (now (parts .entry)) rows) ⌝ }
 {
     let segments = parts.len() / 2;
@@ -154,25 +142,14 @@ fn any_segment(parts: &[u32], rows: usize) -> bool
     false
 }
 
-// Of the tables.
-pub fn ill_formed_tables(
-    points: &[f64],
-    curves: &[u32],
-    reals: &[f64],
-    parts: &[u32],
-    ranges: &[f64],
-) -> bool
-    ensures { λ r. ⌜ r ≡ illFormedTables (lent (points .entry) (curves .entry) (reals .entry) (parts .entry) (ranges .entry)) ⌝ }
+// The slices: not of whole rows, or not of as many.
+pub fn ragged(points: &[f64], curves: &[u32], reals: &[f64], parts: &[u32], ranges: &[f64]) -> bool
+    ensures { λ r. ⌜ r ≡ ragged (lent (points .entry) (curves .entry) (reals .entry) (parts .entry) (ranges .entry)) ⌝ }
 {
-    let ragged = either(
+    either(
         broken(points, curves, reals, parts, ranges),
         uneven(points, curves, reals, parts, ranges),
-    );
-    let rows = either(
-        any_row(points, curves, reals, parts, ranges),
-        any_segment(parts, curves.len() / 3),
-    );
-    either(ragged, rows)
+    )
 }
 
 // Of the edge and the options.

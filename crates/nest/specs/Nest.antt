@@ -1,13 +1,31 @@
--- How deep trims and composites nest (cause 5). Definitions only.
-use mathlib.Core.Path.{_≡_}
-use mathlib.Core.Bool.{Bool}
-use Prim.Native.Nat.{ℕ, suc, _+_, _/_, _<_, _≤_, max}
-use lib.ListN.{length}
-use lib.Dec.{ltb}
-use Rattle.math.specs.declared.Interval.{Interval}
-use Rattle.brep.specs.declared.Curve.the-variants.{Trimmed, Composite}
+-- What trims and composites refer to, and how deep they nest: causes 4 and 5. Definitions only.
+use mathlib.Core.Bool.{Bool, false, cond}
+use Prim.Native.Nat.{ℕ, suc, _+_, max}
+use lib.Dec.{ltb, leb}
+use Rattle.brep.specs.declared.Curve.{Curve}
+use Rattle.brep.specs.declared.Curve.the-variants.{Line, Circle, Ellipse, Parabola, Polyline, Trimmed, Composite}
 use Rattle.brep.specs.Rows.{Tables}
 use Rattle.brep.specs.Tree.{CurveTree, line, circle, ellipse, parabola, polyline, trimmed, composite, Segments, none, segment, segmentIn, rowIn, tree}
+use Rattle.bounds.specs.Some.{someBelow}
+use Rattle.forms.specs.Forms.{curveCount, malformedRow}
+
+-- segment j of the run that starts at first refers to row or a higher one
+unfoldable pub highSegment : Tables → ℕ → ℕ → ℕ → Bool
+highSegment T row first j = leb row (segmentIn T (first + j) .curve)
+
+-- what a row of this kind refers to is not all in lower rows
+unfoldable pub notLower : Tables → ℕ → Curve → Bool
+notLower T row (Line origin direction) = false
+notLower T row (Circle frame radius) = false
+notLower T row (Ellipse frame major minor) = false
+notLower T row (Parabola frame focal) = false
+notLower T row (Polyline first count) = false
+notLower T row (Trimmed base range) = leb row base
+notLower T row (Composite first count) = someBelow count (highSegment T row first)
+
+-- curve row number row
+unfoldable pub unorderedRow : Tables → ℕ → Bool
+unorderedRow T row = notLower T row (rowIn T row)
 
 -- 0 for kinds 1 to 5, one more than its base for a trim, one more than its deepest segment for a composite
 unfoldable mutual
@@ -29,11 +47,10 @@ unfoldable mutual
 unfoldable pub deepRow : Tables → ℕ → Bool
 deepRow T row = ltb 8 (nesting (tree T row))
 
--- each trim and composite among the first n rows refers to lower rows only
-pub record Falling (T : Tables) (n : ℕ) : Type 0 where
-  pub trimFalls : (row base : ℕ) (range : Interval) → row < n → rowIn T row ≡ Trimmed base range → base < row
-  pub segmentFalls : (row first count j : ℕ) → row < n → rowIn T row ≡ Composite first count → j < count → segmentIn T (first + j) .curve < row
-
--- the run of each composite among the first n rows ends where the segments do, or before
-abbrev pub Inside : Tables → ℕ → Type 0
-Inside T n = (row first count : ℕ) → row < n → rowIn T row ≡ Composite first count → first + count ≤ length (T .parts) / 2
+-- the lowest of the causes 3, 4 and 5 that a row has, or 0 where none has one
+unfoldable pub rowsCause : Tables → ℕ
+rowsCause T =
+    cond (someBelow (curveCount T) (malformedRow T)) 3
+    (cond (someBelow (curveCount T) (unorderedRow T)) 4
+    (cond (someBelow (curveCount T) (deepRow T)) 5
+    0))

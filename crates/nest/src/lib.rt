@@ -1,150 +1,177 @@
-// Whether trims and composites nest deeper than 8, level by level: the rows that reach a depth are marked from the marks
-// of the depth before. Each level is one pass over the segments and one over the rows, however the runs overlap.
-use bounds::either;
+// Causes 3, 4 and 5 of the curve rows, in one pass from the lowest row up. A table has the depth of each row gone by, so that
+// no reference is followed down. Composites may share runs: another has the depth of each block of 64 segments that a run has
+// covered, so that a run takes at most 188 steps, 126 segments at its ends and 62 blocks.
 ghost use mathlib.Core.Path.{_≡_};
-ghost use mathlib.Core.Bool.{false, cond};
-ghost use Prim.Native.Nat.{_+_, _/_, _<_, _≤_};
+ghost use Prim.Native.Nat.{_+_, _*_, _/_, _<_, _≤_, max};
 ghost use lib.ListN.{length, getD};
 ghost use Rattle.brep.specs.Rows.{lent};
-ghost use Rattle.bounds.specs.Some.{someBelow};
-ghost use Rattle.nest.specs.Nest.{deepRow, Falling, Inside};
-ghost use Rattle.nest.specs.Levels.{Agrees, nests, segmentMarked, countBelow, nextMark, TrimsFall, TellsDeep};
+ghost use Rattle.nest.specs.Nest.{rowsCause};
+ghost use Rattle.nest.specs.Depths.{depthBelow, segmentDepth, deepestOf, oneDeeper, rowDepth, blockDepth, Known, RunFits, causeWith, NoneKnown};
 
-// Mark number i; past the end there is none.
-fn mark_at(marks: &[bool], i: usize) -> bool
-    ensures { λ r. ⌜ r ≡ getD (now (marks .entry)) i false ⌝ }
+fn larger(a: u32, b: u32) -> u32
+    ensures { λ r. ⌜ r ≡ max a b ⌝ }
 {
-    if i < marks.len() { marks[i] } else { false }
+    if a < b { b } else { a }
 }
 
-fn one_if(b: bool) -> u32
-    ensures { λ r. ⌜ r ≡ cond b 1 0 ⌝ }
+// The depth of row number base, seen from row: 10 where it is not a lower one.
+fn depth_below(depths: &[u32], row: u32, base: u32) -> u32
+    ensures { λ r. ⌜ r ≡ depthBelow (now (depths .entry)) row base ⌝ }
 {
-    if b { 1 } else { 0 }
-}
-
-// Kinds 6 and 7.
-fn nests(curves: &[u32], row: u32) -> bool
-    ensures { λ r. ⌜ r ≡ nests (now (curves .entry)) row ⌝ }
-{
-    let kind = brep::int_at(curves, row as usize * 3);
-    either(kind == 6, kind == 7)
-}
-
-// Depth 1: marks every trim and composite, and says whether there is one.
-fn mark_nested(curves: &[u32], marks: &mut [bool], rows: u32) -> bool
-    requires { ⌜ rows ≤ length (now marks) ⌝ }
-    ensures { λ r. ⌜ (r ≡ someBelow rows (nests (now (curves .entry))))
-        × Agrees false (now (marks .exit)) rows (nests (now (curves .entry))) ⌝ }
-{
-    let mut some = false;
-    let mut row: u32 = 0;
-    while row < rows {
-        let mark = nests(curves, row);
-        marks[row as usize] = mark;
-        some = either(some, mark);
-        row += 1;
+    if row <= base {
+        return 10;
     }
-    some
+    brep::int_at(depths, base as usize)
 }
 
-// How many of the first k segments have a marked curve, for each k up to all of them.
-fn count_marked(parts: &[u32], marks: &[bool], sums: &mut [u32])
-    requires { ⌜ length (now parts) / 2 ≤ 4096 ⌝ }
-    requires { ⌜ length (now parts) / 2 < length (now sums) ⌝ }
-    ensures { λ _. ⌜ Agrees 0 (now (sums .exit)) (length (now (parts .entry)) / 2 + 1) (countBelow (segmentMarked (now (parts .entry)) (now (marks .entry)))) ⌝ }
+fn segment_depth(parts: &[u32], depths: &[u32], row: u32, i: u32) -> u32
+    ensures { λ r. ⌜ r ≡ segmentDepth (now (parts .entry)) (now (depths .entry)) row i ⌝ }
 {
-    let segments = parts.len() / 2;
+    let curve = brep::int_at(parts, i as usize * 2);
+    depth_below(depths, row, curve)
+}
+
+// The largest of block number b: kept, or worked out and kept. One with a 10 is worked out anew, but no row comes after it.
+fn block_depth(parts: &[u32], depths: &[u32], blocks: &mut [u32], row: u32, b: u32) -> u32
+    requires { ⌜ Known (now parts) (now depths) (now blocks) row × (b < length (now blocks)) × (length (now blocks) ≤ 64) ⌝ }
+    ensures { λ r. ⌜ (r ≡ blockDepth (now (parts .entry)) (now (depths .entry)) row b)
+        × Known (now (parts .entry)) (now (depths .entry)) (now (blocks .exit)) row ⌝ }
+{
+    let kept = blocks[b as usize];
+    if kept < 10 {
+        return kept;
+    }
+    let mut depth: u32 = 0;
     let mut n: u32 = 0;
-    let mut k = 0;
-    while k < segments {
-        sums[k] = n;
-        let curve = brep::int_at(parts, k * 2);
-        n += one_if(mark_at(marks, curve as usize));
-        k += 1;
+    while n < 64 {
+        depth = larger(depth, segment_depth(parts, depths, row, b * 64 + n));
+        n += 1;
     }
-    sums[segments] = n;
+    blocks[b as usize] = depth;
+    depth
 }
 
-// A row's mark at the next depth. More marked segments before a run's end than before its start: one of the run is marked.
-fn next_mark(curves: &[u32], marks: &[bool], sums: &[u32], row: u32) -> bool
-    ensures { λ r. ⌜ r ≡ nextMark (now (curves .entry)) (now (marks .entry)) (now (sums .entry)) row ⌝ }
+// The largest of a run, by whole blocks where it covers them.
+fn run_depth(
+    parts: &[u32],
+    depths: &[u32],
+    blocks: &mut [u32],
+    row: u32,
+    first: u32,
+    count: u32,
+) -> u32
+    requires { ⌜ Known (now parts) (now depths) (now blocks) row × (first + count ≤ length (now blocks) * 64) × (length (now blocks) ≤ 64) ⌝ }
+    ensures { λ r. ⌜ (r ≡ deepestOf (now (parts .entry)) (now (depths .entry)) row first count)
+        × Known (now (parts .entry)) (now (depths .entry)) (now (blocks .exit)) row ⌝ }
+{
+    let mut depth: u32 = 0;
+    let mut n: u32 = 0;
+    while n < count {
+        let i = first + n;
+        if i % 64 == 0 && n + 64 <= count {
+            depth = larger(depth, block_depth(parts, depths, blocks, row, i / 64));
+            n += 64;
+        } else {
+            depth = larger(depth, segment_depth(parts, depths, row, i));
+            n += 1;
+        }
+    }
+    depth
+}
+
+fn one_deeper(depth: u32) -> u32
+    ensures { λ r. ⌜ r ≡ oneDeeper depth ⌝ }
+{
+    if depth < 9 { depth + 1 } else { depth }
+}
+
+fn row_depth(curves: &[u32], parts: &[u32], depths: &[u32], blocks: &mut [u32], row: u32) -> u32
+    requires { ⌜ Known (now parts) (now depths) (now blocks) row × RunFits (now curves) (now blocks) row × (length (now blocks) ≤ 64) ⌝ }
+    ensures { λ r. ⌜ (r ≡ rowDepth (now (curves .entry)) (now (parts .entry)) (now (depths .entry)) row)
+        × Known (now (parts .entry)) (now (depths .entry)) (now (blocks .exit)) row ⌝ }
 {
     let at = row as usize * 3;
     let kind = brep::int_at(curves, at);
-    let first = brep::int_at(curves, at + 1) as usize;
-    if kind == 6 {
-        return mark_at(marks, first);
-    }
-    if kind == 7 {
-        let end = first + brep::int_at(curves, at + 2) as usize;
-        return brep::int_at(sums, first) != brep::int_at(sums, end);
-    }
-    false
-}
-
-// Marks the rows that reach the next depth, and says whether there is one. From the highest row down: a trim's base is in
-// a lower row, whose mark is still the one of the depth before.
-fn mark_deeper(curves: &[u32], marks: &mut [bool], sums: &[u32], rows: u32) -> bool
-    requires { ⌜ rows ≤ length (now marks) ⌝ }
-    requires { ⌜ TrimsFall (now curves) rows ⌝ }
-    ensures { λ r. ⌜ (r ≡ someBelow rows (nextMark (now (curves .entry)) (now (marks .entry)) (now (sums .entry))))
-        × Agrees false (now (marks .exit)) rows (nextMark (now (curves .entry)) (now (marks .entry)) (now (sums .entry))) ⌝ }
-{
-    let mut some = false;
-    let mut row = rows;
-    while 0 < row {
-        row -= 1;
-        let mark = next_mark(curves, marks, sums, row);
-        marks[row as usize] = mark;
-        some = either(some, mark);
-    }
-    some
-}
-
-// With room for a mark of each row, and for a count before each segment and after the last. Where nothing reaches a depth,
-// nothing reaches a greater one.
-fn deep_in(curves: &[u32], parts: &[u32], marks: &mut [bool], sums: &mut [u32], rows: u32) -> bool
-    requires { ⌜ rows ≤ length (now marks) ⌝ }
-    requires { ⌜ length (now parts) / 2 ≤ 4096 ⌝ }
-    requires { ⌜ length (now parts) / 2 < length (now sums) ⌝ }
-    requires { ⌜ TrimsFall (now curves) rows ⌝ }
-    ensures { λ r. ⌜ TellsDeep (now (curves .entry)) (now (parts .entry)) rows r ⌝ }
-{
-    let mut some = mark_nested(curves, marks, rows);
-    let mut depth: u32 = 1;
-    while depth < 9 {
-        if !some {
-            return false;
+    let first = brep::int_at(curves, at + 1);
+    match kind {
+        6 => one_deeper(depth_below(depths, row, first)),
+        7 => {
+            let count = brep::int_at(curves, at + 2);
+            one_deeper(run_depth(parts, depths, blocks, row, first, count))
         }
-        count_marked(parts, marks, sums);
-        some = mark_deeper(curves, marks, sums, rows);
-        depth += 1;
+        _ => 0,
     }
-    some
 }
 
-// Cause 5, in the first rows rows. Small tables need little room, which is cleared at each call.
-pub fn too_deep(
+fn cause_with(lowest: u32, depth: u32) -> u32
+    ensures { λ r. ⌜ r ≡ causeWith lowest depth ⌝ }
+{
+    if depth == 10 {
+        4
+    } else if depth == 9 {
+        5
+    } else {
+        lowest
+    }
+}
+
+// With room for each row's depth, and for each block of segments. Past a row out of order only the form is looked at: no
+// other cause that a row can have is lower.
+fn rows_cause_in(
     points: &[f64],
     curves: &[u32],
     reals: &[f64],
     parts: &[u32],
     ranges: &[f64],
-    rows: u32,
-) -> bool
-    requires { ⌜ rows ≤ 4096 ⌝ }
-    requires { ⌜ length (now parts) / 2 ≤ 4096 ⌝ }
-    requires { ⌜ Falling (lent points curves reals parts ranges) rows ⌝ }
-    requires { ⌜ Inside (lent points curves reals parts ranges) rows ⌝ }
-    ensures { λ r. ⌜ r ≡ someBelow rows (deepRow (lent (points .entry) (curves .entry) (reals .entry) (parts .entry) (ranges .entry))) ⌝ }
+    depths: &mut [u32],
+    blocks: &mut [u32],
+) -> u32
+    requires { ⌜ (length (now curves) / 3 ≤ length (now depths)) × (length (now depths) ≤ 4096) ⌝ }
+    requires { ⌜ NoneKnown (now blocks) × (length (now parts) / 2 ≤ length (now blocks) * 64) × (length (now blocks) ≤ 64) ⌝ }
+    ensures { λ r. ⌜ r ≡ rowsCause (lent (points .entry) (curves .entry) (reals .entry) (parts .entry) (ranges .entry)) ⌝ }
 {
-    if rows <= 32 && parts.len() / 2 <= 32 {
-        let mut few = [false; 32];
-        let mut sums = [0u32; 33];
-        return deep_in(curves, parts, &mut few, &mut sums, rows);
+    let rows = (curves.len() / 3) as u32;
+    let mut lowest: u32 = 0;
+    let mut row: u32 = 0;
+    while row < rows {
+        if forms::malformed_row(points, curves, reals, parts, ranges, row as usize) {
+            return 3;
+        }
+        if lowest != 4 {
+            let depth = row_depth(curves, parts, depths, blocks, row);
+            depths[row as usize] = depth;
+            lowest = cause_with(lowest, depth);
+        }
+        row += 1;
     }
-    let mut marks = [false; 4096];
-    let mut sums = [0u32; 4097];
-    deep_in(curves, parts, &mut marks, &mut sums, rows)
+    lowest
+}
+
+// The lowest of the causes 3, 4 and 5 that a row has, or 0. Small tables need little room, which is cleared at each call.
+pub fn rows_cause(
+    points: &[f64],
+    curves: &[u32],
+    reals: &[f64],
+    parts: &[u32],
+    ranges: &[f64],
+) -> u32
+    requires { ⌜ (length (now curves) / 3 ≤ 4096) × (length (now parts) / 2 ≤ 4096) ⌝ }
+    ensures { λ r. ⌜ r ≡ rowsCause (lent (points .entry) (curves .entry) (reals .entry) (parts .entry) (ranges .entry)) ⌝ }
+{
+    if curves.len() / 3 <= 32 && parts.len() / 2 <= 64 {
+        let mut few = [0u32; 32];
+        let mut one = [10u32; 1];
+        return rows_cause_in(points, curves, reals, parts, ranges, &mut few, &mut one);
+    }
+    let mut depths = [0u32; 4096];
+    let mut blocks = [10u32; 64];
+    rows_cause_in(
+        points,
+        curves,
+        reals,
+        parts,
+        ranges,
+        &mut depths,
+        &mut blocks,
+    )
 }

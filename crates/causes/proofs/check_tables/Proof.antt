@@ -1,10 +1,10 @@
 -- `causes::check_tables` meets its contract. Assumes nothing.
-use Rattle.causes.proofs.Checked.{numbers-inside, runs-inside, numbers-falling}
-use Rattle.causes.proofs.Laws.{order-all, sizes}
-use Rattle.causes.specs.Causes.{tablesVerdict}
-use native.Mathlib.Omega.{arith}
 use mathlib.Core.Path.{sym, _∙_}
+use native.Mathlib.Omega.{arith}
 use borrow.Author.Needs.{needs}
+use Rattle.forms.specs.Forms.{malformedSegment}
+use Rattle.causes.specs.Causes.{tablesVerdict}
+use Rattle.causes.proofs.Laws.{sizes, third, accepted, refused}
 use Rattle.causes.proofs.check_tables.Statement.{statement}
 use Rattle.causes.proofs.check_tables.Tie as tie
 
@@ -15,9 +15,6 @@ returns : tie.Need-returns
 unfolding tablesVerdict
 returns c = rw (sym (c .before .oversize .ensures) ∙ c .if1 .taken)
 
-cast-rows : tie.Need-cast-rows
-cast-rows c = omega (arith, sizes _ (sym (c .before .oversize .ensures) ∙ c .if1 .left) .1)
-
 unbounded-tables-requires : tie.Need-unbounded-tables-requires
 unbounded-tables-requires c κs = search needs
 
@@ -25,30 +22,29 @@ returns-2 : tie.Need-returns-2
 unfolding tablesVerdict
 returns-2 c = rw (sym (c .before .before .before .oversize .ensures) ∙ c .before .before .if1 .left, sym (c .before .unbounded-tables .ensures) ∙ c .if2 .taken)
 
-ill-formed-tables-requires : tie.Need-ill-formed-tables-requires
-ill-formed-tables-requires c κs = search needs
+ragged-requires : tie.Need-ragged-requires
+ragged-requires c κs = search needs
+
+malformed-segments-requires : tie.Need-malformed-segments-requires
+malformed-segments-requires c κs = search needs
+
+either-requires : tie.Need-either-requires
+either-requires c κs = search needs
 
 returns-3 : tie.Need-returns-3
-unfolding tablesVerdict
-returns-3 c = rw (sym (c .before .before .before .before .before .oversize .ensures) ∙ c .before .before .before .before .if1 .left, sym (c .before .before .before .unbounded-tables .ensures) ∙ c .before .before .if2 .left, sym (c .before .ill-formed-tables .ensures) ∙ c .if3 .taken)
+unfolding malformedSegment
+returns-3 c = third _ (sym (c .before .before .before .before .before .before .before .oversize .ensures) ∙ c .before .before .before .before .before .before .if1 .left) (sym (c .before .before .before .before .before .unbounded-tables .ensures) ∙ c .before .before .before .before .if2 .left) (rw (c .before .either .ensures, c .before .before .before .ragged .ensures, c .before .before .malformed-segments .ensures) at (c .if3 .taken))
 
-unordered-requires : tie.Need-unordered-requires
-unordered-requires c κs = (omega (arith, sizes _ (sym (c .before .before .before .before .before .oversize .ensures) ∙ c .before .before .before .before .if1 .left) .2), numbers-inside _ (sym (c .before .ill-formed-tables .ensures) ∙ c .if3 .left))
+rows-cause-requires : tie.Need-rows-cause-requires
+rows-cause-requires c κs = let z = sizes _ (sym (c .before .before .before .before .before .before .before .oversize .ensures) ∙ c .before .before .before .before .before .before .if1 .left) in (omega (arith, z .1), omega (arith, z .2))
 
 returns-4 : tie.Need-returns-4
-unfolding tablesVerdict
-returns-4 c = rw (sym (c .before .before .before .before .before .before .before .oversize .ensures) ∙ c .before .before .before .before .before .before .if1 .left, sym (c .before .before .before .before .before .unbounded-tables .ensures) ∙ c .before .before .before .before .if2 .left, sym (c .before .before .before .ill-formed-tables .ensures) ∙ c .before .before .if3 .left, ← order-all, sym (c .before .unordered .ensures) ∙ c .if4 .taken)
-
-too-deep-requires : tie.Need-too-deep-requires
-too-deep-requires c κs = (omega (arith, sizes _ (sym (c .before .before .before .before .before .before .before .oversize .ensures) ∙ c .before .before .before .before .before .before .if1 .left) .1), (omega (arith, sizes _ (sym (c .before .before .before .before .before .before .before .oversize .ensures) ∙ c .before .before .before .before .before .before .if1 .left) .2), (numbers-falling _ (sym (c .before .unordered .ensures) ∙ c .if4 .left), runs-inside _ (sym (c .before .before .before .ill-formed-tables .ensures) ∙ c .before .before .if3 .left))))
+unfolding malformedSegment
+returns-4 c = accepted _ (sym (c .before .before .before .before .before .before .before .before .before .oversize .ensures) ∙ c .before .before .before .before .before .before .before .before .if1 .left) (sym (c .before .before .before .before .before .before .before .unbounded-tables .ensures) ∙ c .before .before .before .before .before .before .if2 .left) (rw (c .before .before .before .either .ensures, c .before .before .before .before .before .ragged .ensures, c .before .before .before .before .malformed-segments .ensures) at (c .before .before .if3 .left)) (c .before .rows-cause .ensures) (c .match .keys1)
 
 returns-5 : tie.Need-returns-5
-unfolding tablesVerdict
-returns-5 c = rw (sym (c .before .before .before .before .before .before .before .before .before .oversize .ensures) ∙ c .before .before .before .before .before .before .before .before .if1 .left, sym (c .before .before .before .before .before .before .before .unbounded-tables .ensures) ∙ c .before .before .before .before .before .before .if2 .left, sym (c .before .before .before .before .before .ill-formed-tables .ensures) ∙ c .before .before .before .before .if3 .left, ← order-all, sym (c .before .before .before .unordered .ensures) ∙ c .before .before .if4 .left, sym (c .before .too-deep .ensures) ∙ c .if5 .taken)
-
-returns-6 : tie.Need-returns-6
-unfolding tablesVerdict
-returns-6 c = rw (sym (c .before .before .before .before .before .before .before .before .before .oversize .ensures) ∙ c .before .before .before .before .before .before .before .before .if1 .left, sym (c .before .before .before .before .before .before .before .unbounded-tables .ensures) ∙ c .before .before .before .before .before .before .if2 .left, sym (c .before .before .before .before .before .ill-formed-tables .ensures) ∙ c .before .before .before .before .if3 .left, ← order-all, sym (c .before .before .before .unordered .ensures) ∙ c .before .before .if4 .left, sym (c .before .too-deep .ensures) ∙ c .if5 .left)
+unfolding malformedSegment
+returns-5 c = refused _ (sym (c .before .before .before .before .before .before .before .before .before .oversize .ensures) ∙ c .before .before .before .before .before .before .before .before .if1 .left) (sym (c .before .before .before .before .before .before .before .unbounded-tables .ensures) ∙ c .before .before .before .before .before .before .if2 .left) (rw (c .before .before .before .either .ensures, c .before .before .before .before .before .ragged .ensures, c .before .before .before .before .malformed-segments .ensures) at (c .before .before .if3 .left)) (c .before .rows-cause .ensures) (c .match .rest .1)
 
 pub check-tables-spec : {M : Type 1} → statement M
 check-tables-spec =
@@ -56,13 +52,12 @@ check-tables-spec =
     (tie.spec
     oversize-requires
     returns
-    cast-rows
     unbounded-tables-requires
     returns-2
-    ill-formed-tables-requires
+    ragged-requires
+    malformed-segments-requires
+    either-requires
     returns-3
-    unordered-requires
+    rows-cause-requires
     returns-4
-    too-deep-requires
-    returns-5
-    returns-6)
+    returns-5)

@@ -1,0 +1,83 @@
+-- `nest::block_depth` meets its contract. The invariant: depth is the largest of the first n segments. Assumes nothing.
+use mathlib.Core.Path.{_≡_, sym}
+use Prim.Native.Nat.{_*_, _≤_, _-_}
+use native.Mathlib.Omega.{arith}
+use lib.ListN.{length, length-set}
+use borrow.Author.Needs.{needs}
+use Rattle.nest.specs.Depths.{deepestOf}
+use Rattle.nest.proofs.Depths.{deepest-none, deepest-more, deepest-all, known-kept}
+use Rattle.nest.proofs.block_depth.Statement.{statement}
+use Rattle.nest.proofs.block_depth.Tie as tie
+
+abbrev Inv-loop : tie.InvT-loop
+Inv-loop parts depths blocks row b kept depth₀ n₀ depth n = (n ≤ 64) × (depth ≡ deepestOf parts depths row (b * 64) n)
+
+abbrev μ-loop : tie.MeasureT-loop
+μ-loop parts depths blocks row b kept depth₀ n₀ depth n = 64 - n
+
+mul-kept : tie.Need-mul-kept Inv-loop μ-loop
+mul-kept c = search needs
+
+slice-read-kept : tie.Need-slice-read-kept Inv-loop μ-loop
+slice-read-kept c = search needs
+
+returns : tie.Need-returns Inv-loop μ-loop
+returns c = (sym (c .before .before .before .before .before .pre .0 .kept _ (c .before .before .before .before .before .pre .1) (c .if1 .taken)), c .before .before .before .before .before .pre .0)
+
+loop-holds : tie.Need-loop-holds Inv-loop μ-loop
+loop-holds c = (omega arith, deepest-none _ _ _ _)
+
+mul-segment-depth : tie.Need-mul-segment-depth Inv-loop μ-loop
+mul-segment-depth c = omega arith
+
+add-segment-depth : tie.Need-add-segment-depth Inv-loop μ-loop
+add-segment-depth c = omega arith
+
+segment-depth-requires : tie.Need-segment-depth-requires Inv-loop μ-loop
+segment-depth-requires c κs = search needs
+
+larger-requires : tie.Need-larger-requires Inv-loop μ-loop
+larger-requires c κs = search needs
+
+add-n : tie.Need-add-n Inv-loop μ-loop
+add-n c = omega arith
+
+loop-less : tie.Need-loop-less Inv-loop μ-loop
+loop-less c = omega arith
+
+loop-again : tie.Need-loop-again Inv-loop μ-loop
+loop-again c = (omega arith, deepest-more _ _ _ _ _ _ _ _ (c .before .before .before .loop .inv .1) (c .before .segment-depth .ensures) (c .larger .ensures))
+
+mul-blocks : tie.Need-mul-blocks Inv-loop μ-loop
+mul-blocks c = search needs
+
+slice-write-blocks : tie.Need-slice-write-blocks Inv-loop μ-loop
+slice-write-blocks c = search needs
+
+same-length : tie.Need-same-length Inv-loop μ-loop
+same-length c = search needs
+
+returns-2 : tie.Need-returns-2 Inv-loop μ-loop
+returns-2 c = let d = deepest-all _ _ _ _ _ 64 _ (omega arith) (c .before .loop .inv .1) in (d, known-kept _ _ _ _ _ _ (c .before .before .before .before .before .before .before .pre .1) d (c .before .before .before .before .before .before .before .pre .0))
+
+pub block-depth-spec : {M : Type 1} → statement M
+block-depth-spec =
+    tie.close
+    (tie.spec
+    Inv-loop
+    μ-loop
+    mul-kept
+    slice-read-kept
+    returns
+    loop-holds
+    mul-segment-depth
+    add-segment-depth
+    segment-depth-requires
+    larger-requires
+    add-n
+    loop-less
+    loop-again
+    mul-blocks
+    slice-write-blocks
+    same-length
+    returns-2)
