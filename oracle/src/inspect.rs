@@ -94,10 +94,12 @@ fn begun(line: &str) -> Option<Resolved> {
     }
 }
 
-/// An angle in degrees, as radians.
+/// An angle in degrees: as radians, and 1 where resolving changes those, else 0.
 fn degrees(line: &str) -> Option<String> {
-    let angle = float(line.strip_prefix("degrees ")?)?;
-    Some(format!("{}\n", bits(&[angle.to_radians()])))
+    let angle = float(line.strip_prefix("degrees ")?)?.to_radians();
+    let options = Options { angular_deflection: angle, ..Options::default() };
+    let clamped = bits(&[options.resolve(0.0).angle]) != bits(&[angle]);
+    Some(format!("{} {}\n", bits(&[angle]), clamped as u32))
 }
 
 /// The sag at an extent, and there the step and the segments of an arc.

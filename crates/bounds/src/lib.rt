@@ -63,9 +63,10 @@ fn edge_beyond(edge: Edge) -> bool
 fn options_beyond(options: Options) -> bool
     ensures { λ r. ⌜ r ≡ optionsBeyond options ⌝ }
 {
+    let angle = options.angle.radians();
     either(
         beyond(options.deflection),
-        either(beyond(options.angle.0), finite_beyond(options.scale)),
+        either(beyond(angle), finite_beyond(options.scale)),
     )
 }
 

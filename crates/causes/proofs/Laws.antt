@@ -11,7 +11,7 @@ use Rattle.bounds.specs.Some.{someBelow}
 use Rattle.bounds.specs.Bounds.{unboundedTables}
 use Rattle.bounds.proofs.Laws.{neither, four}
 use Rattle.forms.specs.Forms.{curveCount, segmentCount, malformedRow, malformedSegment, ragged, illFormedTables}
-use Rattle.nest.specs.Nest.{unorderedRow, deepRow, rowsCause}
+use Rattle.nest.specs.Nest.{rowsCause}
 use Rattle.causes.specs.declared.Verdict.{Verdict}
 use Rattle.causes.specs.declared.Verdict.the-variants.{Accepted, Refused}
 use Rattle.causes.specs.Causes.{oversize, unordered, tooDeep, tablesVerdict}

@@ -5,9 +5,8 @@ use lib.ListN.{length}
 use lib.Dec.{ltb, leb}
 use Rattle.brep.specs.declared.Edge.{Edge}
 use Rattle.brep.specs.Rows.{Tables}
-use Rattle.nest.specs.Nest.{unorderedRow, deepRow}
+pub use Rattle.nest.specs.Nest.{unordered, tooDeep}
 use Rattle.options.specs.declared.Options.{Options}
-use Rattle.bounds.specs.Some.{someBelow}
 use Rattle.bounds.specs.Bounds.{unboundedTables, unboundedEdge, unbounded}
 use Rattle.forms.specs.Forms.{pointCount, curveCount, illFormedTables, illFormedEdge, illFormed}
 use Rattle.causes.specs.declared.Verdict.{Verdict}
@@ -20,15 +19,7 @@ oversize T =
     || ((ltb (3 * 4096) (length (T .curves)) || ltb (2 * 4096) (length (T .reals)))
     || (ltb (2 * 4096) (length (T .parts)) || ltb (2 * 4096) (length (T .ranges))))
 
--- 2 is `unbounded` of the crate bounds, and 3 `illFormed` of forms; 4 and 5 ask nest for a row
-
--- 4: a trim's base, or the curve of a composite's segment, not in a lower row than its own
-abbrev pub unordered : Tables → Bool
-unordered T = someBelow (curveCount T) (unorderedRow T)
-
--- 5: trims and composites nested deeper than 8
-abbrev pub tooDeep : Tables → Bool
-tooDeep T = someBelow (curveCount T) (deepRow T)
+-- 2 is `unbounded` of the crate bounds, 3 `illFormed` of forms, 4 `unordered` and 5 `tooDeep` of nest
 
 -- 6: the edge's curve, start, end, low or high outside its table
 abbrev pub missingFrom : ℕ → ℕ → Edge → Bool

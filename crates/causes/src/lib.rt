@@ -29,8 +29,8 @@ fn missing(points: usize, rows: usize, edge: Edge) -> bool
     either(rows <= edge.curve as usize, either(vertices, corners))
 }
 
-// The lowest of the causes 1 to 5 that the tables alone have: for many edges over the same tables, once. Each of the five
-// slices is gone through once: the floats for cause 2, the segments and then the rows for the others.
+// The lowest of the causes 1 to 5 that the tables alone have: for many edges over the same tables, once. One pass over each
+// slice of floats for cause 2, one over the segments for 3, and one over the rows, with their runs, for 3, 4 and 5.
 pub fn check_tables(
     points: &[f64],
     curves: &[u32],

@@ -191,7 +191,7 @@ pub extern "C" fn cs_default(
 {
     let default = Options::default();
     *deflection = default.deflection;
-    *angle = default.angle.0;
+    *angle = default.angle.radians();
     *relative = default.relative;
     *segments = default.segments;
     *depth = default.depth;
@@ -212,7 +212,7 @@ pub extern "C" fn cs_draft(
 {
     let draft = Options::draft();
     *deflection = draft.deflection;
-    *angle = draft.angle.0;
+    *angle = draft.angle.radians();
     *relative = draft.relative;
     *segments = draft.segments;
     *depth = draft.depth;
@@ -233,7 +233,7 @@ pub extern "C" fn cs_fine(
 {
     let fine = Options::fine();
     *deflection = fine.deflection;
-    *angle = fine.angle.0;
+    *angle = fine.angle.radians();
     *relative = fine.relative;
     *segments = fine.segments;
     *depth = fine.depth;
@@ -245,7 +245,7 @@ pub extern "C" fn cs_fine(
 pub extern "C" fn cs_degrees(x: f64) -> f64
     ensures { λ r. ⌜ r ≡ degrees x .0 ⌝ }
 {
-    Radians::degrees(x).0
+    Radians::degrees(x).radians()
 }
 
 // Whether drawing changes an angle of so many radians, as it does with 8 that was meant as degrees.

@@ -1,4 +1,4 @@
-// Cause 3: what does not follow the tables' form. Every row and every segment is looked at, used or not.
+// Cause 3: what does not follow the tables' form: the slices, a row, the segments, used or not, the edge and the options.
 use bounds::both;
 use bounds::either;
 use brep::Edge;

@@ -44,7 +44,7 @@ pub record Known (parts depths blocks : List ℕ) (row : ℕ) : Type 0 where
 pub record NoneKnown (blocks : List ℕ) : Type 0 where
   pub empty : (b : ℕ) → b < length blocks → getD blocks b 0 ≡ 10
 
--- where row is a composite, its run lies in the blocks, of which there are at most 64
+-- where row is a composite, its run lies in the blocks that there are
 abbrev pub RunFits : List ℕ → List ℕ → ℕ → Type 0
 RunFits curves blocks row =
     getD curves (row * 3) 0 ≡ 7 → getD curves (row * 3 + 1) 0 + getD curves (row * 3 + 2) 0 ≤ length blocks * 64

@@ -1,4 +1,4 @@
--- What trims and composites refer to, and how deep they nest: causes 4 and 5. Definitions only.
+-- What trims and composites refer to, and how deep they nest: causes 4 and 5, and the lowest cause of the rows. Definitions only.
 use mathlib.Core.Bool.{Bool, false, cond}
 use Prim.Native.Nat.{ℕ, suc, _+_, max}
 use lib.Dec.{ltb, leb}
@@ -27,6 +27,10 @@ notLower T row (Composite first count) = someBelow count (highSegment T row firs
 unfoldable pub unorderedRow : Tables → ℕ → Bool
 unorderedRow T row = notLower T row (rowIn T row)
 
+-- 4: a trim's base, or the curve of a composite's segment, not in a lower row than its own
+abbrev pub unordered : Tables → Bool
+unordered T = someBelow (curveCount T) (unorderedRow T)
+
 -- 0 for kinds 1 to 5, one more than its base for a trim, one more than its deepest segment for a composite
 unfoldable mutual
   pub nesting : CurveTree → ℕ
@@ -47,10 +51,10 @@ unfoldable mutual
 unfoldable pub deepRow : Tables → ℕ → Bool
 deepRow T row = ltb 8 (nesting (tree T row))
 
+-- 5: trims and composites nested deeper than 8
+abbrev pub tooDeep : Tables → Bool
+tooDeep T = someBelow (curveCount T) (deepRow T)
+
 -- the lowest of the causes 3, 4 and 5 that a row has, or 0 where none has one
 unfoldable pub rowsCause : Tables → ℕ
-rowsCause T =
-    cond (someBelow (curveCount T) (malformedRow T)) 3
-    (cond (someBelow (curveCount T) (unorderedRow T)) 4
-    (cond (someBelow (curveCount T) (deepRow T)) 5
-    0))
+rowsCause T = cond (someBelow (curveCount T) (malformedRow T)) 3 (cond (unordered T) 4 (cond (tooDeep T) 5 0))

@@ -1,6 +1,6 @@
 // Causes 3, 4 and 5 of the curve rows, in one pass from the lowest row up. A table has the depth of each row gone by, so that
 // no reference is followed down. Composites may share runs: another has the depth of each block of 64 segments that a run has
-// covered, so that a run takes at most 188 steps, 126 segments at its ends and 62 blocks.
+// covered. Such a block is worked out once; besides, a run takes at most 126 segments at its ends and 64 blocks.
 ghost use mathlib.Core.Path.{_≡_};
 ghost use Prim.Native.Nat.{_+_, _*_, _/_, _<_, _≤_, max};
 ghost use lib.ListN.{length, getD};
@@ -31,7 +31,8 @@ fn segment_depth(parts: &[u32], depths: &[u32], row: u32, i: u32) -> u32
     depth_below(depths, row, curve)
 }
 
-// The largest of block number b: kept, or worked out and kept. One with a 10 is worked out anew, but no row comes after it.
+// The largest of block number b: kept, or worked out and kept. One with a 10 would be worked out anew, but after the row that
+// finds it no row's depth is asked for.
 fn block_depth(parts: &[u32], depths: &[u32], blocks: &mut [u32], row: u32, b: u32) -> u32
     requires { ⌜ Known (now parts) (now depths) (now blocks) row × (b < length (now blocks)) × (length (now blocks) ≤ 64) ⌝ }
     ensures { λ r. ⌜ (r ≡ blockDepth (now (parts .entry)) (now (depths .entry)) row b)

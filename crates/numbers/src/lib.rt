@@ -47,7 +47,7 @@ pub fn options_of(
 {
     Options {
         deflection,
-        angle: Radians(angle),
+        angle: Radians::of(angle),
         relative,
         segments,
         depth,

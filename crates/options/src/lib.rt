@@ -13,8 +13,9 @@ const LARGEST_ANGLE: f64 = 3.141592653589793;
 
 const LEAST_STEP: f64 = 1e-3;
 
-// An angle in radians. The type keeps a number of degrees from being taken for one of radians.
-pub struct Radians(pub f64);
+// An angle in radians. The type keeps a number of degrees from being taken for one of radians: outside this module an angle is
+// made by `of` or `degrees` alone.
+pub struct Radians(f64);
 
 impl Radians {
     pub fn of(x: f64) -> Radians
@@ -29,11 +30,19 @@ impl Radians {
         Radians(x * 0.017453292519943295)
     }
 
+    // As a number of radians.
+    pub fn radians(self) -> f64
+        ensures { λ r. ⌜ r ≡ self .0 ⌝ }
+    {
+        self.0
+    }
+
     // Whether resolving changes the angle, as it does with 8 that was meant as degrees: a caller can warn.
     pub fn is_clamped(self) -> bool
         ensures { λ r. ⌜ r ≡ isClamped self ⌝ }
     {
-        self.0 < LEAST_ANGLE || LARGEST_ANGLE < self.0
+        let x = self.0;
+        x < LEAST_ANGLE || LARGEST_ANGLE < x
     }
 }
 

@@ -1,8 +1,8 @@
 // Reads groups of lines from standard input, parted by lines `====`: options as a sheet's last line has them, or a preset's
 // name, then lines `EXTENT RADIUS TOTAL` and `degrees ANGLE`. Writes for each group the line `SAG MODEL RELATIVE ANGLE SEGMENTS
 // DEPTH` of the options resolved, then for each line of three floats `SAG STEP COUNT`: the sag for the extent, and there the
-// step of the radius and the segments of the arc; and for each angle its radians. `?` stands for a malformed line; malformed
-// options end their group. Floats are 16 lowercase hex digits of their bits.
+// step of the radius and the segments of the arc; and for each angle `RADIANS CLAMPED`, 1 where resolving changes the radians,
+// else 0. `?` stands for a malformed line; malformed options end their group. Floats are 16 lowercase hex digits of their bits.
 use libc::STDIN_FILENO;
 use options::Options;
 use options::Radians;
@@ -95,6 +95,10 @@ fn put_arc(
     replay_text::decimal_then(out, step, own.segments_for_arc(radius, total), b'\n')
 }
 
+fn flag(b: bool) -> u64 {
+    if b { 1 } else { 0 }
+}
+
 // The answer to a line `degrees ANGLE`.
 fn put_degrees(line: &[u8; 128], out: &mut [u8; 4096], at: usize) -> usize {
     if starts(line, b"degrees ") {
@@ -102,7 +106,8 @@ fn put_degrees(line: &[u8; 128], out: &mut [u8; 4096], at: usize) -> usize {
         if row.ok {
             let numbers = row.numbers;
             let angle = Radians::degrees(rows::float_of(numbers[0]));
-            return replay_text::float_then(out, at, angle.0, b'\n');
+            let n = replay_text::float_then(out, at, angle.radians(), b' ');
+            return replay_text::decimal_then(out, n, flag(angle.is_clamped()), b'\n');
         }
     }
     put_malformed(out, at)

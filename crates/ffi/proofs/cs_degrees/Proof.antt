@@ -1,5 +1,5 @@
 -- `ffi::cs_degrees` meets its contract. Assumes nothing.
-use mathlib.Core.Path.{ap}
+use mathlib.Core.Path.{ap, _∙_}
 use Rattle.options.specs.declared.Radians.{Radians}
 use borrow.Author.Needs.{needs}
 use Rattle.ffi.proofs.cs_degrees.Statement.{statement}
@@ -8,8 +8,11 @@ use Rattle.ffi.proofs.cs_degrees.Tie as tie
 degrees-requires : tie.Need-degrees-requires
 degrees-requires c κs = search needs
 
+radians-requires : tie.Need-radians-requires
+radians-requires c κs = search needs
+
 returns : tie.Need-returns
-returns c = ap (λ (r : Radians). r .0) (c .degrees .ensures)
+returns c = c .radians .ensures ∙ ap (λ (r : Radians). r .0) (c .before .degrees .ensures)
 
 pub cs-degrees-spec : {M : Type 1} → statement M
-cs-degrees-spec = tie.close (tie.spec degrees-requires returns)
+cs-degrees-spec = tie.close (tie.spec degrees-requires radians-requires returns)

@@ -9,7 +9,7 @@ returns c = rw (c .if1 .taken)
 
 returns-2 : tie.Need-returns-2
 unfolding isClamped
-returns-2 c = rw (c .before .if1 .left)
+returns-2 c = rw (c .if1 .left)
 
 pub is-clamped-spec : {M : Type 1} → statement M
 is-clamped-spec = tie.close (tie.spec returns returns-2)
