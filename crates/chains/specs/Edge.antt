@@ -24,6 +24,7 @@ use Rattle.usable.specs.declared.Usable.{Usable}
 use Rattle.usable.specs.declared.Usable.the-variants.{Range, Unusable}
 use Rattle.usable.specs.Usable.{usableRange}
 use Rattle.sample.specs.Sample.{sampled}
+unfoldable pub use Rattle.closed.specs.Located.{located}
 
 -- ---- the edge's curve, vertices and sense
 abbrev pub edgeCurve : Tables → Edge → CurveTree
@@ -59,10 +60,7 @@ edgeExtent T e =
     maxOf (maxOf (size .x) (size .y)) (size .z)
 
 -- ---- discretise
--- the curve's points at the parameters
-unfoldable pub located : CurveTree → List Float → List Sample
-located c [] = []
-located c (t ∷ l) = record { point = pointAt c t; param = t } ∷ located c l
+-- the curve's points at the parameters are `located` of the crate closed
 
 -- (edge.tolerance * 10.0).powi(2)
 abbrev pub nearSquared : Float → Float

@@ -1,9 +1,12 @@
-// The check of a closed form: how far a curve's middles lie from those of its chords.
+// The check of a closed form: how far a curve's middles lie from those of its chords. The points at its parameters are left in
+// the chain, where they are wanted if the form is good enough.
 use math::Vec3;
 use ready::Ready;
+use samples::Sample;
 ghost use mathlib.Core.Path.{_≡_};
-ghost use Prim.Native.Nat.{_≤_};
+ghost use Prim.Native.Nat.{_*_, _≤_};
 ghost use lib.ListN.{length, take};
+ghost use lib.Seq.{sets};
 ghost use lib.Ieee.{le};
 ghost use Rattle.arith.specs.Notation.{nought};
 ghost use Rattle.roots.specs.Root.{rootOf};
@@ -11,7 +14,9 @@ ghost use Rattle.brep.specs.Rows.{lent};
 ghost use Rattle.brep.specs.Tree.{tree};
 ghost use Rattle.curve.specs.Eval.{pointAt};
 ghost use Rattle.ready.specs.Ready.{readyOf};
+ghost use Rattle.samples.specs.Chain.{width, flat};
 ghost use Rattle.closed.specs.Miss.{worstMiss};
+ghost use Rattle.closed.specs.Located.{located};
 ghost use Rattle.closed.specs.Worst.{missSquare, largerOf, Alike};
 
 // How far the middle of the curve of a row lies from the middle of the chord from a to b, squared; pa and pb are its points there.
@@ -44,7 +49,8 @@ fn larger(worst: f64, s: f64) -> f64
     if worst < s { s } else { worst }
 }
 
-// The square of the largest miss between parameters that follow each other. Each point is evaluated once.
+// The square of the largest miss between parameters that follow each other. Each point is evaluated once, and is a record of
+// the chain from then on.
 fn worst_square(
     points: &[f64],
     curves: &[u32],
@@ -53,8 +59,11 @@ fn worst_square(
     ranges: &[f64],
     row: u32,
     params: &[f64],
+    chain: &mut [f64],
 ) -> f64
-    ensures { λ w. ⌜ Alike (rootOf w) (worstMiss (tree (lent (points .entry) (curves .entry) (reals .entry) (parts .entry) (ranges .entry)) row) nought (now (params .entry))) ⌝ }
+    requires { ⌜ width * length (now params) ≤ length (now chain) ⌝ }
+    ensures { λ w. ⌜ Alike (rootOf w) (worstMiss (tree (lent (points .entry) (curves .entry) (reals .entry) (parts .entry) (ranges .entry)) row) nought (now (params .entry)))
+        × (now (chain .exit) ≡ sets (now (chain .entry)) 0 (flat (located (tree (lent (points .entry) (curves .entry) (reals .entry) (parts .entry) (ranges .entry)) row) (now (params .entry))))) ⌝ }
 {
     if params.len() == 0 {
         return 0.0;
@@ -63,9 +72,14 @@ fn worst_square(
     let ready = ready::ready_at(points, curves, reals, parts, ranges, row);
     let mut a = params[0];
     let mut pa = ready::point_of(ready, points, curves, reals, parts, ranges, row, a);
-    let mut i = 1usize;
-    while i < params.len() {
-        let b = params[i];
+    let mut i = 0usize;
+    while i + 1 < params.len() {
+        let here = Sample {
+            point: pa,
+            param: a,
+        };
+        samples::put(chain, i, here);
+        let b = params[i + 1];
         let pb = ready::point_of(ready, points, curves, reals, parts, ranges, row, b);
         let s = miss_square(
             points,
@@ -85,10 +99,15 @@ fn worst_square(
         pa = pb;
         i += 1;
     }
+    let last = Sample {
+        point: pa,
+        param: a,
+    };
+    samples::put(chain, i, last);
     worst
 }
 
-// Whether the chords between the first n parameters stay within the sag.
+// Whether the chords between the first n parameters stay within the sag. The chain then holds the points at those.
 pub fn meets(
     points: &[f64],
     curves: &[u32],
@@ -99,11 +118,14 @@ pub fn meets(
     out: &[f64],
     n: usize,
     sag: f64,
+    chain: &mut [f64],
 ) -> bool
-    requires { ⌜ n ≤ length (now out) ⌝ }
-    ensures { λ w. ⌜ w ≡ le (worstMiss (tree (lent (points .entry) (curves .entry) (reals .entry) (parts .entry) (ranges .entry)) row) nought (take n (now (out .entry)))) sag ⌝ }
+    requires { ⌜ (n ≤ length (now out)) × (width * n ≤ length (now chain)) ⌝ }
+    ensures { λ w. ⌜ (w ≡ le (worstMiss (tree (lent (points .entry) (curves .entry) (reals .entry) (parts .entry) (ranges .entry)) row) nought (take n (now (out .entry)))) sag)
+        × (now (chain .exit) ≡ sets (now (chain .entry)) 0 (flat (located (tree (lent (points .entry) (curves .entry) (reals .entry) (parts .entry) (ranges .entry)) row) (take n (now (out .entry)))))) ⌝ }
 {
     let params = &out[..n];
     // The largest of the roots is the root of the largest.
-    roots::root(worst_square(points, curves, reals, parts, ranges, row, params)) <= sag
+    let worst = worst_square(points, curves, reals, parts, ranges, row, params, chain);
+    roots::root(worst) <= sag
 }

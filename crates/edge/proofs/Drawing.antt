@@ -1,11 +1,12 @@
 -- The ways through `draw_range` and `discretise`. Assumes nothing.
 use mathlib.Core.Path.{_≡_, refl, sym, ap, _∙_}
+use mathlib.Core.Bool.{Bool, true}
 use mathlib.Core.List.{List, [], _∷_, _++_}
-use Prim.Native.Nat.{ℕ, _+_, _-_, _*_, _≤_}
+use Prim.Native.Nat.{ℕ, _+_, _-_, _*_, _<_, _≤_}
 use native.Mathlib.Omega.{arith}
-use lib.ListN.{length, take, drop, replicate, length-append, length-replicate, replicate-append-replicate, take-append-drop}
+use lib.ListN.{length, getD, take, drop, replicate, length-append, length-replicate, replicate-append-replicate, take-append-drop}
 use lib.Seq.{sets, length-sets, length-take-le, take-at}
-use lib.Ieee.{Float, binary64, ofBits}
+use lib.Ieee.{Float, nan, binary64, ofBits}
 use Rattle.lists.specs.Result.{Result, refused, got, bind, each}
 use Rattle.lists.specs.Room.{filled}
 use Rattle.lists.proofs.Filled.{filled-length, filled-front, filled-part}
@@ -20,15 +21,22 @@ use Rattle.listed.specs.Held.{said}
 use Rattle.samples.specs.declared.Sample.{Sample}
 use Rattle.samples.specs.declared.Counted.{Counted}
 use Rattle.samples.specs.declared.Counted.the-variants.{Refused, Count}
-use Rattle.samples.specs.Chain.{width, most, flat, samples, answerOf}
+use Rattle.samples.specs.Chain.{width, most, flat, samples, pointOf, pointAt, answerOf}
+use Rattle.curve.specs.Eval as eval
+use Rattle.samples.proofs.Laws.{pointOf-samples}
 use Rattle.usable.specs.declared.Usable.{Usable}
 use Rattle.usable.specs.declared.Usable.the-variants.{Range, Unusable}
 use Rattle.usable.specs.Usable.{usableRange}
 use Rattle.sample.specs.Sample.{sampled, listOf}
 use Rattle.sample.specs.Answered.{Answered}
+use Rattle.sample.specs.Tried.{tried, isTried}
 use Rattle.sample.proofs.Laws.{sampled-two, sampled-room}
+use Rattle.sample.proofs.Ways.{tried-sampled}
+use Rattle.closed.specs.Located.{located}
+use Rattle.closed.proofs.Located.{located-length, located-at}
 use Rattle.chains.specs.Edge.{edgeCurve, atLeastTwo, chordOf, placed, finished, discretised}
 use Rattle.chains.specs.Draw.{roomOf}
+use Rattle.place.specs.Place.{Holds}
 use Rattle.place.proofs.Laws.{placed-length}
 use Rattle.edge.specs.Discretised.{chainOf, thinnedMerged, overRange, Drew}
 use Rattle.edge.proofs.Thinning.{read-back}
@@ -38,6 +46,9 @@ drew n m D E k e p = record {
   answered = p .answered ∙ ap answerOf e;
   holds = p .holds ∙ ap (λ (i : ℕ). filled i (flat (chainOf D))) k ∙ ap (λ (x : Result (List Sample)). filled m (flat (chainOf x))) e;
 }
+
+pub drew-as : {n m : ℕ} {D : Result (List Sample)} {w : Counted} {g : List Float} → n ≡ m → Drew n D w g → Drew m D w g
+drew-as {n} {m} {D} e p = drew n m D D e refl p
 
 -- ---- `draw_range`
 two-or-more : (range : Interval) (l : List Float) → 2 ≤ length l → atLeastTwo range l ≡ l
@@ -103,6 +114,31 @@ module _ {room : ℕ} (T : Tables) (e : Edge) (r : Resolved) (range : Interval) 
 
   pub drew-some : (w : Counted) (g : List Float) → Drew (length d) (thinnedMerged T e r (samples n d)) w g → Drew (length chain) (overRange room T e r range) w g
   drew-some w g = drew (length d) (length chain) _ _ (ap length p ∙ length-sets chain 0 (flat (placed T e (take n out)))) over-some
+
+-- what sample_params left in the chain, where it says that these are the parameters' points
+module _ {room : ℕ} (T : Tables) (e : Edge) (r : Resolved) (range : Interval) {n : ℕ} {out : List Float} (s : Sampling room (sampled room (edgeCurve T e) range r) n out)
+    (known : Bool) (k : known ≡ isTried room (edgeCurve T e) range r) (chain left : List Float) (fits : width * n ≤ length chain)
+    (p : left ≡ sets chain 0 (flat (located (edgeCurve T e) (tried room (edgeCurve T e) range r)))) where
+  pub held : known ≡ true → Holds (edgeCurve T e) (take n out) left
+  held h = record { point = λ i l. go i (omega (arith, part-length s, l)) }
+    where
+      own : tried room (edgeCurve T e) range r ≡ s .params
+      own = ap listOf (sym (tried-sampled room (edgeCurve T e) range r (sym k ∙ h)) ∙ s .is)
+
+      size : length (located (edgeCurve T e) (s .params)) ≡ n
+      size = located-length (edgeCurve T e) (s .params) ∙ s .size
+
+      reads : samples n left ≡ located (edgeCurve T e) (s .params)
+      reads =
+          ap (λ (i : ℕ). samples i left) (sym size)
+          ∙ ap (samples (length (located (edgeCurve T e) (s .params)))) (p ∙ ap (λ (l : List Float). sets chain 0 (flat (located (edgeCurve T e) l))) own)
+          ∙ read-back chain (located (edgeCurve T e) (s .params)) (omega (arith, size, fits))
+
+      go : (i : ℕ) → i < n → pointAt left i ≡ eval.pointAt (edgeCurve T e) (getD (take n out) i nan)
+      go i l =
+          sym (pointOf-samples left n i l) ∙ ap (λ (q : List Sample). pointOf q i) reads
+          ∙ ap (λ (q : Sample). q .point) (located-at (edgeCurve T e) (s .params) i _ (omega (arith, s .size, l)))
+          ∙ ap (λ (q : List Float). eval.pointAt (edgeCurve T e) (getD q i nan)) (sym (part s))
 
 pub drew-none : (S : Result (List Float)) (f : List Float → Result (List Sample)) (w : Listed) (chain g : List Float) → said w ≡ each length S → w ≡ listed.Refused
     → g ≡ filled (length chain) (take 0 chain) → Drew (length chain) (bind S f) (Refused 8) g

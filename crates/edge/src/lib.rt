@@ -148,13 +148,36 @@ fn draw_range(
         × (now (scratch .exit) ≡ filled (length (now (scratch .entry))) []) ⌝ }
 {
     let row = edge.curve;
-    let listed = sample_params(points, curves, reals, parts, ranges, row, range, r, scratch);
+    let sampled = sample_params(
+        points,
+        curves,
+        reals,
+        parts,
+        ranges,
+        row,
+        range,
+        r,
+        scratch,
+        chain,
+    );
+    let known = sampled.known;
+    let listed = sampled.listed;
     let Listed::Count(n) = listed else {
         lists::clear_from(chain, 0);
         return Counted::Refused(8);
     };
     let params = &scratch[..n];
-    place::place(points, curves, reals, parts, ranges, edge, params, chain);
+    place::place(
+        points,
+        curves,
+        reals,
+        parts,
+        ranges,
+        edge,
+        params,
+        known,
+        chain,
+    );
     let used = &mut scratch[..n];
     lists::clear_from(used, 0);
     finish(points, curves, reals, parts, ranges, edge, r, chain, n)

@@ -20,10 +20,11 @@ use Rattle.ready.specs.declared.Ready.{Ready}
 use Rattle.ready.specs.Ready.{readyOf, readyPoint}
 use Rattle.ready.proofs.Laws.{point-by, ready-point}
 use Rattle.samples.specs.declared.Sample.{Sample}
-use Rattle.samples.specs.Chain.{width, row, flat, lastOf}
-use Rattle.samples.proofs.Laws.{push}
+use Rattle.samples.specs.Chain.{width, row, flat, lastOf, pointAt as inChain}
+use Rattle.closed.proofs.Located.{on, located-length, located-at}
+use Rattle.samples.proofs.Laws.{push, sampleAt-behind}
 use Rattle.chains.specs.Edge.{edgeCurve, edgeStart, edgeEnd, located, degenerateEnds, isReversed, oriented, movedTo, lastPinned, pinned, placed}
-use Rattle.place.specs.Place.{ofPoints, lastIndex, runsBack, paramAt, recordAt}
+use Rattle.place.specs.Place.{ofPoints, lastIndex, runsBack, paramAt, recordAt, Holds}
 
 -- ---- a list from its end
 module _ {A : Type 0} where
@@ -46,21 +47,6 @@ module _ {A : Type 0} where
   unfolding lastOf
   lastOf-at a [] d = refl
   lastOf-at a (b ∷ l) d = lastOf-at b l d
-
--- ---- the samples at the parameters
-located-length : (c : CurveTree) (l : List Float) → length (located c l) ≡ length l
-unfolding located
-located-length c [] = refl
-located-length c (t ∷ l) = ap suc (located-length c l)
-
-abbrev on : CurveTree → Float → Sample
-on c t = record { point = pointAt c t; param = t }
-
-located-at : (c : CurveTree) (l : List Float) (i : ℕ) (d : Sample) → i < length l → getD (located c l) i d ≡ on c (getD l i nan)
-unfolding located
-located-at c [] i d h = absurd (omega arith)
-located-at c (t ∷ l) zero d h = refl
-located-at c (t ∷ l) (suc i) d h = located-at c l i d (omega arith)
 
 -- ---- pinned
 abbrev pin : Vec3 → Vec3 → ℕ → ℕ → Sample → Sample
@@ -199,6 +185,17 @@ module _ (T : Tables) (e : Edge) where
         ∙ push c₀ (take i P) s
         ∙ ap (λ (t : Sample). sets c₀ 0 (flat (take i P ++ (t ∷ [])))) a
         ∙ ap (λ (l : List Sample). sets c₀ 0 (flat l)) (sym (take-suc P i s (omega (arith, placed-length))) ∙ ap (λ (k : ℕ). take k P) (sym (add-one i)))
+
+    -- record i is read before it is written, so it still holds what it held at first
+    pub still-held : (c₀ c : List Float) (i : ℕ) {b : Bool} → i < length params → c ≡ sets c₀ 0 (flat (take i (placed T e params))) → b ≡ false → Holds (edgeCurve T e) params c₀
+        → inChain c i ≡ pointAt (edgeCurve T e) (paramAt params b i)
+    unfolding paramAt
+    still-held c₀ c i h q onward held =
+        let n : length (take i (placed T e params)) ≤ i = omega (arith, length-take-le i (placed T e params) (omega (arith, placed-length))) in
+        ap (λ (k : List Float). inChain k i) q
+        ∙ ap (λ (s : Sample). s .point) (sampleAt-behind c₀ (take i (placed T e params)) i n)
+        ∙ held .point i h
+        ∙ ap (λ (z : Bool). pointAt (edgeCurve T e) (getD params (cond z (lastIndex params - i) i) nan)) (sym onward)
 
     pub place-done : (c₀ c : List Float) (i : ℕ) → length params ≤ i → c ≡ sets c₀ 0 (flat (take i (placed T e params))) → c ≡ sets c₀ 0 (flat (placed T e params))
     place-done c₀ c i h q = q ∙ ap (λ (l : List Sample). sets c₀ 0 (flat l)) (take-all i (placed T e params) (omega (arith, placed-length)))

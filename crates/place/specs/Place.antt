@@ -1,14 +1,17 @@
--- For the code's own use: a placed chain by its records: which way it runs, and what record i is. Definitions only.
+-- For the code's own use: a placed chain by its records: which way it runs, what record i is, and when a chain holds the points already. Definitions only.
+use mathlib.Core.Path.{_≡_}
 use mathlib.Core.Bool.{Bool, cond}
 use mathlib.Core.List.{List, []}
-use Prim.Native.Nat.{ℕ, _-_}
+use Prim.Native.Nat.{ℕ, _-_, _<_}
 use lib.ListN.{length, getD}
 use lib.Dec.{eqb}
 use lib.Ieee.{Float, nan}
 use Rattle.brep.specs.declared.Edge.{Edge}
 use Rattle.brep.specs.Rows.{Tables, tables}
+use Rattle.brep.specs.Tree.{CurveTree}
 use Rattle.curve.specs.Eval.{pointAt}
 use Rattle.samples.specs.declared.Sample.{Sample}
+use Rattle.samples.specs.Chain.{pointAt as inChain}
 use Rattle.chains.specs.Edge.{edgeCurve, edgeStart, edgeEnd, isReversed}
 
 -- the points alone, which is all that a vertex needs
@@ -37,3 +40,7 @@ recordAt T e params reversed i = record {
       (pointAt (edgeCurve T e) (paramAt params reversed i)));
   param = paramAt params reversed i;
 }
+
+-- the records of a chain hold the curve's points at the parameters
+pub record Holds (c : CurveTree) (params chain : List Float) : Type 0 where
+  pub point : (i : ℕ) → i < length params → inChain chain i ≡ pointAt c (getD params i nan)

@@ -3,14 +3,16 @@ use brep::Edge;
 use ready::Ready;
 use samples::Sample;
 ghost use mathlib.Core.Path.{_≡_};
-ghost use Prim.Native.Nat.{_*_, _<_, _≤_};
+ghost use mathlib.Core.Bool.{true};
+ghost use Prim.Native.Nat.{_+_, _*_, _<_, _≤_};
 ghost use lib.ListN.{length};
 ghost use lib.Seq.{sets};
 ghost use Rattle.brep.specs.Rows.{lent};
 ghost use Rattle.ready.specs.Ready.{readyOf};
-ghost use Rattle.samples.specs.Chain.{width, flat};
+ghost use Rattle.curve.specs.Eval.{pointAt as onCurve};
+ghost use Rattle.samples.specs.Chain.{width, flat, pointAt as inChain};
 ghost use Rattle.chains.specs.Edge.{edgeCurve, degenerateEnds, placed};
-ghost use Rattle.place.specs.Place.{ofPoints, runsBack, paramAt, recordAt};
+ghost use Rattle.place.specs.Place.{ofPoints, runsBack, paramAt, recordAt, Holds};
 
 // Whether the vertices are too near each other to tell the direction.
 fn degenerate_ends(points: &[f64], edge: Edge) -> bool
@@ -59,7 +61,7 @@ fn param_at(params: &[f64], reversed: bool, i: usize) -> f64
     params[i]
 }
 
-// Record i: a vertex at either end, the curve's own point between.
+// Record i: a vertex at either end, the curve's own point between, which a chain that is kept already holds.
 fn record_at(
     points: &[f64],
     curves: &[u32],
@@ -70,9 +72,13 @@ fn record_at(
     ready: Ready,
     params: &[f64],
     reversed: bool,
+    chain: &[f64],
+    kept: bool,
     i: usize,
 ) -> Sample
-    requires { ⌜ (i < length (now params)) × (ready ≡ readyOf (edgeCurve (lent points curves reals parts ranges) edge)) ⌝ }
+    requires { ⌜ (i < length (now params)) × (width * i + width ≤ length (now chain))
+        × (ready ≡ readyOf (edgeCurve (lent points curves reals parts ranges) edge))
+        × (kept ≡ true → inChain (now chain) i ≡ onCurve (edgeCurve (lent points curves reals parts ranges) edge) (paramAt (now params) reversed i)) ⌝ }
     ensures { λ r. ⌜ r ≡ recordAt (lent (points .entry) (curves .entry) (reals .entry) (parts .entry) (ranges .entry)) edge (now (params .entry)) reversed i ⌝ }
 {
     let param = param_at(params, reversed, i);
@@ -87,12 +93,17 @@ fn record_at(
         let end = brep::point(points, edge.end);
         return Sample { point: end, param };
     }
+    if kept {
+        let held = samples::point_at(chain, i);
+        return Sample { point: held, param };
+    }
     let row = edge.curve;
     let point = ready::point_of(ready, points, curves, reals, parts, ranges, row, param);
     Sample { point, param }
 }
 
-// Writes a record for each parameter, from the chain's start.
+// Writes a record for each parameter, from the chain's start. `known` says that the records hold the curve's points already, which spares
+// their evaluation: record i is read before it is written. A chain that runs back would read what it wrote.
 pub fn place(
     points: &[f64],
     curves: &[u32],
@@ -101,13 +112,16 @@ pub fn place(
     ranges: &[f64],
     edge: Edge,
     params: &[f64],
+    known: bool,
     chain: &mut [f64],
 )
-    requires { ⌜ (2 ≤ length (now params)) × (width * length (now params) ≤ length (now chain)) ⌝ }
+    requires { ⌜ (2 ≤ length (now params)) × (width * length (now params) ≤ length (now chain))
+        × (known ≡ true → Holds (edgeCurve (lent points curves reals parts ranges) edge) (now params) (now chain)) ⌝ }
     ensures { λ _. ⌜ now (chain .exit) ≡ sets (now (chain .entry)) 0 (flat (placed (lent (points .entry) (curves .entry) (reals .entry) (parts .entry) (ranges .entry)) edge (now (params .entry)))) ⌝ }
 {
     let ready = ready::ready_at(points, curves, reals, parts, ranges, edge.curve);
     let reversed = is_reversed(points, curves, reals, parts, ranges, edge, ready, params);
+    let kept = if reversed { false } else { known };
     let n = params.len();
     for i in 0..n {
         let s = record_at(
@@ -120,6 +134,8 @@ pub fn place(
             ready,
             params,
             reversed,
+            chain,
+            kept,
             i,
         );
         samples::put(chain, i, s);

@@ -8,9 +8,11 @@ use options::Resolved;
 use params::Closed;
 use ready::Ready;
 ghost use mathlib.Core.Path.{_≡_};
+ghost use mathlib.Core.Bool.{false};
 ghost use mathlib.Core.List.{_++_};
-ghost use Prim.Native.Nat.{_≤_};
+ghost use Prim.Native.Nat.{_*_, _≤_};
 ghost use lib.ListN.{length, getD, take};
+ghost use lib.Seq.{sets};
 ghost use lib.Ieee.{nan};
 ghost use Rattle.lists.specs.Room.{filled};
 ghost use Rattle.brep.specs.Rows.{lent};
@@ -21,7 +23,10 @@ ghost use Rattle.listed.specs.Held.{Held, Behind};
 ghost use Rattle.knots.specs.Knots.{curveKnots};
 ghost use Rattle.thin_breaks.specs.Thin.{keptBreaks};
 ghost use Rattle.bisect.specs.Bisect.{endAt, withinBudget, limitsOf};
+ghost use Rattle.samples.specs.Chain.{width, flat};
+ghost use Rattle.closed.specs.Located.{located};
 ghost use Rattle.sample.specs.Sample.{sampler, sampled};
+ghost use Rattle.sample.specs.Tried.{tried, isTried};
 ghost use Rattle.sample.specs.Answered.{Answered, countOf, stops};
 
 // Stop number i of the walk. The breaks are read backwards where the range runs down.
@@ -262,9 +267,25 @@ fn refine(
     settle(listed, out)
 }
 
+// What sampling answers: how many parameters there are, or that they were refused; and whether the chain's records hold the
+// curve's points at them.
+pub struct Sampled {
+    pub listed: Listed,
+    pub known: bool,
+}
+
+fn unknown(listed: Listed) -> Sampled
+    ensures { λ w. ⌜ (w .listed ≡ listed) × (w .known ≡ false) ⌝ }
+{
+    Sampled {
+        listed,
+        known: false,
+    }
+}
+
 // The parameters of the curve of a row over a range, from the start of out, and +0.0 behind them; refusal 8, and +0.0 everywhere,
 // where a list is longer than out. A closed form gives even steps, but only where it is given the right radius: it is checked
-// against the sag, and where it misses that the curve is bisected.
+// against the sag, and where it misses that the curve is bisected. For the check its points are worked out: the chain has them.
 pub fn sample_params(
     points: &[f64],
     curves: &[u32],
@@ -275,20 +296,41 @@ pub fn sample_params(
     range: Interval,
     r: Resolved,
     out: &mut [f64],
-) -> Listed
-    requires { ⌜ length (curveKnots (tree (lent points curves reals parts ranges) row)) ≤ 8192 ⌝ }
-    ensures { λ w. ⌜ Answered (length (now (out .entry))) (sampled (length (now (out .entry))) (tree (lent (points .entry) (curves .entry) (reals .entry) (parts .entry) (ranges .entry)) row) range r) w (now (out .exit)) ⌝ }
+    chain: &mut [f64],
+) -> Sampled
+    requires { ⌜ (length (curveKnots (tree (lent points curves reals parts ranges) row)) ≤ 8192) × (width * length (now out) ≤ length (now chain)) ⌝ }
+    ensures { λ w. ⌜ Answered (length (now (out .entry))) (sampled (length (now (out .entry))) (tree (lent (points .entry) (curves .entry) (reals .entry) (parts .entry) (ranges .entry)) row) range r) (w .listed) (now (out .exit))
+        × (w .known ≡ isTried (length (now (out .entry))) (tree (lent (points .entry) (curves .entry) (reals .entry) (parts .entry) (ranges .entry)) row) range r)
+        × (now (chain .exit) ≡ sets (now (chain .entry)) 0 (flat (located (tree (lent (points .entry) (curves .entry) (reals .entry) (parts .entry) (ranges .entry)) row)
+        (tried (length (now (out .entry))) (tree (lent (points .entry) (curves .entry) (reals .entry) (parts .entry) (ranges .entry)) row) range r)))) ⌝ }
 {
     let form = usable::analytic_segments(points, curves, reals, parts, ranges, row, range, r);
     let Closed::Segments(n) = form else {
-        return refine(points, curves, reals, parts, ranges, row, range, r, out);
+        let listed = refine(points, curves, reals, parts, ranges, row, range, r, out);
+        return unknown(listed);
     };
     let even = listed::evenly(range, n, out);
     let Listed::Count(m) = even else {
-        return settle(even, out);
+        return unknown(settle(even, out));
     };
-    if closed::meets(points, curves, reals, parts, ranges, row, out, m, r.sag) {
-        return settle(even, out);
+    if closed::meets(
+        points,
+        curves,
+        reals,
+        parts,
+        ranges,
+        row,
+        out,
+        m,
+        r.sag,
+        chain,
+    ) {
+        let listed = settle(even, out);
+        return Sampled {
+            listed,
+            known: true,
+        };
     }
-    refine(points, curves, reals, parts, ranges, row, range, r, out)
+    let listed = refine(points, curves, reals, parts, ranges, row, range, r, out);
+    unknown(listed)
 }

@@ -10,7 +10,7 @@ use Rattle.sample.specs.Sample.{sampled}
 use Rattle.chains.specs.Edge.{edgeCurve}
 use Rattle.brep.specs.Rows.{Tables, lent}
 use Rattle.lists.specs.Result.{Result}
-use Rattle.edge.proofs.Drawing.{Sampling, sampling-some, part-room, part-length, cleared-used, placed-room, drew-some, drew-none, none-listed}
+use Rattle.edge.proofs.Drawing.{Sampling, sampling-some, part-room, part-length, cleared-used, placed-room, held, drew-as, drew-some, drew-none, none-listed}
 use Rattle.edge.proofs.draw_range.Statement.{statement}
 use Rattle.edge.proofs.draw_range.Tie as tie
 
@@ -23,16 +23,16 @@ abbrev sampling : tie.Start → Result (List Float)
 sampling st = sampled (length (now (st .args .scratch))) (edgeCurve (tables-of st) (st .args .edge)) (st .args .range) (st .args .r)
 
 -- scratch then, where it does not refuse
-told : (f : tie.After-listed) → let st = f .before .before .before .before .before .before .before .before .before .before .before .before .before in
-    Sampling (length (now (st .args .scratch))) (sampling st) (f .listed .given .0 .0) (f .before .before .before .before .sample-params .last .1 .1 .1 .1 .1 .1 .1 .1 .0)
+told : (f : tie.After-listed) → let st = f .before .before .before .before .before .before .before .before .before .before .before .before .before .before .before .before in
+    Sampling (length (now (st .args .scratch))) (sampling st) (f .listed .given .0 .0) (f .before .before .before .before .before .before .sample-params .last .1 .1 .1 .1 .1 .1 .1 .1 .0)
 told f =
-    let st = f .before .before .before .before .before .before .before .before .before .before .before .before .before in
+    let st = f .before .before .before .before .before .before .before .before .before .before .before .before .before .before .before .before in
     let a = st .args in
-    let t = f .before .before .before .before .sample-params in
-    sampling-some (length (now (a .scratch))) (edgeCurve (tables-of st) (a .edge)) (a .range) (a .r) (t .result) (f .listed .given .0 .0) _ (t .ensures) (f .listed .given .1)
+    let t = f .before .before .before .before .before .before .sample-params in
+    sampling-some (length (now (a .scratch))) (edgeCurve (tables-of st) (a .edge)) (a .range) (a .r) (t .result .listed) (f .listed .given .0 .0) _ (t .ensures .0) (f .listed .given .1)
 
 sample-params-requires : tie.Need-sample-params-requires
-sample-params-requires c κs = c .before .before .before .before .before .before .before .before .pre .2
+sample-params-requires c κs = (c .before .before .before .before .before .before .before .before .before .pre .2, c .before .before .before .before .before .before .before .before .before .pre .1)
 
 enum-known-listed : tie.Need-enum-known-listed
 enum-known-listed c = search needs
@@ -51,10 +51,11 @@ same-length-2 c = search needs
 
 returns : tie.Need-returns
 returns c =
-    let st = c .before .before .before .before .before .before .before .before .before .before .before .before .before .before .before .before .before in
-    let p = c .before .before .before .before .before .before .before .before .sample-params .ensures in
+    let st = c .before .before .before .before .before .before .before .before .before .before .before .before .before .before .before .before .before .before .before .before in
+    let t = c .before .before .before .before .before .before .before .before .before .before .sample-params in
+    let p = t .ensures .0 in
     let e = c .before .before .before .before .enum-told .given .1 in
-    (drew-none (sampling st) _ _ (now (st .args .chain)) _ (p .0) e (c .before .before .clear-from .ensures), none-listed _ (sampling st) _ (p .0) e (p .1))
+    (drew-as (t .kept .1 .1 .1 .1 .1 .1 .1 .1 .1 .0) (drew-none (sampling st) _ _ (t .last .1 .1 .1 .1 .1 .1 .1 .1 .1 .0) _ (p .0) e (c .before .before .clear-from .ensures)), none-listed _ (sampling st) _ (p .0) e (p .1))
 
 slice-reshare-prefix-params : tie.Need-slice-reshare-prefix-params
 slice-reshare-prefix-params c = part-room (told (c .before))
@@ -65,7 +66,12 @@ slice-aggregate-params c = sym (part-length (told (c .before .before)))
 place-requires : tie.Need-place-requires
 place-requires c κs =
     let s = told (c .before .before .before) in
-    (omega (arith, s .two, part-length s), omega (arith, s .fits, part-length s, c .before .before .before .before .before .before .before .before .before .before .before .before .before .before .before .before .pre .1))
+    let st = c .before .before .before .before .before .before .before .before .before .before .before .before .before .before .before .before .before .before .before in
+    let t = c .before .before .before .before .before .before .before .before .before .sample-params in (
+      omega (arith, s .two, part-length s),
+      omega (arith, s .fits, part-length s, st .pre .1, t .kept .1 .1 .1 .1 .1 .1 .1 .1 .1 .0),
+      held (tables-of st) (st .args .edge) (st .args .r) (st .args .range) s (t .result .known) (t .ensures .1) (now (st .args .chain)) _ (omega (arith, s .fits, st .pre .1)) (t .ensures .2),
+    )
 
 slice-relend-prefix-used : tie.Need-slice-relend-prefix-used
 slice-relend-prefix-used c = part-room (told (c .before .before .before .before .before .before))
@@ -79,8 +85,9 @@ clear-from-requires-2 c κs = omega (arith, part-length (told (c .before .before
 finish-requires : tie.Need-finish-requires
 finish-requires c κs =
     let s = told (c .before .before .before .before .before .before .before .before .before .before .before) in
-    let st = c .before .before .before .before .before .before .before .before .before .before .before .before .before .before .before .before .before .before .before .before .before .before .before .before in
-    (s .two, omega (arith, s .fits, st .pre .0), placed-room (tables-of st) (st .args .edge) (st .args .r) (st .args .range) s (now (st .args .chain)) _ (omega (arith, s .fits, st .pre .1)) (c .before .before .before .before .before .before .before .place .ensures))
+    let st = c .before .before .before .before .before .before .before .before .before .before .before .before .before .before .before .before .before .before .before .before .before .before .before .before .before .before .before in
+    let t = c .before .before .before .before .before .before .before .before .before .before .before .before .before .before .before .before .before .sample-params in
+    (s .two, omega (arith, s .fits, st .pre .0), placed-room (tables-of st) (st .args .edge) (st .args .r) (st .args .range) s (t .last .1 .1 .1 .1 .1 .1 .1 .1 .1 .0) _ (omega (arith, s .fits, st .pre .1, t .kept .1 .1 .1 .1 .1 .1 .1 .1 .1 .0)) (c .before .before .before .before .before .before .before .place .ensures))
 
 same-length-3 : tie.Need-same-length-3
 same-length-3 c = search needs
@@ -91,8 +98,9 @@ same-length-4 c = search needs
 returns-2 : tie.Need-returns-2
 returns-2 c =
     let s = told (c .before .before .before .before .before .before .before .before .before .before .before .before .before .before) in
-    let st = c .before .before .before .before .before .before .before .before .before .before .before .before .before .before .before .before .before .before .before .before .before .before .before .before .before .before .before in (
-      drew-some (tables-of st) (st .args .edge) (st .args .r) (st .args .range) s (now (st .args .chain)) _ (omega (arith, s .fits, st .pre .1)) (c .before .before .before .before .before .before .before .before .before .before .place .ensures) _ _ (c .before .before .finish .ensures),
+    let st = c .before .before .before .before .before .before .before .before .before .before .before .before .before .before .before .before .before .before .before .before .before .before .before .before .before .before .before .before .before .before in
+    let t = c .before .before .before .before .before .before .before .before .before .before .before .before .before .before .before .before .before .before .before .before .sample-params in (
+      drew-as (t .kept .1 .1 .1 .1 .1 .1 .1 .1 .1 .0) (drew-some (tables-of st) (st .args .edge) (st .args .r) (st .args .range) s (t .last .1 .1 .1 .1 .1 .1 .1 .1 .1 .0) _ (omega (arith, s .fits, st .pre .1, t .kept .1 .1 .1 .1 .1 .1 .1 .1 .1 .0)) (c .before .before .before .before .before .before .before .before .before .before .place .ensures) _ _ (c .before .before .finish .ensures)),
       cleared-used s (c .before .before .before .before .before .before .clear-from2 .ensures),
     )
 
