@@ -10,7 +10,7 @@ use lib.ListN.{length, getD, set, replicate, length-set, length-replicate, getD-
 use lib.Seq.{getD-set-same, getD-set-other}
 use lib.Dec.{eqb, ltb, leb}
 use borrow.Author.Tests.{eqb-true, eqb-false, eq-eqb, ne-eqb, leb-false, le-leb, lt-leb, ltb-true, ltb-false, lt-ltb, le-ltb}
-use Rattle.nest.specs.Depths.{depthBelow, segmentDepth, deepestOf, oneDeeper, rowDepth, blockDepth, Known, NoneKnown, causeWith}
+use Rattle.nest.specs.Depths.{depthBelow, segmentDepth, deepestOf, oneDeeper, rowDepth, blockDepth, Known, Both, NoneKnown, causeWith}
 
 -- ---- what the small functions answer
 module _ (depths : List ℕ) {row base : ℕ} where
@@ -65,8 +65,8 @@ module _ (parts depths : List ℕ) (row first : ℕ) where
       rw (add-suc n m, h, s) (omega arith)
 
   -- a block more
-  pub deepest-block : (n b a d r : ℕ) → first + n ≡ b * 64 → a ≡ deepestOf parts depths row first n → d ≡ blockDepth parts depths row b → r ≡ max a d → r ≡ deepestOf parts depths row first (n + 64)
-  deepest-block n b a d r p h e g = rw (deepest-split n 64, p, ← h, ← e) g
+  pub deepest-block : (size n b a d r : ℕ) → first + n ≡ b * size → a ≡ deepestOf parts depths row first n → d ≡ blockDepth size parts depths row b → r ≡ max a d → r ≡ deepestOf parts depths row first (n + size)
+  deepest-block size n b a d r p h e g = rw (deepest-split n size, p, ← h, ← e) g
 
   -- all
   pub deepest-all : (n count r : ℕ) → n ≡ count → r ≡ deepestOf parts depths row first n → r ≡ deepestOf parts depths row first count
@@ -94,14 +94,17 @@ module _ (parts depths : List ℕ) (row v : ℕ) where
       let b = below-same (getD parts ((first + n) * 2) 0) (omega arith) in
       rw (a, b)
 
-  pub known-more : (blocks : List ℕ) → Known parts depths blocks row → Known parts (set depths row v) blocks (row + 1)
-  known-more blocks h = record { kept = λ b m l. let e = h .kept b m l in deepest-same (b * 64) 64 (omega arith) ∙ e }
+  known-more : (size : ℕ) (blocks : List ℕ) → Known size parts depths blocks row → Known size parts (set depths row v) blocks (row + 1)
+  known-more size blocks h = record { kept = λ b m l. let e = h .kept b m l in deepest-same (b * size) size (omega arith) ∙ e }
+
+  pub both-more : (blocks larges : List ℕ) → Both parts depths blocks larges row → Both parts (set depths row v) blocks larges (row + 1)
+  both-more blocks larges h = record { small = known-more 16 blocks (h .small); large = known-more 256 larges (h .large); few = h .few; enough = h .enough }
 
 -- a block's depth kept
-pub known-kept : (parts depths blocks : List ℕ) (row b d : ℕ) → b < length blocks → d ≡ blockDepth parts depths row b → Known parts depths blocks row → Known parts depths (set blocks b d) row
-known-kept parts depths blocks row b d l e h = record { kept = λ i m k. go i m k (eqb i b) refl }
+pub known-kept : (size : ℕ) (parts depths blocks : List ℕ) (row b d : ℕ) → b < length blocks → d ≡ blockDepth size parts depths row b → Known size parts depths blocks row → Known size parts depths (set blocks b d) row
+known-kept size parts depths blocks row b d l e h = record { kept = λ i m k. go i m k (eqb i b) refl }
   where
-    go : (i : ℕ) → i < length (set blocks b d) → getD (set blocks b d) i 0 < 10 → (v : Bool) → eqb i b ≡ v → blockDepth parts depths row i ≡ getD (set blocks b d) i 0
+    go : (i : ℕ) → i < length (set blocks b d) → getD (set blocks b d) i 0 < 10 → (v : Bool) → eqb i b ≡ v → blockDepth size parts depths row i ≡ getD (set blocks b d) i 0
     go i m k true q = let w = eqb-true i b q in rw w (sym (getD-set-same blocks b d 0 l ∙ e))
     go i m k false q =
         let o = getD-set-other blocks b i d 0 (eqb-false i b q) in
@@ -109,8 +112,24 @@ known-kept parts depths blocks row b d l e h = record { kept = λ i m k. go i m 
         h .kept i (omega arith) (omega arith) ∙ sym o
 
 -- nothing at first
-pub known-none : (parts depths blocks : List ℕ) (row : ℕ) → NoneKnown blocks → Known parts depths blocks row
-known-none parts depths blocks row h = record { kept = λ b m l. let e = h .empty b m in absurd (omega arith) }
+known-none : (size : ℕ) (parts depths blocks : List ℕ) (row : ℕ) → NoneKnown blocks → Known size parts depths blocks row
+known-none size parts depths blocks row h = record { kept = λ b m l. let e = h .empty b m in absurd (omega arith) }
+
+pub both-none : (parts depths blocks larges : List ℕ) (row : ℕ) → NoneKnown blocks → NoneKnown larges → length blocks ≤ 256 → length blocks ≤ length larges * 16 → Both parts depths blocks larges row
+both-none parts depths blocks larges row h k l m = record { small = known-none 16 parts depths blocks row h; large = known-none 256 parts depths larges row k; few = l; enough = m }
+
+-- the blocks of 16 after a change that keeps what is known
+pub both-small : {parts depths blocks larges : List ℕ} {row : ℕ} → Both parts depths blocks larges row → (now : List ℕ) → length now ≡ length blocks → Known 16 parts depths now row → Both parts depths now larges row
+both-small h now e k = record { small = k; large = h .large; few = omega (arith, h .few, e); enough = omega (arith, h .enough, e) }
+
+-- a block of 256 kept
+pub both-kept : {parts depths blocks larges : List ℕ} {row : ℕ} (b d : ℕ) → b < length larges → d ≡ blockDepth 256 parts depths row b → Both parts depths blocks larges row → Both parts depths blocks (set larges b d) row
+both-kept {parts} {depths} {blocks} {larges} {row} b d l e h = record {
+  small = h .small;
+  large = known-kept 256 parts depths larges row b d l e (h .large);
+  few = h .few;
+  enough = omega (arith, h .enough, length-set larges b d);
+}
 
 pub none-known : (n : ℕ) → NoneKnown (replicate n 10)
 none-known n = record { empty = λ b m. let k = length-replicate {A = ℕ} n 10 in getD-replicate {A = ℕ} n b 10 0 (omega arith) }

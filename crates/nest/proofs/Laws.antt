@@ -21,8 +21,8 @@ use Rattle.bounds.specs.Some.{someBelow}
 use Rattle.bounds.proofs.Laws.{some-found}
 use Rattle.forms.specs.Forms.{curveCount, malformedRow}
 use Rattle.nest.specs.Nest.{highSegment, notLower, unorderedRow, nesting, deepest, deepRow, rowsCause}
-use Rattle.nest.specs.Depths.{depthBelow, segmentDepth, deepestOf, oneDeeper, rowDepth, Known, causeWith}
-use Rattle.nest.proofs.Depths.{known-more}
+use Rattle.nest.specs.Depths.{depthBelow, segmentDepth, deepestOf, oneDeeper, rowDepth, Both, causeWith}
+use Rattle.nest.proofs.Depths.{both-more}
 
 -- ---- a row by its kind
 -- where both of two curves have P, so has the one that is chosen
@@ -146,26 +146,26 @@ cause-more d false n depth lowest h e =
     go true q = let l = ltb-true 8 n q in let k = eq-eqb (min 9 n) 9 (omega arith) in rw (k, or-true d)
     go false q = let l = ltb-false 8 n q in let k = ne-eqb (min 9 n) 9 (λ w. omega arith) in rw (k, or-false d) h
 
-pub record Gone (T : Tables) (depths blocks : List ℕ) (lowest row : ℕ) : Type 0 where
+pub record Gone (T : Tables) (depths blocks larges : List ℕ) (lowest row : ℕ) : Type 0 where
   pub formed : someBelow row (malformedRow T) ≡ false
   pub cause : lowest ≡ cond (someBelow row (unorderedRow T)) 4 (cond (someBelow row (deepRow T)) 5 0)
   -- where no row was out of order
   pub told : someBelow row (unorderedRow T) ≡ false → Told T depths row
-  pub known : someBelow row (unorderedRow T) ≡ false → Known (T .parts) depths blocks row
+  pub known : someBelow row (unorderedRow T) ≡ false → Both (T .parts) depths blocks larges row
 
-pub gone-none : (T : Tables) (depths blocks : List ℕ) → Known (T .parts) depths blocks 0 → Gone T depths blocks 0 0
+pub gone-none : (T : Tables) (depths blocks larges : List ℕ) → Both (T .parts) depths blocks larges 0 → Gone T depths blocks larges 0 0
 unfolding someBelow
-gone-none T depths blocks h = record { formed = refl; cause = refl; told = λ e i l. absurd (not-suc-le-zero l); known = λ e. h }
+gone-none T depths blocks larges h = record { formed = refl; cause = refl; told = λ e i l. absurd (not-suc-le-zero l); known = λ e. h }
 
-module _ (T : Tables) (depths blocks : List ℕ) (lowest row : ℕ) (g : Gone T depths blocks lowest row) where
+module _ (T : Tables) (depths blocks larges : List ℕ) (lowest row : ℕ) (g : Gone T depths blocks larges lowest row) where
   pub in-order : (lowest ≡ 4 → ⊥) → someBelow row (unorderedRow T) ≡ false
   in-order h = not-four (someBelow row (unorderedRow T)) (someBelow row (deepRow T)) lowest (g .cause) h
 
-  pub gone-known : (lowest ≡ 4 → ⊥) → Known (T .parts) depths blocks row
+  pub gone-known : (lowest ≡ 4 → ⊥) → Both (T .parts) depths blocks larges row
   gone-known h = g .known (in-order h)
 
   -- a row that is not looked at for its depth
-  pub gone-four : lowest ≡ 4 → malformedRow T row ≡ false → Gone T depths blocks lowest (row + 1)
+  pub gone-four : lowest ≡ 4 → malformedRow T row ≡ false → Gone T depths blocks larges lowest (row + 1)
   unfolding someBelow
   gone-four e m =
       let u = is-four (someBelow row (unorderedRow T)) (someBelow row (deepRow T)) lowest e (g .cause) in
@@ -180,9 +180,9 @@ module _ (T : Tables) (depths blocks : List ℕ) (lowest row : ℕ) (g : Gone T 
       true-false h = let z : _≡_ {A = ℕ} 0 1 = cc in omega arith
 
   -- a row of this depth
-  pub gone-more : (lowest ≡ 4 → ⊥) → malformedRow T row ≡ false → row < length depths → (now : List ℕ) → Known (T .parts) depths now row → (depth : ℕ) → depth ≡ rowDepth (T .curves) (T .parts) depths row → (next : ℕ) → next ≡ causeWith lowest depth → Gone T (set depths row depth) now next (row + 1)
+  pub gone-more : (lowest ≡ 4 → ⊥) → malformedRow T row ≡ false → row < length depths → (now most : List ℕ) → Both (T .parts) depths now most row → (depth : ℕ) → depth ≡ rowDepth (T .curves) (T .parts) depths row → (next : ℕ) → next ≡ causeWith lowest depth → Gone T (set depths row depth) now most next (row + 1)
   unfolding someBelow deepRow
-  gone-more h m l now k depth e next q =
+  gone-more h m l now most k depth e next q =
       let o = in-order h in
       let d : depth ≡ marked (unorderedRow T row) (nesting (tree T row)) = e ∙ depth-marked T depths row (g .told o) in
       let z : lowest ≡ cond (someBelow row (deepRow T)) 5 0 = g .cause ∙ ap (λ a. cond a 4 (cond (someBelow row (deepRow T)) 5 0)) o in
@@ -190,7 +190,7 @@ module _ (T : Tables) (depths blocks : List ℕ) (lowest row : ℕ) (g : Gone T 
         formed = rw (add-one, g .formed) m;
         cause = rw (add-one, o) (q ∙ cause-more (someBelow row (deepRow T)) (unorderedRow T row) (nesting (tree T row)) depth lowest z d);
         told = λ w i j. told-more o d (rw (add-one, o) at w) i j (eqb i row) refl;
-        known = λ w. known-more (T .parts) depths row depth now k;
+        known = λ w. both-more (T .parts) depths row depth now most k;
       }
     where
       told-more : someBelow row (unorderedRow T) ≡ false → depth ≡ marked (unorderedRow T row) (nesting (tree T row)) → unorderedRow T row ≡ false → (i : ℕ) → i < row + 1 → (b : Bool) → eqb i row ≡ b → getD (set depths row depth) i 0 ≡ min 9 (nesting (tree T i))

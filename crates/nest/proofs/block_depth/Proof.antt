@@ -10,10 +10,10 @@ use Rattle.nest.proofs.block_depth.Statement.{statement}
 use Rattle.nest.proofs.block_depth.Tie as tie
 
 abbrev Inv-loop : tie.InvT-loop
-Inv-loop parts depths blocks row b kept depth₀ n₀ depth n = (n ≤ 64) × (depth ≡ deepestOf parts depths row (b * 64) n)
+Inv-loop parts depths blocks row b kept depth₀ n₀ depth n = (n ≤ 16) × (depth ≡ deepestOf parts depths row (b * 16) n)
 
 abbrev μ-loop : tie.MeasureT-loop
-μ-loop parts depths blocks row b kept depth₀ n₀ depth n = 64 - n
+μ-loop parts depths blocks row b kept depth₀ n₀ depth n = 16 - n
 
 mul-kept : tie.Need-mul-kept Inv-loop μ-loop
 mul-kept c = search needs
@@ -58,7 +58,7 @@ same-length : tie.Need-same-length Inv-loop μ-loop
 same-length c = search needs
 
 returns-2 : tie.Need-returns-2 Inv-loop μ-loop
-returns-2 c = let d = deepest-all _ _ _ _ _ 64 _ (omega arith) (c .before .loop .inv .1) in (d, known-kept _ _ _ _ _ _ (c .before .before .before .before .before .before .before .pre .1) d (c .before .before .before .before .before .before .before .pre .0))
+returns-2 c = let d = deepest-all _ _ _ _ _ 16 _ (omega arith) (c .before .loop .inv .1) in (d, known-kept 16 _ _ _ _ _ _ (c .before .before .before .before .before .before .before .pre .1) d (c .before .before .before .before .before .before .before .pre .0))
 
 pub block-depth-spec : {M : Type 1} → statement M
 block-depth-spec =
