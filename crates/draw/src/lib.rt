@@ -28,17 +28,9 @@ ghost use Rattle.chains.specs.Binary.{Fitting};
 ghost use Rattle.repair.specs.Redrawn.{Left};
 
 // The way of the first drawing: the chord where the edge has no usable range.
-fn first_way(
-    points: &[f64],
-    curves: &[u32],
-    reals: &[f64],
-    parts: &[u32],
-    ranges: &[f64],
-    edge: Edge,
-) -> Way
-    ensures { λ w. ⌜ w ≡ firstWay (usableRange (tree (lent (points .entry) (curves .entry) (reals .entry) (parts .entry) (ranges .entry)) (edge .curve)) (edge .range)) ⌝ }
+fn first_way(usable: Usable) -> Way
+    ensures { λ w. ⌜ w ≡ firstWay usable ⌝ }
 {
-    let usable = usable::usable_range(points, curves, reals, parts, ranges, edge.curve, edge.range);
     match usable {
         Usable::Range(_) => Way::AsDrawn,
         Usable::Unusable => Way::Chord,
@@ -67,11 +59,13 @@ fn local_options(
     parts: &[u32],
     ranges: &[f64],
     edge: Edge,
+    usable: Usable,
     options: Options,
 ) -> Resolved
+    requires { ⌜ usable ≡ usableRange (tree (lent points curves reals parts ranges) (edge .curve)) (edge .range) ⌝ }
     ensures { λ r. ⌜ r ≡ localOptions (lent (points .entry) (curves .entry) (reals .entry) (parts .entry) (ranges .entry)) edge options ⌝ }
 {
-    let extent = extent::edge_extent(points, curves, reals, parts, ranges, edge);
+    let extent = extent::extent_over(points, curves, reals, parts, ranges, edge, usable);
     options.resolve().for_extent(extent)
 }
 
@@ -83,18 +77,31 @@ fn drawn_in(
     parts: &[u32],
     ranges: &[f64],
     edge: Edge,
+    usable: Usable,
     r: Resolved,
     first: &mut [f64],
     second: &mut [f64],
 ) -> Drawn
-    requires { ⌜ (8 ≤ length (now first)) × (8 ≤ length (now second)) × (length (curveKnots (tree (lent points curves reals parts ranges) (edge .curve))) ≤ 8192) ⌝ }
+    requires { ⌜ (8 ≤ length (now first)) × (8 ≤ length (now second)) × (length (curveKnots (tree (lent points curves reals parts ranges) (edge .curve))) ≤ 8192)
+        × (usable ≡ usableRange (tree (lent points curves reals parts ranges) (edge .curve)) (edge .range)) ⌝ }
     ensures { λ w. ⌜ Left (drawnIn (roomOf (length (now (first .entry))) (length (now (second .entry)))) (lent (points .entry) (curves .entry) (reals .entry) (parts .entry) (ranges .entry)) edge r) (now (first .entry)) (now (second .entry)) w (now (first .exit)) (now (second .exit)) ⌝ }
 {
-    let counted = edge::discretise(points, curves, reals, parts, ranges, edge, r, first, second);
+    let counted = edge::discretise_over(
+        points,
+        curves,
+        reals,
+        parts,
+        ranges,
+        edge,
+        usable,
+        r,
+        first,
+        second,
+    );
     match counted {
         Counted::Refused(n) => Drawn::Refused(n),
         Counted::Count(n) => {
-            let way = first_way(points, curves, reals, parts, ranges, edge);
+            let way = first_way(usable);
             repair::repair_runaway(
                 points,
                 curves,
@@ -133,8 +140,20 @@ pub fn draw_checked(
     fitting(reals);
     fitting(ranges);
     fitting_ends(edge.range);
-    let r = local_options(points, curves, reals, parts, ranges, edge, options);
-    drawn_in(points, curves, reals, parts, ranges, edge, r, first, second)
+    let usable = usable::usable_range(points, curves, reals, parts, ranges, edge.curve, edge.range);
+    let r = local_options(points, curves, reals, parts, ranges, edge, usable, options);
+    drawn_in(
+        points,
+        curves,
+        reals,
+        parts,
+        ranges,
+        edge,
+        usable,
+        r,
+        first,
+        second,
+    )
 }
 
 // Draws an edge over tables that `causes::check_tables` has accepted, for many edges over the same tables: only the edge and

@@ -16,6 +16,7 @@ ghost use Rattle.brep.specs.Rows.{lent};
 ghost use Rattle.brep.specs.Tree.{tree};
 ghost use Rattle.curve.specs.Eval.{isSampled};
 ghost use Rattle.knots.specs.Knots.{curveKnots};
+ghost use Rattle.usable.specs.Usable.{usableRange};
 ghost use Rattle.samples.specs.Chain.{width, most, flat, samples, answerOf, after};
 ghost use Rattle.chains.specs.Edge.{thinnedIf, chordOf, discretised};
 ghost use Rattle.chains.specs.Draw.{roomOf};
@@ -183,22 +184,24 @@ fn draw_range(
     finish(points, curves, reals, parts, ranges, edge, r, chain, n)
 }
 
-// The edge's chain, from the start of chain, and +0.0 behind it, or everywhere where it is refused; +0.0 in all of scratch.
-pub fn discretise(
+// The edge's chain, from the start of chain, and +0.0 behind it, or everywhere where it is refused; +0.0 in all of scratch. The
+// usable range is known.
+pub fn discretise_over(
     points: &[f64],
     curves: &[u32],
     reals: &[f64],
     parts: &[u32],
     ranges: &[f64],
     edge: Edge,
+    usable: Usable,
     r: Resolved,
     chain: &mut [f64],
     scratch: &mut [f64],
 ) -> Counted
-    requires { ⌜ (8 ≤ length (now chain)) × (8 ≤ length (now scratch)) × (length (curveKnots (tree (lent points curves reals parts ranges) (edge .curve))) ≤ 8192) ⌝ }
+    requires { ⌜ (8 ≤ length (now chain)) × (8 ≤ length (now scratch)) × (length (curveKnots (tree (lent points curves reals parts ranges) (edge .curve))) ≤ 8192)
+        × (usable ≡ usableRange (tree (lent points curves reals parts ranges) (edge .curve)) (edge .range)) ⌝ }
     ensures { λ w. ⌜ Discretised (λ room. discretised room (lent (points .entry) (curves .entry) (reals .entry) (parts .entry) (ranges .entry)) edge r) (now (chain .entry)) (now (scratch .entry)) w (now (chain .exit)) (now (scratch .exit)) ⌝ }
 {
-    let usable = usable::usable_range(points, curves, reals, parts, ranges, edge.curve, edge.range);
     let Usable::Range(range) = usable else {
         chord(points, edge, edge.range.lo, edge.range.hi, chain);
         lists::clear_from(scratch, 0);
@@ -220,4 +223,34 @@ pub fn discretise(
     );
     lists::clear_from(scratch, n);
     drawn
+}
+
+// The same of an edge alone.
+pub fn discretise(
+    points: &[f64],
+    curves: &[u32],
+    reals: &[f64],
+    parts: &[u32],
+    ranges: &[f64],
+    edge: Edge,
+    r: Resolved,
+    chain: &mut [f64],
+    scratch: &mut [f64],
+) -> Counted
+    requires { ⌜ (8 ≤ length (now chain)) × (8 ≤ length (now scratch)) × (length (curveKnots (tree (lent points curves reals parts ranges) (edge .curve))) ≤ 8192) ⌝ }
+    ensures { λ w. ⌜ Discretised (λ room. discretised room (lent (points .entry) (curves .entry) (reals .entry) (parts .entry) (ranges .entry)) edge r) (now (chain .entry)) (now (scratch .entry)) w (now (chain .exit)) (now (scratch .exit)) ⌝ }
+{
+    let usable = usable::usable_range(points, curves, reals, parts, ranges, edge.curve, edge.range);
+    discretise_over(
+        points,
+        curves,
+        reals,
+        parts,
+        ranges,
+        edge,
+        usable,
+        r,
+        chain,
+        scratch,
+    )
 }

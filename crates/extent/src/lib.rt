@@ -9,6 +9,7 @@ ghost use mathlib.Core.Bool.{cond};
 ghost use Rattle.math.specs.Math.{vFinite, addPoint};
 ghost use Rattle.brep.specs.Rows.{lent};
 ghost use Rattle.brep.specs.Tree.{tree};
+ghost use Rattle.usable.specs.Usable.{usableRange};
 ghost use Rattle.chains.specs.Edge.{probed, extentBox, edgeExtent};
 
 // The range is probed at each eighth, both ends included.
@@ -70,7 +71,29 @@ fn extent_box(
     }
 }
 
-// The longest side of the box of the vertices and the probes.
+// The longest side of the box of the vertices and the probes, where the usable range is known.
+pub fn extent_over(
+    points: &[f64],
+    curves: &[u32],
+    reals: &[f64],
+    parts: &[u32],
+    ranges: &[f64],
+    edge: Edge,
+    usable: Usable,
+) -> f64
+    requires { ⌜ usable ≡ usableRange (tree (lent points curves reals parts ranges) (edge .curve)) (edge .range) ⌝ }
+    ensures { λ r. ⌜ r ≡ edgeExtent (lent (points .entry) (curves .entry) (reals .entry) (parts .entry) (ranges .entry)) edge ⌝ }
+{
+    let start = brep::point(points, edge.start);
+    let end = brep::point(points, edge.end);
+    let vertices = Aabb::empty().add_point(start).add_point(end);
+    let row = edge.curve;
+    let b = extent_box(points, curves, reals, parts, ranges, row, usable, vertices);
+    let size = b.size();
+    arith::max(arith::max(size.x, size.y), size.z)
+}
+
+// The same of an edge alone.
 pub fn edge_extent(
     points: &[f64],
     curves: &[u32],
@@ -81,13 +104,6 @@ pub fn edge_extent(
 ) -> f64
     ensures { λ r. ⌜ r ≡ edgeExtent (lent (points .entry) (curves .entry) (reals .entry) (parts .entry) (ranges .entry)) edge ⌝ }
 {
-    let start = brep::point(points, edge.start);
-    let end = brep::point(points, edge.end);
-    let vertices = Aabb::empty().add_point(start).add_point(end);
-    let row = edge.curve;
-    let range = edge.range;
-    let found = usable::usable_range(points, curves, reals, parts, ranges, row, range);
-    let b = extent_box(points, curves, reals, parts, ranges, row, found, vertices);
-    let size = b.size();
-    arith::max(arith::max(size.x, size.y), size.z)
+    let usable = usable::usable_range(points, curves, reals, parts, ranges, edge.curve, edge.range);
+    extent_over(points, curves, reals, parts, ranges, edge, usable)
 }

@@ -23,11 +23,21 @@ fitting-requires-2 c κs = search needs
 fitting-ends-requires : tie.Need-fitting-ends-requires
 fitting-ends-requires c κs = search needs
 
+usable-range-requires : tie.Need-usable-range-requires
+usable-range-requires c κs = search needs
+
 local-options-requires : tie.Need-local-options-requires
-local-options-requires c κs = search needs
+local-options-requires c κs = c .usable-range .ensures
 
 drawn-in-requires : tie.Need-drawn-in-requires
-drawn-in-requires c κs = let a = c .before .before .before .before .before .before .before .before .before .before .before .before .before .before .before .args in let pre = c .before .before .before .before .before .before .before .before .before .before .before .before .before .before .before .pre in (omega (arith, c .before .before .before .before .before .before .before .if1 .left), ltb-false (length (a .second .now)) 8 (c .before .before .before .before .before .before .if2 .left), knots-fit (lent (a .points) (a .curves) (a .reals) (a .parts) (a .ranges)) (a .edge) (a .options) (checked (lent (a .points) (a .curves) (a .reals) (a .parts) (a .ranges)) (a .edge) (a .options) pre) (a .edge .curve))
+drawn-in-requires c κs =
+    let a = c .before .before .before .before .before .before .before .before .before .before .before .before .before .before .before .before .args in
+    let T = lent (a .points) (a .curves) (a .reals) (a .parts) (a .ranges) in (
+      omega (arith, c .before .before .before .before .before .before .before .before .if1 .left),
+      ltb-false (length (a .second .now)) 8 (c .before .before .before .before .before .before .before .if2 .left),
+      knots-fit T (a .edge) (a .options) (checked T (a .edge) (a .options) (c .before .before .before .before .before .before .before .before .before .before .before .before .before .before .before .before .pre)) (a .edge .curve),
+      c .before .before .before .usable-range .ensures,
+    )
 
 same-length : tie.Need-same-length
 same-length c = search needs
@@ -36,7 +46,13 @@ same-length-2 : tie.Need-same-length-2
 same-length-2 c = search needs
 
 returns-2 : tie.Need-returns-2
-returns-2 c = let a = c .before .before .before .before .before .before .before .before .before .before .before .before .before .before .before .before .before .before .before .before .args in by-drawing (lent (a .points) (a .curves) (a .reals) (a .parts) (a .ranges)) (a .edge) (a .options) (a .first .now) (a .second .now) (c .before .before .before .before .before .before .before .before .before .before .before .before .before .before .before .before .before .before .before .before .pre) (neither-short (length (a .first .now)) (length (a .second .now)) (c .before .before .before .before .before .before .before .before .before .before .before .before .if1 .left) (ltb-false (length (a .second .now)) 8 (c .before .before .before .before .before .before .before .before .before .before .before .if2 .left))) (record { reals = c .before .before .before .before .before .before .before .before .before .before .fitting .ensures; ranges = c .before .before .before .before .before .before .before .before .before .fitting2 .ensures; lo = c .before .before .before .before .before .before .before .before .fitting-ends .ensures .0; hi = c .before .before .before .before .before .before .before .before .fitting-ends .ensures .1 }) _ (c .before .before .before .before .before .before .before .local-options .ensures) _ _ _ (c .before .before .before .before .drawn-in .ensures)
+returns-2 c =
+    let a = c .before .before .before .before .before .before .before .before .before .before .before .before .before .before .before .before .before .before .before .before .before .args in
+    let ends = c .before .before .before .before .before .before .before .before .before .fitting-ends .ensures in
+    by-drawing (lent (a .points) (a .curves) (a .reals) (a .parts) (a .ranges)) (a .edge) (a .options) (a .first .now) (a .second .now) (c .before .before .before .before .before .before .before .before .before .before .before .before .before .before .before .before .before .before .before .before .before .pre)
+    (neither-short (length (a .first .now)) (length (a .second .now)) (c .before .before .before .before .before .before .before .before .before .before .before .before .before .if1 .left) (ltb-false (length (a .second .now)) 8 (c .before .before .before .before .before .before .before .before .before .before .before .before .if2 .left)))
+    (record { reals = c .before .before .before .before .before .before .before .before .before .before .before .fitting .ensures; ranges = c .before .before .before .before .before .before .before .before .before .before .fitting2 .ensures; lo = ends .0; hi = ends .1 })
+    _ (c .before .before .before .before .before .before .before .local-options .ensures) _ _ _ (c .before .before .before .before .drawn-in .ensures)
 
 pub draw-checked-spec : {M : Type 1} → statement M
 draw-checked-spec =
@@ -46,6 +62,7 @@ draw-checked-spec =
     fitting-requires
     fitting-requires-2
     fitting-ends-requires
+    usable-range-requires
     local-options-requires
     drawn-in-requires
     same-length

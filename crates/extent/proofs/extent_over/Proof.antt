@@ -1,8 +1,8 @@
--- `extent::edge_extent` meets its contract. Assumes nothing.
+-- `extent::extent_over` meets its contract. Assumes nothing.
 use Rattle.extent.proofs.Laws.{longest-side}
 use borrow.Author.Needs.{needs}
-use Rattle.extent.proofs.edge_extent.Statement.{statement}
-use Rattle.extent.proofs.edge_extent.Tie as tie
+use Rattle.extent.proofs.extent_over.Statement.{statement}
+use Rattle.extent.proofs.extent_over.Tie as tie
 
 point-requires : tie.Need-point-requires
 point-requires c κs = search needs
@@ -19,9 +19,6 @@ add-point-requires c κs = search needs
 add-point-requires-2 : tie.Need-add-point-requires-2
 add-point-requires-2 c κs = search needs
 
-usable-range-requires : tie.Need-usable-range-requires
-usable-range-requires c κs = search needs
-
 extent-box-requires : tie.Need-extent-box-requires
 extent-box-requires c κs = search needs
 
@@ -35,10 +32,10 @@ max-requires-2 : tie.Need-max-requires-2
 max-requires-2 c κs = search needs
 
 returns : tie.Need-returns
-returns c = longest-side _ _ (c .before .before .before .before .before .before .before .before .before .before .point .ensures) (c .before .before .before .before .before .before .before .before .before .point2 .ensures) (c .before .before .before .before .before .before .before .before .empty .ensures) (c .before .before .before .before .before .before .before .add-point .ensures) (c .before .before .before .before .before .before .add-point2 .ensures) (c .before .before .before .before .usable-range .ensures) (c .before .before .before .extent-box .ensures) (c .before .before .size .ensures) (c .before .max .ensures) (c .max2 .ensures)
+returns c = longest-side _ _ (c .before .before .before .before .before .before .before .before .point .ensures) (c .before .before .before .before .before .before .before .point2 .ensures) (c .before .before .before .before .before .before .empty .ensures) (c .before .before .before .before .before .add-point .ensures) (c .before .before .before .before .add-point2 .ensures) (c .before .before .before .before .before .before .before .before .before .before .before .before .before .before .pre) (c .before .before .before .extent-box .ensures) (c .before .before .size .ensures) (c .before .max .ensures) (c .max2 .ensures)
 
-pub edge-extent-spec : {M : Type 1} → statement M
-edge-extent-spec =
+pub extent-over-spec : {M : Type 1} → statement M
+extent-over-spec =
     tie.close
     (tie.spec
     point-requires
@@ -46,7 +43,6 @@ edge-extent-spec =
     empty-requires
     add-point-requires
     add-point-requires-2
-    usable-range-requires
     extent-box-requires
     size-requires
     max-requires
