@@ -313,6 +313,7 @@ pub fn sample_params(
     let Listed::Count(m) = even else {
         return unknown(settle(even, out));
     };
+    let sag = r.sag;
     if closed::meets(
         points,
         curves,
@@ -322,7 +323,7 @@ pub fn sample_params(
         row,
         out,
         m,
-        r.sag,
+        sag,
         chain,
     ) {
         let listed = settle(even, out);
