@@ -9,15 +9,19 @@ use lib.Dec.{eqb}
 use borrow.Author.Tests.{eqb-true, eqb-false}
 use Rattle.bounds.specs.Some.{someBelow}
 
-or-right : (a : Bool) → a || true ≡ true
-or-right true = refl
-or-right false = refl
+pub or-true : (a : Bool) → a || true ≡ true
+or-true true = refl
+or-true false = refl
 
-pub or-false-first : (a b : Bool) → a || b ≡ false → a ≡ false
+pub or-false : (a : Bool) → a || false ≡ a
+or-false true = refl
+or-false false = refl
+
+or-false-first : (a b : Bool) → a || b ≡ false → a ≡ false
 or-false-first true b e = e
 or-false-first false b e = refl
 
-pub or-false-second : (a b : Bool) → a || b ≡ false → b ≡ false
+or-false-second : (a b : Bool) → a || b ≡ false → b ≡ false
 or-false-second true b e = absurd (go e)
   where
     go : true ≡ false → ⊥
@@ -45,7 +49,7 @@ some-found P zero i l e = absurd (not-suc-le-zero l)
 some-found P (suc n) i l e = go (eqb i n) refl (some-found P n i)
   where
     go : (v : Bool) → eqb i n ≡ v → (i < n → P i ≡ true → someBelow n P ≡ true) → someBelow n P || P n ≡ true
-    go true q ih = let k : P n ≡ true = ap P (sym (eqb-true i n q)) ∙ e in rw k (or-right (someBelow n P))
+    go true q ih = let k : P n ≡ true = ap P (sym (eqb-true i n q)) ∙ e in rw k (or-true (someBelow n P))
     go false q ih = let ne = eqb-false i n q in let k = ih (omega arith) e in rw k
 
 -- where none holds, no one does
@@ -57,23 +61,6 @@ some-none P (suc n) i l e = go (eqb i n) refl (some-none P n i)
     go : (v : Bool) → eqb i n ≡ v → (i < n → someBelow n P ≡ false → P i ≡ false) → P i ≡ false
     go true q ih = ap P (eqb-true i n q) ∙ or-false-second (someBelow n P) (P n) e
     go false q ih = let ne = eqb-false i n q in ih (omega arith) (or-false-first (someBelow n P) (P n) e)
-
-pub some-not : (P : ℕ → Bool) (n : ℕ) → ((i : ℕ) → i < n → P i ≡ false) → someBelow n P ≡ false
-unfolding someBelow
-some-not P zero h = refl
-some-not P (suc n) h =
-    let a : someBelow n P ≡ false = some-not P n (λ i l. h i (omega arith)) in
-    let b : P n ≡ false = h n (omega arith) in
-    rw (a, b)
-
--- two tests that agree below n
-pub some-same : (P Q : ℕ → Bool) (n : ℕ) → ((i : ℕ) → i < n → P i ≡ Q i) → someBelow n P ≡ someBelow n Q
-unfolding someBelow
-some-same P Q zero h = refl
-some-same P Q (suc n) h =
-    let a : someBelow n P ≡ someBelow n Q = some-same P Q n (λ i l. h i (omega arith)) in
-    let b : P n ≡ Q n = h n (omega arith) in
-    rw (a, b)
 
 -- a loop's invariant: P of none below i
 pub record Clear (P : ℕ → Bool) (i : ℕ) : Type 0 where

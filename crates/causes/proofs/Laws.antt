@@ -9,8 +9,8 @@ use borrow.Author.Tests.{ltb-false}
 use Rattle.brep.specs.Rows.{Tables}
 use Rattle.bounds.specs.Some.{someBelow}
 use Rattle.bounds.specs.Bounds.{unboundedTables}
-use Rattle.bounds.proofs.Laws.{neither, four}
-use Rattle.forms.specs.Forms.{curveCount, segmentCount, malformedRow, malformedSegment, ragged, illFormedTables}
+use Rattle.bounds.proofs.Laws.{or-true, or-false, neither, four}
+use Rattle.forms.specs.Forms.{curveCount, segmentCount, malformedRow, malformedSegment, ragged}
 use Rattle.nest.specs.Nest.{rowsCause}
 use Rattle.causes.specs.declared.Verdict.{Verdict}
 use Rattle.causes.specs.declared.Verdict.the-variants.{Accepted, Refused}
@@ -35,14 +35,6 @@ rest a b c = cond a (Refused 3) (cond b (Refused 4) (cond c (Refused 5) Accepted
 
 abbrev number : Bool → Bool → Bool → ℕ
 number a b c = cond a 3 (cond b 4 (cond c 5 0))
-
-or-false : (b : Bool) → b || false ≡ b
-or-false true = refl
-or-false false = refl
-
-or-true : (b : Bool) → b || true ≡ true
-or-true true = refl
-or-true false = refl
 
 none-left : (a b c : Bool) → number a b c ≡ 0 → Accepted ≡ rest a b c
 none-left true b c e = absurd (omega arith)

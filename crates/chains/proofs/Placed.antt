@@ -17,6 +17,7 @@ use Rattle.curve.specs.Eval.{pointAt}
 use Rattle.params.proofs.Steady.{Steady, steady-reverse}
 use Rattle.samples.specs.declared.Sample.{Sample}
 use Rattle.samples.specs.Chain.{lastOf, between}
+use Rattle.closed.proofs.Located.{located-length}
 use Rattle.chains.specs.Edge.{edgeCurve, edgeStart, edgeEnd, located, isReversed, oriented, lastPinned, pinned, placed}
 
 -- a chain's parameters
@@ -38,10 +39,7 @@ unfolding located
 located-own c [] = none
 located-own c (t ∷ l) = more refl (located-own c l)
 
-located-length : (c : CurveTree) (l : List Float) → length (located c l) ≡ length l
-unfolding located
-located-length c [] = refl
-located-length c (t ∷ l) = ap suc (located-length c l)
+
 
 -- ---- as they are, or turned round
 params-turned : (l r : List Sample) → paramsOf (reverseAux l r) ≡ reverseAux (paramsOf l) (paramsOf r)

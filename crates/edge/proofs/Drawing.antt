@@ -1,4 +1,4 @@
--- The ways through `draw_range` and `discretise`. Assumes nothing.
+-- The ways through `draw_range` and `discretise_over`. Assumes nothing.
 use mathlib.Core.Path.{_≡_, refl, sym, ap, _∙_}
 use mathlib.Core.Bool.{Bool, true}
 use mathlib.Core.List.{List, [], _∷_, _++_}
@@ -29,7 +29,7 @@ use Rattle.usable.specs.declared.Usable.the-variants.{Range, Unusable}
 use Rattle.usable.specs.Usable.{usableRange}
 use Rattle.sample.specs.Sample.{sampled, listOf}
 use Rattle.sample.specs.Answered.{Answered}
-use Rattle.sample.specs.Tried.{tried, isTried}
+use Rattle.sample.specs.Tried.{tried, isKept}
 use Rattle.sample.proofs.Laws.{sampled-two, sampled-room}
 use Rattle.sample.proofs.Ways.{tried-sampled}
 use Rattle.closed.specs.Located.{located}
@@ -117,7 +117,7 @@ module _ {room : ℕ} (T : Tables) (e : Edge) (r : Resolved) (range : Interval) 
 
 -- what sample_params left in the chain, where it says that these are the parameters' points
 module _ {room : ℕ} (T : Tables) (e : Edge) (r : Resolved) (range : Interval) {n : ℕ} {out : List Float} (s : Sampling room (sampled room (edgeCurve T e) range r) n out)
-    (known : Bool) (k : known ≡ isTried room (edgeCurve T e) range r) (chain left : List Float) (fits : width * n ≤ length chain)
+    (known : Bool) (k : known ≡ isKept room (edgeCurve T e) range r) (chain left : List Float) (fits : width * n ≤ length chain)
     (p : left ≡ sets chain 0 (flat (located (edgeCurve T e) (tried room (edgeCurve T e) range r)))) where
   pub held : known ≡ true → Holds (edgeCurve T e) (take n out) left
   held h = record { point = λ i l. go i (omega (arith, part-length s, l)) }
@@ -150,7 +150,7 @@ pub none-listed : (room : ℕ) (S : Result (List Float)) (w : Listed) {out : Lis
 none-listed room (refused n) w a e h = h
 none-listed room (got l) w a e h = let q : refused 8 ≡ got (length l) = ap said (sym e) ∙ a in let z : _≡_ {A = ℕ} 0 1 = cc in absurd (omega arith)
 
--- ---- `discretise`
+-- ---- `discretise_over`
 -- n is the room that both buffers give, and scratch's first n floats are lent
 pub record Lent (first n : ℕ) (scratch : List Float) : Type 0 where
   pub few : n ≤ most

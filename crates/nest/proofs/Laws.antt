@@ -1,27 +1,26 @@
 -- A row's depth is its nesting where it is in order, and what the rows gone by come to. Assumes nothing.
 use mathlib.Core.Path.{_≡_, refl, sym, ap, _∙_}
-use mathlib.Core.Bool.{Bool, true, false, cond, _||_}
+use mathlib.Core.Bool.{Bool, true, false, cond, _||_, false≢true}
 use mathlib.Core.List.{List}
-use Prim.Native.Nat.{ℕ, zero, suc, _+_, _*_, _<_, _≤_, min, max}
-use native.Mathlib.Nat.{not-suc-le-zero, add-zero, add-suc, suc-add}
+use Prim.Native.Nat.{ℕ, zero, suc, _+_, _*_, _<_, min, max}
+use native.Mathlib.Nat.{not-suc-le-zero, add-zero}
 use native.Mathlib.Numerals.{add-one}
 use native.Mathlib.Omega.{arith}
 use lib.ListN.{length, getD, set}
 use lib.Seq.{getD-set-same, getD-set-other}
 use lib.Dec.{eqb, ltb, leb}
-use lib.Ieee.{Float, nan}
+use lib.Ieee.{Float}
 use borrow.Author.Tests.{eqb-true, eqb-false, ne-eqb, eq-eqb, leb-false, ltb-true, ltb-false}
 use Rattle.brep.specs.declared.Curve.{Curve}
-use Rattle.brep.specs.declared.Curve.the-variants.{Line, Circle, Ellipse, Parabola, Polyline, Trimmed, Composite}
 use Rattle.brep.specs.Rows.{Tables, kindOf, curveOf, segmentOf}
 use Rattle.brep.specs.Tree.{CurveTree, segmentIn, segments, rowIn, grown, below, tree}
 use Rattle.brep.proofs.Laws.{lower}
 use Rattle.brep.proofs.ByKind.{kindIn, firstIn, countIn, pIn, qIn, row-trim, row-composite}
 use Rattle.bounds.specs.Some.{someBelow}
-use Rattle.bounds.proofs.Laws.{some-found}
+use Rattle.bounds.proofs.Laws.{or-true, or-false, some-found}
 use Rattle.forms.specs.Forms.{curveCount, malformedRow}
 use Rattle.nest.specs.Nest.{highSegment, notLower, unorderedRow, nesting, deepest, deepRow, rowsCause}
-use Rattle.nest.specs.Depths.{depthBelow, segmentDepth, deepestOf, oneDeeper, rowDepth, Both, causeWith}
+use Rattle.nest.specs.Depths.{depthBelow, deepestOf, oneDeeper, rowDepth, Both, causeWith}
 use Rattle.nest.proofs.Depths.{both-more}
 
 -- ---- a row by its kind
@@ -126,14 +125,6 @@ is-four true b lowest h e = refl
 is-four false true lowest h e = absurd (omega arith)
 is-four false false lowest h e = absurd (omega arith)
 
-or-false : (b : Bool) → b || false ≡ b
-or-false true = refl
-or-false false = refl
-
-or-true : (b : Bool) → b || true ≡ true
-or-true true = refl
-or-true false = refl
-
 -- what a row adds, where none before it is out of order
 cause-more : (d u : Bool) (n depth lowest : ℕ) → lowest ≡ cond d 5 0 → depth ≡ marked u n → causeWith lowest depth ≡ cond u 4 (cond (d || ltb 8 n) 5 0)
 unfolding causeWith
@@ -172,12 +163,9 @@ module _ (T : Tables) (depths blocks larges : List ℕ) (lowest row : ℕ) (g : 
       record {
         formed = rw (add-one, g .formed) m;
         cause = rw (add-one, u) e;
-        told = λ h. absurd (true-false (rw (add-one, u) at h));
-        known = λ h. absurd (true-false (rw (add-one, u) at h));
+        told = λ h. absurd (false≢true (sym (rw (add-one, u) at h)));
+        known = λ h. absurd (false≢true (sym (rw (add-one, u) at h)));
       }
-    where
-      true-false : true ≡ false → ⊥
-      true-false h = let z : _≡_ {A = ℕ} 0 1 = cc in omega arith
 
   -- a row of this depth
   pub gone-more : (lowest ≡ 4 → ⊥) → malformedRow T row ≡ false → row < length depths → (now most : List ℕ) → Both (T .parts) depths now most row → (depth : ℕ) → depth ≡ rowDepth (T .curves) (T .parts) depths row → (next : ℕ) → next ≡ causeWith lowest depth → Gone T (set depths row depth) now most next (row + 1)

@@ -1,14 +1,9 @@
 -- An angle counts as clamped exactly where `resolve` changes it. Assumes nothing.
 use mathlib.Core.Path.{_≡_, refl, sym, ap, _∙_}
-use mathlib.Core.Bool.{Bool, true, false, cond, _||_}
-use Prim.Native.Nat.{ℕ}
-use native.Mathlib.Omega.{arith}
+use mathlib.Core.Bool.{Bool, true, false, cond, _||_, false≢true}
 use lib.Ieee.{lt, ofBits}
 use Rattle.options.specs.declared.Options.{Options}
 use Rattle.options.specs.Options.{leastAngle, largestAngle, isClamped, resolve}
-
-differ : true ≡ false → ⊥
-differ h = let z : _≡_ {A = ℕ} 0 1 = cc in omega arith
 
 -- neither limit is below itself
 least-not-below : lt leastAngle leastAngle ≡ false
@@ -26,8 +21,8 @@ module _ (o : Options) where
   kept = go (lt (o .angle .0) leastAngle) (lt largestAngle (o .angle .0))
     where
       go : (a b : Bool) → a || b ≡ false → cond a leastAngle (cond b largestAngle (o .angle .0)) ≡ o .angle .0
-      go true b h = absurd (differ h)
-      go false true h = absurd (differ h)
+      go true b h = absurd (false≢true (sym h))
+      go false true h = absurd (false≢true (sym h))
       go false false h = refl
 
   -- one that does is changed
@@ -36,6 +31,6 @@ module _ (o : Options) where
   changed = go (lt (o .angle .0) leastAngle) (lt largestAngle (o .angle .0)) refl refl
     where
       go : (a b : Bool) → lt (o .angle .0) leastAngle ≡ a → lt largestAngle (o .angle .0) ≡ b → a || b ≡ true → cond a leastAngle (cond b largestAngle (o .angle .0)) ≡ o .angle .0 → ⊥
-      go true b e g h k = differ (sym e ∙ ap (λ x. lt x leastAngle) (sym k) ∙ least-not-below)
-      go false true e g h k = differ (sym g ∙ ap (lt largestAngle) (sym k) ∙ largest-not-below)
-      go false false e g h k = differ (sym h)
+      go true b e g h k = false≢true (sym least-not-below ∙ ap (λ x. lt x leastAngle) k ∙ e)
+      go false true e g h k = false≢true (sym largest-not-below ∙ ap (lt largestAngle) k ∙ g)
+      go false false e g h k = false≢true h

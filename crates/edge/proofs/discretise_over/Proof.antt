@@ -1,11 +1,9 @@
 -- `discretise_over` meets its contract, by what the edge's range is. Assumes nothing.
-use mathlib.Core.Path.{refl, sym, ap, _∙_}
-use mathlib.Core.List.{[]}
+use mathlib.Core.Path.{refl, sym, _∙_}
 use Prim.Native.Nat.{ℕ}
 use native.Mathlib.Omega.{arith}
 use denote.Ref.{now}
 use lib.ListN.{length}
-use Rattle.lists.specs.Room.{filled}
 use Rattle.brep.specs.Rows.{Tables, lent}
 use Rattle.chains.specs.Draw.{roomOf}
 use Rattle.edge.proofs.Drawing.{Lent, lent-part, whole-length, cleared-whole, drew-range, drew-chord}
