@@ -102,8 +102,8 @@ fn record_at(
     Sample { point, param }
 }
 
-// Writes a record for each parameter, from the chain's start. `known` says that the records hold the curve's points already, which spares
-// their evaluation: record i is read before it is written. A chain that runs back would read what it wrote.
+// Writes a record for each parameter, from the chain's start. Where `known`, the records hold the curve's points already, and
+// are not evaluated again: record i is read before it is written. A chain that runs back would read what it wrote.
 pub fn place(
     points: &[f64],
     curves: &[u32],
