@@ -61,7 +61,7 @@ fn param_at(params: &[f64], reversed: bool, i: usize) -> f64
     params[i]
 }
 
-// Record i: a vertex at either end, the curve's own point between, which a chain that is kept already holds.
+// Record i: a vertex at either end, the curve's own point between. Where `kept`, the chain's record i holds that point.
 fn record_at(
     points: &[f64],
     curves: &[u32],
