@@ -6,10 +6,11 @@ use math::Vec3;
 use options::Resolved;
 use ready::Ready;
 ghost use mathlib.Core.Path.{_≡_};
+ghost use mathlib.Core.Bool.{true, false};
 ghost use Prim.Native.Nat.{_≤_};
 ghost use lib.ListN.{length};
 ghost use lib.Ieee.{le};
-ghost use Rattle.turning.specs.Turning.{Serves};
+ghost use Rattle.turning.specs.Turning.{Serves, Exceeds};
 ghost use Rattle.brep.specs.Rows.{lent};
 ghost use Rattle.brep.specs.Tree.{tree};
 ghost use Rattle.ready.specs.Ready.{readyOf};
@@ -28,6 +29,7 @@ pub struct End {
 pub struct Limits {
     pub sag: Limit,
     pub turn: f64,
+    pub over: f64,
 }
 
 // What becomes of a span: it is within budget, or split at its middle.
@@ -42,7 +44,8 @@ pub fn limits_of(r: Resolved) -> Limits
 {
     let sag = cuts::limit_of(r.sag);
     let turn = turning::turn_cut(r.angle);
-    Limits { sag, turn }
+    let over = turning::over_cut(r.angle);
+    Limits { sag, turn, over }
 }
 
 // The curve of a row, made ready, at t.
@@ -79,18 +82,36 @@ fn turns_within(a: Direction, b: Direction, limit: f64, cut: f64) -> bool
     turning::is_turn_within(arith::clamp(ta.dot(tb), -1.0, 1.0), limit, cut)
 }
 
+// Whether the angle between two tangents is surely above the limit. `false` says nothing.
+fn turns_over(a: Direction, b: Direction, limit: f64, cut: f64) -> bool
+    requires { ⌜ Exceeds cut limit ⌝ }
+    ensures { λ w. ⌜ (w ≡ true → le (turnOf a b) limit ≡ false) ⌝ }
+{
+    let Direction::Unit(ta) = a else {
+        return false;
+    };
+    let Direction::Unit(tb) = b else {
+        return false;
+    };
+    turning::is_turn_over(arith::clamp(ta.dot(tb), -1.0, 1.0), limit, cut)
+}
+
 // Whether the span from a to b, whose middle has the point pm, is within budget. The sag is compared by its square.
 fn is_within(r: Resolved, l: Limits, a: End, b: End, pm: Vec3) -> bool
     requires { ⌜ l ≡ limitsOf r ⌝ }
     ensures { λ w. ⌜ w ≡ isWithin r a b pm ⌝ }
 {
+    let ta = a.tangent;
+    let tb = b.tangent;
+    // A sharp turn needs no sag.
+    if turns_over(ta, tb, r.angle, l.over) {
+        return false;
+    }
     let chord = b.point.sub(a.point);
     let len = chord.length();
     let offset = chord::bisection_offset(a.point, chord, len, pm);
     let sag = l.sag;
     if cuts::is_at_most(offset.length_squared(), sag) {
-        let ta = a.tangent;
-        let tb = b.tangent;
         return turns_within(ta, tb, r.angle, l.turn);
     }
     false

@@ -31,7 +31,7 @@ use Rattle.cuts.specs.Limit.{cutIf}
 abbrev pub Part : Float → Type 0
 Part x = T (le zeroF x) × T (le x oneF)
 
-part-finite : (x : Float) → Part x → T (finite x)
+pub part-finite : (x : Float) → Part x → T (finite x)
 part-finite x p = between zeroF x oneF tt tt (p .0) (p .1)
 
 no-sign : (x : Float) → T (finite x) → T (le zeroF x) → neg' x ≡ 0
@@ -48,24 +48,24 @@ high-law : (px py dx dy : ℕ) → py ≤ dy → (px * py + 0 * 0) * dx + 0 * (d
 high-law px py dx dy h = let k = mul-le-mul-left (px * dx) h in simp (ring, zero-mul, add-zero) (simp ring at k)
 
 module _ (x y : Float) (F : T (finite x)) (z : T (le zeroF x)) (q : Part y) where
-  scaled-low : T (le zeroF (x ⊗ y))
+  pub scaled-low : T (le zeroF (x ⊗ y))
   scaled-low =
       above binary64 zeroF (x ⊗ y) (plus x * plus y + neg' x * neg' y) (plus x * neg' y + neg' x * plus y) (den x * den y) (zero-fits binary64) tt
       (mul-rounds binary64 x y F (part-finite y q)) (mul-pos (den-pos x) (den-pos y))
       (rw (no-sign x F z, no-sign y (part-finite y q) (q .0)) (low-law (plus x) (plus y) (den x) (den y)))
 
-  scaled-high : T (fits binary64 x) → T (le (x ⊗ y) x)
+  pub scaled-high : T (fits binary64 x) → T (le (x ⊗ y) x)
   scaled-high G =
       under binary64 x (x ⊗ y) (plus x * plus y + neg' x * neg' y) (plus x * neg' y + neg' x * plus y) (den x * den y) G F
       (mul-rounds binary64 x y F (part-finite y q)) (mul-pos (den-pos x) (den-pos y))
       (rw (no-sign x F z, no-sign y (part-finite y q) (q .0)) (high-law (plus x) (plus y) (den x) (den y) (part-plus y q)))
 
 -- a square of a part is a part
-one-fits : T (fits binary64 oneF)
+pub one-fits : T (fits binary64 oneF)
 unfolding fits
 one-fits = tt
 
-square-part : (y : Float) → Part y → Part (y ⊗ y)
+pub square-part : (y : Float) → Part y → Part (y ⊗ y)
 unfolding le
 square-part y p = (
   scaled-low y y (part-finite y p) (p .0) p,
@@ -82,7 +82,7 @@ one-is : one ≡ oneF
 unfolding ofBits
 one-is = refl
 
-abbrev twoF : Float
+abbrev pub twoF : Float
 twoF = fin false 1 (pos 1)
 
 abbrev fourF : Float
@@ -104,7 +104,7 @@ over-one z F h =
     (omega (arith, k, den-pos z), no-minus z (omega (arith, k)))
 
 -- so x / z ≤ x / y from 1 ≤ y ≤ z
-div-turns : (x y z : Float) → T (finite x) → T (finite y) → T (finite z) → T (le zeroF x) → T (le oneF y) → T (le y z) → T (le (x ⊘ z) (x ⊘ y))
+pub div-turns : (x y z : Float) → T (finite x) → T (finite y) → T (finite z) → T (le zeroF x) → T (le oneF y) → T (le y z) → T (le (x ⊘ z) (x ⊘ y))
 div-turns x y z X Y Z x0 y1 h =
     let u = over-one y Y y1 in
     let v = over-one z Z (le-trans oneF y z y1 h) in
@@ -114,14 +114,14 @@ div-turns x y z X Y Z x0 y1 h =
     (omega (arith, rw (u .1, v .1) at (le→ y z Y Z h), zero-mul (den y), zero-mul (den z)))))
 
 -- and x / z is not below zero
-quotient-low : (x z : Float) → T (finite x) → T (finite z) → T (le zeroF x) → T (le oneF z) → T (le zeroF (x ⊘ z))
+pub quotient-low : (x z : Float) → T (finite x) → T (finite z) → T (le zeroF x) → T (le oneF z) → T (le zeroF (x ⊘ z))
 quotient-low x z X Z x0 z1 =
     let v = over-one z Z z1 in
     above binary64 zeroF (x ⊘ z) (plus x * den z) (neg' x * den z) (plus z * den x) (zero-fits binary64) tt (div-rounds binary64 x z X Z (v .0))
     (mul-pos (v .0) (den-pos x)) (rw (no-sign x X x0) (omega (arith, zero-mul (plus z * den x), zero-mul (den z))))
 
 module _ (y : Float) (p : Part y) where
-  square-finite : T (finite (y ⊗ y))
+  pub square-finite : T (finite (y ⊗ y))
   square-finite = part-finite (y ⊗ y) (square-part y p)
 
   -- 1 + y * y is from 1 to 2, its root from 1 to 2, and 1 + that from 2 to 3
@@ -146,14 +146,14 @@ module _ (y : Float) (p : Part y) where
   root-high = rw root-four at (root-monotone (oneF ⊕ y ⊗ y) fourF (add-fits binary64 oneF (y ⊗ y)) four-fits
       (le-trans zeroF oneF (oneF ⊕ y ⊗ y) tt sum-low) sum-high)
 
-  root-finite : T (finite (rootOf (oneF ⊕ y ⊗ y)))
+  pub root-finite : T (finite (rootOf (oneF ⊕ y ⊗ y)))
   root-finite = between oneF (rootOf (oneF ⊕ y ⊗ y)) twoF tt tt root-low root-high
 
-  divisor-low : T (le twoF (oneF ⊕ rootOf (oneF ⊕ y ⊗ y)))
+  pub divisor-low : T (le twoF (oneF ⊕ rootOf (oneF ⊕ y ⊗ y)))
   unfolding add
   divisor-low = add-mono-right binary64 oneF (rootOf (oneF ⊕ y ⊗ y)) oneF tt root-finite tt root-low
 
-  divisor-finite : T (finite (oneF ⊕ rootOf (oneF ⊕ y ⊗ y)))
+  pub divisor-finite : T (finite (oneF ⊕ rootOf (oneF ⊕ y ⊗ y)))
   unfolding add
   divisor-finite = between twoF (oneF ⊕ rootOf (oneF ⊕ y ⊗ y)) (oneF ⊕ twoF) tt tt divisor-low
       (add-mono-right binary64 (rootOf (oneF ⊕ y ⊗ y)) twoF oneF root-finite tt tt root-high)
@@ -178,11 +178,11 @@ module _ (y : Float) (p : Part y) where
   )
 
 -- three times: at most an eighth
-half-mono : (x y : Float) → T (finite x) → T (finite y) → T (le x y) → T (le (x ⊘ twoF) (y ⊘ twoF))
+pub half-mono : (x y : Float) → T (finite x) → T (finite y) → T (le x y) → T (le (x ⊘ twoF) (y ⊘ twoF))
 unfolding lt
 half-mono x y X Y h = div-mono binary64 x y twoF X Y tt tt h
 
-half-part : (y : Float) → Part y → Part (y ⊘ twoF)
+pub half-part : (y : Float) → Part y → Part (y ⊘ twoF)
 unfolding le
 half-part y p = (quotient-low y twoF (part-finite y p) tt (p .0) tt, half-high y p)
 
@@ -207,15 +207,15 @@ module _ (y : Float) (p : Part y) where
       (half-mono (halved y) (y ⊘ twoF) (part-finite (halved y) once) (part-finite (y ⊘ twoF) (half-part y p)) (halved-high y p))))
 
 -- ---- the series: each sum is from 0 to its own first term
-record Below (v : Float) (b : Float) : Type 0 where
-  format : T (fits binary64 v)
-  low : T (le zeroF v)
-  high : T (le v b)
+pub record Below (v : Float) (b : Float) : Type 0 where
+  pub format : T (fits binary64 v)
+  pub low : T (le zeroF v)
+  pub high : T (le v b)
 
 less-law : (pb nb db pw dw : ℕ) → (pb * dw + 0 * db) * db + nb * (db * dw) ≤ pb * (db * dw) + (nb * dw + pw * db) * db
 less-law pb nb db pw dw = simp (ring, zero-mul, add-zero) (omega arith)
 
-next : (z v a b : Float) → Part z → Below v a → T (le a b) → T (finite a) → T (finite b) → T (fits binary64 b) → Below (b ⊖ z ⊗ v) b
+pub next : (z v a b : Float) → Part z → Below v a → T (le a b) → T (finite a) → T (finite b) → T (fits binary64 b) → Below (b ⊖ z ⊗ v) b
 next z v a b p s h A B G =
     let F = between zeroF v a tt A (s .low) (s .high) in
     let swap = mul-swap binary64 v z F (part-finite z p) in
@@ -231,13 +231,13 @@ next z v a b p s h A B G =
     }
 
 -- the term for d
-abbrev term : ℕ → Float
+abbrev pub term : ℕ → Float
 term d = oneF ⊘ count d
 
-term-fits : (d : ℕ) → T (fits binary64 (term d))
+pub term-fits : (d : ℕ) → T (fits binary64 (term d))
 term-fits d = div-fits binary64 oneF (count d)
 
-first : Below (term 15) (term 15)
+pub first : Below (term 15) (term 15)
 unfolding le div ofInt
 first = record { format = term-fits 15; low = tt; high = tt }
 
@@ -253,11 +253,11 @@ series z p =
     next z _ (term 3) (term 1) p v3 tt tt tt (term-fits 1)
 
 -- ---- sixteen times a part, and the arc of a part
-sixteen-mono : (x y : Float) → T (finite x) → T (finite y) → T (le x y) → T (le (count 16 ⊗ x) (count 16 ⊗ y))
+pub sixteen-mono : (x y : Float) → T (finite x) → T (finite y) → T (le x y) → T (le (count 16 ⊗ x) (count 16 ⊗ y))
 unfolding le ofInt
 sixteen-mono x y X Y h = rw (mul-swap binary64 (count 16) x tt X, mul-swap binary64 (count 16) y tt Y) (mul-mono binary64 x y (count 16) X Y tt tt h)
 
-series-part : (z : Float) → Part z → Part (summed z (one ⊘ count 15) (13 ∷ 11 ∷ 9 ∷ 7 ∷ 5 ∷ 3 ∷ 1 ∷ []))
+pub series-part : (z : Float) → Part z → Part (summed z (one ⊘ count 15) (13 ∷ 11 ∷ 9 ∷ 7 ∷ 5 ∷ 3 ∷ 1 ∷ []))
 unfolding le div ofInt
 series-part z p = let s = series z p in (s .low, le-trans (summed z (one ⊘ count 15) (13 ∷ 11 ∷ 9 ∷ 7 ∷ 5 ∷ 3 ∷ 1 ∷ [])) (term 1) oneF (s .high) tt)
 
@@ -269,10 +269,10 @@ arc-high h p F =
     let k : T (le (h ⊗ v) h) = scaled-high h v (part-finite h p) (p .0) q F in
     sixteen-mono (h ⊗ v) h (between zeroF (h ⊗ v) h tt (part-finite h p) (scaled-low h v (part-finite h p) (p .0) q) k) (part-finite h p) k
 
-abbrev eighths : Float → Float
+abbrev pub eighths : Float → Float
 eighths y = count 16 ⊗ (y ⊘ twoF ⊘ twoF ⊘ twoF)
 
-angle-high : (y : Float) → Part y → T (le (angleOf y) (eighths y))
+pub angle-high : (y : Float) → Part y → T (le (angleOf y) (eighths y))
 unfolding angleOf
 angle-high y p =
     let h = halved (halved (halved y)) in

@@ -2,7 +2,8 @@
 ghost use mathlib.Core.Path.{_≡_};
 ghost use lib.Ieee.{le};
 ghost use Rattle.trig.specs.Trig.{acosOf};
-ghost use Rattle.turning.specs.Turning.{turnCut, Serves};
+ghost use mathlib.Core.Bool.{true, false};
+ghost use Rattle.turning.specs.Turning.{turnCut, Serves, overCut, Exceeds};
 
 // The cut for a limit, which costs a root: for many comparisons with one limit.
 pub fn turn_cut(limit: f64) -> f64
@@ -28,4 +29,32 @@ pub fn is_turn_within(a: f64, limit: f64, cut: f64) -> bool
         }
     }
     trig::acos(a) <= limit
+}
+
+// The cut from which on an angle is above the limit, which costs a root.
+pub fn over_cut(limit: f64) -> f64
+    ensures { λ r. ⌜ r ≡ overCut limit ⌝ }
+{
+    // A little above half the limit, so that the bound at the cut is above the limit.
+    let half = limit * 0.5115;
+    let cut = half * half;
+    let least = 16.0 * (roots::root(cut) / 2.03125 / 2.0078125 / 2.001953125 * 0.9995);
+    cuts::cut_if(
+        limit < 0.368,
+        cuts::cut_if(0.0 <= cut, cuts::cut_if(limit < least, cut)),
+    )
+}
+
+// Whether the angle whose cosine is a is surely above the limit that the cut is for. `false` says nothing.
+pub fn is_turn_over(a: f64, limit: f64, cut: f64) -> bool
+    requires { ⌜ Exceeds cut limit ⌝ }
+    ensures { λ b. ⌜ (b ≡ true → le (acosOf a) limit ≡ false) ⌝ }
+{
+    if a == 1.0 {
+        return false;
+    }
+    if a == -1.0 {
+        return false;
+    }
+    cut <= (1.0 - a) / (1.0 + a)
 }

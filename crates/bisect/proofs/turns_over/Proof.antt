@@ -1,0 +1,65 @@
+-- `bisect::turns_over` meets its contract. Assumes nothing.
+use Rattle.bisect.proofs.Laws.{turn-both}
+use Rattle.trig.specs.Trig.{acosOf}
+use Rattle.arith.specs.Pick.{clampOf}
+use Rattle.arith.specs.Notation.{one}
+use lib.Ieee.{Float, le, neg}
+use mathlib.Core.Path.{sym, ap, _∙_}
+use Rattle.arith.proofs.Cmp.{holds}
+use borrow.Author.Needs.{needs}
+use Rattle.bisect.proofs.turns_over.Statement.{statement}
+use Rattle.bisect.proofs.turns_over.Tie as tie
+use Rattle.bisect.proofs.turns_over.Reads as reads
+use Rattle.bisect.proofs.turns_over.Lts as lts
+use Rattle.arith.proofs.clamp.Reads as clamp-reads
+use Rattle.math.proofs.Vec3.dot.Reads as dot-reads
+use Rattle.turning.proofs.is_turn_over.Reads as is-turn-over-reads
+
+enum-known-a : tie.Need-enum-known-a
+enum-known-a c = search needs
+
+enum-told : tie.Need-enum-told
+enum-told c = search needs
+
+returns : tie.Need-returns
+returns c = λ e. absurd (holds e)
+
+enum-known-b : tie.Need-enum-known-b
+enum-known-b c = search needs
+
+enum-told-2 : tie.Need-enum-told-2
+enum-told-2 c = search needs
+
+returns-2 : tie.Need-returns-2
+returns-2 c = λ e. absurd (holds e)
+
+dot-requires : tie.Need-dot-requires
+dot-requires c κs = search needs
+
+clamp-requires : tie.Need-clamp-requires
+clamp-requires c κs = search needs
+
+is-turn-over-requires : tie.Need-is-turn-over-requires
+is-turn-over-requires c κs = search needs
+
+returns-3 : tie.Need-returns-3
+returns-3 c = λ e.
+    let a = c .before .before .before .before .before .before .before .before .before .args in
+    sym (turn-both (a .a) (a .b) (a .limit) (c .before .before .before .before .before .before .before .a .given .0 .0) (c .before .before .before .before .b .given .0 .0) (c .before .before .before .before .before .before .before .a .given .1) (c .before .before .before .before .b .given .1))
+    ∙ sym (ap (λ (x : Float). le (acosOf x) (a .limit)) (c .before .clamp .ensures ∙ ap (λ (x : Float). clampOf x (neg one) one) (c .before .before .dot .ensures)))
+    ∙ c .is-turn-over .ensures e
+
+pub turns-over-spec : {M : Type 1} → statement M
+turns-over-spec =
+    tie.close
+    (tie.spec
+    enum-known-a
+    enum-told
+    returns
+    enum-known-b
+    enum-told-2
+    returns-2
+    dot-requires
+    clamp-requires
+    is-turn-over-requires
+    returns-3)
