@@ -5,8 +5,12 @@ use math::Interval;
 use math::Vec3;
 use options::Resolved;
 ghost use mathlib.Core.Path.{_≡_};
+ghost use mathlib.Core.Bool.{true, false};
 ghost use Prim.Native.Nat.{_*_, _≤_};
 ghost use lib.ListN.{length};
+ghost use lib.Ieee.{lt, le};
+ghost use Rattle.arith.specs.Notation.{bits, nought};
+ghost use Rattle.math.specs.Math.{vLengthSquared, boxSize};
 ghost use Rattle.brep.specs.Rows.{lent};
 ghost use Rattle.brep.specs.Tree.{tree};
 ghost use Rattle.samples.specs.Chain.{width, samples};
@@ -28,11 +32,57 @@ pub struct Ends {
     pub end: f64,
 }
 
+// Beyond this no square is compared with another.
+const MODEST: f64 = 1e300;
+
+// Whether no point of the chain lies further from the box's centre than its diagonal, by the squares. `false` says nothing.
+fn all_near(reference: Aabb, r: Resolved, square: f64, chain: &[f64], n: usize) -> bool
+    requires { ⌜ (width * n ≤ length (now chain)) × (le nought (r .sag) ≡ true) × (le (r .sag) (bits 0x7E37E43C8800759C) ≡ true)
+        × (lt nought square ≡ true) × (le square (bits 0x7E37E43C8800759C) ≡ true) × (square ≡ vLengthSquared (boxSize reference)) ⌝ }
+    ensures { λ b. ⌜ (b ≡ true → false ≡ escapes reference r (samples n (now (chain .entry)))) ⌝ }
+{
+    let centre = reference.centre();
+    let mut i = 0usize;
+    while i < n {
+        let p = samples::point_at(chain, i);
+        let s = p.sub(centre).length_squared();
+        if 0.0 <= s && s <= square {
+            i += 1;
+        } else {
+            return false;
+        }
+    }
+    true
+}
+
+// The same, where the box and the sag are such that the squares can tell.
+fn is_near(reference: Aabb, r: Resolved, chain: &[f64], n: usize) -> bool
+    requires { ⌜ width * n ≤ length (now chain) ⌝ }
+    ensures { λ b. ⌜ (b ≡ true → false ≡ escapes reference r (samples n (now (chain .entry)))) ⌝ }
+{
+    let square = reference.size().length_squared();
+    let sag = r.sag;
+    if 0.0 <= sag {
+        if sag <= MODEST {
+            if 0.0 < square {
+                if square <= MODEST {
+                    return all_near(reference, r, square, chain, n);
+                }
+            }
+        }
+    }
+    false
+}
+
 // Whether a point of the chain lies further from the box's centre than its diagonal and 16 sags.
 pub fn escapes(reference: Aabb, r: Resolved, chain: &[f64], n: usize) -> bool
     requires { ⌜ width * n ≤ length (now chain) ⌝ }
     ensures { λ b. ⌜ b ≡ escapes reference r (samples n (now (chain .entry))) ⌝ }
 {
+    // Most chains lie within the box, and need no root.
+    if is_near(reference, r, chain, n) {
+        return false;
+    }
     let limit = reference.diagonal() + r.sag * 16.0;
     let centre = reference.centre();
     let cut = limit * limit;

@@ -1,6 +1,6 @@
 -- The ways through repair_runaway, by the tests that lead there. Assumes nothing.
 use mathlib.Core.Path.{_≡_, refl, sym, ap, _∙_}
-use mathlib.Core.Bool.{Bool, true, false, cond, not, _&&_}
+use mathlib.Core.Bool.{Bool, true, false, cond, not, _&&_, _||_}
 use mathlib.Core.List.{List}
 use Prim.Native.Nat.{ℕ}
 use lib.Ieee.{Float, lt, le}
@@ -205,13 +205,21 @@ module _ (T : Tables) (e : Edge) (r : Resolved) where
       unfolding stays
       stays-empty h = rw (empty-is true n h)
 
-      pub stays-flat : {d : Float} → none ≡ false → d ≡ diagonal box → lt nought d ≡ false → true ≡ stays T e r chain
+      pub stays-inside : {out : Bool} → none ≡ false → out ≡ escapes box r chain → out ≡ false → true ≡ stays T e r chain
       unfolding stays
-      stays-flat h q k = rw (empty-is false n h, long-is false q k)
+      stays-inside h o k = rw (empty-is false n h, escapes-is false o k) (go (lt nought (diagonal (reference T e))))
+        where
+          go : (x : Bool) → true ≡ (not x || not false)
+          go true = refl
+          go false = refl
 
-      pub stays-inside : {d : Float} {out : Bool} → none ≡ false → d ≡ diagonal box → lt nought d ≡ true → out ≡ escapes box r chain → not out ≡ stays T e r chain
+      pub stays-outside : {d : Float} {out : Bool} → none ≡ false → d ≡ diagonal box → out ≡ escapes box r chain → out ≡ true → not (lt nought d) ≡ stays T e r chain
       unfolding stays
-      stays-inside h q k o = rw (empty-is false n h, long-is true q k) (ap not o ∙ ap (λ (x : Aabb). not (escapes x r chain)) b)
+      stays-outside {d} h q o k = rw (empty-is false n h, escapes-is true o k, q, b) (go (lt nought (diagonal (reference T e))))
+        where
+          go : (x : Bool) → not x ≡ (not x || not true)
+          go true = refl
+          go false = refl
 
     module _ {out : Bool} (o : out ≡ escapes box r chain) where
       pub arc-outside : out ≡ true → false ≡ isShortArc T e r chain

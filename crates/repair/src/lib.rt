@@ -222,8 +222,8 @@ fn stays(points: &[f64], edge: Edge, r: Resolved, chain: &[f64], n: usize) -> bo
     if b.is_empty() {
         return true;
     }
-    if 0.0 < b.diagonal() {
-        return !escape::escapes(b, r, chain, n);
+    if escape::escapes(b, r, chain, n) {
+        return !(0.0 < b.diagonal());
     }
     true
 }

@@ -15,6 +15,12 @@ Inv-loop chain n limit centre cut has-cut i₀ i = (i ≤ n) × (left (beyond li
 abbrev μ-loop : tie.MeasureT-loop
 μ-loop chain n limit centre cut has-cut i₀ i = n - i
 
+is-near-requires : tie.Need-is-near-requires Inv-loop μ-loop
+is-near-requires c κs = search needs
+
+returns : tie.Need-returns Inv-loop μ-loop
+returns c = c .before .is-near .ensures (c .if1 .taken)
+
 diagonal-requires : tie.Need-diagonal-requires Inv-loop μ-loop
 diagonal-requires c κs = search needs
 
@@ -39,12 +45,12 @@ length-squared-requires c κs = search needs
 is-above-requires : tie.Need-is-above-requires Inv-loop μ-loop
 is-above-requires c κs = root-at-most _ (c .before .before .before .before .before .root .ensures)
 
-returns : tie.Need-returns Inv-loop μ-loop
+returns-2 : tie.Need-returns-2 Inv-loop μ-loop
 unfolding vLength
-returns c =
-    let a = c .before .before .before .before .before .before .before .before .before .before .before .before .args in
+returns-2 c =
+    let a = c .before .before .before .before .before .before .before .before .before .before .before .before .before .before .args in
     let l = c .before .before .before .before .before .before .loop in
-    found (beyond _ _) (a .chain .now) (a .n) (l .i) (c .before .before .before .before .before .loop-test .taken) (rw (c .before .is-above .ensures, c .before .before .length-squared .ensures, c .before .before .before .sub .ensures, c .before .before .before .before .point-at .ensures)) (c .if1 .taken)
+    found (beyond _ _) (a .chain .now) (a .n) (l .i) (c .before .before .before .before .before .loop-test .taken) (rw (c .before .is-above .ensures, c .before .before .length-squared .ensures, c .before .before .before .sub .ensures, c .before .before .before .before .point-at .ensures)) (c .if2 .taken)
     ∙ l .inv .1
     ∙ escapes-whole (a .chain .now) (a .n) (a .r) _ _ (a .reference) (rw (c .before .before .before .before .before .before .before .before .before .before .diagonal .ensures)) (c .before .before .before .before .before .before .before .before .centre .ensures)
 
@@ -57,13 +63,13 @@ loop-less c = search needs
 loop-again : tie.Need-loop-again Inv-loop μ-loop
 unfolding vLength
 loop-again c =
-    let a = c .before .before .before .before .before .before .before .before .before .before .before .before .args in
+    let a = c .before .before .before .before .before .before .before .before .before .before .before .before .before .before .args in
     let l = c .before .before .before .before .before .before .loop in
-    (omega arith, passed (beyond _ _) (a .chain .now) (a .n) (l .i) (c .before .before .before .before .before .loop-test .taken) (rw (c .before .is-above .ensures, c .before .before .length-squared .ensures, c .before .before .before .sub .ensures, c .before .before .before .before .point-at .ensures)) (c .if1 .left) ∙ l .inv .1)
+    (omega arith, passed (beyond _ _) (a .chain .now) (a .n) (l .i) (c .before .before .before .before .before .loop-test .taken) (rw (c .before .is-above .ensures, c .before .before .length-squared .ensures, c .before .before .before .sub .ensures, c .before .before .before .before .point-at .ensures)) (c .if2 .left) ∙ l .inv .1)
 
-returns-2 : tie.Need-returns-2 Inv-loop μ-loop
-returns-2 c =
-    let a = c .before .before .before .before .before .before .before .args in
+returns-3 : tie.Need-returns-3 Inv-loop μ-loop
+returns-3 c =
+    let a = c .before .before .before .before .before .before .before .before .before .args in
     let l = c .before .loop in
     none (beyond _ _) (a .chain .now) (a .n) (l .i) (c .loop-test .left)
     ∙ l .inv .1
@@ -75,6 +81,8 @@ escapes-spec =
     (tie.spec
     Inv-loop
     μ-loop
+    is-near-requires
+    returns
     diagonal-requires
     centre-requires
     root-requires
@@ -83,8 +91,8 @@ escapes-spec =
     sub-requires
     length-squared-requires
     is-above-requires
-    returns
+    returns-2
     add-i
     loop-less
     loop-again
-    returns-2)
+    returns-3)

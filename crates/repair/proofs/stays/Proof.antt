@@ -1,5 +1,5 @@
 -- `repair::stays` meets its contract, by the test that decides it. Assumes nothing.
-use Rattle.repair.proofs.Ways.{stays-empty, stays-inside, stays-flat}
+use Rattle.repair.proofs.Ways.{stays-empty, stays-inside, stays-outside}
 use Rattle.place.specs.Place.{ofPoints}
 use denote.Ref.{now}
 use borrow.Author.Needs.{needs}
@@ -18,25 +18,25 @@ returns c =
     let T = ofPoints (now (a .points)) in
     stays-empty T (a .edge) (a .r) _ (c .before .before .reference .ensures) (c .before .is-empty .ensures) (c .if1 .taken)
 
-diagonal-requires : tie.Need-diagonal-requires
-diagonal-requires c κs = search needs
-
 escapes-requires : tie.Need-escapes-requires
 escapes-requires c κs = search needs
+
+diagonal-requires : tie.Need-diagonal-requires
+diagonal-requires c κs = search needs
 
 returns-2 : tie.Need-returns-2
 returns-2 c =
     let f = c .before .before .before in
     let a = f .before .before .before .before .before .args in
-    stays-inside (ofPoints (now (a .points))) (a .edge) (a .r) _ (f .before .before .reference .ensures) (f .before .is-empty .ensures) (f .if1 .left)
-    (c .before .before .diagonal .ensures) (c .before .if2 .taken) (c .escapes .ensures)
+    stays-outside (ofPoints (now (a .points))) (a .edge) (a .r) _ (f .before .before .reference .ensures) (f .before .is-empty .ensures) (f .if1 .left)
+    (c .diagonal .ensures) (c .before .before .escapes .ensures) (c .before .if2 .taken)
 
 returns-3 : tie.Need-returns-3
 returns-3 c =
     let f = c .before .before in
     let a = f .before .before .before .before .before .args in
-    stays-flat (ofPoints (now (a .points))) (a .edge) (a .r) _ (f .before .before .reference .ensures) (f .before .is-empty .ensures) (f .if1 .left)
-    (c .before .diagonal .ensures) (c .if2 .left)
+    stays-inside (ofPoints (now (a .points))) (a .edge) (a .r) _ (f .before .before .reference .ensures) (f .before .is-empty .ensures) (f .if1 .left)
+    (c .before .escapes .ensures) (c .if2 .left)
 
 pub stays-spec : {M : Type 1} → statement M
 stays-spec =
@@ -45,7 +45,7 @@ stays-spec =
     reference-requires
     is-empty-requires
     returns
-    diagonal-requires
     escapes-requires
+    diagonal-requires
     returns-2
     returns-3)
