@@ -3,12 +3,15 @@ use brep::Edge;
 use math::Aabb;
 use math::Interval;
 use math::Vec3;
+use ready::Ready;
 use usable::Usable;
 ghost use mathlib.Core.Path.{_≡_};
 ghost use mathlib.Core.Bool.{cond};
 ghost use Rattle.math.specs.Math.{vFinite, addPoint};
 ghost use Rattle.brep.specs.Rows.{lent};
-ghost use Rattle.brep.specs.Tree.{tree};
+ghost use Rattle.brep.specs.Tree.{CurveTree, tree};
+ghost use Rattle.ready.specs.declared.Ready.the-variants.{Line};
+ghost use Rattle.ready.specs.Ready.{readyOf};
 ghost use Rattle.usable.specs.Usable.{usableRange};
 ghost use Rattle.chains.specs.Edge.{probed, extentBox, edgeExtent};
 
@@ -27,6 +30,47 @@ fn add_finite(b: Aabb, p: Vec3) -> Aabb
     b
 }
 
+// The box with a line's points at each eighth of a range, worked out here: a call for each would cost more.
+fn probe_line(origin: Vec3, direction: Vec3, range: Interval, b: Aabb) -> Aabb
+    ensures { λ r. ⌜ ((c : CurveTree) → readyOf c ≡ Line origin direction → r ≡ probed c range b 9) ⌝ }
+{
+    let mut found = b;
+    let mut i: u32 = 0;
+    while i <= PROBES {
+        let t = range.at(i as f64 / EIGHTHS);
+        let p = origin.add(direction.scale(t));
+        found = add_finite(found, p);
+        i += 1;
+    }
+    found
+}
+
+// The box with the points of a curve made ready at each eighth of a range.
+fn probe_each(
+    ready: Ready,
+    points: &[f64],
+    curves: &[u32],
+    reals: &[f64],
+    parts: &[u32],
+    ranges: &[f64],
+    row: u32,
+    range: Interval,
+    b: Aabb,
+) -> Aabb
+    requires { ⌜ ready ≡ readyOf (tree (lent points curves reals parts ranges) row) ⌝ }
+    ensures { λ r. ⌜ r ≡ probed (tree (lent (points .entry) (curves .entry) (reals .entry) (parts .entry) (ranges .entry)) row) range b 9 ⌝ }
+{
+    let mut found = b;
+    let mut i: u32 = 0;
+    while i <= PROBES {
+        let t = range.at(i as f64 / EIGHTHS);
+        let p = ready::point_of(ready, points, curves, reals, parts, ranges, row, t);
+        found = add_finite(found, p);
+        i += 1;
+    }
+    found
+}
+
 // The box with the curve's points at each eighth of a range.
 fn probe(
     points: &[f64],
@@ -41,15 +85,10 @@ fn probe(
     ensures { λ r. ⌜ r ≡ probed (tree (lent (points .entry) (curves .entry) (reals .entry) (parts .entry) (ranges .entry)) row) range b 9 ⌝ }
 {
     let ready = ready::ready_at(points, curves, reals, parts, ranges, row);
-    let mut found = b;
-    let mut i: u32 = 0;
-    while i <= PROBES {
-        let t = range.at(i as f64 / EIGHTHS);
-        let p = ready::point_of(ready, points, curves, reals, parts, ranges, row, t);
-        found = add_finite(found, p);
-        i += 1;
+    if let Ready::Line { origin, direction } = ready {
+        return probe_line(origin, direction, range, b);
     }
-    found
+    probe_each(ready, points, curves, reals, parts, ranges, row, range, b)
 }
 
 // A curve with no usable range is not probed: the vertices are all there is.

@@ -1,67 +1,26 @@
--- `extent::probe` meets its contract. The invariant: the box has the first i probes. Assumes nothing.
-use mathlib.Core.Path.{_≡_, refl}
-use Prim.Native.Nat.{_≤_, _-_}
-use native.Mathlib.Omega.{arith}
-use Rattle.brep.specs.Rows.{tables}
-use Rattle.brep.specs.Tree.{tree}
-use Rattle.chains.specs.Edge.{probed}
-use Rattle.extent.proofs.Laws.{one-more, all-nine}
+-- `extent::probe` meets its contract. Assumes nothing.
+use mathlib.Core.Path.{sym, _∙_}
 use borrow.Author.Needs.{needs}
 use Rattle.extent.proofs.probe.Statement.{statement}
 use Rattle.extent.proofs.probe.Tie as tie
 
-abbrev Inv-loop : tie.InvT-loop
-Inv-loop points curves reals parts ranges row range ready found₀ i₀ found i =
-    (i ≤ 9) × (found ≡ probed (tree (tables points curves reals parts ranges) row) range found₀ i)
-
-abbrev μ-loop : tie.MeasureT-loop
-μ-loop points curves reals parts ranges row range ready found₀ i₀ found i =
-    9 - i
-
-ready-at-requires : tie.Need-ready-at-requires Inv-loop μ-loop
+ready-at-requires : tie.Need-ready-at-requires
 ready-at-requires c κs = search needs
 
-loop-holds : tie.Need-loop-holds Inv-loop μ-loop
-unfolding probed
-loop-holds c = (search needs, refl)
+enum-known-ready : tie.Need-enum-known-ready
+enum-known-ready c = search needs
 
-int-to-float-at : tie.Need-int-to-float-at Inv-loop μ-loop
-int-to-float-at c = search needs
+probe-line-requires : tie.Need-probe-line-requires
+probe-line-requires c κs = search needs
 
-at-requires : tie.Need-at-requires Inv-loop μ-loop
-at-requires c κs = search needs
+returns : tie.Need-returns
+returns c = c .probe-line .ensures _ (sym (c .before .before .before .before .ready-at .ensures) ∙ c .before .before .ready .given .1)
 
-point-of-requires : tie.Need-point-of-requires Inv-loop μ-loop
-point-of-requires c κs = search needs
+probe-each-requires : tie.Need-probe-each-requires
+probe-each-requires c κs = c .before .ready-at .ensures
 
-add-finite-requires : tie.Need-add-finite-requires Inv-loop μ-loop
-add-finite-requires c κs = search needs
-
-add-i : tie.Need-add-i Inv-loop μ-loop
-add-i c = omega arith
-
-loop-less : tie.Need-loop-less Inv-loop μ-loop
-loop-less c = omega arith
-
-loop-again : tie.Need-loop-again Inv-loop μ-loop
-loop-again c = (omega arith, one-more _ _ _ _ (c .before .before .before .before .before .loop .inv .1) (c .before .before .before .before .before .before .ready-at .ensures) (c .before .before .at .ensures) (c .before .point-of .ensures) (c .add-finite .ensures))
-
-returns : tie.Need-returns Inv-loop μ-loop
-returns c = all-nine _ _ _ _ (c .before .loop .inv .1) (c .before .loop .inv .0) (c .loop-test .left)
+returns-2 : tie.Need-returns-2
+returns-2 c = c .probe-each .ensures
 
 pub probe-spec : {M : Type 1} → statement M
-probe-spec =
-    tie.close
-    (tie.spec
-    Inv-loop
-    μ-loop
-    ready-at-requires
-    loop-holds
-    int-to-float-at
-    at-requires
-    point-of-requires
-    add-finite-requires
-    add-i
-    loop-less
-    loop-again
-    returns)
+probe-spec = tie.close (tie.spec ready-at-requires enum-known-ready probe-line-requires returns probe-each-requires returns-2)
