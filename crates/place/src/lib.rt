@@ -1,11 +1,13 @@
 // The records of an edge's chain, from its parameters: in the edge's own direction, with both ends pinned to the vertices.
 use brep::Edge;
+use math::Vec3;
 use ready::Ready;
 use samples::Sample;
 ghost use mathlib.Core.Path.{_≡_};
 ghost use mathlib.Core.Bool.{true};
 ghost use Prim.Native.Nat.{_+_, _*_, _<_, _≤_};
-ghost use lib.ListN.{length};
+ghost use lib.ListN.{length, getD};
+ghost use lib.Ieee.{nan};
 ghost use lib.Seq.{sets};
 ghost use Rattle.brep.specs.Rows.{lent};
 ghost use Rattle.ready.specs.Ready.{readyOf};
@@ -24,7 +26,34 @@ fn degenerate_ends(points: &[f64], edge: Edge) -> bool
     end.sub(start).length_squared() <= near * near
 }
 
-// Whether the chain runs against its parameters. The ends are evaluated only where they decide it.
+// The curve's point at parameter i, which is in the chain's record i where `known`.
+fn own_point(
+    points: &[f64],
+    curves: &[u32],
+    reals: &[f64],
+    parts: &[u32],
+    ranges: &[f64],
+    edge: Edge,
+    ready: Ready,
+    params: &[f64],
+    chain: &[f64],
+    known: bool,
+    i: usize,
+) -> Vec3
+    requires { ⌜ (i < length (now params)) × (width * i + width ≤ length (now chain))
+        × (ready ≡ readyOf (edgeCurve (lent points curves reals parts ranges) edge))
+        × (known ≡ true → Holds (edgeCurve (lent points curves reals parts ranges) edge) (now params) (now chain)) ⌝ }
+    ensures { λ r. ⌜ r ≡ onCurve (edgeCurve (lent (points .entry) (curves .entry) (reals .entry) (parts .entry) (ranges .entry)) edge) (getD (now (params .entry)) i nan) ⌝ }
+{
+    if known {
+        return samples::point_at(chain, i);
+    }
+    let row = edge.curve;
+    let t = params[i];
+    ready::point_of(ready, points, curves, reals, parts, ranges, row, t)
+}
+
+// Whether the chain runs against its parameters. The ends are evaluated only where they decide it, and are not known.
 fn is_reversed(
     points: &[f64],
     curves: &[u32],
@@ -34,19 +63,21 @@ fn is_reversed(
     edge: Edge,
     ready: Ready,
     params: &[f64],
+    chain: &[f64],
+    known: bool,
 ) -> bool
-    requires { ⌜ (2 ≤ length (now params)) × (ready ≡ readyOf (edgeCurve (lent points curves reals parts ranges) edge)) ⌝ }
+    requires { ⌜ (2 ≤ length (now params)) × (width * length (now params) ≤ length (now chain))
+        × (ready ≡ readyOf (edgeCurve (lent points curves reals parts ranges) edge))
+        × (known ≡ true → Holds (edgeCurve (lent points curves reals parts ranges) edge) (now params) (now chain)) ⌝ }
     ensures { λ r. ⌜ r ≡ runsBack (lent (points .entry) (curves .entry) (reals .entry) (parts .entry) (ranges .entry)) edge (now (params .entry)) ⌝ }
 {
     if degenerate_ends(points, edge) {
         return edge.sense == 0;
     }
     let start = brep::point(points, edge.start);
-    let row = edge.curve;
-    let first = params[0];
-    let last = params[params.len() - 1];
-    let head = ready::point_of(ready, points, curves, reals, parts, ranges, row, first);
-    let tail = ready::point_of(ready, points, curves, reals, parts, ranges, row, last);
+    let last = params.len() - 1;
+    let head = own_point(points, curves, reals, parts, ranges, edge, ready, params, chain, known, 0);
+    let tail = own_point(points, curves, reals, parts, ranges, edge, ready, params, chain, known, last);
     tail.sub(start).length_squared() < head.sub(start).length_squared()
 }
 
@@ -120,7 +151,7 @@ pub fn place(
     ensures { λ _. ⌜ now (chain .exit) ≡ sets (now (chain .entry)) 0 (flat (placed (lent (points .entry) (curves .entry) (reals .entry) (parts .entry) (ranges .entry)) edge (now (params .entry)))) ⌝ }
 {
     let ready = ready::ready_at(points, curves, reals, parts, ranges, edge.curve);
-    let reversed = is_reversed(points, curves, reals, parts, ranges, edge, ready, params);
+    let reversed = is_reversed(points, curves, reals, parts, ranges, edge, ready, params, chain, known);
     let kept = if reversed { false } else { known };
     let n = params.len();
     for i in 0..n {

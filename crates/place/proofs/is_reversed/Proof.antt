@@ -1,8 +1,9 @@
 -- `is_reversed` meets its contract: by the sense where the ends are degenerate, else by the curve's points at the first and the last parameter. Assumes nothing.
 use mathlib.Core.Path.{sym, _∙_}
+use native.Mathlib.Omega.{arith}
 use denote.Ref.{now}
 use Rattle.brep.specs.Rows.{lent}
-use Rattle.place.proofs.Laws.{on-curve, back-by-sense, back-by-ends}
+use Rattle.place.proofs.Laws.{back-by-sense, back-by-ends}
 use borrow.Author.Needs.{needs}
 use Rattle.place.proofs.is_reversed.Statement.{statement}
 use Rattle.place.proofs.is_reversed.Tie as tie
@@ -11,28 +12,19 @@ degenerate-ends-requires : tie.Need-degenerate-ends-requires
 degenerate-ends-requires c κs = search needs
 
 returns : tie.Need-returns
-returns c = let a = c .before .before .before .before .before .before .before .before .before .args in back-by-sense (lent (a .points) (a .curves) (a .reals) (a .parts) (a .ranges)) (a .edge) (now (a .params)) (sym (c .before .before .degenerate-ends .ensures) ∙ c .before .if1 .taken)
+returns c = let a = c .before .before .before .before .before .before .before .before .before .before .args in back-by-sense (lent (a .points) (a .curves) (a .reals) (a .parts) (a .ranges)) (a .edge) (now (a .params)) (sym (c .before .before .degenerate-ends .ensures) ∙ c .before .if1 .taken)
 
 point-requires : tie.Need-point-requires
 point-requires c κs = search needs
 
-shared-slice-read-first : tie.Need-shared-slice-read-first
-shared-slice-read-first c = search needs
-
 sub-last : tie.Need-sub-last
 sub-last c = search needs
 
-mul-last : tie.Need-mul-last
-mul-last c = search needs
+own-point-requires : tie.Need-own-point-requires
+own-point-requires c κs = let p = c .before .before .before .before .before .before .before .before .before .before .pre in (omega (arith, p .0), omega (arith, p .0, p .1), p .2, p .3)
 
-shared-slice-read-last : tie.Need-shared-slice-read-last
-shared-slice-read-last c = search needs
-
-point-of-requires : tie.Need-point-of-requires
-point-of-requires c κs = search needs
-
-point-of-requires-2 : tie.Need-point-of-requires-2
-point-of-requires-2 c κs = search needs
+own-point-requires-2 : tie.Need-own-point-requires-2
+own-point-requires-2 c κs = let p = c .before .before .before .before .before .before .before .before .before .before .before .pre in (omega (arith, p .0), omega (arith, p .0, p .1), p .2, p .3)
 
 sub-requires : tie.Need-sub-requires
 sub-requires c κs = search needs
@@ -48,11 +40,10 @@ length-squared-requires-2 c κs = search needs
 
 returns-2 : tie.Need-returns-2
 returns-2 c =
-    let a = c .before .before .before .before .before .before .before .before .before .before .before .before .before .before .before .before .before .args in
+    let a = c .before .before .before .before .before .before .before .before .before .before .before .before .before .before .before .before .args in
     let T = lent (a .points) (a .curves) (a .reals) (a .parts) (a .ranges) in
-    let made = c .before .before .before .before .before .before .before .before .before .before .before .before .before .before .before .before .before .pre .1 in
-    rw (c .length-squared2 .ensures, c .before .sub2 .ensures, c .before .before .length-squared .ensures, c .before .before .before .sub .ensures, on-curve T (a .edge) _ made (c .before .before .before .before .point-of2 .ensures), on-curve T (a .edge) _ made (c .before .before .before .before .before .point-of .ensures), c .before .before .before .before .before .before .before .before .point .ensures)
-    (back-by-ends T (a .edge) (now (a .params)) (sym (c .before .before .before .before .before .before .before .before .before .before .degenerate-ends .ensures) ∙ c .before .before .before .before .before .before .before .before .before .if1 .left))
+    rw (c .length-squared2 .ensures, c .before .sub2 .ensures, c .before .before .length-squared .ensures, c .before .before .before .sub .ensures, c .before .before .before .before .own-point2 .ensures, c .before .before .before .before .before .own-point .ensures, c .before .before .before .before .before .before .point .ensures)
+    (back-by-ends T (a .edge) (now (a .params)) (sym (c .before .before .before .before .before .before .before .before .degenerate-ends .ensures) ∙ c .before .before .before .before .before .before .before .if1 .left))
 
 pub is-reversed-spec : {M : Type 1} → statement M
 is-reversed-spec =
@@ -61,12 +52,9 @@ is-reversed-spec =
     degenerate-ends-requires
     returns
     point-requires
-    shared-slice-read-first
     sub-last
-    mul-last
-    shared-slice-read-last
-    point-of-requires
-    point-of-requires-2
+    own-point-requires
+    own-point-requires-2
     sub-requires
     length-squared-requires
     sub-requires-2
