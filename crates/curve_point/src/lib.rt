@@ -11,7 +11,8 @@ ghost use Rattle.brep.specs.Tree.{tree, run, runOf};
 ghost use Rattle.curve_point.specs.Turn.{turnOf};
 ghost use Rattle.curve_point.specs.Point.{polylinePoint, around, parabolaPoint, pointAt};
 
-fn polyline_point(points: &[f64], first: u32, count: u32, t: f64) -> Vec3
+// A polyline's point, of its run of points.
+pub fn polyline_point(points: &[f64], first: u32, count: u32, t: f64) -> Vec3
     ensures { λ r. ⌜ r ≡ polylinePoint (run (now (points .entry)) first count) t ⌝ }
 {
     if count == 0 {

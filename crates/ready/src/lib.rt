@@ -5,6 +5,7 @@ ghost use mathlib.Core.Path.{_≡_};
 ghost use Prim.Native.Nat.{_+_};
 ghost use Rattle.brep.specs.Rows.{lent, pointOf};
 ghost use Rattle.brep.specs.Tree.{tree};
+ghost use Rattle.curve_point.specs.Point.{pointAt};
 ghost use Rattle.ready.specs.declared.Ready.the-variants.{Line};
 ghost use Rattle.ready.specs.Ready.{roundOf, parabolaOf, readyOf, roundPoint, parabolaPoint, readyPoint};
 ghost use Rattle.ready.specs.Ready.{roundDerivative, parabolaSlope, readyDerivative};
@@ -122,6 +123,31 @@ fn parabola_point(origin: Vec3, x: Vec3, y: Vec3, focal_dist: f64, t: f64) -> Ve
         .add(y.scale(2.0 * focal_dist * t))
 }
 
+// The point at t of a polyline or a composite. A polyline's row is read as far as it is needed.
+fn other_point(
+    points: &[f64],
+    curves: &[u32],
+    reals: &[f64],
+    parts: &[u32],
+    ranges: &[f64],
+    row: u32,
+    t: f64,
+) -> Vec3
+    ensures { λ r. ⌜ r ≡ pointAt (tree (lent (points .entry) (curves .entry) (reals .entry) (parts .entry) (ranges .entry)) row) t ⌝ }
+{
+    let r = curve_run::under_trims(curves, row);
+    let at = r as usize * 3;
+    let kind = brep::int_at(curves, at);
+    match kind {
+        5 => {
+            let first = brep::int_at(curves, at + 1);
+            let count = brep::int_at(curves, at + 2);
+            curve_point::polyline_point(points, first, count, t)
+        }
+        _ => curve_point::point_at(points, curves, reals, parts, ranges, row, t),
+    }
+}
+
 // The point at t of the curve of a row, made ready.
 pub fn point_of(
     ready: Ready,
@@ -150,7 +176,7 @@ pub fn point_of(
             y,
             focal_dist,
         } => parabola_point(origin, x, y, focal_dist, t),
-        Ready::Other => curve_point::point_at(points, curves, reals, parts, ranges, row, t),
+        Ready::Other => other_point(points, curves, reals, parts, ranges, row, t),
     }
 }
 

@@ -7,7 +7,6 @@ use Rattle.ready.proofs.point_of.Statement.{statement}
 use Rattle.ready.proofs.point_of.Tie as tie
 use Rattle.ready.proofs.point_of.Reads as reads
 use Rattle.ready.proofs.point_of.Lts as lts
-use Rattle.curve_point.proofs.point_at.Reads as point-at-reads
 use Rattle.math.proofs.Vec3.add.Reads as add-reads
 use Rattle.math.proofs.Vec3.scale.Reads as scale-reads
 use Rattle.ready.proofs.parabola_point.Reads as parabola-point-reads
@@ -37,8 +36,8 @@ parabola-point-requires c κs = search needs
 enum-told : tie.Need-enum-told
 enum-told c = search needs
 
-point-at-requires : tie.Need-point-at-requires
-point-at-requires c κs = search needs
+other-point-requires : tie.Need-other-point-requires
+other-point-requires c κs = search needs
 
 returns : tie.Need-returns
 unfolding readyPoint
@@ -54,7 +53,7 @@ returns-3 c = point-by _ _ (c .before .before .ready3 .given .1) (c .parabola-po
 
 returns-4 : tie.Need-returns-4
 unfolding readyPoint
-returns-4 c = point-by _ _ (c .before .enum-told .given .1) (c .point-at .ensures)
+returns-4 c = point-by _ _ (c .before .enum-told .given .1) (c .other-point .ensures)
 
 pub point-of-spec : {M : Type 1} → statement M
 point-of-spec =
@@ -68,7 +67,7 @@ point-of-spec =
     enum-known-ready-3
     parabola-point-requires
     enum-told
-    point-at-requires
+    other-point-requires
     returns
     returns-2
     returns-3
