@@ -20,8 +20,28 @@ const PROBES: u32 = 8;
 
 const EIGHTHS: f64 = 8.0;
 
-// A point that is not finite leaves the box as it is.
+// A point that is not finite leaves the box as it is, and so does one inside it, as most are.
 fn add_finite(b: Aabb, p: Vec3) -> Aabb
+    ensures { λ r. ⌜ r ≡ cond (vFinite p) (addPoint b p) b ⌝ }
+{
+    if b.min.x <= p.x {
+        if p.x <= b.max.x {
+            if b.min.y <= p.y {
+                if p.y <= b.max.y {
+                    if b.min.z <= p.z {
+                        if p.z <= b.max.z {
+                            return b;
+                        }
+                    }
+                }
+            }
+        }
+    }
+    add_other(b, p)
+}
+
+// The same of any point.
+fn add_other(b: Aabb, p: Vec3) -> Aabb
     ensures { λ r. ⌜ r ≡ cond (vFinite p) (addPoint b p) b ⌝ }
 {
     if p.is_finite() {

@@ -1,20 +1,19 @@
 -- `extent::add_finite` meets its contract. Assumes nothing.
-use mathlib.Core.Path.{sym, _∙_}
+use Rattle.extent.proofs.Laws.{inside}
 use borrow.Author.Needs.{needs}
 use Rattle.extent.proofs.add_finite.Statement.{statement}
 use Rattle.extent.proofs.add_finite.Tie as tie
 
-is-finite-requires : tie.Need-is-finite-requires
-is-finite-requires c κs = search needs
-
-add-point-requires : tie.Need-add-point-requires
-add-point-requires c κs = search needs
-
 returns : tie.Need-returns
-returns c = rw (sym (c .before .before .is-finite .ensures) ∙ c .before .if1 .taken) (c .add-point .ensures)
+returns c =
+    let a = c .before .before .before .before .before .before .before .before .before .before .before .before .before .before .before .before .before .before .args in
+    inside (a .b) (a .p) (c .before .before .before .before .before .before .before .before .before .before .before .before .before .before .before .if1 .taken) (c .before .before .before .before .before .before .before .before .before .before .before .before .if2 .taken) (c .before .before .before .before .before .before .before .before .before .if3 .taken) (c .before .before .before .before .before .before .if4 .taken) (c .before .before .before .if5 .taken) (c .if6 .taken)
+
+add-other-requires : tie.Need-add-other-requires
+add-other-requires c κs = search needs
 
 returns-2 : tie.Need-returns-2
-returns-2 c = rw (sym (c .before .is-finite .ensures) ∙ c .if1 .left)
+returns-2 c = c .add-other .ensures
 
 pub add-finite-spec : {M : Type 1} → statement M
-add-finite-spec = tie.close (tie.spec is-finite-requires add-point-requires returns returns-2)
+add-finite-spec = tie.close (tie.spec returns add-other-requires returns-2)
