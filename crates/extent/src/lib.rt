@@ -6,7 +6,10 @@ use math::Vec3;
 use ready::Ready;
 use usable::Usable;
 ghost use mathlib.Core.Path.{_≡_};
-ghost use mathlib.Core.Bool.{cond};
+ghost use mathlib.Core.Bool.{true, cond};
+ghost use lib.Dec.{T};
+ghost use lib.Ieee.{Float, le};
+ghost use Rattle.arith.specs.Notation.{_⊕_, _⊗_};
 ghost use Rattle.math.specs.Math.{vFinite, addPoint};
 ghost use Rattle.brep.specs.Rows.{lent};
 ghost use Rattle.brep.specs.Tree.{CurveTree, tree};
@@ -48,6 +51,53 @@ fn add_other(b: Aabb, p: Vec3) -> Aabb
         return b.add_point(p);
     }
     b
+}
+
+// 2^60
+const MODEST: f64 = 1152921504606846976.0;
+
+// Whether o + d * t is from low to high for every t from first to last, by those two: it rises or falls with t. `false` says nothing.
+fn is_between(o: f64, d: f64, first: f64, last: f64, low: f64, high: f64) -> bool
+    ensures { λ w. ⌜ (w ≡ true → (t : Float) → T (le first t) → T (le t last) → (le low (o ⊕ d ⊗ t) ≡ true) × (le (o ⊕ d ⊗ t) high ≡ true)) ⌝ }
+{
+    let a = d * first;
+    let c = d * last;
+    if arith::is_finite(first) && arith::is_finite(last) {
+        if arith::is_finite(o) && arith::is_finite(d) {
+            if arith::is_finite(a) && arith::is_finite(c) {
+                let p = o + a;
+                let q = o + c;
+                if low <= p && p <= high {
+                    if low <= q && q <= high {
+                        return true;
+                    }
+                }
+            }
+        }
+    }
+    false
+}
+
+// Whether all the probes of a line lie inside the box, by the first and the last of them. `false` says nothing.
+fn is_line_inside(origin: Vec3, direction: Vec3, range: Interval, b: Aabb) -> bool
+    ensures { λ w. ⌜ (w ≡ true → (c : CurveTree) → readyOf c ≡ Line origin direction → b ≡ probed c range b 9) ⌝ }
+{
+    let lo = range.lo;
+    let hi = range.hi;
+    if -MODEST <= lo && lo <= hi {
+        if hi <= MODEST {
+            let first = range.at(0.0);
+            let last = range.at(1.0);
+            if is_between(origin.x, direction.x, first, last, b.min.x, b.max.x) {
+                if is_between(origin.y, direction.y, first, last, b.min.y, b.max.y) {
+                    if is_between(origin.z, direction.z, first, last, b.min.z, b.max.z) {
+                        return true;
+                    }
+                }
+            }
+        }
+    }
+    false
 }
 
 // The box with a line's points at each eighth of a range, worked out here: a call for each would cost more.
@@ -106,6 +156,9 @@ fn probe(
 {
     let ready = ready::ready_at(points, curves, reals, parts, ranges, row);
     if let Ready::Line { origin, direction } = ready {
+        if is_line_inside(origin, direction, range, b) {
+            return b;
+        }
         return probe_line(origin, direction, range, b);
     }
     probe_each(ready, points, curves, reals, parts, ranges, row, range, b)
