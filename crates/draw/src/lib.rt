@@ -65,8 +65,13 @@ fn local_options(
     requires { ⌜ usable ≡ usableRange (tree (lent points curves reals parts ranges) (edge .curve)) (edge .range) ⌝ }
     ensures { λ r. ⌜ r ≡ localOptions (lent (points .entry) (curves .entry) (reals .entry) (parts .entry) (ranges .entry)) edge options ⌝ }
 {
-    let extent = extent::extent_over(points, curves, reals, parts, ranges, edge, usable);
-    options.resolve().for_extent(extent)
+    let r = options.resolve();
+    if 0.0 < r.relative {
+        let extent = extent::extent_over(points, curves, reals, parts, ranges, edge, usable);
+        return r.for_extent(extent);
+    }
+    // No extent changes these.
+    r
 }
 
 // The closure inside discretise_all: discretise, then repair_runaway.
