@@ -10,7 +10,8 @@ use Rattle.math.specs.declared.Interval.{Interval}
 use Rattle.math.specs.Math.{at, interval}
 use Rattle.params.specs.declared.Closed.{Closed}
 use Rattle.params.specs.declared.Closed.the-variants.{Unknown, Segments}
-use Rattle.params.specs.Params.{thinned, thinBreaks, subdivided, Sampler, steps, fitting, ordered, unlessHi, walked, through, floored, refined, sampleParams}
+use Rattle.breaks.specs.Thinned.{thinned, thinBreaks}
+use Rattle.params.specs.Params.{subdivided, Sampler, steps, fitting, ordered, unlessHi, walked, through, floored, refined, sampleParams}
 
 abbrev three : Float
 three = bits 0x4008000000000000

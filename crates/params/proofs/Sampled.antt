@@ -18,7 +18,8 @@ use Rattle.lists.proofs.Order.{sub-all, sub-pairwise, sub-same}
 use Rattle.breaks.specs.Breaks.{insideOf}
 use Rattle.breaks.proofs.Kept.{inside-all}
 use Rattle.breaks.proofs.Between.{Between, inside-between}
-use Rattle.params.specs.Params.{nextOf, thinned, thinBreaks, Sampler, evenly, ordered, through, bisected, sampleParams}
+use Rattle.breaks.specs.Thinned.{nextOf, thinned, thinBreaks}
+use Rattle.params.specs.Params.{Sampler, evenly, ordered, through, bisected, sampleParams}
 use Rattle.params.specs.OneWay.{OneWay}
 use Rattle.params.proofs.Steady.{Steady, rising, falling, steady-one-way, steady-sub}
 use Rattle.params.proofs.Runs.{Good, good-number, good-between, up, down, evenly-pairs, through-pairs}

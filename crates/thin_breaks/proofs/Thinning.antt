@@ -10,7 +10,7 @@ use lib.Ieee.{Float, nan, lt, binary64, ofBits}
 use Rattle.arith.specs.Notation.{nought}
 use Rattle.lists.specs.Room.{filled}
 use Rattle.lists.proofs.Filtering.{Filtering, filtering-start, filtering-rest, filtering-skip, filtering-keep, filtering-done}
-use Rattle.params.specs.Params.{nextOf, thinned, thinBreaks}
+use Rattle.breaks.specs.Thinned.{nextOf, thinned, thinBreaks}
 
 -- ---- next_of
 pub next-some : (hi : Float) (l : List Float) (i : ℕ) → i + 1 < length l → getD l (i + 1) nan ≡ nextOf hi (drop (i + 1) l)

@@ -2,7 +2,7 @@
 use mathlib.Core.List.{List}
 use Prim.Native.Nat.{ℕ}
 use lib.Ieee.{Float}
-use Rattle.params.specs.Params.{thinBreaks}
+use Rattle.breaks.specs.Thinned.{thinBreaks}
 use Rattle.brep.specs.Tree.{CurveTree}
 use Rattle.curve.specs.Eval.{pointAt}
 use Rattle.knots.specs.declared.Knots.{Knots}
