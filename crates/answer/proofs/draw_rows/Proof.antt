@@ -8,18 +8,6 @@ use borrow.Author.Needs.{needs}
 use Rattle.answer.proofs.draw_rows.Statement.{statement}
 use Rattle.answer.proofs.draw_rows.Tie as tie
 
-mul-n3 : tie.Need-mul-n3
-mul-n3 c = search needs
-
-mul-m3 : tie.Need-mul-m3
-mul-m3 c = search needs
-
-mul-m2 : tie.Need-mul-m2
-mul-m2 c = search needs
-
-mul-k2 : tie.Need-mul-k2
-mul-k2 c = search needs
-
 slice-aggregate-draw : tie.Need-slice-aggregate-draw
 slice-aggregate-draw c = let a = c .before .before .before .before .before .before .before .before .args in sym (length-take-le (3 * (a .n)) (a .points .now) (omega arith))
 
@@ -35,15 +23,6 @@ slice-aggregate-draw-4 c = let a = c .before .before .before .before .before .be
 slice-aggregate-draw-5 : tie.Need-slice-aggregate-draw-5
 slice-aggregate-draw-5 c = let a = c .before .before .before .before .before .before .before .before .before .before .before .before .args in sym (length-take-le (2 * (a .k)) (a .ranges .now) (omega arith))
 
-draw-requires : tie.Need-draw-requires
-draw-requires c κs = search needs
-
-same-length : tie.Need-same-length
-same-length c = search needs
-
-same-length-2 : tie.Need-same-length-2
-same-length-2 c = search needs
-
 returns : tie.Need-returns
 unfolding leading
 returns c = c .before .before .before .before .draw .ensures
@@ -52,16 +31,16 @@ pub draw-rows-spec : {M : Type 1} → statement M
 draw-rows-spec =
     tie.close
     (tie.spec
-    mul-n3
-    mul-m3
-    mul-m2
-    mul-k2
+    (λ c. search needs)
+    (λ c. search needs)
+    (λ c. search needs)
+    (λ c. search needs)
     slice-aggregate-draw
     slice-aggregate-draw-2
     slice-aggregate-draw-3
     slice-aggregate-draw-4
     slice-aggregate-draw-5
-    draw-requires
-    same-length
-    same-length-2
+    (λ c κs. search needs)
+    (λ c. search needs)
+    (λ c. search needs)
     returns)

@@ -12,77 +12,35 @@ use borrow.Author.Needs.{needs}
 use Rattle.answer.proofs.show.Statement.{statement}
 use Rattle.answer.proofs.show.Tie as tie
 
-enum-known-drawn : tie.Need-enum-known-drawn
-enum-known-drawn c = search needs
-
-write-refusal-requires : tie.Need-write-refusal-requires
-write-refusal-requires c κs = search needs
-
-enum-known-drawn-2 : tie.Need-enum-known-drawn-2
-enum-known-drawn-2 c = search needs
-
-enum-told : tie.Need-enum-told
-enum-told c = search needs
-
 write-chain-requires : tie.Need-write-chain-requires
 write-chain-requires c κs = let z = ap floatsOf (c .before .before .before .before .drawn2 .given .1) in (omega arith, omega arith)
-
-enum-told-2 : tie.Need-enum-told-2
-enum-told-2 c = search needs
 
 write-chain-requires-2 : tie.Need-write-chain-requires-2
 write-chain-requires-2 c κs = let z = ap floatsOf (c .before .before .before .before .drawn2 .given .1) in (omega arith, omega arith)
 
-enum-told-3 : tie.Need-enum-told-3
-enum-told-3 c = search needs
-
 write-chain-requires-3 : tie.Need-write-chain-requires-3
 write-chain-requires-3 c κs = let z = ap floatsOf (c .before .before .before .before .drawn2 .given .1) in (omega arith, omega arith)
-
-enum-told-4 : tie.Need-enum-told-4
-enum-told-4 c = search needs
 
 write-chain-requires-4 : tie.Need-write-chain-requires-4
 write-chain-requires-4 c κs = let z = ap floatsOf (c .before .before .before .before .drawn2 .given .1) in (omega arith, omega arith)
 
-enum-told-5 : tie.Need-enum-told-5
-enum-told-5 c = search needs
-
 write-chain-requires-5 : tie.Need-write-chain-requires-5
 write-chain-requires-5 c κs = let z = ap floatsOf (c .before .before .before .before .drawn2 .given .1) in (omega arith, omega arith)
-
-same-length : tie.Need-same-length
-same-length c = search needs
 
 returns : tie.Need-returns
 returns c = let a = c .before .before .before .before .before .before .before .before .before .before .args in show-refusal (a .lo) (a .hi) (a .drawn) (a .first .now) (a .second .now) _ _ _ _ (c .before .before .before .before .before .drawn .given .1) (c .before .before .write-refusal .ensures)
 
-same-length-2 : tie.Need-same-length-2
-same-length-2 c = search needs
-
 returns-2 : tie.Need-returns-2
 returns-2 c = let a = c .before .before .before .before .before .before .before .before .before .before .before .before .args in let k = c .before .before .before .before .before .before .before .drawn2 .given in show-chain (a .lo) (a .hi) (a .drawn) (a .first .now) (a .second .now) _ _ _ AsDrawn (k .0 .1 .0) (k .1 ∙ ap (λ (w : Way). Chain w (k .0 .1 .0)) (c .before .before .before .before .enum-told .given .1)) (c .before .before .write-chain .ensures)
-
-same-length-3 : tie.Need-same-length-3
-same-length-3 c = search needs
 
 returns-3 : tie.Need-returns-3
 returns-3 c = let a = c .before .before .before .before .before .before .before .before .before .before .before .before .args in let k = c .before .before .before .before .before .before .before .drawn2 .given in show-chain (a .lo) (a .hi) (a .drawn) (a .first .now) (a .second .now) _ _ _ Chord (k .0 .1 .0) (k .1 ∙ ap (λ (w : Way). Chain w (k .0 .1 .0)) (c .before .before .before .before .enum-told2 .given .1)) (c .before .before .write-chain2 .ensures)
 
-same-length-4 : tie.Need-same-length-4
-same-length-4 c = search needs
-
 returns-4 : tie.Need-returns-4
 returns-4 c = let a = c .before .before .before .before .before .before .before .before .before .before .before .before .args in let k = c .before .before .before .before .before .before .before .drawn2 .given in show-chain (a .lo) (a .hi) (a .drawn) (a .first .now) (a .second .now) _ _ _ Complement (k .0 .1 .0) (k .1 ∙ ap (λ (w : Way). Chain w (k .0 .1 .0)) (c .before .before .before .before .enum-told3 .given .1)) (c .before .before .write-chain3 .ensures)
 
-same-length-5 : tie.Need-same-length-5
-same-length-5 c = search needs
-
 returns-5 : tie.Need-returns-5
 returns-5 c = let a = c .before .before .before .before .before .before .before .before .before .before .before .before .args in let k = c .before .before .before .before .before .before .before .drawn2 .given in show-chain (a .lo) (a .hi) (a .drawn) (a .first .now) (a .second .now) _ _ _ ShortArc (k .0 .1 .0) (k .1 ∙ ap (λ (w : Way). Chain w (k .0 .1 .0)) (c .before .before .before .before .enum-told4 .given .1)) (c .before .before .write-chain4 .ensures)
-
-same-length-6 : tie.Need-same-length-6
-same-length-6 c = search needs
 
 returns-6 : tie.Need-returns-6
 returns-6 c = let a = c .before .before .before .before .before .before .before .before .before .before .before .before .args in let k = c .before .before .before .before .before .before .before .drawn2 .given in show-chain (a .lo) (a .hi) (a .drawn) (a .first .now) (a .second .now) _ _ _ Runaway (k .0 .1 .0) (k .1 ∙ ap (λ (w : Way). Chain w (k .0 .1 .0)) (c .before .before .before .before .enum-told5 .given .1)) (c .before .before .write-chain5 .ensures)
@@ -91,28 +49,28 @@ pub show-spec : {M : Type 1} → statement M
 show-spec =
     tie.close
     (tie.spec
-    enum-known-drawn
-    write-refusal-requires
-    enum-known-drawn-2
-    enum-told
+    (λ c. search needs)
+    (λ c κs. search needs)
+    (λ c. search needs)
+    (λ c. search needs)
     write-chain-requires
-    enum-told-2
+    (λ c. search needs)
     write-chain-requires-2
-    enum-told-3
+    (λ c. search needs)
     write-chain-requires-3
-    enum-told-4
+    (λ c. search needs)
     write-chain-requires-4
-    enum-told-5
+    (λ c. search needs)
     write-chain-requires-5
-    same-length
+    (λ c. search needs)
     returns
-    same-length-2
+    (λ c. search needs)
     returns-2
-    same-length-3
+    (λ c. search needs)
     returns-3
-    same-length-4
+    (λ c. search needs)
     returns-4
-    same-length-5
+    (λ c. search needs)
     returns-5
-    same-length-6
+    (λ c. search needs)
     returns-6)

@@ -5,11 +5,8 @@ use borrow.Author.Needs.{needs}
 use Rattle.arith.proofs.ceil.Statement.{statement}
 use Rattle.arith.proofs.ceil.Tie as tie
 
-floor-requires : tie.Need-floor-requires
-floor-requires c κs = search needs
-
 returns : tie.Need-returns
 returns c = ap neg (c .floor .ensures)
 
 pub ceil-spec : {M : Type 1} → statement M
-ceil-spec = tie.close (tie.spec floor-requires returns)
+ceil-spec = tie.close (tie.spec (λ c κs. search needs) returns)

@@ -25,11 +25,5 @@ returns-2 c =
       | inr w ↦ w .1 ∙ floor-at x a b (c .if4 .left) (w .0 .left)
     ]
 
-floor-far-requires : tie.Need-floor-far-requires
-floor-far-requires c κs = search needs
-
-returns-3 : tie.Need-returns-3
-returns-3 c = search needs
-
 pub floor-spec : {M : Type 1} → statement M
-floor-spec = tie.close (tie.spec returns returns-2 floor-far-requires returns-3)
+floor-spec = tie.close (tie.spec returns returns-2 (λ c κs. search needs) (λ c. search needs))

@@ -9,9 +9,6 @@ use Rattle.arith.proofs.Floors.{far-small, far-whole, far-below, far-ab
 use Rattle.arith.proofs.floor_far.Statement.{statement}
 use Rattle.arith.proofs.floor_far.Tie as tie
 
-abs-requires : tie.Need-abs-requires
-abs-requires c κs = search needs
-
 truncating-f64-to-u64-requires : tie.Need-truncating-f64-to-u64-requires
 unfolding ofBits
 truncating-f64-to-u64-requires c κs =
@@ -83,7 +80,7 @@ pub floor-far-spec : {M : Type 1} → statement M
 floor-far-spec =
     tie.close
     (tie.spec
-    abs-requires
+    (λ c κs. search needs)
     truncating-f64-to-u64-requires
     int-to-float-f
     add-result

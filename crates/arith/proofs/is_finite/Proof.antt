@@ -4,9 +4,6 @@ use Rattle.arith.proofs.Cmp.{finite-above, not-finite}
 use Rattle.arith.proofs.is_finite.Statement.{statement}
 use Rattle.arith.proofs.is_finite.Tie as tie
 
-infinity-requires : tie.Need-infinity-requires
-infinity-requires c κs = search needs
-
 returns : tie.Need-returns
 returns c = let e = c .before .infinity .ensures in rw e (finite-above _ (rw e at (c .if1 .taken)))
 
@@ -14,4 +11,4 @@ returns-2 : tie.Need-returns-2
 returns-2 c = let e = c .before .infinity .ensures in rw e (not-finite _ (rw e at (c .if1 .left)))
 
 pub is-finite-spec : {M : Type 1} → statement M
-is-finite-spec = tie.close (tie.spec infinity-requires returns returns-2)
+is-finite-spec = tie.close (tie.spec (λ c κs. search needs) returns returns-2)

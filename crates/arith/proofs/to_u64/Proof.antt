@@ -11,9 +11,6 @@ truncating-f64-to-u64-requires : tie.Need-truncating-f64-to-u64-requires
 unfolding ofBits neg
 truncating-f64-to-u64-requires c κs = (subst T (sym (c .before .if1 .taken)) tt, subst T (sym (c .if2 .taken)) tt)
 
-returns : tie.Need-returns
-returns c = search needs
-
 returns-2 : tie.Need-returns-2
 unfolding ofBits neg
 returns-2 c = high-end (c .before .before .args .x) (c .before .if1 .taken) (c .if2 .left)
@@ -23,4 +20,4 @@ unfolding ofBits neg
 returns-3 c = low-end (c .before .args .x) (c .if1 .left)
 
 pub to-u64-spec : {M : Type 1} → statement M
-to-u64-spec = tie.close (tie.spec truncating-f64-to-u64-requires returns returns-2 returns-3)
+to-u64-spec = tie.close (tie.spec truncating-f64-to-u64-requires (λ c. search needs) returns-2 returns-3)

@@ -3,11 +3,8 @@ use borrow.Author.Needs.{needs}
 use Rattle.arith.proofs.to_usize.Statement.{statement}
 use Rattle.arith.proofs.to_usize.Tie as tie
 
-to-u64-requires : tie.Need-to-u64-requires
-to-u64-requires c κs = search needs
-
 returns : tie.Need-returns
 returns c = c .to-u64 .ensures
 
 pub to-usize-spec : {M : Type 1} → statement M
-to-usize-spec = tie.close (tie.spec to-u64-requires returns)
+to-usize-spec = tie.close (tie.spec (λ c κs. search needs) returns)

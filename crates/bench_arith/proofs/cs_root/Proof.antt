@@ -3,11 +3,8 @@ use borrow.Author.Needs.{needs}
 use Rattle.bench_arith.proofs.cs_root.Statement.{statement}
 use Rattle.bench_arith.proofs.cs_root.Tie as tie
 
-root-requires : tie.Need-root-requires
-root-requires c κs = search needs
-
 returns : tie.Need-returns
 returns c = c .root .ensures
 
 pub cs-root-spec : {M : Type 1} → statement M
-cs-root-spec = tie.close (tie.spec root-requires returns)
+cs-root-spec = tie.close (tie.spec (λ c κs. search needs) returns)

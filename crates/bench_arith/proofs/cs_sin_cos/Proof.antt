@@ -6,12 +6,9 @@ use Rattle.trig.specs.declared.SinCos.{SinCos}
 use Rattle.bench_arith.proofs.cs_sin_cos.Statement.{statement}
 use Rattle.bench_arith.proofs.cs_sin_cos.Tie as tie
 
-sin-cos-requires : tie.Need-sin-cos-requires
-sin-cos-requires c κs = search needs
-
 returns : tie.Need-returns
 unfolding sinCosOf
 returns c = (ap (λ (s : SinCos). s .sin) (c .«sin-cos» .ensures), ap (λ (s : SinCos). s .cos) (c .«sin-cos» .ensures))
 
 pub cs-sin-cos-spec : {M : Type 1} → statement M
-cs-sin-cos-spec = tie.close (tie.spec sin-cos-requires returns)
+cs-sin-cos-spec = tie.close (tie.spec (λ c κs. search needs) returns)

@@ -5,13 +5,10 @@ use borrow.Author.Needs.{needs}
 use Rattle.bench_draw.proofs.cs_point_at.Statement.{statement}
 use Rattle.bench_draw.proofs.cs_point_at.Tie as tie
 
-point-at-requires : tie.Need-point-at-requires
-point-at-requires c κs = search needs
-
 returns : tie.Need-returns
 returns c =
     let p = c .point-at .ensures in
     (ap (λ (v : Vec3). v .x) p, ap (λ (v : Vec3). v .y) p, ap (λ (v : Vec3). v .z) p)
 
 pub cs-point-at-spec : {M : Type 1} → statement M
-cs-point-at-spec = tie.close (tie.spec point-at-requires returns)
+cs-point-at-spec = tie.close (tie.spec (λ c κs. search needs) returns)

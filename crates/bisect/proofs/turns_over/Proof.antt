@@ -15,32 +15,11 @@ use Rattle.arith.proofs.clamp.Reads as clamp-reads
 use Rattle.math.proofs.Vec3.dot.Reads as dot-reads
 use Rattle.turning.proofs.is_turn_over.Reads as is-turn-over-reads
 
-enum-known-a : tie.Need-enum-known-a
-enum-known-a c = search needs
-
-enum-told : tie.Need-enum-told
-enum-told c = search needs
-
 returns : tie.Need-returns
 returns c = λ e. absurd (holds e)
 
-enum-known-b : tie.Need-enum-known-b
-enum-known-b c = search needs
-
-enum-told-2 : tie.Need-enum-told-2
-enum-told-2 c = search needs
-
 returns-2 : tie.Need-returns-2
 returns-2 c = λ e. absurd (holds e)
-
-dot-requires : tie.Need-dot-requires
-dot-requires c κs = search needs
-
-clamp-requires : tie.Need-clamp-requires
-clamp-requires c κs = search needs
-
-is-turn-over-requires : tie.Need-is-turn-over-requires
-is-turn-over-requires c κs = search needs
 
 returns-3 : tie.Need-returns-3
 returns-3 c = λ e.
@@ -53,13 +32,13 @@ pub turns-over-spec : {M : Type 1} → statement M
 turns-over-spec =
     tie.close
     (tie.spec
-    enum-known-a
-    enum-told
+    (λ c. search needs)
+    (λ c. search needs)
     returns
-    enum-known-b
-    enum-told-2
+    (λ c. search needs)
+    (λ c. search needs)
     returns-2
-    dot-requires
-    clamp-requires
-    is-turn-over-requires
+    (λ c κs. search needs)
+    (λ c κs. search needs)
+    (λ c κs. search needs)
     returns-3)

@@ -18,23 +18,8 @@ abbrev μ-loop : tie.MeasureT-loop
 loop-holds : tie.Need-loop-holds Inv-loop μ-loop
 loop-holds c = (search needs, clear-none _)
 
-mul-beyond : tie.Need-mul-beyond Inv-loop μ-loop
-mul-beyond c = search needs
-
-shared-slice-read-beyond : tie.Need-shared-slice-read-beyond Inv-loop μ-loop
-shared-slice-read-beyond c = search needs
-
-beyond-requires : tie.Need-beyond-requires Inv-loop μ-loop
-beyond-requires c κs = search needs
-
 returns : tie.Need-returns Inv-loop μ-loop
 returns c = clear-found (c .before .before .before .before .loop .inv .1) (c .before .before .before .loop-test .taken) (c .before .beyond .ensures) (c .if1 .taken)
-
-add-i : tie.Need-add-i Inv-loop μ-loop
-add-i c = search needs
-
-loop-less : tie.Need-loop-less Inv-loop μ-loop
-loop-less c = search needs
 
 loop-again : tie.Need-loop-again Inv-loop μ-loop
 loop-again c = (search needs, clear-more (c .before .before .before .before .loop .inv .1) (c .before .beyond .ensures) (c .if1 .left))
@@ -49,11 +34,11 @@ any-beyond-spec =
     Inv-loop
     μ-loop
     loop-holds
-    mul-beyond
-    shared-slice-read-beyond
-    beyond-requires
+    (λ c. search needs)
+    (λ c. search needs)
+    (λ c κs. search needs)
     returns
-    add-i
-    loop-less
+    (λ c. search needs)
+    (λ c. search needs)
     loop-again
     returns-2)

@@ -4,12 +4,9 @@ use borrow.Author.Needs.{needs}
 use Rattle.bounds.proofs.beyond.Statement.{statement}
 use Rattle.bounds.proofs.beyond.Tie as tie
 
-within-requires : tie.Need-within-requires
-within-requires c κs = search needs
-
 returns : tie.Need-returns
 unfolding beyond
 returns c = rw (c .within .ensures)
 
 pub beyond-spec : {M : Type 1} → statement M
-beyond-spec = tie.close (tie.spec within-requires returns)
+beyond-spec = tie.close (tie.spec (λ c κs. search needs) returns)

@@ -4,12 +4,9 @@ use borrow.Author.Needs.{needs}
 use Rattle.bounds.proofs.within.Statement.{statement}
 use Rattle.bounds.proofs.within.Tie as tie
 
-both-requires : tie.Need-both-requires
-both-requires c κs = search needs
-
 returns : tie.Need-returns
 unfolding within
 returns c = c .both .ensures
 
 pub within-spec : {M : Type 1} → statement M
-within-spec = tie.close (tie.spec both-requires returns)
+within-spec = tie.close (tie.spec (λ c κs. search needs) returns)

@@ -6,21 +6,6 @@ use borrow.Author.Needs.{needs}
 use Rattle.brep.proofs.kind_of.Statement.{statement}
 use Rattle.brep.proofs.kind_of.Tie as tie
 
-point-in-requires : tie.Need-point-in-requires
-point-in-requires c κs = search needs
-
-point-in-requires-2 : tie.Need-point-in-requires-2
-point-in-requires-2 c κs = search needs
-
-frame-at-requires : tie.Need-frame-at-requires
-frame-at-requires c κs = search needs
-
-frame-at-requires-2 : tie.Need-frame-at-requires-2
-frame-at-requires-2 c κs = search needs
-
-frame-at-requires-3 : tie.Need-frame-at-requires-3
-frame-at-requires-3 c κs = search needs
-
 returns : tie.Need-returns
 unfolding kindOf
 returns c = rw (c .before .before .match .keys1, c .point-in2 .ensures, c .before .point-in .ensures, add-zero)
@@ -57,11 +42,11 @@ pub kind-of-spec : {M : Type 1} → statement M
 kind-of-spec =
     tie.close
     (tie.spec
-    point-in-requires
-    point-in-requires-2
-    frame-at-requires
-    frame-at-requires-2
-    frame-at-requires-3
+    (λ c κs. search needs)
+    (λ c κs. search needs)
+    (λ c κs. search needs)
+    (λ c κs. search needs)
+    (λ c κs. search needs)
     returns
     returns-2
     returns-3

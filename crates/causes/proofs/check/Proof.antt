@@ -5,17 +5,8 @@ use borrow.Author.Needs.{needs}
 use Rattle.causes.proofs.check.Statement.{statement}
 use Rattle.causes.proofs.check.Tie as tie
 
-check-tables-requires : tie.Need-check-tables-requires
-check-tables-requires c κs = search needs
-
-check-edge-requires : tie.Need-check-edge-requires
-check-edge-requires c κs = search needs
-
-lower-requires : tie.Need-lower-requires
-lower-requires c κs = search needs
-
 returns : tie.Need-returns
 returns c = rw (c .lower .ensures, c .before .check-edge .ensures, c .before .before .check-tables .ensures) (sym (verdict-apart _ _ _))
 
 pub check-spec : {M : Type 1} → statement M
-check-spec = tie.close (tie.spec check-tables-requires check-edge-requires lower-requires returns)
+check-spec = tie.close (tie.spec (λ c κs. search needs) (λ c κs. search needs) (λ c κs. search needs) returns)

@@ -5,22 +5,13 @@ use borrow.Author.Needs.{needs}
 use Rattle.causes.proofs.check_edge.Statement.{statement}
 use Rattle.causes.proofs.check_edge.Tie as tie
 
-unbounded-edge-requires : tie.Need-unbounded-edge-requires
-unbounded-edge-requires c κs = search needs
-
 returns : tie.Need-returns
 unfolding edgeVerdict
 returns c = rw (sym (c .before .unbounded-edge .ensures) ∙ c .if1 .taken)
 
-ill-formed-edge-requires : tie.Need-ill-formed-edge-requires
-ill-formed-edge-requires c κs = search needs
-
 returns-2 : tie.Need-returns-2
 unfolding edgeVerdict
 returns-2 c = rw (sym (c .before .before .before .unbounded-edge .ensures) ∙ c .before .before .if1 .left, sym (c .before .ill-formed-edge .ensures) ∙ c .if2 .taken)
-
-missing-requires : tie.Need-missing-requires
-missing-requires c κs = search needs
 
 returns-3 : tie.Need-returns-3
 unfolding edgeVerdict missing
@@ -34,10 +25,10 @@ pub check-edge-spec : {M : Type 1} → statement M
 check-edge-spec =
     tie.close
     (tie.spec
-    unbounded-edge-requires
+    (λ c κs. search needs)
     returns
-    ill-formed-edge-requires
+    (λ c κs. search needs)
     returns-2
-    missing-requires
+    (λ c κs. search needs)
     returns-3
     returns-4)

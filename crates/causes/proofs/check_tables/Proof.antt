@@ -8,28 +8,13 @@ use Rattle.causes.proofs.Laws.{sizes, third, accepted, refused}
 use Rattle.causes.proofs.check_tables.Statement.{statement}
 use Rattle.causes.proofs.check_tables.Tie as tie
 
-oversize-requires : tie.Need-oversize-requires
-oversize-requires c κs = search needs
-
 returns : tie.Need-returns
 unfolding tablesVerdict
 returns c = rw (sym (c .before .oversize .ensures) ∙ c .if1 .taken)
 
-unbounded-tables-requires : tie.Need-unbounded-tables-requires
-unbounded-tables-requires c κs = search needs
-
 returns-2 : tie.Need-returns-2
 unfolding tablesVerdict
 returns-2 c = rw (sym (c .before .before .before .oversize .ensures) ∙ c .before .before .if1 .left, sym (c .before .unbounded-tables .ensures) ∙ c .if2 .taken)
-
-ragged-requires : tie.Need-ragged-requires
-ragged-requires c κs = search needs
-
-malformed-segments-requires : tie.Need-malformed-segments-requires
-malformed-segments-requires c κs = search needs
-
-either-requires : tie.Need-either-requires
-either-requires c κs = search needs
 
 returns-3 : tie.Need-returns-3
 unfolding malformedSegment
@@ -50,13 +35,13 @@ pub check-tables-spec : {M : Type 1} → statement M
 check-tables-spec =
     tie.close
     (tie.spec
-    oversize-requires
+    (λ c κs. search needs)
     returns
-    unbounded-tables-requires
+    (λ c κs. search needs)
     returns-2
-    ragged-requires
-    malformed-segments-requires
-    either-requires
+    (λ c κs. search needs)
+    (λ c κs. search needs)
+    (λ c κs. search needs)
     returns-3
     rows-cause-requires
     returns-4

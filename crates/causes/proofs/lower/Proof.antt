@@ -4,18 +4,6 @@ use borrow.Author.Needs.{needs}
 use Rattle.causes.proofs.lower.Statement.{statement}
 use Rattle.causes.proofs.lower.Tie as tie
 
-enum-told : tie.Need-enum-told
-enum-told c = search needs
-
-enum-known-a : tie.Need-enum-known-a
-enum-known-a c = search needs
-
-enum-told-2 : tie.Need-enum-told-2
-enum-told-2 c = search needs
-
-enum-known-b : tie.Need-enum-known-b
-enum-known-b c = search needs
-
 returns : tie.Need-returns
 returns c = lower-none _ _ (c .enum-told .given .1)
 
@@ -32,10 +20,10 @@ pub lower-spec : {M : Type 1} → statement M
 lower-spec =
     tie.close
     (tie.spec
-    enum-told
-    enum-known-a
-    enum-told-2
-    enum-known-b
+    (λ c. search needs)
+    (λ c. search needs)
+    (λ c. search needs)
+    (λ c. search needs)
     returns
     returns-2
     returns-3

@@ -4,12 +4,9 @@ use borrow.Author.Needs.{needs}
 use Rattle.chord.proofs.bisection_offset.Statement.{statement}
 use Rattle.chord.proofs.bisection_offset.Tie as tie
 
-chord-offset-requires : tie.Need-chord-offset-requires
-chord-offset-requires c κs = search needs
-
 returns : tie.Need-returns
 unfolding bisectionOffset
 returns c = c .chord-offset .ensures
 
 pub bisection-offset-spec : {M : Type 1} → statement M
-bisection-offset-spec = tie.close (tie.spec chord-offset-requires returns)
+bisection-offset-spec = tie.close (tie.spec (λ c κs. search needs) returns)

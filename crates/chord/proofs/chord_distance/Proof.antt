@@ -4,15 +4,9 @@ use borrow.Author.Needs.{needs}
 use Rattle.chord.proofs.chord_distance.Statement.{statement}
 use Rattle.chord.proofs.chord_distance.Tie as tie
 
-chord-offset-requires : tie.Need-chord-offset-requires
-chord-offset-requires c κs = search needs
-
-length-requires : tie.Need-length-requires
-length-requires c κs = search needs
-
 returns : tie.Need-returns
 unfolding chordDistance
 returns c = rw (c .length .ensures, c .before .chord-offset .ensures)
 
 pub chord-distance-spec : {M : Type 1} → statement M
-chord-distance-spec = tie.close (tie.spec chord-offset-requires length-requires returns)
+chord-distance-spec = tie.close (tie.spec (λ c κs. search needs) (λ c κs. search needs) returns)

@@ -4,18 +4,9 @@ use borrow.Author.Needs.{needs}
 use Rattle.chord.proofs.foot.Statement.{statement}
 use Rattle.chord.proofs.foot.Tie as tie
 
-sub-requires : tie.Need-sub-requires
-sub-requires c κs = search needs
-
-dot-requires : tie.Need-dot-requires
-dot-requires c κs = search needs
-
-clamp-requires : tie.Need-clamp-requires
-clamp-requires c κs = search needs
-
 returns : tie.Need-returns
 unfolding footOf
 returns c = rw (c .clamp .ensures, c .before .dot .ensures, c .before .before .sub .ensures)
 
 pub foot-spec : {M : Type 1} → statement M
-foot-spec = tie.close (tie.spec sub-requires dot-requires clamp-requires returns)
+foot-spec = tie.close (tie.spec (λ c κs. search needs) (λ c κs. search needs) (λ c κs. search needs) returns)

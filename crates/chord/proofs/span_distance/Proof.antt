@@ -4,12 +4,9 @@ use borrow.Author.Needs.{needs}
 use Rattle.chord.proofs.span_distance.Statement.{statement}
 use Rattle.chord.proofs.span_distance.Tie as tie
 
-chord-distance-requires : tie.Need-chord-distance-requires
-chord-distance-requires c κs = search needs
-
 returns : tie.Need-returns
 unfolding spanDistance
 returns c = c .chord-distance .ensures
 
 pub span-distance-spec : {M : Type 1} → statement M
-span-distance-spec = tie.close (tie.spec chord-distance-requires returns)
+span-distance-spec = tie.close (tie.spec (λ c κs. search needs) returns)

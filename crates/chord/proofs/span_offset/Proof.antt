@@ -4,12 +4,9 @@ use borrow.Author.Needs.{needs}
 use Rattle.chord.proofs.span_offset.Statement.{statement}
 use Rattle.chord.proofs.span_offset.Tie as tie
 
-chord-offset-requires : tie.Need-chord-offset-requires
-chord-offset-requires c κs = search needs
-
 returns : tie.Need-returns
 unfolding spanOffset
 returns c = c .chord-offset .ensures
 
 pub span-offset-spec : {M : Type 1} → statement M
-span-offset-spec = tie.close (tie.spec chord-offset-requires returns)
+span-offset-spec = tie.close (tie.spec (λ c κs. search needs) returns)

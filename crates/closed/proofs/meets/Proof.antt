@@ -18,16 +18,10 @@ worst-square-requires c κs =
     let st = c .before .before .before .before .before .before .before .before .before in
     omega (arith, length-take-le (st .args .n) (st .args .out .now) (st .pre .0), st .pre .1)
 
-root-requires : tie.Need-root-requires
-root-requires c κs = search needs
-
-same-length : tie.Need-same-length
-same-length c = search needs
-
 returns : tie.Need-returns
 returns c =
     let sag = c .before .before .before .before .before .before .before .before .before .before .before .before .before .args .sag in
     (ap (λ (x : Float). le x sag) (c .root .ensures) ∙ same-test _ _ sag (c .before .before .before .worst-square .ensures .0), c .before .before .before .worst-square .ensures .1)
 
 pub meets-spec : {M : Type 1} → statement M
-meets-spec = tie.close (tie.spec slice-aggregate-params worst-square-requires root-requires same-length returns)
+meets-spec = tie.close (tie.spec slice-aggregate-params worst-square-requires (λ c κs. search needs) (λ c. search needs) returns)

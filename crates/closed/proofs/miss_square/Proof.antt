@@ -8,21 +8,6 @@ use Rattle.closed.specs.Worst.{missSquare}
 use Rattle.closed.proofs.miss_square.Statement.{statement}
 use Rattle.closed.proofs.miss_square.Tie as tie
 
-point-of-requires : tie.Need-point-of-requires
-point-of-requires c κs = search needs
-
-add-requires : tie.Need-add-requires
-add-requires c κs = search needs
-
-scale-requires : tie.Need-scale-requires
-scale-requires c κs = search needs
-
-sub-requires : tie.Need-sub-requires
-sub-requires c κs = search needs
-
-length-squared-requires : tie.Need-length-squared-requires
-length-squared-requires c κs = search needs
-
 returns : tie.Need-returns
 unfolding missSquare
 returns c =
@@ -34,4 +19,4 @@ returns c =
 pub miss-square-spec : {M : Type 1} → statement M
 miss-square-spec =
     tie.close
-    (tie.spec point-of-requires add-requires scale-requires sub-requires length-squared-requires returns)
+    (tie.spec (λ c κs. search needs) (λ c κs. search needs) (λ c κs. search needs) (λ c κs. search needs) (λ c κs. search needs) returns)

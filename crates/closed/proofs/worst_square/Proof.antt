@@ -42,15 +42,6 @@ returns c =
       written-all (curve-of st) (st .args .chain .now) (st .args .params .now) (st .args .chain .now) 0 (omega (arith, c .if1 .taken)) (written-none (curve-of st) (st .args .chain .now) (st .args .params .now) (st .args .chain .now) refl),
     )
 
-ready-at-requires : tie.Need-ready-at-requires Inv-loop μ-loop
-ready-at-requires c κs = search needs
-
-shared-slice-read-a : tie.Need-shared-slice-read-a Inv-loop μ-loop
-shared-slice-read-a c = search needs
-
-point-of-requires : tie.Need-point-of-requires Inv-loop μ-loop
-point-of-requires c κs = search needs
-
 loop-holds : tie.Need-loop-holds Inv-loop μ-loop
 loop-holds c =
     let st = c .before .before .before .before .before .before .before .before .before .before .before in
@@ -78,23 +69,14 @@ mul-b c = omega (arith, c .before .before .before .before .loop-test .taken, c .
 shared-slice-read-b : tie.Need-shared-slice-read-b Inv-loop μ-loop
 shared-slice-read-b c = omega (arith, c .before .before .before .before .before .loop-test .taken)
 
-point-of-requires-2 : tie.Need-point-of-requires-2 Inv-loop μ-loop
-point-of-requires-2 c κs = search needs
-
 miss-square-requires : tie.Need-miss-square-requires Inv-loop μ-loop
 miss-square-requires c κs =
     let st = c .before .before .before .before .before .before .before .before .before .before .before .before .before .before .before .before .before .before .before in
     let R = c .before .before .before .before .before .before .before .before .before .before .ready-at .ensures in
     (R, c .before .before .before .before .before .before .before .loop .inv .0, own-point (curve-of st) _ R (c .point-of2 .ensures))
 
-larger-requires : tie.Need-larger-requires Inv-loop μ-loop
-larger-requires c κs = search needs
-
 add-i : tie.Need-add-i Inv-loop μ-loop
 add-i c = omega (arith, c .before .before .before .before .before .before .before .before .loop-test .taken, c .before .before .before .before .before .before .before .before .before .before .before .before .before .before .before .before .before .before .before .before .before .good .1 .1 .1 .1 .1 .1 .0 .1)
-
-loop-less : tie.Need-loop-less Inv-loop μ-loop
-loop-less c = search needs
 
 loop-again : tie.Need-loop-again Inv-loop μ-loop
 loop-again c =
@@ -137,20 +119,20 @@ worst-square-spec =
     Inv-loop
     μ-loop
     returns
-    ready-at-requires
-    shared-slice-read-a
-    point-of-requires
+    (λ c κs. search needs)
+    (λ c. search needs)
+    (λ c κs. search needs)
     loop-holds
     add-loop
     put-requires
     add-b
     mul-b
     shared-slice-read-b
-    point-of-requires-2
+    (λ c κs. search needs)
     miss-square-requires
-    larger-requires
+    (λ c κs. search needs)
     add-i
-    loop-less
+    (λ c. search needs)
     loop-again
     put-requires-2
     same-length

@@ -33,48 +33,6 @@ is-closed-below t =
 abbrev is-closed-claims : ℕ → is-closed-lts.Claims
 is-closed-claims t = (int-at-reads.Asked, int-at-reads.Learnt, closes-at-reads.Asked, closes-at-reads.Learnt, is-closed-below t, is-closed.Post, range-at-reads.Asked, range-at-reads.Learnt, natural-range-reads.Asked, natural-range-reads.Learnt, span-reads.Asked, span-reads.Learnt, abs-reads.Asked, abs-reads.Learnt)
 
-is-closed-mul-at : (t : ℕ) → is-closed-lts.Need-mul-at (is-closed-claims t) (is-closed-at t) is-closed.Post
-is-closed-mul-at t c = search needs
-
-is-closed-int-at-requires : (t : ℕ) → is-closed-lts.Need-int-at-requires (is-closed-claims t) (is-closed-at t) is-closed.Post
-is-closed-int-at-requires t c κs = search needs
-
-is-closed-add-int-at : (t : ℕ) → is-closed-lts.Need-add-int-at (is-closed-claims t) (is-closed-at t) is-closed.Post
-is-closed-add-int-at t c = search needs
-
-is-closed-int-at-requires-2 : (t : ℕ) → is-closed-lts.Need-int-at-requires-2 (is-closed-claims t) (is-closed-at t) is-closed.Post
-is-closed-int-at-requires-2 t c κs = search needs
-
-is-closed-add-int-at-2 : (t : ℕ) → is-closed-lts.Need-add-int-at-2 (is-closed-claims t) (is-closed-at t) is-closed.Post
-is-closed-add-int-at-2 t c = search needs
-
-is-closed-int-at-requires-3 : (t : ℕ) → is-closed-lts.Need-int-at-requires-3 (is-closed-claims t) (is-closed-at t) is-closed.Post
-is-closed-int-at-requires-3 t c κs = search needs
-
-is-closed-closes-at-requires : (t : ℕ) → is-closed-lts.Need-closes-at-requires (is-closed-claims t) (is-closed-at t) is-closed.Post
-is-closed-closes-at-requires t c κs = search needs
-
-is-closed-is-closed-requires : (t : ℕ) → is-closed-lts.Need-is-closed-requires (is-closed-claims t) (is-closed-at t) is-closed.Post
-is-closed-is-closed-requires t c κs = search needs
-
-is-closed-range-at-requires : (t : ℕ) → is-closed-lts.Need-range-at-requires (is-closed-claims t) (is-closed-at t) is-closed.Post
-is-closed-range-at-requires t c κs = search needs
-
-is-closed-natural-range-requires : (t : ℕ) → is-closed-lts.Need-natural-range-requires (is-closed-claims t) (is-closed-at t) is-closed.Post
-is-closed-natural-range-requires t c κs = search needs
-
-is-closed-span-requires : (t : ℕ) → is-closed-lts.Need-span-requires (is-closed-claims t) (is-closed-at t) is-closed.Post
-is-closed-span-requires t c κs = search needs
-
-is-closed-abs-requires : (t : ℕ) → is-closed-lts.Need-abs-requires (is-closed-claims t) (is-closed-at t) is-closed.Post
-is-closed-abs-requires t c κs = search needs
-
-is-closed-span-requires-2 : (t : ℕ) → is-closed-lts.Need-span-requires-2 (is-closed-claims t) (is-closed-at t) is-closed.Post
-is-closed-span-requires-2 t c κs = search needs
-
-is-closed-abs-requires-2 : (t : ℕ) → is-closed-lts.Need-abs-requires-2 (is-closed-claims t) (is-closed-at t) is-closed.Post
-is-closed-abs-requires-2 t c κs = search needs
-
 is-closed-returns : (t : ℕ) → is-closed-lts.Need-returns (is-closed-claims t) (is-closed-at t) is-closed.Post
 unfolding isClosed closes
 is-closed-returns t c = closed-trim _ _ _ _ (c .before .before .before .before .before .before .before .before .if1 .taken) (sym (c .before .before .before .before .before .before .before .is-closed .ensures) ∙ c .before .before .before .before .before .before .if2 .taken) _ _ (c .before .before .before .before .before .range-at .ensures) (c .before .before .before .before .natural-range .ensures) _ _ _ _ (c .before .before .before .span .ensures) (c .before .before .abs .ensures) (c .before .span2 .ensures) (c .abs2 .ensures) ∙ at-trim isClosed _ _ (c .before .before .before .before .before .before .before .before .before .before .before .int-at .ensures) (c .before .before .before .before .before .before .before .before .before .match .keys6) (c .before .before .before .before .before .before .before .before .before .before .int-at2 .ensures) refl refl
@@ -117,20 +75,20 @@ is-closed-returns-10 t c = at-unknown isClosed _ _ (c .before .before .int-at .e
 
 pub +is-closed-spec : {M : Type 1} → statement M
 +is-closed-spec = close μ-is-closed λ t. is-closed-lts.spec (is-closed-claims t) (is-closed-at t) is-closed.Post
-    (is-closed-mul-at t)
-    (is-closed-int-at-requires t)
-    (is-closed-add-int-at t)
-    (is-closed-int-at-requires-2 t)
-    (is-closed-add-int-at-2 t)
-    (is-closed-int-at-requires-3 t)
-    (is-closed-closes-at-requires t)
-    (is-closed-is-closed-requires t)
-    (is-closed-range-at-requires t)
-    (is-closed-natural-range-requires t)
-    (is-closed-span-requires t)
-    (is-closed-abs-requires t)
-    (is-closed-span-requires-2 t)
-    (is-closed-abs-requires-2 t)
+    (λ c. search needs)
+    (λ c κs. search needs)
+    (λ c. search needs)
+    (λ c κs. search needs)
+    (λ c. search needs)
+    (λ c κs. search needs)
+    (λ c κs. search needs)
+    (λ c κs. search needs)
+    (λ c κs. search needs)
+    (λ c κs. search needs)
+    (λ c κs. search needs)
+    (λ c κs. search needs)
+    (λ c κs. search needs)
+    (λ c κs. search needs)
     (is-closed-returns t)
     (is-closed-returns-2 t)
     (is-closed-returns-3 t)

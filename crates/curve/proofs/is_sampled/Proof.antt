@@ -7,18 +7,6 @@ use borrow.Author.Needs.{needs}
 use Rattle.curve.proofs.is_sampled.Statement.{statement}
 use Rattle.curve.proofs.is_sampled.Tie as tie
 
-under-trims-requires : tie.Need-under-trims-requires
-under-trims-requires c κs = search needs
-
-cast-at : tie.Need-cast-at
-cast-at c = search needs
-
-mul-at : tie.Need-mul-at
-mul-at c = search needs
-
-int-at-requires : tie.Need-int-at-requires
-int-at-requires c κs = search needs
-
 returns : tie.Need-returns
 unfolding isSampled
 returns c = at-line isSampled _ _ (c .before .int-at .ensures) (c .match .keys1) refl ∙ under-same isSampled (λ b r. refl) _ _ (c .before .before .under-trims .ensures)
@@ -51,10 +39,10 @@ pub is-sampled-spec : {M : Type 1} → statement M
 is-sampled-spec =
     tie.close
     (tie.spec
-    under-trims-requires
-    cast-at
-    mul-at
-    int-at-requires
+    (λ c κs. search needs)
+    (λ c. search needs)
+    (λ c. search needs)
+    (λ c κs. search needs)
     returns
     returns-2
     returns-3

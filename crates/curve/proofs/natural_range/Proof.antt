@@ -7,36 +7,6 @@ use borrow.Author.Needs.{needs}
 use Rattle.curve.proofs.natural_range.Statement.{statement}
 use Rattle.curve.proofs.natural_range.Tie as tie
 
-mul-at : tie.Need-mul-at
-mul-at c = search needs
-
-int-at-requires : tie.Need-int-at-requires
-int-at-requires c κs = search needs
-
-add-int-at : tie.Need-add-int-at
-add-int-at c = search needs
-
-int-at-requires-2 : tie.Need-int-at-requires-2
-int-at-requires-2 c κs = search needs
-
-last-of-requires : tie.Need-last-of-requires
-last-of-requires c κs = search needs
-
-int-to-float-t16 : tie.Need-int-to-float-t16
-int-to-float-t16 c = search needs
-
-range-at-requires : tie.Need-range-at-requires
-range-at-requires c κs = search needs
-
-add-int-at-2 : tie.Need-add-int-at-2
-add-int-at-2 c = search needs
-
-int-at-requires-3 : tie.Need-int-at-requires-3
-int-at-requires-3 c κs = search needs
-
-int-to-float-t19 : tie.Need-int-to-float-t19
-int-to-float-t19 c = search needs
-
 returns : tie.Need-returns
 unfolding naturalRange
 returns c = at-line naturalRange _ _ (c .before .int-at .ensures) (c .match .keys1) refl
@@ -73,16 +43,16 @@ pub natural-range-spec : {M : Type 1} → statement M
 natural-range-spec =
     tie.close
     (tie.spec
-    mul-at
-    int-at-requires
-    add-int-at
-    int-at-requires-2
-    last-of-requires
-    int-to-float-t16
-    range-at-requires
-    add-int-at-2
-    int-at-requires-3
-    int-to-float-t19
+    (λ c. search needs)
+    (λ c κs. search needs)
+    (λ c. search needs)
+    (λ c κs. search needs)
+    (λ c κs. search needs)
+    (λ c. search needs)
+    (λ c κs. search needs)
+    (λ c. search needs)
+    (λ c κs. search needs)
+    (λ c. search needs)
     returns
     returns-2
     returns-3

@@ -7,33 +7,6 @@ use borrow.Author.Needs.{needs}
 use Rattle.curve.proofs.period.Statement.{statement}
 use Rattle.curve.proofs.period.Tie as tie
 
-under-trims-requires : tie.Need-under-trims-requires
-under-trims-requires c κs = search needs
-
-cast-at : tie.Need-cast-at
-cast-at c = search needs
-
-mul-at : tie.Need-mul-at
-mul-at c = search needs
-
-int-at-requires : tie.Need-int-at-requires
-int-at-requires c κs = search needs
-
-add-int-at : tie.Need-add-int-at
-add-int-at c = search needs
-
-int-at-requires-2 : tie.Need-int-at-requires-2
-int-at-requires-2 c κs = search needs
-
-add-int-at-2 : tie.Need-add-int-at-2
-add-int-at-2 c = search needs
-
-int-at-requires-3 : tie.Need-int-at-requires-3
-int-at-requires-3 c κs = search needs
-
-polyline-period-requires : tie.Need-polyline-period-requires
-polyline-period-requires c κs = search needs
-
 returns : tie.Need-returns
 unfolding period closes
 returns c = at-line period _ _ (c .before .int-at .ensures) (c .match .keys1) refl ∙ under-same period (λ b r. refl) _ _ (c .before .before .under-trims .ensures)
@@ -66,15 +39,15 @@ pub period-spec : {M : Type 1} → statement M
 period-spec =
     tie.close
     (tie.spec
-    under-trims-requires
-    cast-at
-    mul-at
-    int-at-requires
-    add-int-at
-    int-at-requires-2
-    add-int-at-2
-    int-at-requires-3
-    polyline-period-requires
+    (λ c κs. search needs)
+    (λ c. search needs)
+    (λ c. search needs)
+    (λ c κs. search needs)
+    (λ c. search needs)
+    (λ c κs. search needs)
+    (λ c. search needs)
+    (λ c κs. search needs)
+    (λ c κs. search needs)
     returns
     returns-2
     returns-3

@@ -69,30 +69,6 @@ composite-at-returns : (t : ℕ) → composite-at-lts.Need-returns (composite-at
 unfolding pointAt polylinePoint
 composite-at-returns t c = composite-none _ _ _ _ _ (c .if1 .taken)
 
-composite-at-int-to-float-clamp : (t : ℕ) → composite-at-lts.Need-int-to-float-clamp (composite-at-claims t) (composite-at-at t) composite-at.Post
-composite-at-int-to-float-clamp t c = search needs
-
-composite-at-clamp-requires : (t : ℕ) → composite-at-lts.Need-clamp-requires (composite-at-claims t) (composite-at-at t) composite-at.Post
-composite-at-clamp-requires t c κs = search needs
-
-composite-at-sub-index-in : (t : ℕ) → composite-at-lts.Need-sub-index-in (composite-at-claims t) (composite-at-at t) composite-at.Post
-composite-at-sub-index-in t c = search needs
-
-composite-at-index-in-requires : (t : ℕ) → composite-at-lts.Need-index-in-requires (composite-at-claims t) (composite-at-at t) composite-at.Post
-composite-at-index-in-requires t c κs = search needs
-
-composite-at-segment-at-requires : (t : ℕ) → composite-at-lts.Need-segment-at-requires (composite-at-claims t) (composite-at-at t) composite-at.Post
-composite-at-segment-at-requires t c κs = search needs
-
-composite-at-int-to-float-own-parameter : (t : ℕ) → composite-at-lts.Need-int-to-float-own-parameter (composite-at-claims t) (composite-at-at t) composite-at.Post
-composite-at-int-to-float-own-parameter t c = search needs
-
-composite-at-own-parameter-requires : (t : ℕ) → composite-at-lts.Need-own-parameter-requires (composite-at-claims t) (composite-at-at t) composite-at.Post
-composite-at-own-parameter-requires t c κs = search needs
-
-composite-at-point-at-requires : (t : ℕ) → composite-at-lts.Need-point-at-requires (composite-at-claims t) (composite-at-at t) composite-at.Post
-composite-at-point-at-requires t c κs = search needs
-
 composite-at-returns-2 : (t : ℕ) → composite-at-lts.Need-returns-2 (composite-at-claims t) (composite-at-at t) composite-at.Post
 unfolding pointAt polylinePoint
 composite-at-returns-2 t c = c .point-at .ensures ∙ at-lower (λ x. pointAt x (c .before .before .own-parameter .result)) _ _ (c .before .if2 .taken) ∙ composite-some _ _ _ _ _ (c .before .before .before .before .before .before .before .before .before .if1 .left) _ (c .before .before .before .before .before .before .before .clamp .ensures) _ (c .before .before .before .before .before .before .index-in .ensures) _ (c .before .before .before .before .before .segment-at .ensures) _ (c .before .before .own-parameter .ensures)
@@ -100,54 +76,6 @@ composite-at-returns-2 t c = c .point-at .ensures ∙ at-lower (λ x. pointAt x 
 composite-at-returns-3 : (t : ℕ) → composite-at-lts.Need-returns-3 (composite-at-claims t) (composite-at-at t) composite-at.Post
 unfolding pointAt polylinePoint
 composite-at-returns-3 t c = at-high (λ x. pointAt x (c .before .own-parameter .result)) _ _ (c .if2 .left) ∙ composite-some _ _ _ _ _ (c .before .before .before .before .before .before .before .before .if1 .left) _ (c .before .before .before .before .before .before .clamp .ensures) _ (c .before .before .before .before .before .index-in .ensures) _ (c .before .before .before .before .segment-at .ensures) _ (c .before .own-parameter .ensures)
-
-point-at-under-trims-requires : (t : ℕ) → point-at-lts.Need-under-trims-requires (point-at-claims t) (point-at-at t) point-at.Post
-point-at-under-trims-requires t c κs = search needs
-
-point-at-turn-at-requires : (t : ℕ) → point-at-lts.Need-turn-at-requires (point-at-claims t) (point-at-at t) point-at.Post
-point-at-turn-at-requires t c κs = search needs
-
-point-at-row-at-requires : (t : ℕ) → point-at-lts.Need-row-at-requires (point-at-claims t) (point-at-at t) point-at.Post
-point-at-row-at-requires t c κs = search needs
-
-point-at-enum-known-c : (t : ℕ) → point-at-lts.Need-enum-known-c (point-at-claims t) (point-at-at t) point-at.Post
-point-at-enum-known-c t c = search needs
-
-point-at-scale-requires : (t : ℕ) → point-at-lts.Need-scale-requires (point-at-claims t) (point-at-at t) point-at.Post
-point-at-scale-requires t c κs = search needs
-
-point-at-add-requires : (t : ℕ) → point-at-lts.Need-add-requires (point-at-claims t) (point-at-at t) point-at.Post
-point-at-add-requires t c κs = search needs
-
-point-at-enum-known-c-2 : (t : ℕ) → point-at-lts.Need-enum-known-c-2 (point-at-claims t) (point-at-at t) point-at.Post
-point-at-enum-known-c-2 t c = search needs
-
-point-at-around-requires : (t : ℕ) → point-at-lts.Need-around-requires (point-at-claims t) (point-at-at t) point-at.Post
-point-at-around-requires t c κs = search needs
-
-point-at-enum-known-c-3 : (t : ℕ) → point-at-lts.Need-enum-known-c-3 (point-at-claims t) (point-at-at t) point-at.Post
-point-at-enum-known-c-3 t c = search needs
-
-point-at-around-requires-2 : (t : ℕ) → point-at-lts.Need-around-requires-2 (point-at-claims t) (point-at-at t) point-at.Post
-point-at-around-requires-2 t c κs = search needs
-
-point-at-enum-known-c-4 : (t : ℕ) → point-at-lts.Need-enum-known-c-4 (point-at-claims t) (point-at-at t) point-at.Post
-point-at-enum-known-c-4 t c = search needs
-
-point-at-parabola-point-requires : (t : ℕ) → point-at-lts.Need-parabola-point-requires (point-at-claims t) (point-at-at t) point-at.Post
-point-at-parabola-point-requires t c κs = search needs
-
-point-at-enum-known-c-5 : (t : ℕ) → point-at-lts.Need-enum-known-c-5 (point-at-claims t) (point-at-at t) point-at.Post
-point-at-enum-known-c-5 t c = search needs
-
-point-at-polyline-point-requires : (t : ℕ) → point-at-lts.Need-polyline-point-requires (point-at-claims t) (point-at-at t) point-at.Post
-point-at-polyline-point-requires t c κs = search needs
-
-point-at-enum-told : (t : ℕ) → point-at-lts.Need-enum-told (point-at-claims t) (point-at-at t) point-at.Post
-point-at-enum-told t c = search needs
-
-point-at-enum-known-c-6 : (t : ℕ) → point-at-lts.Need-enum-known-c-6 (point-at-claims t) (point-at-at t) point-at.Post
-point-at-enum-known-c-6 t c = search needs
 
 point-at-composite-at-requires : (t : ℕ) → point-at-lts.Need-composite-at-requires (point-at-claims t) (point-at-at t) point-at.Post
 point-at-composite-at-requires t c κs = let l = under-low (c .before .before .before .before .before .before .before .before .before .before .before .args .curves .now) (c .before .before .before .before .before .before .before .before .before .before .before .args .row) (c .before .before .before .before .before .before .before .before .before .before .before .args .row) in let e = c .before .before .before .before .before .under-trims .ensures in search needs
@@ -183,33 +111,33 @@ point-at-returns-7 t c = c .composite-at .ensures ∙ at-row (λ x. pointAt x (c
 pub +composite-at+point-at-spec : {M : Type 1} → statement M
 +composite-at+point-at-spec = close μ-composite-at μ-point-at (λ t. composite-at-lts.spec (composite-at-claims t) (composite-at-at t) composite-at.Post
     (composite-at-returns t)
-    (composite-at-int-to-float-clamp t)
-    (composite-at-clamp-requires t)
-    (composite-at-sub-index-in t)
-    (composite-at-index-in-requires t)
-    (composite-at-segment-at-requires t)
-    (composite-at-int-to-float-own-parameter t)
-    (composite-at-own-parameter-requires t)
-    (composite-at-point-at-requires t)
+    (λ c. search needs)
+    (λ c κs. search needs)
+    (λ c. search needs)
+    (λ c κs. search needs)
+    (λ c κs. search needs)
+    (λ c. search needs)
+    (λ c κs. search needs)
+    (λ c κs. search needs)
     (composite-at-returns-2 t)
     (composite-at-returns-3 t))
     λ t. point-at-lts.spec (point-at-claims t) (point-at-at t) point-at.Post
-    (point-at-under-trims-requires t)
-    (point-at-turn-at-requires t)
-    (point-at-row-at-requires t)
-    (point-at-enum-known-c t)
-    (point-at-scale-requires t)
-    (point-at-add-requires t)
-    (point-at-enum-known-c-2 t)
-    (point-at-around-requires t)
-    (point-at-enum-known-c-3 t)
-    (point-at-around-requires-2 t)
-    (point-at-enum-known-c-4 t)
-    (point-at-parabola-point-requires t)
-    (point-at-enum-known-c-5 t)
-    (point-at-polyline-point-requires t)
-    (point-at-enum-told t)
-    (point-at-enum-known-c-6 t)
+    (λ c κs. search needs)
+    (λ c κs. search needs)
+    (λ c κs. search needs)
+    (λ c. search needs)
+    (λ c κs. search needs)
+    (λ c κs. search needs)
+    (λ c. search needs)
+    (λ c κs. search needs)
+    (λ c. search needs)
+    (λ c κs. search needs)
+    (λ c. search needs)
+    (λ c κs. search needs)
+    (λ c. search needs)
+    (λ c κs. search needs)
+    (λ c. search needs)
+    (λ c. search needs)
     (point-at-composite-at-requires t)
     (point-at-returns t)
     (point-at-returns-2 t)

@@ -9,11 +9,8 @@ use Rattle.cuts.proofs.is_above.Tie as tie
 returns : tie.Need-returns
 returns c = not-above (c .before .before .args .s) (c .before .before .args .cut) (c .before .before .args .limit) (search needs) (search needs) (c .before .before .pre (c .before .if1 .taken)) (c .if2 .taken)
 
-root-requires : tie.Need-root-requires
-root-requires c κs = search needs
-
 returns-2 : tie.Need-returns-2
 returns-2 c = ap (lt (c .before .before .args .limit)) (c .root .ensures)
 
 pub is-above-spec : {M : Type 1} → statement M
-is-above-spec = tie.close (tie.spec returns root-requires returns-2)
+is-above-spec = tie.close (tie.spec returns (λ c κs. search needs) returns-2)

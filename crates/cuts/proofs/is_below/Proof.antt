@@ -11,12 +11,6 @@ returns c =
     let a = c .before .before .before .args in
     surely-below (a .s) (a .t) (search needs) (search needs) (c .before .before .if1 .taken) (c .before .if2 .taken) (c .if3 .taken)
 
-root-requires : tie.Need-root-requires
-root-requires c κs = search needs
-
-root-requires-2 : tie.Need-root-requires-2
-root-requires-2 c κs = search needs
-
 returns-2 : tie.Need-returns-2
 returns-2 c =
     let a = c .before .before .before .before .args in
@@ -26,4 +20,4 @@ returns-3 : tie.Need-returns-3
 returns-3 c = let a = c .before .args in sym (root-not-below (a .s) (a .t) (search needs) (search needs) (c .if1 .left))
 
 pub is-below-spec : {M : Type 1} → statement M
-is-below-spec = tie.close (tie.spec returns root-requires root-requires-2 returns-2 returns-3)
+is-below-spec = tie.close (tie.spec returns (λ c κs. search needs) (λ c κs. search needs) returns-2 returns-3)

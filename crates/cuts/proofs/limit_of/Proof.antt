@@ -8,22 +8,10 @@ use Rattle.cuts.proofs.limit_of.Lts as lts
 use Rattle.cuts.proofs.cut_if.Reads as cut-if-reads
 use Rattle.roots.proofs.root.Reads as root-reads
 
-root-requires : tie.Need-root-requires
-root-requires c κs = search needs
-
-cut-if-requires : tie.Need-cut-if-requires
-cut-if-requires c κs = search needs
-
-root-requires-2 : tie.Need-root-requires-2
-root-requires-2 c κs = search needs
-
-cut-if-requires-2 : tie.Need-cut-if-requires-2
-cut-if-requires-2 c κs = search needs
-
 returns : tie.Need-returns
 unfolding limitOf
 returns c = rw (c .cut-if2 .ensures, c .before .root2 .ensures, c .before .before .cut-if .ensures, c .before .before .before .root .ensures)
 
 pub limit-of-spec : {M : Type 1} → statement M
 limit-of-spec =
-    tie.close (tie.spec root-requires cut-if-requires root-requires-2 cut-if-requires-2 returns)
+    tie.close (tie.spec (λ c κs. search needs) (λ c κs. search needs) (λ c κs. search needs) (λ c κs. search needs) returns)

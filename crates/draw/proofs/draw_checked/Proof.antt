@@ -14,18 +14,6 @@ use Rattle.draw.proofs.draw_checked.Tie as tie
 returns : tie.Need-returns
 returns c = let a = c .before .before .before .before .before .before .before .before .args in by-length (lent (a .points) (a .curves) (a .reals) (a .parts) (a .ranges)) (a .edge) (a .options) (a .first .now) (a .second .now) (c .before .before .before .before .before .before .before .before .pre) (elim (c .if1 .came) [ inl x ↦ first-short (length (a .first .now)) (length (a .second .now)) (x .taken) | inr y ↦ second-short (length (a .first .now)) (length (a .second .now)) (ltb-true (length (a .second .now)) 8 (y .1 .taken)) ])
 
-fitting-requires : tie.Need-fitting-requires
-fitting-requires c κs = search needs
-
-fitting-requires-2 : tie.Need-fitting-requires-2
-fitting-requires-2 c κs = search needs
-
-fitting-ends-requires : tie.Need-fitting-ends-requires
-fitting-ends-requires c κs = search needs
-
-usable-range-requires : tie.Need-usable-range-requires
-usable-range-requires c κs = search needs
-
 local-options-requires : tie.Need-local-options-requires
 local-options-requires c κs = c .usable-range .ensures
 
@@ -38,12 +26,6 @@ drawn-in-requires c κs =
       knots-fit T (a .edge) (a .options) (checked T (a .edge) (a .options) (c .before .before .before .before .before .before .before .before .before .before .before .before .before .before .before .before .pre)) (a .edge .curve),
       c .before .before .before .usable-range .ensures,
     )
-
-same-length : tie.Need-same-length
-same-length c = search needs
-
-same-length-2 : tie.Need-same-length-2
-same-length-2 c = search needs
 
 returns-2 : tie.Need-returns-2
 returns-2 c =
@@ -59,12 +41,12 @@ draw-checked-spec =
     tie.close
     (tie.spec
     returns
-    fitting-requires
-    fitting-requires-2
-    fitting-ends-requires
-    usable-range-requires
+    (λ c κs. search needs)
+    (λ c κs. search needs)
+    (λ c κs. search needs)
+    (λ c κs. search needs)
     local-options-requires
     drawn-in-requires
-    same-length
-    same-length-2
+    (λ c. search needs)
+    (λ c. search needs)
     returns-2)

@@ -23,32 +23,11 @@ told : (f : tie.After-room) → let st = f .before .before .before .before .befo
     Lent (length (now (st .args .chain))) (f .room .result) (now (st .args .scratch))
 told f = lent-part _ _ _ (f .room .ensures)
 
-enum-known-usable : tie.Need-enum-known-usable
-enum-known-usable c = search needs
-
-enum-told : tie.Need-enum-told
-enum-told c = search needs
-
-chord-requires : tie.Need-chord-requires
-chord-requires c κs = search needs
-
-clear-from-requires : tie.Need-clear-from-requires
-clear-from-requires c κs = search needs
-
-same-length : tie.Need-same-length
-same-length c = search needs
-
-same-length-2 : tie.Need-same-length-2
-same-length-2 c = search needs
-
 returns : tie.Need-returns
 returns c =
     let st = c .before .before .before .before .before .before .before .before .before .before .before .before .before .before .before .before .before in
     let z = drew-chord (room-of st) (tables-of st) (st .args .edge) (st .args .r) (length (now (st .args .chain))) _ (st .pre .3) (c .before .before .before .before .before .before .before .before .enum-told .given .1) refl (c .before .before .before .before .before .before .chord .ensures) in
     record { drew = z; cleared = c .before .before .clear-from .ensures }
-
-room-requires : tie.Need-room-requires
-room-requires c κs = search needs
 
 slice-relend-prefix-part : tie.Need-slice-relend-prefix-part
 slice-relend-prefix-part c = told c .inside
@@ -65,12 +44,6 @@ clear-from-requires-2 : tie.Need-clear-from-requires-2
 clear-from-requires-2 c κs =
     let l = told (c .before .before .before .before .before .before .before .before) in
     omega (arith, l .inside, whole-length (c .before .before .before .before .before .before .before .before .room .result) (c .before .before .before .before .before .draw-range .last .1 .1 .1 .1 .1 .1 .1 .1 .1 .0) (now (c .before .before .before .before .before .before .before .before .before .before .before .before .before .before .before .before .before .before .before .args .scratch)) (c .before .before .before .before .scratch2 .given .0))
-
-same-length-3 : tie.Need-same-length-3
-same-length-3 c = search needs
-
-same-length-4 : tie.Need-same-length-4
-same-length-4 c = search needs
 
 returns-2 : tie.Need-returns-2
 returns-2 c =
@@ -89,18 +62,18 @@ pub discretise-over-spec : {M : Type 1} → statement M
 discretise-over-spec =
     tie.close
     (tie.spec
-    enum-known-usable
-    enum-told
-    chord-requires
-    clear-from-requires
-    same-length
-    same-length-2
+    (λ c. search needs)
+    (λ c. search needs)
+    (λ c κs. search needs)
+    (λ c κs. search needs)
+    (λ c. search needs)
+    (λ c. search needs)
     returns
-    room-requires
+    (λ c κs. search needs)
     slice-relend-prefix-part
     slice-aggregate-part
     draw-range-requires
     clear-from-requires-2
-    same-length-3
-    same-length-4
+    (λ c. search needs)
+    (λ c. search needs)
     returns-2)

@@ -34,21 +34,6 @@ told f =
 sample-params-requires : tie.Need-sample-params-requires
 sample-params-requires c κs = (c .before .before .before .before .before .before .before .before .before .pre .2, c .before .before .before .before .before .before .before .before .before .pre .1)
 
-enum-known-listed : tie.Need-enum-known-listed
-enum-known-listed c = search needs
-
-enum-told : tie.Need-enum-told
-enum-told c = search needs
-
-clear-from-requires : tie.Need-clear-from-requires
-clear-from-requires c κs = search needs
-
-same-length : tie.Need-same-length
-same-length c = search needs
-
-same-length-2 : tie.Need-same-length-2
-same-length-2 c = search needs
-
 returns : tie.Need-returns
 returns c =
     let st = c .before .before .before .before .before .before .before .before .before .before .before .before .before .before .before .before .before .before .before .before in
@@ -89,12 +74,6 @@ finish-requires c κs =
     let t = c .before .before .before .before .before .before .before .before .before .before .before .before .before .before .before .before .before .sample-params in
     (s .two, omega (arith, s .fits, st .pre .0), placed-room (tables-of st) (st .args .edge) (st .args .r) (st .args .range) s (t .last .1 .1 .1 .1 .1 .1 .1 .1 .1 .0) _ (omega (arith, s .fits, st .pre .1, t .kept .1 .1 .1 .1 .1 .1 .1 .1 .1 .0)) (c .before .before .before .before .before .before .before .place .ensures))
 
-same-length-3 : tie.Need-same-length-3
-same-length-3 c = search needs
-
-same-length-4 : tie.Need-same-length-4
-same-length-4 c = search needs
-
 returns-2 : tie.Need-returns-2
 returns-2 c =
     let s = told (c .before .before .before .before .before .before .before .before .before .before .before .before .before .before) in
@@ -109,11 +88,11 @@ draw-range-spec =
     tie.close
     (tie.spec
     sample-params-requires
-    enum-known-listed
-    enum-told
-    clear-from-requires
-    same-length
-    same-length-2
+    (λ c. search needs)
+    (λ c. search needs)
+    (λ c κs. search needs)
+    (λ c. search needs)
+    (λ c. search needs)
     returns
     slice-reshare-prefix-params
     slice-aggregate-params
@@ -122,6 +101,6 @@ draw-range-spec =
     slice-aggregate-used
     clear-from-requires-2
     finish-requires
-    same-length-3
-    same-length-4
+    (λ c. search needs)
+    (λ c. search needs)
     returns-2)

@@ -30,15 +30,6 @@ told f =
     let t = f .before .before .before .before .thin-sampled in
     thin-some (isSampled (tree (lent (a .points) (a .curves) (a .reals) (a .parts) (a .ranges)) (a .edge .curve))) (a .r) (now (a .chain)) (a .n) (t .result) (f .thinned .given .0 .0) _ (st .pre .0) (st .pre .2) (t .ensures) (f .thinned .given .1)
 
-thin-sampled-requires : tie.Need-thin-sampled-requires
-thin-sampled-requires c κs = search needs
-
-enum-known-thinned : tie.Need-enum-known-thinned
-enum-known-thinned c = search needs
-
-merge-floor-requires : tie.Need-merge-floor-requires
-merge-floor-requires c κs = search needs
-
 merge-requires : tie.Need-merge-requires
 merge-requires c κs = thin-room (told (c .before .before .before))
 
@@ -49,23 +40,11 @@ mul-clear-from c =
 clear-from-requires : tie.Need-clear-from-requires
 clear-from-requires c κs = merged-room (told (c .before .before .before .before .before .before .before)) (c .before .before .before .before .before .merge-floor .result) _ (c .before .before .before .before .before .merge-floor .ensures) (c .before .before .before .merge .ensures)
 
-enum-known-thinned-2 : tie.Need-enum-known-thinned-2
-enum-known-thinned-2 c = search needs
-
-clear-from-requires-2 : tie.Need-clear-from-requires-2
-clear-from-requires-2 c κs = search needs
-
-same-length : tie.Need-same-length
-same-length c = search needs
-
 returns : tie.Need-returns
 returns c =
     finished-some (told (c .before .before .before .before .before .before .before .before .before .before)) (c .before .before .before .before .before .before .before .before .merge-floor .result) _
     (c .before .before .before .before .before .before .before .before .merge-floor .ensures) (c .before .before .before .before .before .before .merge .ensures) _
     (c .before .before .clear-from .ensures)
-
-same-length-2 : tie.Need-same-length-2
-same-length-2 c = search needs
 
 returns-2 : tie.Need-returns-2
 returns-2 c =
@@ -78,15 +57,15 @@ pub finish-spec : {M : Type 1} → statement M
 finish-spec =
     tie.close
     (tie.spec
-    thin-sampled-requires
-    enum-known-thinned
-    merge-floor-requires
+    (λ c κs. search needs)
+    (λ c. search needs)
+    (λ c κs. search needs)
     merge-requires
     mul-clear-from
     clear-from-requires
-    enum-known-thinned-2
-    clear-from-requires-2
-    same-length
+    (λ c. search needs)
+    (λ c κs. search needs)
+    (λ c. search needs)
     returns
-    same-length-2
+    (λ c. search needs)
     returns-2)

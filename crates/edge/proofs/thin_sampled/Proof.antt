@@ -6,21 +6,6 @@ use Rattle.edge.proofs.Thinning.{passed-thinned, passed-over}
 use Rattle.edge.proofs.thin_sampled.Statement.{statement}
 use Rattle.edge.proofs.thin_sampled.Tie as tie
 
-is-sampled-requires : tie.Need-is-sampled-requires
-is-sampled-requires c κs = search needs
-
-least-requires : tie.Need-least-requires
-least-requires c κs = search needs
-
-add-floor : tie.Need-add-floor
-add-floor c = search needs
-
-thin-requires : tie.Need-thin-requires
-thin-requires c κs = search needs
-
-same-length : tie.Need-same-length
-same-length c = search needs
-
 returns : tie.Need-returns
 returns c =
     let a = c .before .before .before .before .before .before .before .before .before .before .before .before .before .before .args in
@@ -35,10 +20,10 @@ pub thin-sampled-spec : {M : Type 1} → statement M
 thin-sampled-spec =
     tie.close
     (tie.spec
-    is-sampled-requires
-    least-requires
-    add-floor
-    thin-requires
-    same-length
+    (λ c κs. search needs)
+    (λ c κs. search needs)
+    (λ c. search needs)
+    (λ c κs. search needs)
+    (λ c. search needs)
     returns
     returns-2)

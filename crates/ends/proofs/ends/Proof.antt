@@ -30,15 +30,6 @@ line-read c =
     let r = edge-read (c .before .before .before .before) in
     ending-read (a .s .now) (single edgeColumns) (10 ∷ []) (a .at) (r .list) (c .before .before .before .before .before .edge2 .given .0 .1 .0) 0 (r .is) (k .0 .0) (k .0 .1 .0) (sym (k .1) ∙ c .before .before .before .byte .ensures)
 
-edge-requires : tie.Need-edge-requires
-edge-requires c κs = search needs
-
-enum-known-edge : tie.Need-enum-known-edge
-enum-known-edge c = search needs
-
-enum-told : tie.Need-enum-told
-enum-told c = search needs
-
 returns : tie.Need-returns
 returns c =
     let s = c .before .before .before .before .args .s .now in
@@ -48,12 +39,6 @@ returns c =
 
 byte-requires : tie.Need-byte-requires
 byte-requires c κs = edge-read c .is .within
-
-enum-known-q : tie.Need-enum-known-q
-enum-known-q c = search needs
-
-enum-told-2 : tie.Need-enum-told-2
-enum-told-2 c = search needs
 
 returns-2 : tie.Need-returns-2
 returns-2 c =
@@ -65,12 +50,6 @@ returns-2 c =
 
 options-requires : tie.Need-options-requires
 options-requires c κs = line-read c .within
-
-enum-known-options : tie.Need-enum-known-options
-enum-known-options c = search needs
-
-enum-told-3 : tie.Need-enum-told-3
-enum-told-3 c = search needs
 
 returns-3 : tie.Need-returns-3
 returns-3 c =
@@ -95,16 +74,16 @@ pub ends-spec : {M : Type 1} → statement M
 ends-spec =
     tie.close
     (tie.spec
-    edge-requires
-    enum-known-edge
-    enum-told
+    (λ c κs. search needs)
+    (λ c. search needs)
+    (λ c. search needs)
     returns
     byte-requires
-    enum-known-q
-    enum-told-2
+    (λ c. search needs)
+    (λ c. search needs)
     returns-2
     options-requires
-    enum-known-options
-    enum-told-3
+    (λ c. search needs)
+    (λ c. search needs)
     returns-3
     returns-4)

@@ -25,15 +25,6 @@ told-row c = let a = c .before .before .before .before .args in c .single .ensur
 read : (c : tie.Then1) → RowRead (c .before .before .before .before .before .args .s .now) (single optionColumns .read (drop (c .before .before .before .before .before .args .at) (c .before .before .before .before .before .args .s .now))) (c .before .single .result)
 read c = row-read (c .before .before .before .before .before .args .s .now) (single optionColumns) options-law (c .before .before .before .before .before .args .at) (c .before .single .result) (c .before .before .before .before .before .pre) (told-row (c .before)) (c .if1 .taken)
 
-slice-aggregate-single : tie.Need-slice-aggregate-single
-slice-aggregate-single c = search needs
-
-slice-aggregate-single-2 : tie.Need-slice-aggregate-single-2
-slice-aggregate-single-2 c = search needs
-
-single-requires : tie.Need-single-requires
-single-requires c κs = search needs
-
 options-of-requires : tie.Need-options-of-requires
 options-of-requires c κs =
     let r = read (c .before .before) in
@@ -54,9 +45,9 @@ pub options-spec : {M : Type 1} → statement M
 options-spec =
     tie.close
     (tie.spec
-    slice-aggregate-single
-    slice-aggregate-single-2
-    single-requires
+    (λ c. search needs)
+    (λ c. search needs)
+    (λ c κs. search needs)
     options-of-requires
     returns
     returns-2)

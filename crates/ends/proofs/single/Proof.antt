@@ -19,17 +19,8 @@ named c =
     let k = c .before .p .given in
     names-read (a .s .now) (a .names .now) 0 (a .at) (k .0 .0) (k .0 .1 .0) (c .before .before .before .before .before .before .before .pre .0) (sym (k .1) ∙ c .before .before .before .word .ensures)
 
-word-requires : tie.Need-word-requires
-word-requires c κs = search needs
-
-enum-known-p : tie.Need-enum-known-p
-enum-known-p c = search needs
-
 line-requires : tie.Need-line-requires
 line-requires c κs = (named c .within, c .before .before .before .before .before .before .before .pre .1)
-
-enum-told : tie.Need-enum-told
-enum-told c = search needs
 
 returns : tie.Need-returns
 returns c =
@@ -45,4 +36,4 @@ returns-2 c =
     told-no-row (a .s .now) _ (before-bad (a .s .now) (a .names .now) (line (shapeOf (a .shape .now))) (a .at) none)
 
 pub single-spec : {M : Type 1} → statement M
-single-spec = tie.close (tie.spec word-requires enum-known-p line-requires enum-told returns returns-2)
+single-spec = tie.close (tie.spec (λ c κs. search needs) (λ c. search needs) line-requires (λ c. search needs) returns returns-2)

@@ -20,26 +20,8 @@ Inv-loop square chain n centre i₀ i =
 abbrev μ-loop : tie.MeasureT-loop
 μ-loop square chain n centre i₀ i = n - i
 
-centre-requires : tie.Need-centre-requires Inv-loop μ-loop
-centre-requires c κs = search needs
-
 loop-holds : tie.Need-loop-holds Inv-loop μ-loop
 loop-holds c = (omega arith, λ (limit : Float) h. refl)
-
-point-at-requires : tie.Need-point-at-requires Inv-loop μ-loop
-point-at-requires c κs = search needs
-
-sub-requires : tie.Need-sub-requires Inv-loop μ-loop
-sub-requires c κs = search needs
-
-length-squared-requires : tie.Need-length-squared-requires Inv-loop μ-loop
-length-squared-requires c κs = search needs
-
-add-i : tie.Need-add-i Inv-loop μ-loop
-add-i c = search needs
-
-loop-less : tie.Need-loop-less Inv-loop μ-loop
-loop-less c = search needs
 
 loop-again : tie.Need-loop-again Inv-loop μ-loop
 unfolding vLength
@@ -70,4 +52,4 @@ returns-2 c = λ e.
     ∙ escapes-whole (a .chain .now) (a .n) (a .r) limit z (a .reference) refl (c .before .before .centre .ensures)
 
 pub all-near-spec : {M : Type 1} → statement M
-all-near-spec = tie.close (tie.spec Inv-loop μ-loop centre-requires loop-holds point-at-requires sub-requires length-squared-requires add-i loop-less loop-again returns returns-2)
+all-near-spec = tie.close (tie.spec Inv-loop μ-loop (λ c κs. search needs) loop-holds (λ c κs. search needs) (λ c κs. search needs) (λ c κs. search needs) (λ c. search needs) (λ c. search needs) loop-again returns returns-2)

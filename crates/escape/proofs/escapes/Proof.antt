@@ -15,32 +15,11 @@ Inv-loop chain n limit centre cut has-cut i₀ i = (i ≤ n) × (left (beyond li
 abbrev μ-loop : tie.MeasureT-loop
 μ-loop chain n limit centre cut has-cut i₀ i = n - i
 
-is-near-requires : tie.Need-is-near-requires Inv-loop μ-loop
-is-near-requires c κs = search needs
-
 returns : tie.Need-returns Inv-loop μ-loop
 returns c = c .before .is-near .ensures (c .if1 .taken)
 
-diagonal-requires : tie.Need-diagonal-requires Inv-loop μ-loop
-diagonal-requires c κs = search needs
-
-centre-requires : tie.Need-centre-requires Inv-loop μ-loop
-centre-requires c κs = search needs
-
-root-requires : tie.Need-root-requires Inv-loop μ-loop
-root-requires c κs = search needs
-
 loop-holds : tie.Need-loop-holds Inv-loop μ-loop
 loop-holds c = (omega arith, refl)
-
-point-at-requires : tie.Need-point-at-requires Inv-loop μ-loop
-point-at-requires c κs = search needs
-
-sub-requires : tie.Need-sub-requires Inv-loop μ-loop
-sub-requires c κs = search needs
-
-length-squared-requires : tie.Need-length-squared-requires Inv-loop μ-loop
-length-squared-requires c κs = search needs
 
 is-above-requires : tie.Need-is-above-requires Inv-loop μ-loop
 is-above-requires c κs = root-at-most _ (c .before .before .before .before .before .root .ensures)
@@ -53,12 +32,6 @@ returns-2 c =
     found (beyond _ _) (a .chain .now) (a .n) (l .i) (c .before .before .before .before .before .loop-test .taken) (rw (c .before .is-above .ensures, c .before .before .length-squared .ensures, c .before .before .before .sub .ensures, c .before .before .before .before .point-at .ensures)) (c .if2 .taken)
     ∙ l .inv .1
     ∙ escapes-whole (a .chain .now) (a .n) (a .r) _ _ (a .reference) (rw (c .before .before .before .before .before .before .before .before .before .before .diagonal .ensures)) (c .before .before .before .before .before .before .before .before .centre .ensures)
-
-add-i : tie.Need-add-i Inv-loop μ-loop
-add-i c = search needs
-
-loop-less : tie.Need-loop-less Inv-loop μ-loop
-loop-less c = search needs
 
 loop-again : tie.Need-loop-again Inv-loop μ-loop
 unfolding vLength
@@ -81,18 +54,18 @@ escapes-spec =
     (tie.spec
     Inv-loop
     μ-loop
-    is-near-requires
+    (λ c κs. search needs)
     returns
-    diagonal-requires
-    centre-requires
-    root-requires
+    (λ c κs. search needs)
+    (λ c κs. search needs)
+    (λ c κs. search needs)
     loop-holds
-    point-at-requires
-    sub-requires
-    length-squared-requires
+    (λ c κs. search needs)
+    (λ c κs. search needs)
+    (λ c κs. search needs)
     is-above-requires
     returns-2
-    add-i
-    loop-less
+    (λ c. search needs)
+    (λ c. search needs)
     loop-again
     returns-3)

@@ -6,12 +6,6 @@ use borrow.Author.Needs.{needs}
 use Rattle.escape.proofs.is_near.Statement.{statement}
 use Rattle.escape.proofs.is_near.Tie as tie
 
-size-requires : tie.Need-size-requires
-size-requires c κs = search needs
-
-length-squared-requires : tie.Need-length-squared-requires
-length-squared-requires c κs = search needs
-
 all-near-requires : tie.Need-all-near-requires
 all-near-requires c κs =
     (search needs, c .before .before .before .if1 .taken, c .before .before .if2 .taken, c .before .if3 .taken, c .if4 .taken, c .before .before .before .before .length-squared .ensures ∙ ap vLengthSquared (c .before .before .before .before .before .size .ensures))
@@ -32,4 +26,4 @@ returns-5 : tie.Need-returns-5
 returns-5 c = λ e. absurd (holds e)
 
 pub is-near-spec : {M : Type 1} → statement M
-is-near-spec = tie.close (tie.spec size-requires length-squared-requires all-near-requires returns returns-2 returns-3 returns-4 returns-5)
+is-near-spec = tie.close (tie.spec (λ c κs. search needs) (λ c κs. search needs) all-near-requires returns returns-2 returns-3 returns-4 returns-5)

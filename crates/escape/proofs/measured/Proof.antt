@@ -4,15 +4,9 @@ use borrow.Author.Needs.{needs}
 use Rattle.escape.proofs.measured.Statement.{statement}
 use Rattle.escape.proofs.measured.Tie as tie
 
-sub-requires : tie.Need-sub-requires
-sub-requires c κs = search needs
-
-length-squared-requires : tie.Need-length-squared-requires
-length-squared-requires c κs = search needs
-
 returns : tie.Need-returns
 unfolding measured
 returns c = rw (c .length-squared .ensures, c .before .sub .ensures)
 
 pub measured-spec : {M : Type 1} → statement M
-measured-spec = tie.close (tie.spec sub-requires length-squared-requires returns)
+measured-spec = tie.close (tie.spec (λ c κs. search needs) (λ c κs. search needs) returns)

@@ -6,12 +6,6 @@ use borrow.Author.Needs.{needs}
 use Rattle.escape.proofs.nearer.Statement.{statement}
 use Rattle.escape.proofs.nearer.Tie as tie
 
-measured-requires : tie.Need-measured-requires
-measured-requires c κs = search needs
-
-is-below-requires : tie.Need-is-below-requires
-is-below-requires c κs = search needs
-
 returns : tie.Need-returns
 returns c =
     let best = c .before .before .before .args .best in
@@ -25,4 +19,4 @@ returns-2 c =
     nearer-old best (m .result) _ (c .before .is-below .ensures) (c .if1 .left) ∙ ap (nearerOf best) (m .ensures)
 
 pub nearer-spec : {M : Type 1} → statement M
-nearer-spec = tie.close (tie.spec measured-requires is-below-requires returns returns-2)
+nearer-spec = tie.close (tie.spec (λ c κs. search needs) (λ c κs. search needs) returns returns-2)

@@ -19,24 +19,6 @@ Inv-loop points curves reals parts ranges row start end natural ready first a₀
 abbrev μ-loop : tie.MeasureT-loop
 μ-loop points curves reals parts ranges row start end natural ready first a₀ b₀ i₀ a b i = 512 - i
 
-natural-range-requires : tie.Need-natural-range-requires Inv-loop μ-loop
-natural-range-requires c κs = search needs
-
-ready-at-requires : tie.Need-ready-at-requires Inv-loop μ-loop
-ready-at-requires c κs = search needs
-
-sweep-at-requires : tie.Need-sweep-at-requires Inv-loop μ-loop
-sweep-at-requires c κs = search needs
-
-point-of-requires : tie.Need-point-of-requires Inv-loop μ-loop
-point-of-requires c κs = search needs
-
-measured-requires : tie.Need-measured-requires Inv-loop μ-loop
-measured-requires c κs = search needs
-
-measured-requires-2 : tie.Need-measured-requires-2 Inv-loop μ-loop
-measured-requires-2 c κs = search needs
-
 loop-holds : tie.Need-loop-holds Inv-loop μ-loop
 loop-holds c = (
   omega arith,
@@ -45,24 +27,6 @@ loop-holds c = (
   swept-first _ _ _ (c .before .before .before .sweep-at .ensures) (c .before .before .before .before .ready-at .ensures) (c .before .before .point-of .ensures) (c .before .measured .ensures),
   swept-first _ _ _ (c .before .before .before .sweep-at .ensures) (c .before .before .before .before .ready-at .ensures) (c .before .before .point-of .ensures) (c .measured2 .ensures),
 )
-
-add-i : tie.Need-add-i Inv-loop μ-loop
-add-i c = search needs
-
-sweep-at-requires-2 : tie.Need-sweep-at-requires-2 Inv-loop μ-loop
-sweep-at-requires-2 c κs = search needs
-
-point-of-requires-2 : tie.Need-point-of-requires-2 Inv-loop μ-loop
-point-of-requires-2 c κs = search needs
-
-nearer-requires : tie.Need-nearer-requires Inv-loop μ-loop
-nearer-requires c κs = search needs
-
-nearer-requires-2 : tie.Need-nearer-requires-2 Inv-loop μ-loop
-nearer-requires-2 c κs = search needs
-
-loop-less : tie.Need-loop-less Inv-loop μ-loop
-loop-less c = search needs
 
 loop-again : tie.Need-loop-again Inv-loop μ-loop
 loop-again c =
@@ -87,18 +51,18 @@ nearest-spec =
     (tie.spec
     Inv-loop
     μ-loop
-    natural-range-requires
-    ready-at-requires
-    sweep-at-requires
-    point-of-requires
-    measured-requires
-    measured-requires-2
+    (λ c κs. search needs)
+    (λ c κs. search needs)
+    (λ c κs. search needs)
+    (λ c κs. search needs)
+    (λ c κs. search needs)
+    (λ c κs. search needs)
     loop-holds
-    add-i
-    sweep-at-requires-2
-    point-of-requires-2
-    nearer-requires
-    nearer-requires-2
-    loop-less
+    (λ c. search needs)
+    (λ c κs. search needs)
+    (λ c κs. search needs)
+    (λ c κs. search needs)
+    (λ c κs. search needs)
+    (λ c. search needs)
     loop-again
     returns)

@@ -15,23 +15,8 @@ Inv-loop p chain n limit cut has-cut i₀ i = (i ≤ n) × (left (close limit p)
 abbrev μ-loop : tie.MeasureT-loop
 μ-loop p chain n limit cut has-cut i₀ i = n - i
 
-max-requires : tie.Need-max-requires Inv-loop μ-loop
-max-requires c κs = search needs
-
-root-requires : tie.Need-root-requires Inv-loop μ-loop
-root-requires c κs = search needs
-
 loop-holds : tie.Need-loop-holds Inv-loop μ-loop
 loop-holds c = (omega arith, refl)
-
-point-at-requires : tie.Need-point-at-requires Inv-loop μ-loop
-point-at-requires c κs = search needs
-
-sub-requires : tie.Need-sub-requires Inv-loop μ-loop
-sub-requires c κs = search needs
-
-length-squared-requires : tie.Need-length-squared-requires Inv-loop μ-loop
-length-squared-requires c κs = search needs
 
 is-within-requires : tie.Need-is-within-requires Inv-loop μ-loop
 is-within-requires c κs = root-beyond _ (c .before .before .before .before .before .root .ensures)
@@ -44,12 +29,6 @@ returns c =
     found (close _ _) (a .chain .now) (a .n) (l .i) (c .before .before .before .before .before .loop-test .taken) (rw (c .before .is-within .ensures, c .before .before .length-squared .ensures, c .before .before .before .sub .ensures, c .before .before .before .before .point-at .ensures)) (c .if1 .taken)
     ∙ l .inv .1
     ∙ reaches-whole (a .chain .now) (a .n) (a .r) _ _ (a .edge) (c .before .before .before .before .before .before .before .before .max .ensures)
-
-add-i : tie.Need-add-i Inv-loop μ-loop
-add-i c = search needs
-
-loop-less : tie.Need-loop-less Inv-loop μ-loop
-loop-less c = search needs
 
 loop-again : tie.Need-loop-again Inv-loop μ-loop
 unfolding vLength
@@ -72,15 +51,15 @@ reaches-spec =
     (tie.spec
     Inv-loop
     μ-loop
-    max-requires
-    root-requires
+    (λ c κs. search needs)
+    (λ c κs. search needs)
     loop-holds
-    point-at-requires
-    sub-requires
-    length-squared-requires
+    (λ c κs. search needs)
+    (λ c κs. search needs)
+    (λ c κs. search needs)
     is-within-requires
     returns
-    add-i
-    loop-less
+    (λ c. search needs)
+    (λ c. search needs)
     loop-again
     returns-2)

@@ -9,11 +9,8 @@ returns c =
     let a = c .before .before .before .before .before .before .before .before .before .before .before .before .before .before .before .before .before .before .args in
     inside (a .b) (a .p) (c .before .before .before .before .before .before .before .before .before .before .before .before .before .before .before .if1 .taken) (c .before .before .before .before .before .before .before .before .before .before .before .before .if2 .taken) (c .before .before .before .before .before .before .before .before .before .if3 .taken) (c .before .before .before .before .before .before .if4 .taken) (c .before .before .before .if5 .taken) (c .if6 .taken)
 
-add-other-requires : tie.Need-add-other-requires
-add-other-requires c κs = search needs
-
 returns-2 : tie.Need-returns-2
 returns-2 c = c .add-other .ensures
 
 pub add-finite-spec : {M : Type 1} → statement M
-add-finite-spec = tie.close (tie.spec returns add-other-requires returns-2)
+add-finite-spec = tie.close (tie.spec returns (λ c κs. search needs) returns-2)

@@ -4,12 +4,6 @@ use borrow.Author.Needs.{needs}
 use Rattle.extent.proofs.add_other.Statement.{statement}
 use Rattle.extent.proofs.add_other.Tie as tie
 
-is-finite-requires : tie.Need-is-finite-requires
-is-finite-requires c κs = search needs
-
-add-point-requires : tie.Need-add-point-requires
-add-point-requires c κs = search needs
-
 returns : tie.Need-returns
 returns c = rw (sym (c .before .before .is-finite .ensures) ∙ c .before .if1 .taken) (c .add-point .ensures)
 
@@ -17,4 +11,4 @@ returns-2 : tie.Need-returns-2
 returns-2 c = rw (sym (c .before .is-finite .ensures) ∙ c .if1 .left)
 
 pub add-other-spec : {M : Type 1} → statement M
-add-other-spec = tie.close (tie.spec is-finite-requires add-point-requires returns returns-2)
+add-other-spec = tie.close (tie.spec (λ c κs. search needs) (λ c κs. search needs) returns returns-2)

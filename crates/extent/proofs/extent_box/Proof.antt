@@ -4,15 +4,6 @@ use borrow.Author.Needs.{needs}
 use Rattle.extent.proofs.extent_box.Statement.{statement}
 use Rattle.extent.proofs.extent_box.Tie as tie
 
-enum-known-usable : tie.Need-enum-known-usable
-enum-known-usable c = search needs
-
-probe-requires : tie.Need-probe-requires
-probe-requires c κs = search needs
-
-enum-told : tie.Need-enum-told
-enum-told c = search needs
-
 returns : tie.Need-returns
 unfolding extentBox
 returns c = rw (c .before .before .usable .given .1) (c .probe .ensures)
@@ -22,4 +13,4 @@ unfolding extentBox
 returns-2 c = rw (c .enum-told .given .1)
 
 pub extent-box-spec : {M : Type 1} → statement M
-extent-box-spec = tie.close (tie.spec enum-known-usable probe-requires enum-told returns returns-2)
+extent-box-spec = tie.close (tie.spec (λ c. search needs) (λ c κs. search needs) (λ c. search needs) returns returns-2)

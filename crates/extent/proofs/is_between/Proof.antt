@@ -7,24 +7,6 @@ use borrow.Author.Needs.{needs}
 use Rattle.extent.proofs.is_between.Statement.{statement}
 use Rattle.extent.proofs.is_between.Tie as tie
 
-is-finite-requires : tie.Need-is-finite-requires
-is-finite-requires c κs = search needs
-
-is-finite-requires-2 : tie.Need-is-finite-requires-2
-is-finite-requires-2 c κs = search needs
-
-is-finite-requires-3 : tie.Need-is-finite-requires-3
-is-finite-requires-3 c κs = search needs
-
-is-finite-requires-4 : tie.Need-is-finite-requires-4
-is-finite-requires-4 c κs = search needs
-
-is-finite-requires-5 : tie.Need-is-finite-requires-5
-is-finite-requires-5 c κs = search needs
-
-is-finite-requires-6 : tie.Need-is-finite-requires-6
-is-finite-requires-6 c κs = search needs
-
 returns : tie.Need-returns
 returns c = λ w (t : Float) h k.
     let a = c .before .before .before .before .before .before .before .before .before .before .before .before .before .before .before .before .args in
@@ -52,4 +34,4 @@ returns-6 c = λ e. absurd (holds e)
 pub is-between-spec : {M : Type 1} → statement M
 is-between-spec =
     tie.close
-    (tie.spec is-finite-requires is-finite-requires-2 is-finite-requires-3 is-finite-requires-4 is-finite-requires-5 is-finite-requires-6 returns returns-2 returns-3 returns-4 returns-5 returns-6)
+    (tie.spec (λ c κs. search needs) (λ c κs. search needs) (λ c κs. search needs) (λ c κs. search needs) (λ c κs. search needs) (λ c κs. search needs) returns returns-2 returns-3 returns-4 returns-5 returns-6)

@@ -12,21 +12,6 @@ use borrow.Author.Needs.{needs}
 use Rattle.extent.proofs.is_line_inside.Statement.{statement}
 use Rattle.extent.proofs.is_line_inside.Tie as tie
 
-at-requires : tie.Need-at-requires
-at-requires c κs = search needs
-
-at-requires-2 : tie.Need-at-requires-2
-at-requires-2 c κs = search needs
-
-is-between-requires : tie.Need-is-between-requires
-is-between-requires c κs = search needs
-
-is-between-requires-2 : tie.Need-is-between-requires-2
-is-between-requires-2 c κs = search needs
-
-is-between-requires-3 : tie.Need-is-between-requires-3
-is-between-requires-3 c κs = search needs
-
 returns : tie.Need-returns
 unfolding ofBits neg
 returns c = λ w (k : CurveTree) e.
@@ -57,4 +42,4 @@ returns-6 : tie.Need-returns-6
 returns-6 c = λ e. absurd (holds e)
 
 pub is-line-inside-spec : {M : Type 1} → statement M
-is-line-inside-spec = tie.close (tie.spec at-requires at-requires-2 is-between-requires is-between-requires-2 is-between-requires-3 returns returns-2 returns-3 returns-4 returns-5 returns-6)
+is-line-inside-spec = tie.close (tie.spec (λ c κs. search needs) (λ c κs. search needs) (λ c κs. search needs) (λ c κs. search needs) (λ c κs. search needs) returns returns-2 returns-3 returns-4 returns-5 returns-6)

@@ -4,20 +4,8 @@ use borrow.Author.Needs.{needs}
 use Rattle.extent.proofs.probe.Statement.{statement}
 use Rattle.extent.proofs.probe.Tie as tie
 
-ready-at-requires : tie.Need-ready-at-requires
-ready-at-requires c κs = search needs
-
-enum-known-ready : tie.Need-enum-known-ready
-enum-known-ready c = search needs
-
-is-line-inside-requires : tie.Need-is-line-inside-requires
-is-line-inside-requires c κs = search needs
-
 returns : tie.Need-returns
 returns c = c .before .is-line-inside .ensures (c .if1 .taken) _ (sym (c .before .before .before .before .before .ready-at .ensures) ∙ c .before .before .before .ready .given .1)
-
-probe-line-requires : tie.Need-probe-line-requires
-probe-line-requires c κs = search needs
 
 returns-2 : tie.Need-returns-2
 returns-2 c = c .probe-line .ensures _ (sym (c .before .before .before .before .before .before .ready-at .ensures) ∙ c .before .before .before .before .ready .given .1)
@@ -29,4 +17,4 @@ returns-3 : tie.Need-returns-3
 returns-3 c = c .probe-each .ensures
 
 pub probe-spec : {M : Type 1} → statement M
-probe-spec = tie.close (tie.spec ready-at-requires enum-known-ready is-line-inside-requires returns probe-line-requires returns-2 probe-each-requires returns-3)
+probe-spec = tie.close (tie.spec (λ c κs. search needs) (λ c. search needs) (λ c κs. search needs) returns (λ c κs. search needs) returns-2 probe-each-requires returns-3)

@@ -22,18 +22,6 @@ loop-holds : tie.Need-loop-holds Inv-loop μ-loop
 unfolding probed
 loop-holds c = (search needs, refl)
 
-int-to-float-at : tie.Need-int-to-float-at Inv-loop μ-loop
-int-to-float-at c = search needs
-
-at-requires : tie.Need-at-requires Inv-loop μ-loop
-at-requires c κs = search needs
-
-point-of-requires : tie.Need-point-of-requires Inv-loop μ-loop
-point-of-requires c κs = search needs
-
-add-finite-requires : tie.Need-add-finite-requires Inv-loop μ-loop
-add-finite-requires c κs = search needs
-
 add-i : tie.Need-add-i Inv-loop μ-loop
 add-i c = omega arith
 
@@ -53,10 +41,10 @@ probe-each-spec =
     Inv-loop
     μ-loop
     loop-holds
-    int-to-float-at
-    at-requires
-    point-of-requires
-    add-finite-requires
+    (λ c. search needs)
+    (λ c κs. search needs)
+    (λ c κs. search needs)
+    (λ c κs. search needs)
     add-i
     loop-less
     loop-again

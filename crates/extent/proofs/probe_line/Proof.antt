@@ -24,21 +24,6 @@ loop-holds : tie.Need-loop-holds Inv-loop μ-loop
 unfolding probed
 loop-holds c = (search needs, λ (c : CurveTree) e. refl)
 
-int-to-float-at : tie.Need-int-to-float-at Inv-loop μ-loop
-int-to-float-at c = search needs
-
-at-requires : tie.Need-at-requires Inv-loop μ-loop
-at-requires c κs = search needs
-
-scale-requires : tie.Need-scale-requires Inv-loop μ-loop
-scale-requires c κs = search needs
-
-add-requires : tie.Need-add-requires Inv-loop μ-loop
-add-requires c κs = search needs
-
-add-finite-requires : tie.Need-add-finite-requires Inv-loop μ-loop
-add-finite-requires c κs = search needs
-
 add-i : tie.Need-add-i Inv-loop μ-loop
 add-i c = omega arith
 
@@ -62,11 +47,11 @@ probe-line-spec =
     Inv-loop
     μ-loop
     loop-holds
-    int-to-float-at
-    at-requires
-    scale-requires
-    add-requires
-    add-finite-requires
+    (λ c. search needs)
+    (λ c κs. search needs)
+    (λ c κs. search needs)
+    (λ c κs. search needs)
+    (λ c κs. search needs)
     add-i
     loop-less
     loop-again

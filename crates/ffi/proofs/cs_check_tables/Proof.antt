@@ -6,16 +6,10 @@ use borrow.Author.Needs.{needs}
 use Rattle.ffi.proofs.cs_check_tables.Statement.{statement}
 use Rattle.ffi.proofs.cs_check_tables.Tie as tie
 
-check-tables-requires : tie.Need-check-tables-requires
-check-tables-requires c κs = search needs
-
-cause-of-requires : tie.Need-cause-of-requires
-cause-of-requires c κs = search needs
-
 returns : tie.Need-returns
 returns c =
     let p = c .cause-of .ensures ∙ ap causeOf (c .before .check-tables .ensures) in
     (p, accepted _ _ p)
 
 pub cs-check-tables-spec : {M : Type 1} → statement M
-cs-check-tables-spec = tie.close (tie.spec check-tables-requires cause-of-requires returns)
+cs-check-tables-spec = tie.close (tie.spec (λ c κs. search needs) (λ c κs. search needs) returns)

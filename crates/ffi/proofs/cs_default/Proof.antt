@@ -3,14 +3,8 @@ use borrow.Author.Needs.{needs}
 use Rattle.ffi.proofs.cs_default.Statement.{statement}
 use Rattle.ffi.proofs.cs_default.Tie as tie
 
-default-requires : tie.Need-default-requires
-default-requires c κs = search needs
-
-radians-requires : tie.Need-radians-requires
-radians-requires c κs = search needs
-
 returns : tie.Need-returns
 returns c = rw (c .radians .ensures) (c .before .default .ensures)
 
 pub cs-default-spec : {M : Type 1} → statement M
-cs-default-spec = tie.close (tie.spec default-requires radians-requires returns)
+cs-default-spec = tie.close (tie.spec (λ c κs. search needs) (λ c κs. search needs) returns)

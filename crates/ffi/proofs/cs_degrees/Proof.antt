@@ -5,14 +5,8 @@ use borrow.Author.Needs.{needs}
 use Rattle.ffi.proofs.cs_degrees.Statement.{statement}
 use Rattle.ffi.proofs.cs_degrees.Tie as tie
 
-degrees-requires : tie.Need-degrees-requires
-degrees-requires c κs = search needs
-
-radians-requires : tie.Need-radians-requires
-radians-requires c κs = search needs
-
 returns : tie.Need-returns
 returns c = c .radians .ensures ∙ ap (λ (r : Radians). r .0) (c .before .degrees .ensures)
 
 pub cs-degrees-spec : {M : Type 1} → statement M
-cs-degrees-spec = tie.close (tie.spec degrees-requires radians-requires returns)
+cs-degrees-spec = tie.close (tie.spec (λ c κs. search needs) (λ c κs. search needs) returns)

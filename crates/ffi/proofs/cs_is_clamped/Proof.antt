@@ -5,14 +5,8 @@ use borrow.Author.Needs.{needs}
 use Rattle.ffi.proofs.cs_is_clamped.Statement.{statement}
 use Rattle.ffi.proofs.cs_is_clamped.Tie as tie
 
-of-requires : tie.Need-of-requires
-of-requires c κs = search needs
-
-is-clamped-requires : tie.Need-is-clamped-requires
-is-clamped-requires c κs = search needs
-
 returns : tie.Need-returns
 returns c = c .is-clamped .ensures ∙ ap isClamped (c .before .of .ensures)
 
 pub cs-is-clamped-spec : {M : Type 1} → statement M
-cs-is-clamped-spec = tie.close (tie.spec of-requires is-clamped-requires returns)
+cs-is-clamped-spec = tie.close (tie.spec (λ c κs. search needs) (λ c κs. search needs) returns)

@@ -3,11 +3,8 @@ use borrow.Author.Needs.{needs}
 use Rattle.ffi.proofs.cs_start.Statement.{statement}
 use Rattle.ffi.proofs.cs_start.Tie as tie
 
-start-at-requires : tie.Need-start-at-requires
-start-at-requires c κs = search needs
-
 returns : tie.Need-returns
 returns c = c .start-at .ensures
 
 pub cs-start-spec : {M : Type 1} → statement M
-cs-start-spec = tie.close (tie.spec start-at-requires returns)
+cs-start-spec = tie.close (tie.spec (λ c κs. search needs) returns)

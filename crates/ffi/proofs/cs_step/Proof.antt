@@ -6,15 +6,6 @@ use borrow.Author.Needs.{needs}
 use Rattle.ffi.proofs.cs_step.Statement.{statement}
 use Rattle.ffi.proofs.cs_step.Tie as tie
 
-step-at-requires : tie.Need-step-at-requires
-step-at-requires c κs = search needs
-
-point-after-requires : tie.Need-point-after-requires
-point-after-requires c κs = search needs
-
-has-passed-requires : tie.Need-has-passed-requires
-has-passed-requires c κs = search needs
-
 returns : tie.Need-returns
 returns c =
     let e = c .before .before .before .step-at .ensures in (
@@ -25,4 +16,4 @@ returns c =
 
 pub cs-step-spec : {M : Type 1} → statement M
 cs-step-spec =
-    tie.close (tie.spec step-at-requires point-after-requires has-passed-requires returns)
+    tie.close (tie.spec (λ c κs. search needs) (λ c κs. search needs) (λ c κs. search needs) returns)

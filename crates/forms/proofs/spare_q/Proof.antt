@@ -4,12 +4,9 @@ use borrow.Author.Needs.{needs}
 use Rattle.forms.proofs.spare_q.Statement.{statement}
 use Rattle.forms.proofs.spare_q.Tie as tie
 
-either-requires : tie.Need-either-requires
-either-requires c κs = search needs
-
 returns : tie.Need-returns
 unfolding spareQ
 returns c = rw (c .either .ensures)
 
 pub spare-q-spec : {M : Type 1} → statement M
-spare-q-spec = tie.close (tie.spec either-requires returns)
+spare-q-spec = tie.close (tie.spec (λ c κs. search needs) returns)

@@ -11,30 +11,6 @@ use borrow.Author.Needs.{needs}
 use Rattle.knots.proofs.run_of.Statement.{statement}
 use Rattle.knots.proofs.run_of.Tie as tie
 
-under-trims-requires : tie.Need-under-trims-requires
-under-trims-requires c κs = search needs
-
-cast-at : tie.Need-cast-at
-cast-at c = search needs
-
-mul-at : tie.Need-mul-at
-mul-at c = search needs
-
-int-at-requires : tie.Need-int-at-requires
-int-at-requires c κs = search needs
-
-add-int-at : tie.Need-add-int-at
-add-int-at c = search needs
-
-int-at-requires-2 : tie.Need-int-at-requires-2
-int-at-requires-2 c κs = search needs
-
-add-int-at-2 : tie.Need-add-int-at-2
-add-int-at-2 c = search needs
-
-int-at-requires-3 : tie.Need-int-at-requires-3
-int-at-requires-3 c κs = search needs
-
 returns : tie.Need-returns
 unfolding curveKnots
 returns c parts ranges = let a = c .before .before .before .before .before .before .before .before .args in sym (run-knots (tables (a .points .now) (a .curves .now) (a .reals .now) parts ranges) _ _ _) ∙ at-composite curveKnots (tables (a .points .now) (a .curves .now) (a .reals .now) parts ranges) _ (c .before .before .before .int-at .ensures) (c .before .before .if1 .taken) (c .before .int-at2 .ensures) (c .int-at3 .ensures) ∙ under-same curveKnots (λ b r. refl) (tables (a .points .now) (a .curves .now) (a .reals .now) parts ranges) (a .row) (c .before .before .before .before .under-trims .ensures)
@@ -47,13 +23,13 @@ pub run-of-spec : {M : Type 1} → statement M
 run-of-spec =
     tie.close
     (tie.spec
-    under-trims-requires
-    cast-at
-    mul-at
-    int-at-requires
-    add-int-at
-    int-at-requires-2
-    add-int-at-2
-    int-at-requires-3
+    (λ c κs. search needs)
+    (λ c. search needs)
+    (λ c. search needs)
+    (λ c κs. search needs)
+    (λ c. search needs)
+    (λ c κs. search needs)
+    (λ c. search needs)
+    (λ c κs. search needs)
     returns
     returns-2)

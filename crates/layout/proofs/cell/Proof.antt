@@ -22,24 +22,15 @@ kind-read c =
     let k = c .before .k .given in
     read-at (a .s .now) (oneOf kinds) kinds-law (a .at) (k .0 .0) (k .0 .1 .0) (c .before .before .before .before .before .before .before .before .pre) (sym (k .1) ∙ c .before .before .before .kind .ensures)
 
-hex-then-requires : tie.Need-hex-then-requires
-hex-then-requires c κs = search needs
-
 returns : tie.Need-returns
 returns c =
     let a = c .before .before .before .args in
     c .hex-then .ensures ∙ ap (told (a .s .now)) (cell-f (a .letter) (a .end) (drop (a .at) (a .s .now)) (c .before .if1 .taken))
 
-decimal-requires : tie.Need-decimal-requires
-decimal-requires c κs = search needs
-
 returns-2 : tie.Need-returns-2
 returns-2 c =
     let a = c .before .before .before .before .args in
     c .decimal .ensures ∙ ap (told (a .s .now)) (cell-w (a .letter) (a .end) (drop (a .at) (a .s .now)) (c .before .before .if1 .left) (c .before .if2 .taken))
-
-decimal-requires-2 : tie.Need-decimal-requires-2
-decimal-requires-2 c κs = search needs
 
 returns-3 : tie.Need-returns-3
 returns-3 c =
@@ -47,17 +38,8 @@ returns-3 c =
     c .decimal2 .ensures
     ∙ ap (told (a .s .now)) (cell-l (a .letter) (a .end) (drop (a .at) (a .s .now)) (c .before .before .before .if1 .left) (c .before .before .if2 .left) (c .before .if3 .taken))
 
-kind-requires : tie.Need-kind-requires
-kind-requires c κs = search needs
-
-enum-known-k : tie.Need-enum-known-k
-enum-known-k c = search needs
-
 byte-requires : tie.Need-byte-requires
 byte-requires c κs = kind-read c .within
-
-enum-told : tie.Need-enum-told
-enum-told c = search needs
 
 returns-4 : tie.Need-returns-4
 returns-4 c =
@@ -78,15 +60,15 @@ pub cell-spec : {M : Type 1} → statement M
 cell-spec =
     tie.close
     (tie.spec
-    hex-then-requires
+    (λ c κs. search needs)
     returns
-    decimal-requires
+    (λ c κs. search needs)
     returns-2
-    decimal-requires-2
+    (λ c κs. search needs)
     returns-3
-    kind-requires
-    enum-known-k
+    (λ c κs. search needs)
+    (λ c. search needs)
     byte-requires
-    enum-told
+    (λ c. search needs)
     returns-4
     returns-5)

@@ -5,9 +5,6 @@ use borrow.Author.Needs.{needs}
 use Rattle.layout.proofs.end_of.Statement.{statement}
 use Rattle.layout.proofs.end_of.Tie as tie
 
-add-if1 : tie.Need-add-if1
-add-if1 c = search needs
-
 returns : tie.Need-returns
 returns c = behind-more (c .before .args .shape .now) (c .before .args .i + 1) (c .if1 .taken)
 
@@ -15,4 +12,4 @@ returns-2 : tie.Need-returns-2
 returns-2 c = behind-last (c .before .args .shape .now) (c .before .args .i + 1) (c .if1 .left)
 
 pub end-of-spec : {M : Type 1} → statement M
-end-of-spec = tie.close (tie.spec add-if1 returns returns-2)
+end-of-spec = tie.close (tie.spec (λ c. search needs) returns returns-2)

@@ -11,48 +11,6 @@ use borrow.Author.Needs.{needs}
 use Rattle.layout.proofs.kind.Statement.{statement}
 use Rattle.layout.proofs.kind.Tie as tie
 
-slice-aggregate-word : tie.Need-slice-aggregate-word
-slice-aggregate-word c = search needs
-
-word-requires : tie.Need-word-requires
-word-requires c κs = search needs
-
-slice-aggregate-or-word : tie.Need-slice-aggregate-or-word
-slice-aggregate-or-word c = search needs
-
-or-word-requires : tie.Need-or-word-requires
-or-word-requires c κs = search needs
-
-slice-aggregate-or-word-2 : tie.Need-slice-aggregate-or-word-2
-slice-aggregate-or-word-2 c = search needs
-
-or-word-requires-2 : tie.Need-or-word-requires-2
-or-word-requires-2 c κs = search needs
-
-slice-aggregate-or-word-3 : tie.Need-slice-aggregate-or-word-3
-slice-aggregate-or-word-3 c = search needs
-
-or-word-requires-3 : tie.Need-or-word-requires-3
-or-word-requires-3 c κs = search needs
-
-slice-aggregate-or-word-4 : tie.Need-slice-aggregate-or-word-4
-slice-aggregate-or-word-4 c = search needs
-
-or-word-requires-4 : tie.Need-or-word-requires-4
-or-word-requires-4 c κs = search needs
-
-slice-aggregate-or-word-5 : tie.Need-slice-aggregate-or-word-5
-slice-aggregate-or-word-5 c = search needs
-
-or-word-requires-5 : tie.Need-or-word-requires-5
-or-word-requires-5 c κs = search needs
-
-slice-aggregate-or-word-6 : tie.Need-slice-aggregate-or-word-6
-slice-aggregate-or-word-6 c = search needs
-
-or-word-requires-6 : tie.Need-or-word-requires-6
-or-word-requires-6 c κs = search needs
-
 returns : tie.Need-returns
 unfolding kinds bytes tried orTold
 returns c =
@@ -71,18 +29,18 @@ pub kind-spec : {M : Type 1} → statement M
 kind-spec =
     tie.close
     (tie.spec
-    slice-aggregate-word
-    word-requires
-    slice-aggregate-or-word
-    or-word-requires
-    slice-aggregate-or-word-2
-    or-word-requires-2
-    slice-aggregate-or-word-3
-    or-word-requires-3
-    slice-aggregate-or-word-4
-    or-word-requires-4
-    slice-aggregate-or-word-5
-    or-word-requires-5
-    slice-aggregate-or-word-6
-    or-word-requires-6
+    (λ c. search needs)
+    (λ c κs. search needs)
+    (λ c. search needs)
+    (λ c κs. search needs)
+    (λ c. search needs)
+    (λ c κs. search needs)
+    (λ c. search needs)
+    (λ c κs. search needs)
+    (λ c. search needs)
+    (λ c κs. search needs)
+    (λ c. search needs)
+    (λ c κs. search needs)
+    (λ c. search needs)
+    (λ c κs. search needs)
     returns)

@@ -38,21 +38,6 @@ loop-holds c =
     let a = c .before .before .args in
     (c .before .before .pre .0, search needs, begin (a .s .now) (a .shape .now) (a .at), refl)
 
-shared-slice-read-letter : tie.Need-shared-slice-read-letter Inv-loop μ-loop
-shared-slice-read-letter c = search needs
-
-end-of-requires : tie.Need-end-of-requires Inv-loop μ-loop
-end-of-requires c κs = search needs
-
-cell-requires : tie.Need-cell-requires Inv-loop μ-loop
-cell-requires c κs = search needs
-
-enum-known-v : tie.Need-enum-known-v Inv-loop μ-loop
-enum-known-v c = search needs
-
-enum-told : tie.Need-enum-told Inv-loop μ-loop
-enum-told c = search needs
-
 returns : tie.Need-returns Inv-loop μ-loop
 unfolding padded
 returns c =
@@ -60,18 +45,6 @@ returns c =
     let l = c .before .before .before .before .before .before .loop in
     let column-bad = read-bad (a .s .now) _ (sym (c .enum-told .given .1) ∙ told-cell (c .before .before)) in
     told-no-row (a .s .now) _ (no-cell (a .s .now) (a .shape .now) (a .at) (l .p) (l .i) (l .inv .2) (omega arith) column-bad)
-
-mul-numbers : tie.Need-mul-numbers Inv-loop μ-loop
-mul-numbers c = search needs
-
-array-write-numbers : tie.Need-array-write-numbers Inv-loop μ-loop
-array-write-numbers c = search needs
-
-add-i : tie.Need-add-i Inv-loop μ-loop
-add-i c = search needs
-
-loop-less : tie.Need-loop-less Inv-loop μ-loop
-loop-less c = search needs
 
 loop-again : tie.Need-loop-again Inv-loop μ-loop
 loop-again c =
@@ -103,15 +76,15 @@ line-spec =
     Inv-loop
     μ-loop
     loop-holds
-    shared-slice-read-letter
-    end-of-requires
-    cell-requires
-    enum-known-v
-    enum-told
+    (λ c. search needs)
+    (λ c κs. search needs)
+    (λ c κs. search needs)
+    (λ c. search needs)
+    (λ c. search needs)
     returns
-    mul-numbers
-    array-write-numbers
-    add-i
-    loop-less
+    (λ c. search needs)
+    (λ c. search needs)
+    (λ c. search needs)
+    (λ c. search needs)
     loop-again
     returns-2)

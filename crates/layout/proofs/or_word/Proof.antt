@@ -8,15 +8,6 @@ use borrow.Author.Needs.{needs}
 use Rattle.layout.proofs.or_word.Statement.{statement}
 use Rattle.layout.proofs.or_word.Tie as tie
 
-enum-known-first : tie.Need-enum-known-first
-enum-known-first c = search needs
-
-enum-told : tie.Need-enum-told
-enum-told c = search needs
-
-word-requires : tie.Need-word-requires
-word-requires c κs = search needs
-
 returns : tie.Need-returns
 unfolding orTold
 returns c =
@@ -32,4 +23,4 @@ returns-2 c =
     c .word .ensures ∙ sym (ap (λ f. orTold f other) (c .before .enum-told .given .1))
 
 pub or-word-spec : {M : Type 1} → statement M
-or-word-spec = tie.close (tie.spec enum-known-first enum-told word-requires returns returns-2)
+or-word-spec = tie.close (tie.spec (λ c. search needs) (λ c. search needs) (λ c κs. search needs) returns returns-2)

@@ -18,9 +18,6 @@ Inv-loop range n out₀ total i₀ out i = (i ≤ n + 1) × (length out ≡ leng
 abbrev μ-loop : tie.MeasureT-loop
 μ-loop range n out₀ total i₀ out i = n + 1 - i
 
-nearest-u64-to-f64-requires : tie.Need-nearest-u64-to-f64-requires Inv-loop μ-loop
-nearest-u64-to-f64-requires c κs = search needs
-
 loop-holds : tie.Need-loop-holds Inv-loop μ-loop
 loop-holds c = let a = c .before .before .args in (omega arith, refl, steps-none (a .range) (a .n) (a .out .now))
 
@@ -32,24 +29,6 @@ returns c =
     let a = c .before .before .before .before .before .args in
     let l = c .before .before .loop in
     steps-stop (a .range) (a .n) (l .i) (l .inv .2) (search needs) (search needs)
-
-nearest-u64-to-f64-requires-2 : tie.Need-nearest-u64-to-f64-requires-2 Inv-loop μ-loop
-nearest-u64-to-f64-requires-2 c κs = search needs
-
-at-requires : tie.Need-at-requires Inv-loop μ-loop
-at-requires c κs = search needs
-
-mul-out : tie.Need-mul-out Inv-loop μ-loop
-mul-out c = search needs
-
-slice-write-out : tie.Need-slice-write-out Inv-loop μ-loop
-slice-write-out c = search needs
-
-add-i : tie.Need-add-i Inv-loop μ-loop
-add-i c = search needs
-
-loop-less : tie.Need-loop-less Inv-loop μ-loop
-loop-less c = search needs
 
 loop-again : tie.Need-loop-again Inv-loop μ-loop
 loop-again c =
@@ -73,16 +52,16 @@ evenly-spec =
     (tie.spec
     Inv-loop
     μ-loop
-    nearest-u64-to-f64-requires
+    (λ c κs. search needs)
     loop-holds
     same-length
     returns
-    nearest-u64-to-f64-requires-2
-    at-requires
-    mul-out
-    slice-write-out
-    add-i
-    loop-less
+    (λ c κs. search needs)
+    (λ c κs. search needs)
+    (λ c. search needs)
+    (λ c. search needs)
+    (λ c. search needs)
+    (λ c. search needs)
     loop-again
     same-length-2
     returns-2)

@@ -9,22 +9,10 @@ returns c =
     let a = c .before .args in
     behind-over (a .out .now) (a .k) (a .x) (search needs) (search needs)
 
-mul-out : tie.Need-mul-out
-mul-out c = search needs
-
-slice-write-out : tie.Need-slice-write-out
-slice-write-out c = search needs
-
-add-t4 : tie.Need-add-t4
-add-t4 c = search needs
-
-same-length : tie.Need-same-length
-same-length c = search needs
-
 returns-2 : tie.Need-returns-2
 returns-2 c =
     let a = c .before .args in
     behind-one (a .out .now) (a .k) (a .x) (search needs)
 
 pub push-spec : {M : Type 1} → statement M
-push-spec = tie.close (tie.spec returns mul-out slice-write-out add-t4 same-length returns-2)
+push-spec = tie.close (tie.spec returns (λ c. search needs) (λ c. search needs) (λ c. search needs) (λ c. search needs) returns-2)

@@ -9,9 +9,6 @@ returns : tie.Need-returns
 unfolding ownOf
 returns c = rw (eq-eqb _ _ (c .if1 .taken))
 
-add-if2 : tie.Need-add-if2
-add-if2 c = search needs
-
 returns-2 : tie.Need-returns-2
 unfolding ownOf
 returns-2 c = rw (ne-eqb _ _ (c .before .if1 .left), eq-eqb _ _ (c .if2 .taken))
@@ -21,4 +18,4 @@ unfolding ownOf
 returns-3 c = rw (ne-eqb _ _ (c .before .if1 .left), ne-eqb _ _ (c .if2 .left))
 
 pub own-of-spec : {M : Type 1} → statement M
-own-of-spec = tie.close (tie.spec returns add-if2 returns-2 returns-3)
+own-of-spec = tie.close (tie.spec returns (λ c. search needs) returns-2 returns-3)

@@ -23,20 +23,11 @@ writes c =
 loop-holds : tie.Need-loop-holds Inv-loop μ-loop
 loop-holds c = (omega arith, none-written (c .args .out .now) (c .args .at) (c .args .w .now))
 
-shared-slice-read-out : tie.Need-shared-slice-read-out Inv-loop μ-loop
-shared-slice-read-out c = search needs
-
 slice-write-out : tie.Need-slice-write-out Inv-loop μ-loop
 slice-write-out c = writes c
 
-add-i : tie.Need-add-i Inv-loop μ-loop
-add-i c = search needs
-
 add-k : tie.Need-add-k Inv-loop μ-loop
 add-k c = let h = writes c in let r = c .before .before .loop .inv .1 .room in omega arith
-
-loop-less : tie.Need-loop-less Inv-loop μ-loop
-loop-less c = search needs
 
 loop-again : tie.Need-loop-again Inv-loop μ-loop
 loop-again c =
@@ -60,11 +51,11 @@ put-bytes-spec =
     Inv-loop
     μ-loop
     loop-holds
-    shared-slice-read-out
+    (λ c. search needs)
     slice-write-out
-    add-i
+    (λ c. search needs)
     add-k
-    loop-less
+    (λ c. search needs)
     loop-again
     same-length
     returns)

@@ -68,17 +68,8 @@ rem-n c =
     let l = c .before .before .loop in
     pow-some (c .before .before .before .before .args .base) (p .0) (l .pow) (l .n) (l .left) (omega arith) (l .inv .1 (omega arith))
 
-div-pow : tie.Need-div-pow Inv-loop μ-loop
-div-pow c = search needs
-
 add-i : tie.Need-add-i Inv-loop μ-loop
 add-i c = let h = writes c in let r = c .before .before .loop .inv .2 .room in omega arith
-
-sub-left : tie.Need-sub-left Inv-loop μ-loop
-sub-left c = search needs
-
-loop-less : tie.Need-loop-less Inv-loop μ-loop
-loop-less c = search needs
 
 loop-again : tie.Need-loop-again Inv-loop μ-loop
 loop-again c =
@@ -114,10 +105,10 @@ put-digits-spec =
     char-of-requires
     slice-write-out
     rem-n
-    div-pow
+    (λ c. search needs)
     add-i
-    sub-left
-    loop-less
+    (λ c. search needs)
+    (λ c. search needs)
     loop-again
     same-length
     returns)

@@ -7,22 +7,10 @@ use borrow.Author.Needs.{needs}
 use Rattle.listing.proofs.put_hex.Statement.{statement}
 use Rattle.listing.proofs.put_hex.Tie as tie
 
-put-digits-requires : tie.Need-put-digits-requires
-put-digits-requires c κs = search needs
-
-add-out : tie.Need-add-out
-add-out c = search needs
-
-slice-write-out : tie.Need-slice-write-out
-slice-write-out c = search needs
-
-same-length : tie.Need-same-length
-same-length c = search needs
-
 returns : tie.Need-returns
 returns c =
     let a = c .before .before .before .before .before .args in
     ap (λ l. set l (a .at + 16) (a .end)) (c .before .before .put-digits .ensures) ∙ put-field (a .out .now) (a .at) (a .v) (a .end)
 
 pub put-hex-spec : {M : Type 1} → statement M
-put-hex-spec = tie.close (tie.spec put-digits-requires add-out slice-write-out same-length returns)
+put-hex-spec = tie.close (tie.spec (λ c κs. search needs) (λ c. search needs) (λ c. search needs) (λ c. search needs) returns)

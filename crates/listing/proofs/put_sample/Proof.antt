@@ -5,45 +5,6 @@ use borrow.Author.Needs.{needs}
 use Rattle.listing.proofs.put_sample.Statement.{statement}
 use Rattle.listing.proofs.put_sample.Tie as tie
 
-bits-or-requires : tie.Need-bits-or-requires
-bits-or-requires c κs = search needs
-
-put-hex-requires : tie.Need-put-hex-requires
-put-hex-requires c κs = search needs
-
-bits-or-requires-2 : tie.Need-bits-or-requires-2
-bits-or-requires-2 c κs = search needs
-
-add-put-hex : tie.Need-add-put-hex
-add-put-hex c = search needs
-
-put-hex-requires-2 : tie.Need-put-hex-requires-2
-put-hex-requires-2 c κs = search needs
-
-bits-or-requires-3 : tie.Need-bits-or-requires-3
-bits-or-requires-3 c κs = search needs
-
-add-put-hex-2 : tie.Need-add-put-hex-2
-add-put-hex-2 c = search needs
-
-put-hex-requires-3 : tie.Need-put-hex-requires-3
-put-hex-requires-3 c κs = search needs
-
-bits-or-requires-4 : tie.Need-bits-or-requires-4
-bits-or-requires-4 c κs = search needs
-
-add-put-hex-3 : tie.Need-add-put-hex-3
-add-put-hex-3 c = search needs
-
-put-hex-requires-4 : tie.Need-put-hex-requires-4
-put-hex-requires-4 c κs = search needs
-
-add-result : tie.Need-add-result
-add-result c = search needs
-
-same-length : tie.Need-same-length
-same-length c = search needs
-
 returns : tie.Need-returns
 returns c =
     let a = c .before .before .before .before .before .before .before .before .before .before .before .before .before .before .before .before .before .before .before .before .before .args in
@@ -57,17 +18,17 @@ pub put-sample-spec : {M : Type 1} → statement M
 put-sample-spec =
     tie.close
     (tie.spec
-    bits-or-requires
-    put-hex-requires
-    bits-or-requires-2
-    add-put-hex
-    put-hex-requires-2
-    bits-or-requires-3
-    add-put-hex-2
-    put-hex-requires-3
-    bits-or-requires-4
-    add-put-hex-3
-    put-hex-requires-4
-    add-result
-    same-length
+    (λ c κs. search needs)
+    (λ c κs. search needs)
+    (λ c κs. search needs)
+    (λ c. search needs)
+    (λ c κs. search needs)
+    (λ c κs. search needs)
+    (λ c. search needs)
+    (λ c κs. search needs)
+    (λ c κs. search needs)
+    (λ c. search needs)
+    (λ c κs. search needs)
+    (λ c. search needs)
+    (λ c. search needs)
     returns)

@@ -30,12 +30,6 @@ returns c =
       below = l .inv .3;
     }
 
-sub-count : tie.Need-sub-count Inv-loop μ-loop
-sub-count c = search needs
-
-loop-less : tie.Need-loop-less Inv-loop μ-loop
-loop-less c = search needs
-
 loop-again : tie.Need-loop-again Inv-loop μ-loop
 loop-again c =
     let a = c .before .before .before .args in
@@ -63,4 +57,4 @@ returns-2 c =
 pub top-of-spec : {M : Type 1} → statement M
 top-of-spec =
     tie.close
-    (tie.spec Inv-loop μ-loop loop-holds returns sub-count loop-less loop-again returns-2)
+    (tie.spec Inv-loop μ-loop loop-holds returns (λ c. search needs) (λ c. search needs) loop-again returns-2)

@@ -18,20 +18,8 @@ Inv-loop chain n first last out₀ at₀ i₀ out at i =
 abbrev μ-loop : tie.MeasureT-loop
 μ-loop chain n first last out₀ at₀ i₀ out at i = n - i
 
-slice-aggregate-put-bytes : tie.Need-slice-aggregate-put-bytes Inv-loop μ-loop
-slice-aggregate-put-bytes c = search needs
-
-put-bytes-requires : tie.Need-put-bytes-requires Inv-loop μ-loop
-put-bytes-requires c κs = search needs
-
 loop-holds : tie.Need-loop-holds Inv-loop μ-loop
 loop-holds c = (omega arith, none-written _ _ _)
-
-own-of-requires : tie.Need-own-of-requires Inv-loop μ-loop
-own-of-requires c κs = search needs
-
-sample-at-requires : tie.Need-sample-at-requires Inv-loop μ-loop
-sample-at-requires c κs = search needs
 
 put-sample-requires : tie.Need-put-sample-requires Inv-loop μ-loop
 put-sample-requires c κs =
@@ -46,12 +34,6 @@ put-sample-requires c κs =
     let h = some-fit _ (c .before .before .before .before .before .before .before .put-bytes .result) _ (l .out) (l .at) _ (l .inv .1) (lineOf (rowOf (c .before .before .own-of .result) (c .before .sample-at .result))) _ e (omega arith) in
     let g : l .at + 68 ≤ length (l .out) = omega arith in
     g
-
-add-i : tie.Need-add-i Inv-loop μ-loop
-add-i c = search needs
-
-loop-less : tie.Need-loop-less Inv-loop μ-loop
-loop-less c = search needs
 
 loop-again : tie.Need-loop-again Inv-loop μ-loop
 loop-again c =
@@ -80,14 +62,14 @@ write-chain-spec =
     (tie.spec
     Inv-loop
     μ-loop
-    slice-aggregate-put-bytes
-    put-bytes-requires
+    (λ c. search needs)
+    (λ c κs. search needs)
     loop-holds
-    own-of-requires
-    sample-at-requires
+    (λ c κs. search needs)
+    (λ c κs. search needs)
     put-sample-requires
-    add-i
-    loop-less
+    (λ c. search needs)
+    (λ c. search needs)
     loop-again
     same-length
     returns)

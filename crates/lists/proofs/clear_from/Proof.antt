@@ -16,26 +16,11 @@ abbrev μ-loop : tie.MeasureT-loop
 loop-holds : tie.Need-loop-holds Inv-loop μ-loop
 loop-holds c = clearing-start (c .args .a .now) (c .args .from) (c .pre)
 
-mul-a : tie.Need-mul-a Inv-loop μ-loop
-mul-a c = search needs
-
-slice-write-a : tie.Need-slice-write-a Inv-loop μ-loop
-slice-write-a c = search needs
-
-add-i : tie.Need-add-i Inv-loop μ-loop
-add-i c = search needs
-
-loop-less : tie.Need-loop-less Inv-loop μ-loop
-loop-less c = search needs
-
 loop-again : tie.Need-loop-again Inv-loop μ-loop
 loop-again c =
     let st = c .before .before in
     let l = c .before .loop in
     clearing-next (st .args .a .now) (l .a) (st .args .from) (l .i) (l .inv) (omega (arith, l .inv .same-length))
-
-same-length : tie.Need-same-length Inv-loop μ-loop
-same-length c = search needs
 
 returns : tie.Need-returns Inv-loop μ-loop
 returns c =
@@ -50,10 +35,10 @@ clear-from-spec =
     Inv-loop
     μ-loop
     loop-holds
-    mul-a
-    slice-write-a
-    add-i
-    loop-less
+    (λ c. search needs)
+    (λ c. search needs)
+    (λ c. search needs)
+    (λ c. search needs)
     loop-again
-    same-length
+    (λ c. search needs)
     returns)

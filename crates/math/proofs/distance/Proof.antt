@@ -4,14 +4,8 @@ use borrow.Author.Needs.{needs}
 use Rattle.math.proofs.distance.Statement.{statement}
 use Rattle.math.proofs.distance.Tie as tie
 
-sub-requires : tie.Need-sub-requires
-sub-requires c κs = search needs
-
-length-requires : tie.Need-length-requires
-length-requires c κs = search needs
-
 returns : tie.Need-returns
 returns c = rw (c .length .ensures, c .before .sub .ensures)
 
 pub distance-spec : {M : Type 1} → statement M
-distance-spec = tie.close (tie.spec sub-requires length-requires returns)
+distance-spec = tie.close (tie.spec (λ c κs. search needs) (λ c κs. search needs) returns)

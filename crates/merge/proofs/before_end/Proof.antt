@@ -9,12 +9,6 @@ use Rattle.merge.proofs.before_end.Tie as tie
 returns : tie.Need-returns
 returns c = (sym (rw (le-ltb 1 (c .before .args .k) (c .if1 .taken))), search needs)
 
-distance-requires : tie.Need-distance-requires
-distance-requires c κs = search needs
-
-sub-result : tie.Need-sub-result
-sub-result c = search needs
-
 returns-2 : tie.Need-returns-2
 returns-2 c = (sym (rw (lt-ltb 1 _ (c .before .before .if1 .left), sym (c .before .distance .ensures), c .if2 .taken)), search needs)
 
@@ -22,4 +16,4 @@ returns-3 : tie.Need-returns-3
 returns-3 c = (sym (rw (lt-ltb 1 _ (c .before .before .if1 .left), sym (c .before .distance .ensures), c .if2 .left)), search needs)
 
 pub before-end-spec : {M : Type 1} → statement M
-before-end-spec = tie.close (tie.spec returns distance-requires sub-result returns-2 returns-3)
+before-end-spec = tie.close (tie.spec returns (λ c κs. search needs) (λ c. search needs) returns-2 returns-3)

@@ -22,35 +22,11 @@ abbrev μ-loop : tie.MeasureT-loop
 returns : tie.Need-returns Inv-loop μ-loop
 returns c = as-it-was _ _ _ (few _ _ _ (c .if1 .taken))
 
-root-requires : tie.Need-root-requires Inv-loop μ-loop
-root-requires c κs = search needs
-
-point-at-requires : tie.Need-point-at-requires Inv-loop μ-loop
-point-at-requires c κs = search needs
-
-sub-i-end : tie.Need-sub-i-end Inv-loop μ-loop
-sub-i-end c = search needs
-
 loop-holds : tie.Need-loop-holds Inv-loop μ-loop
 loop-holds c = (refl, kept-first _ _ _ (c .before .before .before .before .if1 .left) _ (c .point-at .ensures))
 
-sample-at-requires : tie.Need-sample-at-requires Inv-loop μ-loop
-sample-at-requires c κs = search needs
-
 is-apart-requires : tie.Need-is-apart-requires Inv-loop μ-loop
 is-apart-requires c κs = root-beyond _ (c .before .before .before .before .before .before .root .ensures)
-
-put-requires : tie.Need-put-requires Inv-loop μ-loop
-put-requires c κs = search needs
-
-add-k : tie.Need-add-k Inv-loop μ-loop
-add-k c = search needs
-
-add-i : tie.Need-add-i Inv-loop μ-loop
-add-i c = search needs
-
-loop-less : tie.Need-loop-less Inv-loop μ-loop
-loop-less c = search needs
 
 loop-again : tie.Need-loop-again Inv-loop μ-loop
 loop-again c =
@@ -64,21 +40,6 @@ loop-again c =
           (λ w. rw (w .1, w .2, w .3) (kept-pass _ _ _ (l .inv .1) within p far (w .0 .left)))
           (c .if3 .came),
     )
-
-sub-sample-at : tie.Need-sub-sample-at Inv-loop μ-loop
-sub-sample-at c = search needs
-
-sample-at-requires-2 : tie.Need-sample-at-requires-2 Inv-loop μ-loop
-sample-at-requires-2 c κs = search needs
-
-before-end-requires : tie.Need-before-end-requires Inv-loop μ-loop
-before-end-requires c κs = search needs
-
-put-requires-2 : tie.Need-put-requires-2 Inv-loop μ-loop
-put-requires-2 c κs = search needs
-
-add-result : tie.Need-add-result Inv-loop μ-loop
-add-result c = search needs
 
 same-length : tie.Need-same-length Inv-loop μ-loop
 same-length c = ap length (c .before .before .put2 .ensures) ∙ length-sets (c .before .before .before .before .before .before .before .before .loop .chain) (width * c .before .before .before .before .before-end .result) (row (c .before .before .before .before .before .sample-at2 .result)) ∙ c .before .before .before .before .before .before .before .before .loop .inv .1 .same-length
@@ -96,22 +57,22 @@ merge-spec =
     Inv-loop
     μ-loop
     returns
-    root-requires
-    point-at-requires
-    sub-i-end
+    (λ c κs. search needs)
+    (λ c κs. search needs)
+    (λ c. search needs)
     loop-holds
-    sample-at-requires
+    (λ c κs. search needs)
     is-apart-requires
-    put-requires
-    add-k
-    add-i
-    loop-less
+    (λ c κs. search needs)
+    (λ c. search needs)
+    (λ c. search needs)
+    (λ c. search needs)
     loop-again
-    sub-sample-at
-    sample-at-requires-2
-    before-end-requires
-    put-requires-2
-    add-result
+    (λ c. search needs)
+    (λ c κs. search needs)
+    (λ c κs. search needs)
+    (λ c κs. search needs)
+    (λ c. search needs)
     same-length
     returns-2
     returns-3)

@@ -4,15 +4,9 @@ use Rattle.merge.specs.Merge.{mergeFloor}
 use Rattle.merge.proofs.merge_floor.Statement.{statement}
 use Rattle.merge.proofs.merge_floor.Tie as tie
 
-max-requires : tie.Need-max-requires
-max-requires c κs = search needs
-
-min-requires : tie.Need-min-requires
-min-requires c κs = search needs
-
 returns : tie.Need-returns
 unfolding mergeFloor
 returns c = rw (c .min .ensures, c .before .max .ensures)
 
 pub merge-floor-spec : {M : Type 1} → statement M
-merge-floor-spec = tie.close (tie.spec max-requires min-requires returns)
+merge-floor-spec = tie.close (tie.spec (λ c κs. search needs) (λ c κs. search needs) returns)

@@ -4,12 +4,6 @@ use borrow.Author.Needs.{needs}
 use Rattle.numbers.proofs.cause_of.Statement.{statement}
 use Rattle.numbers.proofs.cause_of.Tie as tie
 
-enum-told : tie.Need-enum-told
-enum-told c = search needs
-
-enum-known-verdict : tie.Need-enum-known-verdict
-enum-known-verdict c = search needs
-
 returns : tie.Need-returns
 unfolding causeOf
 returns c = cc
@@ -19,4 +13,4 @@ unfolding causeOf
 returns-2 c = cc
 
 pub cause-of-spec : {M : Type 1} → statement M
-cause-of-spec = tie.close (tie.spec enum-told enum-known-verdict returns returns-2)
+cause-of-spec = tie.close (tie.spec (λ c. search needs) (λ c. search needs) returns returns-2)

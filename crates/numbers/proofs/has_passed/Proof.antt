@@ -4,12 +4,6 @@ use borrow.Author.Needs.{needs}
 use Rattle.numbers.proofs.has_passed.Statement.{statement}
 use Rattle.numbers.proofs.has_passed.Tie as tie
 
-enum-told : tie.Need-enum-told
-enum-told c = search needs
-
-enum-told-2 : tie.Need-enum-told-2
-enum-told-2 c = search needs
-
 returns : tie.Need-returns
 unfolding passed
 returns c = cc
@@ -19,4 +13,4 @@ unfolding passed
 returns-2 c = cc
 
 pub has-passed-spec : {M : Type 1} → statement M
-has-passed-spec = tie.close (tie.spec enum-told enum-told-2 returns returns-2)
+has-passed-spec = tie.close (tie.spec (λ c. search needs) (λ c. search needs) returns returns-2)

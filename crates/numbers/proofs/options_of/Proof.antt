@@ -3,11 +3,8 @@ use borrow.Author.Needs.{needs}
 use Rattle.numbers.proofs.options_of.Statement.{statement}
 use Rattle.numbers.proofs.options_of.Tie as tie
 
-of-requires : tie.Need-of-requires
-of-requires c κs = search needs
-
 returns : tie.Need-returns
 returns c = rw (c .of .ensures)
 
 pub options-of-spec : {M : Type 1} → statement M
-options-of-spec = tie.close (tie.spec of-requires returns)
+options-of-spec = tie.close (tie.spec (λ c κs. search needs) returns)

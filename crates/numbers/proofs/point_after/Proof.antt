@@ -4,12 +4,6 @@ use borrow.Author.Needs.{needs}
 use Rattle.numbers.proofs.point_after.Statement.{statement}
 use Rattle.numbers.proofs.point_after.Tie as tie
 
-enum-known-step : tie.Need-enum-known-step
-enum-known-step c = search needs
-
-enum-told : tie.Need-enum-told
-enum-told c = search needs
-
 returns : tie.Need-returns
 unfolding pointAfter
 returns c = rw (c .before .step .given .1)
@@ -19,4 +13,4 @@ unfolding pointAfter
 returns-2 c = rw (c .enum-told .given .1)
 
 pub point-after-spec : {M : Type 1} → statement M
-point-after-spec = tie.close (tie.spec enum-known-step enum-told returns returns-2)
+point-after-spec = tie.close (tie.spec (λ c. search needs) (λ c. search needs) returns returns-2)

@@ -8,35 +8,14 @@ use borrow.Author.Needs.{needs}
 use Rattle.place.proofs.is_reversed.Statement.{statement}
 use Rattle.place.proofs.is_reversed.Tie as tie
 
-degenerate-ends-requires : tie.Need-degenerate-ends-requires
-degenerate-ends-requires c κs = search needs
-
 returns : tie.Need-returns
 returns c = let a = c .before .before .before .before .before .before .before .before .before .before .args in back-by-sense (lent (a .points) (a .curves) (a .reals) (a .parts) (a .ranges)) (a .edge) (now (a .params)) (sym (c .before .before .degenerate-ends .ensures) ∙ c .before .if1 .taken)
-
-point-requires : tie.Need-point-requires
-point-requires c κs = search needs
-
-sub-last : tie.Need-sub-last
-sub-last c = search needs
 
 own-point-requires : tie.Need-own-point-requires
 own-point-requires c κs = let p = c .before .before .before .before .before .before .before .before .before .before .pre in (omega (arith, p .0), omega (arith, p .0, p .1), p .2, p .3)
 
 own-point-requires-2 : tie.Need-own-point-requires-2
 own-point-requires-2 c κs = let p = c .before .before .before .before .before .before .before .before .before .before .before .pre in (omega (arith, p .0), omega (arith, p .0, p .1), p .2, p .3)
-
-sub-requires : tie.Need-sub-requires
-sub-requires c κs = search needs
-
-length-squared-requires : tie.Need-length-squared-requires
-length-squared-requires c κs = search needs
-
-sub-requires-2 : tie.Need-sub-requires-2
-sub-requires-2 c κs = search needs
-
-length-squared-requires-2 : tie.Need-length-squared-requires-2
-length-squared-requires-2 c κs = search needs
 
 returns-2 : tie.Need-returns-2
 returns-2 c =
@@ -49,14 +28,14 @@ pub is-reversed-spec : {M : Type 1} → statement M
 is-reversed-spec =
     tie.close
     (tie.spec
-    degenerate-ends-requires
+    (λ c κs. search needs)
     returns
-    point-requires
-    sub-last
+    (λ c κs. search needs)
+    (λ c. search needs)
     own-point-requires
     own-point-requires-2
-    sub-requires
-    length-squared-requires
-    sub-requires-2
-    length-squared-requires-2
+    (λ c κs. search needs)
+    (λ c κs. search needs)
+    (λ c κs. search needs)
+    (λ c κs. search needs)
     returns-2)

@@ -7,20 +7,8 @@ use borrow.Author.Needs.{needs}
 use Rattle.place.proofs.own_point.Statement.{statement}
 use Rattle.place.proofs.own_point.Tie as tie
 
-point-at-requires : tie.Need-point-at-requires
-point-at-requires c κs = search needs
-
 returns : tie.Need-returns
 returns c = let a = c .before .before .before .before .before .before .before .before .before .args in c .point-at .ensures ∙ c .before .before .before .before .before .before .before .before .before .pre .3 (c .before .if1 .taken) .point (a .i) (c .before .before .before .before .before .before .before .before .before .pre .0)
-
-mul-t : tie.Need-mul-t
-mul-t c = search needs
-
-shared-slice-read-t : tie.Need-shared-slice-read-t
-shared-slice-read-t c = search needs
-
-point-of-requires : tie.Need-point-of-requires
-point-of-requires c κs = search needs
 
 returns-2 : tie.Need-returns-2
 returns-2 c =
@@ -28,4 +16,4 @@ returns-2 c =
     on-curve (lent (a .points) (a .curves) (a .reals) (a .parts) (a .ranges)) (a .edge) _ (c .before .before .before .before .before .before .before .before .before .before .pre .2) (c .point-of .ensures)
 
 pub own-point-spec : {M : Type 1} → statement M
-own-point-spec = tie.close (tie.spec point-at-requires returns mul-t shared-slice-read-t point-of-requires returns-2)
+own-point-spec = tie.close (tie.spec (λ c κs. search needs) returns (λ c. search needs) (λ c. search needs) (λ c κs. search needs) returns-2)

@@ -22,9 +22,6 @@ Inv-loop points curves reals parts ranges edge params known chain₀ ready rever
 abbrev μ-loop : tie.MeasureT-loop
 μ-loop points curves reals parts ranges edge params known chain₀ ready reversed kept n i₀ chain i = length params - i
 
-ready-at-requires : tie.Need-ready-at-requires Inv-loop μ-loop
-ready-at-requires c κs = search needs
-
 is-reversed-requires : tie.Need-is-reversed-requires Inv-loop μ-loop
 is-reversed-requires c κs = (omega arith, search needs, c .before .ready-at .ensures, search needs)
 
@@ -56,9 +53,6 @@ put-requires c κs =
 add-i : tie.Need-add-i Inv-loop μ-loop
 add-i c = omega (arith, c .before .before .before .before .before .before .before .before .before .before .before .before .before .before .before .before .before .before .before .pre, c .before .before .before .before .before .before .before .before .before .before .before .before .before .before .before .before .before .before .before .good .1 .1 .1 .1 .1 .1 .0 .1)
 
-loop-less : tie.Need-loop-less Inv-loop μ-loop
-loop-less c = search needs
-
 loop-again : tie.Need-loop-again Inv-loop μ-loop
 loop-again c =
     let a = c .before .before .before .before .before .before .before .before .before .before .before .before .before .before .before .before .before .before .before .args in
@@ -85,13 +79,13 @@ place-spec =
     (tie.spec
     Inv-loop
     μ-loop
-    ready-at-requires
+    (λ c κs. search needs)
     is-reversed-requires
     loop-holds
     record-at-requires
     put-requires
     add-i
-    loop-less
+    (λ c. search needs)
     loop-again
     same-length
     returns)

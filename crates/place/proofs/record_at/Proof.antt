@@ -9,32 +9,17 @@ use borrow.Author.Needs.{needs}
 use Rattle.place.proofs.record_at.Statement.{statement}
 use Rattle.place.proofs.record_at.Tie as tie
 
-param-at-requires : tie.Need-param-at-requires
-param-at-requires c κs = search needs
-
-point-requires : tie.Need-point-requires
-point-requires c κs = search needs
-
 returns : tie.Need-returns
 returns c =
     let a = c .before .before .before .before .before .before .before .before .before .before .args in
     record-first (lent (a .points) (a .curves) (a .reals) (a .parts) (a .ranges)) (a .edge) (now (a .params)) (a .reversed) (a .i) _ _
     (c .before .before .param-at .ensures) (c .before .if1 .taken) (c .point .ensures)
 
-sub-if2 : tie.Need-sub-if2
-sub-if2 c = search needs
-
-point-requires-2 : tie.Need-point-requires-2
-point-requires-2 c κs = search needs
-
 returns-2 : tie.Need-returns-2
 returns-2 c =
     let a = c .before .before .before .before .before .before .before .before .before .before .before .args in
     record-last (lent (a .points) (a .curves) (a .reals) (a .parts) (a .ranges)) (a .edge) (now (a .params)) (a .reversed) (a .i) _ _
     (c .before .before .before .param-at .ensures) (c .before .before .if1 .left) (c .before .if2 .taken) (c .point2 .ensures)
-
-point-at-requires : tie.Need-point-at-requires
-point-at-requires c κs = search needs
 
 returns-3 : tie.Need-returns-3
 returns-3 c =
@@ -45,9 +30,6 @@ returns-3 c =
     record-between T (a .edge) (now (a .params)) (a .reversed)
     (a .i) _ _ own (c .before .before .before .if1 .left) (c .before .before .if2 .left)
     (c .point-at .ensures ∙ s .pre .3 (c .before .if3 .taken) ∙ ap (pointAt (edgeCurve T (a .edge))) (sym own))
-
-point-of-requires : tie.Need-point-of-requires
-point-of-requires c κs = search needs
 
 returns-4 : tie.Need-returns-4
 returns-4 c =
@@ -62,13 +44,13 @@ pub record-at-spec : {M : Type 1} → statement M
 record-at-spec =
     tie.close
     (tie.spec
-    param-at-requires
-    point-requires
+    (λ c κs. search needs)
+    (λ c κs. search needs)
     returns
-    sub-if2
-    point-requires-2
+    (λ c. search needs)
+    (λ c κs. search needs)
     returns-2
-    point-at-requires
+    (λ c κs. search needs)
     returns-3
-    point-of-requires
+    (λ c κs. search needs)
     returns-4)

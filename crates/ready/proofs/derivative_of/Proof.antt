@@ -10,27 +10,6 @@ use Rattle.ready.proofs.parabola_slope.Reads as parabola-slope-reads
 use Rattle.ready.proofs.round_derivative.Reads as round-derivative-reads
 use Rattle.tangent.proofs.derivative_at.Reads as derivative-at-reads
 
-enum-known-ready : tie.Need-enum-known-ready
-enum-known-ready c = search needs
-
-enum-known-ready-2 : tie.Need-enum-known-ready-2
-enum-known-ready-2 c = search needs
-
-round-derivative-requires : tie.Need-round-derivative-requires
-round-derivative-requires c κs = search needs
-
-enum-known-ready-3 : tie.Need-enum-known-ready-3
-enum-known-ready-3 c = search needs
-
-parabola-slope-requires : tie.Need-parabola-slope-requires
-parabola-slope-requires c κs = search needs
-
-enum-told : tie.Need-enum-told
-enum-told c = search needs
-
-derivative-at-requires : tie.Need-derivative-at-requires
-derivative-at-requires c κs = search needs
-
 returns : tie.Need-returns
 unfolding readyDerivative
 returns c = derivative-by _ _ (c .before .ready .given .1) refl
@@ -51,13 +30,13 @@ pub derivative-of-spec : {M : Type 1} → statement M
 derivative-of-spec =
     tie.close
     (tie.spec
-    enum-known-ready
-    enum-known-ready-2
-    round-derivative-requires
-    enum-known-ready-3
-    parabola-slope-requires
-    enum-told
-    derivative-at-requires
+    (λ c. search needs)
+    (λ c. search needs)
+    (λ c κs. search needs)
+    (λ c. search needs)
+    (λ c κs. search needs)
+    (λ c. search needs)
+    (λ c κs. search needs)
     returns
     returns-2
     returns-3

@@ -8,36 +8,6 @@ use borrow.Author.Needs.{needs}
 use Rattle.ready.proofs.other_point.Statement.{statement}
 use Rattle.ready.proofs.other_point.Tie as tie
 
-under-trims-requires : tie.Need-under-trims-requires
-under-trims-requires c κs = search needs
-
-cast-at : tie.Need-cast-at
-cast-at c = search needs
-
-mul-at : tie.Need-mul-at
-mul-at c = search needs
-
-int-at-requires : tie.Need-int-at-requires
-int-at-requires c κs = search needs
-
-add-int-at : tie.Need-add-int-at
-add-int-at c = search needs
-
-int-at-requires-2 : tie.Need-int-at-requires-2
-int-at-requires-2 c κs = search needs
-
-add-int-at-2 : tie.Need-add-int-at-2
-add-int-at-2 c = search needs
-
-int-at-requires-3 : tie.Need-int-at-requires-3
-int-at-requires-3 c κs = search needs
-
-polyline-point-requires : tie.Need-polyline-point-requires
-polyline-point-requires c κs = search needs
-
-point-at-requires : tie.Need-point-at-requires
-point-at-requires c κs = search needs
-
 returns : tie.Need-returns
 unfolding pointAt
 returns c =
@@ -53,15 +23,15 @@ pub other-point-spec : {M : Type 1} → statement M
 other-point-spec =
     tie.close
     (tie.spec
-    under-trims-requires
-    cast-at
-    mul-at
-    int-at-requires
-    add-int-at
-    int-at-requires-2
-    add-int-at-2
-    int-at-requires-3
-    polyline-point-requires
-    point-at-requires
+    (λ c κs. search needs)
+    (λ c. search needs)
+    (λ c. search needs)
+    (λ c κs. search needs)
+    (λ c. search needs)
+    (λ c κs. search needs)
+    (λ c. search needs)
+    (λ c κs. search needs)
+    (λ c κs. search needs)
+    (λ c κs. search needs)
     returns
     returns-2)

@@ -12,33 +12,6 @@ use Rattle.math.proofs.Vec3.scale.Reads as scale-reads
 use Rattle.ready.proofs.parabola_point.Reads as parabola-point-reads
 use Rattle.ready.proofs.round_point.Reads as round-point-reads
 
-enum-known-ready : tie.Need-enum-known-ready
-enum-known-ready c = search needs
-
-scale-requires : tie.Need-scale-requires
-scale-requires c κs = search needs
-
-add-requires : tie.Need-add-requires
-add-requires c κs = search needs
-
-enum-known-ready-2 : tie.Need-enum-known-ready-2
-enum-known-ready-2 c = search needs
-
-round-point-requires : tie.Need-round-point-requires
-round-point-requires c κs = search needs
-
-enum-known-ready-3 : tie.Need-enum-known-ready-3
-enum-known-ready-3 c = search needs
-
-parabola-point-requires : tie.Need-parabola-point-requires
-parabola-point-requires c κs = search needs
-
-enum-told : tie.Need-enum-told
-enum-told c = search needs
-
-other-point-requires : tie.Need-other-point-requires
-other-point-requires c κs = search needs
-
 returns : tie.Need-returns
 unfolding readyPoint
 returns c = point-by _ _ (c .before .before .before .ready .given .1) (c .add .ensures ∙ ap (vAdd _) (c .before .scale .ensures))
@@ -59,15 +32,15 @@ pub point-of-spec : {M : Type 1} → statement M
 point-of-spec =
     tie.close
     (tie.spec
-    enum-known-ready
-    scale-requires
-    add-requires
-    enum-known-ready-2
-    round-point-requires
-    enum-known-ready-3
-    parabola-point-requires
-    enum-told
-    other-point-requires
+    (λ c. search needs)
+    (λ c κs. search needs)
+    (λ c κs. search needs)
+    (λ c. search needs)
+    (λ c κs. search needs)
+    (λ c. search needs)
+    (λ c κs. search needs)
+    (λ c. search needs)
+    (λ c κs. search needs)
     returns
     returns-2
     returns-3

@@ -9,24 +9,12 @@ use borrow.Author.Needs.{needs}
 use Rattle.repair.proofs.arc_or_chord.Statement.{statement}
 use Rattle.repair.proofs.arc_or_chord.Tie as tie
 
-is-short-arc-requires : tie.Need-is-short-arc-requires
-is-short-arc-requires c κs = search needs
-
-same-length : tie.Need-same-length
-same-length c = search needs
-
 returns : tie.Need-returns
 returns c =
     let s = c .before .before .before .before .before in
     let a = s .args in
     second-is (kept-second ShortArc (a .n) (now (a .second)) refl (s .pre .2))
     _ (arc-kept (ofPoints (now (a .points))) (a .edge) (a .r) _ (sym (c .before .is-short-arc .ensures) ∙ c .if1 .taken))
-
-runaway-requires : tie.Need-runaway-requires
-runaway-requires c κs = search needs
-
-same-length-2 : tie.Need-same-length-2
-same-length-2 c = search needs
 
 returns-2 : tie.Need-returns-2
 returns-2 c =
@@ -39,9 +27,9 @@ pub arc-or-chord-spec : {M : Type 1} → statement M
 arc-or-chord-spec =
     tie.close
     (tie.spec
-    is-short-arc-requires
-    same-length
+    (λ c κs. search needs)
+    (λ c. search needs)
     returns
-    runaway-requires
-    same-length-2
+    (λ c κs. search needs)
+    (λ c. search needs)
     returns-2)

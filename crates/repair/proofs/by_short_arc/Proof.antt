@@ -29,69 +29,27 @@ told f =
     let s = f .before .before .before .before .before .before .before .before .before .before .before .before .before .before .before in
     redrew (tables-of s) _ _ (s .args .r) (s .pre .0) (s .pre .1) (f .before .before .before .with-range .ensures) (f .discretise .ensures)
 
-short-arc-requires : tie.Need-short-arc-requires
-short-arc-requires c κs = search needs
-
-enum-known-arc : tie.Need-enum-known-arc
-enum-known-arc c = search needs
-
-enum-told : tie.Need-enum-told
-enum-told c = search needs
-
-clear-from-requires : tie.Need-clear-from-requires
-clear-from-requires c κs = search needs
-
-runaway-requires : tie.Need-runaway-requires
-runaway-requires c κs = search needs
-
-same-length : tie.Need-same-length
-same-length c = search needs
-
-same-length-2 : tie.Need-same-length-2
-same-length-2 c = search needs
-
 returns : tie.Need-returns
 returns c =
     let s = c .before .before .before .before .before .before .before .before .before .before .before .before .before .before .before .before .before .before in
     redrawn-second (c .before .before .runaway .ensures) _ (now (s .args .first)) (now (s .args .second)) _ refl (c .before .before .before .before .before .before .clear-from .ensures)
     (short-unusable (tables-of s) (s .args .edge) (s .args .r) (room-of s) (c .before .before .before .before .before .before .before .before .before .before .short-arc .ensures) (c .before .before .before .before .before .before .before .before .enum-told .given .1))
 
-with-range-requires : tie.Need-with-range-requires
-with-range-requires c κs = search needs
-
 discretise-requires : tie.Need-discretise-requires
 discretise-requires c κs =
     let p = c .before .before .before .before .before .before .before .before .before .before .before .before .before .before .pre in
     (p .1, p .0, rw (c .before .before .with-range .ensures) (p .2))
-
-enum-known-drawn : tie.Need-enum-known-drawn
-enum-known-drawn c = search needs
-
-enum-known-drawn-2 : tie.Need-enum-known-drawn-2
-enum-known-drawn-2 c = search needs
 
 arc-or-chord-requires : tie.Need-arc-or-chord-requires
 arc-or-chord-requires c κs =
     let d = drew (told (c .before .before .before .before .before .before .before .before)) _ (c .before .before .drawn2 .given .1) (c .before .before .before .before .before .before .before .second2 .given) in
     (omega (arith, c .before .before .before .before .before .before .before .before .before .before .before .before .before .before .before .before .before .before .before .before .before .before .before .pre .1), drew-room d, drew-own d)
 
-same-length-3 : tie.Need-same-length-3
-same-length-3 c = search needs
-
-same-length-4 : tie.Need-same-length-4
-same-length-4 c = search needs
-
 returns-2 : tie.Need-returns-2
 returns-2 c =
     let s = c .before .before .before .before .before .before .before .before .before .before .before .before .before .before .before .before .before .before .before .before .before .before in
     redrawn-refused (told (c .before .before .before .before .before .before .before)) _ _ _ (c .before .drawn .given .1)
     (short-bind (tables-of s) (s .args .edge) (s .args .r) (room-of s) (c .before .before .before .before .before .before .before .before .before .before .before .before .before .before .short-arc .ensures) _ (c .before .before .before .before .before .before .before .before .before .before .before .before .arc .given .1))
-
-same-length-5 : tie.Need-same-length-5
-same-length-5 c = search needs
-
-same-length-6 : tie.Need-same-length-6
-same-length-6 c = search needs
 
 returns-3 : tie.Need-returns-3
 returns-3 c =
@@ -108,22 +66,22 @@ pub by-short-arc-spec : {M : Type 1} → statement M
 by-short-arc-spec =
     tie.close
     (tie.spec
-    short-arc-requires
-    enum-known-arc
-    enum-told
-    clear-from-requires
-    runaway-requires
-    same-length
-    same-length-2
+    (λ c κs. search needs)
+    (λ c. search needs)
+    (λ c. search needs)
+    (λ c κs. search needs)
+    (λ c κs. search needs)
+    (λ c. search needs)
+    (λ c. search needs)
     returns
-    with-range-requires
+    (λ c κs. search needs)
     discretise-requires
-    enum-known-drawn
-    enum-known-drawn-2
+    (λ c. search needs)
+    (λ c. search needs)
     arc-or-chord-requires
-    same-length-3
-    same-length-4
+    (λ c. search needs)
+    (λ c. search needs)
     returns-2
-    same-length-5
-    same-length-6
+    (λ c. search needs)
+    (λ c. search needs)
     returns-3)

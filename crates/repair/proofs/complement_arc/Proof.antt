@@ -4,21 +4,9 @@ use borrow.Author.Needs.{needs}
 use Rattle.repair.proofs.complement_arc.Statement.{statement}
 use Rattle.repair.proofs.complement_arc.Tie as tie
 
-period-requires : tie.Need-period-requires
-period-requires c κs = search needs
-
-enum-known-period : tie.Need-enum-known-period
-enum-known-period c = search needs
-
-enum-told : tie.Need-enum-told
-enum-told c = search needs
-
 returns : tie.Need-returns
 returns c =
     complement-never (c .before .before .before .before .before .before .before .before .args .edge) (c .before .before .period .ensures) (c .enum-told .given .1)
-
-span-requires : tie.Need-span-requires
-span-requires c κs = search needs
 
 returns-2 : tie.Need-returns-2
 returns-2 c =
@@ -32,10 +20,10 @@ pub complement-arc-spec : {M : Type 1} → statement M
 complement-arc-spec =
     tie.close
     (tie.spec
-    period-requires
-    enum-known-period
-    enum-told
+    (λ c κs. search needs)
+    (λ c. search needs)
+    (λ c. search needs)
     returns
-    span-requires
+    (λ c κs. search needs)
     returns-2
     returns-3)

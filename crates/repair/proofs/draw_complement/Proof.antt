@@ -30,22 +30,10 @@ told f =
     let s = f .before .before .before .before .before .before .before .before .before .before .before in
     redrew (tables-of s) _ _ (s .args .r) (s .pre .0) (s .pre .1) (f .before .before .before .with-range .ensures) (f .discretise .ensures)
 
-with-range-requires : tie.Need-with-range-requires
-with-range-requires c κs = search needs
-
 discretise-requires : tie.Need-discretise-requires
 discretise-requires c κs =
     let p = c .before .before .before .before .before .before .before .before .before .before .pre in
     (p .1, p .0, rw (c .before .before .with-range .ensures) (p .2))
-
-enum-known-drawn : tie.Need-enum-known-drawn
-enum-known-drawn c = search needs
-
-enum-known-drawn-2 : tie.Need-enum-known-drawn-2
-enum-known-drawn-2 c = search needs
-
-reference-requires : tie.Need-reference-requires
-reference-requires c κs = search needs
 
 escapes-requires : tie.Need-escapes-requires
 escapes-requires c κs = omega (arith, drew-room (drew (told (c .before .before .before .before .before .before .before .before .before)) _ (c .before .before .before .drawn2 .given .1) (c .before .before .before .before .before .before .before .before .second .given)))
@@ -55,12 +43,6 @@ by-short-arc-requires c κs =
     let p = c .before .before .before .before .before .before .before .before .before .before .before .before .before .before .before .before .before .before .before .before .before .before .before .before .pre in
     (omega (arith, p .0), omega (arith, p .1), p .2)
 
-same-length : tie.Need-same-length
-same-length c = search needs
-
-same-length-2 : tie.Need-same-length-2
-same-length-2 c = search needs
-
 returns : tie.Need-returns
 returns c =
     let s = c .before .before .before .before .before .before .before .before .before .before .before .before .before .before .before .before .before .before .before .before .before .before .before .before .before .before .before .before .before in
@@ -69,22 +51,10 @@ returns c =
     (complement-escapes (tables-of s) (s .args .edge) (s .args .r) (room-of s) (s .args .complement) (d .chain) (d .is)
     (drew-escapes d (s .args .r) _ _ _ _ (c .before .before .before .before .before .before .before .before .before .before .reference .ensures) (c .before .before .before .before .before .before .before .before .escapes .ensures) (c .before .before .before .before .before .before .before .if1 .taken)))
 
-same-length-3 : tie.Need-same-length-3
-same-length-3 c = search needs
-
-same-length-4 : tie.Need-same-length-4
-same-length-4 c = search needs
-
 returns-2 : tie.Need-returns-2
 returns-2 c =
     let s = c .before .before .before .before .before .before .before .before .before .before .before .before .before .before .before .before .before .before in
     redrawn-refused (told (c .before .before .before .before .before .before .before)) _ _ _ (c .before .drawn .given .1) (complement-bind (tables-of s) (s .args .edge) (s .args .r) (room-of s) (s .args .complement))
-
-same-length-5 : tie.Need-same-length-5
-same-length-5 c = search needs
-
-same-length-6 : tie.Need-same-length-6
-same-length-6 c = search needs
 
 returns-3 : tie.Need-returns-3
 returns-3 c =
@@ -100,19 +70,19 @@ pub draw-complement-spec : {M : Type 1} → statement M
 draw-complement-spec =
     tie.close
     (tie.spec
-    with-range-requires
+    (λ c κs. search needs)
     discretise-requires
-    enum-known-drawn
-    enum-known-drawn-2
-    reference-requires
+    (λ c. search needs)
+    (λ c. search needs)
+    (λ c κs. search needs)
     escapes-requires
     by-short-arc-requires
-    same-length
-    same-length-2
+    (λ c. search needs)
+    (λ c. search needs)
     returns
-    same-length-3
-    same-length-4
+    (λ c. search needs)
+    (λ c. search needs)
     returns-2
-    same-length-5
-    same-length-6
+    (λ c. search needs)
+    (λ c. search needs)
     returns-3)

@@ -6,29 +6,11 @@ use borrow.Author.Needs.{needs}
 use Rattle.repair.proofs.is_short_arc.Statement.{statement}
 use Rattle.repair.proofs.is_short_arc.Tie as tie
 
-reference-requires : tie.Need-reference-requires
-reference-requires c κs = search needs
-
-escapes-requires : tie.Need-escapes-requires
-escapes-requires c κs = search needs
-
 returns : tie.Need-returns
 returns c =
     let a = c .before .before .before .before .before .args in
     let T = ofPoints (now (a .points)) in
     arc-outside T (a .edge) (a .r) _ (c .before .before .reference .ensures) (c .before .escapes .ensures) (c .if1 .taken)
-
-point-requires : tie.Need-point-requires
-point-requires c κs = search needs
-
-point-requires-2 : tie.Need-point-requires-2
-point-requires-2 c κs = search needs
-
-reaches-requires : tie.Need-reaches-requires
-reaches-requires c κs = search needs
-
-reaches-requires-2 : tie.Need-reaches-requires-2
-reaches-requires-2 c κs = search needs
 
 returns-2 : tie.Need-returns-2
 returns-2 c =
@@ -48,12 +30,12 @@ pub is-short-arc-spec : {M : Type 1} → statement M
 is-short-arc-spec =
     tie.close
     (tie.spec
-    reference-requires
-    escapes-requires
+    (λ c κs. search needs)
+    (λ c κs. search needs)
     returns
-    point-requires
-    point-requires-2
-    reaches-requires
-    reaches-requires-2
+    (λ c κs. search needs)
+    (λ c κs. search needs)
+    (λ c κs. search needs)
+    (λ c κs. search needs)
     returns-2
     returns-3)

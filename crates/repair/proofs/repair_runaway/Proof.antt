@@ -10,36 +10,12 @@ use borrow.Author.Needs.{needs}
 use Rattle.repair.proofs.repair_runaway.Statement.{statement}
 use Rattle.repair.proofs.repair_runaway.Tie as tie
 
-stays-requires : tie.Need-stays-requires
-stays-requires c κs = search needs
-
-same-length : tie.Need-same-length
-same-length c = search needs
-
 returns : tie.Need-returns
 returns c =
     let s = c .before .before .before .before .before .before .before .before .before .before in
     let a = s .args in
     kept-after _ (a .way) (a .n) (now (a .first)) (now (a .second))
     (repaired-kept (lent (a .points) (a .curves) (a .reals) (a .parts) (a .ranges)) (a .edge) (a .r) _ (by (a .way) (samples (a .n) (now (a .first)))) (sym (c .before .stays .ensures) ∙ c .if1 .taken)) (s .pre .6) (s .pre .4) (s .pre .5)
-
-complement-arc-requires : tie.Need-complement-arc-requires
-complement-arc-requires c κs = search needs
-
-enum-known-arc : tie.Need-enum-known-arc
-enum-known-arc c = search needs
-
-enum-told : tie.Need-enum-told
-enum-told c = search needs
-
-by-short-arc-requires : tie.Need-by-short-arc-requires
-by-short-arc-requires c κs = search needs
-
-same-length-2 : tie.Need-same-length-2
-same-length-2 c = search needs
-
-same-length-3 : tie.Need-same-length-3
-same-length-3 c = search needs
 
 returns-2 : tie.Need-returns-2
 returns-2 c =
@@ -49,15 +25,6 @@ returns-2 c =
     let g = by (a .way) (samples (a .n) (now (a .first))) in
     redrawn-after (redrawn-is (c .before .before .before .before .by-short-arc .ensures) (λ room. repaired room T (a .edge) (a .r) g)
     (repaired-short T (a .edge) (a .r) _ g (sym (f .before .stays .ensures) ∙ f .if1 .left) (c .before .before .before .before .before .before .before .before .before .complement-arc .ensures) (c .before .before .before .before .before .before .before .enum-told .given .1)))
-
-draw-complement-requires : tie.Need-draw-complement-requires
-draw-complement-requires c κs = search needs
-
-same-length-4 : tie.Need-same-length-4
-same-length-4 c = search needs
-
-same-length-5 : tie.Need-same-length-5
-same-length-5 c = search needs
 
 returns-3 : tie.Need-returns-3
 returns-3 c =
@@ -72,17 +39,17 @@ pub repair-runaway-spec : {M : Type 1} → statement M
 repair-runaway-spec =
     tie.close
     (tie.spec
-    stays-requires
-    same-length
+    (λ c κs. search needs)
+    (λ c. search needs)
     returns
-    complement-arc-requires
-    enum-known-arc
-    enum-told
-    by-short-arc-requires
-    same-length-2
-    same-length-3
+    (λ c κs. search needs)
+    (λ c. search needs)
+    (λ c. search needs)
+    (λ c κs. search needs)
+    (λ c. search needs)
+    (λ c. search needs)
     returns-2
-    draw-complement-requires
-    same-length-4
-    same-length-5
+    (λ c κs. search needs)
+    (λ c. search needs)
+    (λ c. search needs)
     returns-3)

@@ -6,12 +6,6 @@ use borrow.Author.Needs.{needs}
 use Rattle.repair.proofs.runaway.Statement.{statement}
 use Rattle.repair.proofs.runaway.Tie as tie
 
-chord-requires : tie.Need-chord-requires
-chord-requires c κs = search needs
-
-same-length : tie.Need-same-length
-same-length c = search needs
-
 returns : tie.Need-returns
 returns c =
     let a = c .before .before .before .before .before .before .args in
@@ -21,6 +15,6 @@ pub runaway-spec : {M : Type 1} → statement M
 runaway-spec =
     tie.close
     (tie.spec
-    chord-requires
-    same-length
+    (λ c κs. search needs)
+    (λ c. search needs)
     returns)

@@ -6,21 +6,6 @@ use borrow.Author.Needs.{needs}
 use Rattle.repair.proofs.short_arc.Statement.{statement}
 use Rattle.repair.proofs.short_arc.Tie as tie
 
-natural-range-requires : tie.Need-natural-range-requires
-natural-range-requires c κs = search needs
-
-span-requires : tie.Need-span-requires
-span-requires c κs = search needs
-
-is-finite-requires : tie.Need-is-finite-requires
-is-finite-requires c κs = search needs
-
-short-range-requires : tie.Need-short-range-requires
-short-range-requires c κs = search needs
-
-span-requires-2 : tie.Need-span-requires-2
-span-requires-2 c κs = search needs
-
 returns : tie.Need-returns
 returns c =
     let f = c .before .before .before .before .before in
@@ -48,11 +33,11 @@ pub short-arc-spec : {M : Type 1} → statement M
 short-arc-spec =
     tie.close
     (tie.spec
-    natural-range-requires
-    span-requires
-    is-finite-requires
-    short-range-requires
-    span-requires-2
+    (λ c κs. search needs)
+    (λ c κs. search needs)
+    (λ c κs. search needs)
+    (λ c κs. search needs)
+    (λ c κs. search needs)
     returns
     returns-2
     returns-3)

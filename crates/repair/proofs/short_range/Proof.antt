@@ -5,15 +5,6 @@ use borrow.Author.Needs.{needs}
 use Rattle.repair.proofs.short_range.Statement.{statement}
 use Rattle.repair.proofs.short_range.Tie as tie
 
-point-requires : tie.Need-point-requires
-point-requires c κs = search needs
-
-point-requires-2 : tie.Need-point-requires-2
-point-requires-2 c κs = search needs
-
-nearest-requires : tie.Need-nearest-requires
-nearest-requires c κs = search needs
-
 returns : tie.Need-returns
 returns c =
     let a = c .before .before .before .before .before .before .before .before .before .before .args in
@@ -28,4 +19,4 @@ returns-2 c =
 
 pub short-range-spec : {M : Type 1} → statement M
 short-range-spec =
-    tie.close (tie.spec point-requires point-requires-2 nearest-requires returns returns-2)
+    tie.close (tie.spec (λ c κs. search needs) (λ c κs. search needs) (λ c κs. search needs) returns returns-2)

@@ -6,23 +6,11 @@ use borrow.Author.Needs.{needs}
 use Rattle.repair.proofs.stays.Statement.{statement}
 use Rattle.repair.proofs.stays.Tie as tie
 
-reference-requires : tie.Need-reference-requires
-reference-requires c κs = search needs
-
-is-empty-requires : tie.Need-is-empty-requires
-is-empty-requires c κs = search needs
-
 returns : tie.Need-returns
 returns c =
     let a = c .before .before .before .before .before .args in
     let T = ofPoints (now (a .points)) in
     stays-empty T (a .edge) (a .r) _ (c .before .before .reference .ensures) (c .before .is-empty .ensures) (c .if1 .taken)
-
-escapes-requires : tie.Need-escapes-requires
-escapes-requires c κs = search needs
-
-diagonal-requires : tie.Need-diagonal-requires
-diagonal-requires c κs = search needs
 
 returns-2 : tie.Need-returns-2
 returns-2 c =
@@ -42,10 +30,10 @@ pub stays-spec : {M : Type 1} → statement M
 stays-spec =
     tie.close
     (tie.spec
-    reference-requires
-    is-empty-requires
+    (λ c κs. search needs)
+    (λ c κs. search needs)
     returns
-    escapes-requires
-    diagonal-requires
+    (λ c κs. search needs)
+    (λ c κs. search needs)
     returns-2
     returns-3)

@@ -6,17 +6,8 @@ use borrow.Author.Needs.{needs}
 use Rattle.replay_chain.proofs.part_of.Statement.{statement}
 use Rattle.replay_chain.proofs.part_of.Tie as tie
 
-returns : tie.Need-returns
-returns c = search needs
-
 slice-aggregate-part : tie.Need-slice-aggregate-part
 slice-aggregate-part c = sym (length-take-le _ _ (omega arith))
 
-part-requires : tie.Need-part-requires
-part-requires c κs = search needs
-
-returns-2 : tie.Need-returns-2
-returns-2 c = search needs
-
 pub part-of-spec : {M : Type 1} → statement M
-part-of-spec = tie.close (tie.spec returns slice-aggregate-part part-requires returns-2)
+part-of-spec = tie.close (tie.spec (λ c. search needs) slice-aggregate-part (λ c κs. search needs) (λ c. search needs))

@@ -7,18 +7,6 @@ use borrow.Author.Needs.{needs}
 use Rattle.replay_curve.proofs.put_filled.Statement.{statement}
 use Rattle.replay_curve.proofs.put_filled.Tie as tie
 
-mul-n3 : tie.Need-mul-n3
-mul-n3 c = search needs
-
-mul-m3 : tie.Need-mul-m3
-mul-m3 c = search needs
-
-mul-m2 : tie.Need-mul-m2
-mul-m2 c = search needs
-
-mul-k2 : tie.Need-mul-k2
-mul-k2 c = search needs
-
 slice-aggregate-put-read : tie.Need-slice-aggregate-put-read
 slice-aggregate-put-read c =
     let a = c .before .before .before .before .before .before .before .args in
@@ -44,24 +32,18 @@ slice-aggregate-put-read-5 c =
     let a = c .before .before .before .before .before .before .before .before .before .before .before .args in
     sym (length-take-le (a .k * 2) (a .ranges .now) (omega arith))
 
-put-read-requires : tie.Need-put-read-requires
-put-read-requires c κs = search needs
-
-returns : tie.Need-returns
-returns c = search needs
-
 pub put-filled-spec : {M : Type 1} → statement M
 put-filled-spec =
     tie.close
     (tie.spec
-    mul-n3
-    mul-m3
-    mul-m2
-    mul-k2
+    (λ c. search needs)
+    (λ c. search needs)
+    (λ c. search needs)
+    (λ c. search needs)
     slice-aggregate-put-read
     slice-aggregate-put-read-2
     slice-aggregate-put-read-3
     slice-aggregate-put-read-4
     slice-aggregate-put-read-5
-    put-read-requires
-    returns)
+    (λ c κs. search needs)
+    (λ c. search needs))

@@ -11,37 +11,16 @@ Inv-loop points curves reals parts ranges row text from end out₀ at n₀ place
 abbrev μ-loop : tie.MeasureT-loop
 μ-loop points curves reals parts ranges row text from end out₀ at n₀ place₀ out n place = end - place
 
-returns : tie.Need-returns Inv-loop μ-loop
-returns c = search needs
-
-loop-holds : tie.Need-loop-holds Inv-loop μ-loop
-loop-holds c = search needs
-
-put-line-requires : tie.Need-put-line-requires Inv-loop μ-loop
-put-line-requires c κs = search needs
-
-behind-requires : tie.Need-behind-requires Inv-loop μ-loop
-behind-requires c κs = search needs
-
-loop-less : tie.Need-loop-less Inv-loop μ-loop
-loop-less c = search needs
-
-loop-again : tie.Need-loop-again Inv-loop μ-loop
-loop-again c = search needs
-
-returns-2 : tie.Need-returns-2 Inv-loop μ-loop
-returns-2 c = search needs
-
 pub put-lines-spec : {M : Type 1} → statement M
 put-lines-spec =
     tie.close
     (tie.spec
     Inv-loop
     μ-loop
-    returns
-    loop-holds
-    put-line-requires
-    behind-requires
-    loop-less
-    loop-again
-    returns-2)
+    (λ c. search needs)
+    (λ c. search needs)
+    (λ c κs. search needs)
+    (λ c κs. search needs)
+    (λ c. search needs)
+    (λ c. search needs)
+    (λ c. search needs))

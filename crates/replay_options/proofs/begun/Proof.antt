@@ -16,12 +16,6 @@ use Rattle.replay_options.proofs.begun.Tie as tie
 abbrev shape : List ℕ
 shape = bytes "ffwlwf"
 
-slice-aggregate-line : tie.Need-slice-aggregate-line
-slice-aggregate-line c = search needs
-
-line-requires : tie.Need-line-requires
-line-requires c κs = search needs
-
 options-of-requires : tie.Need-options-of-requires
 unfolding bytes fields fieldOf _before_
 options-of-requires c κs =
@@ -30,30 +24,15 @@ options-of-requires c κs =
     let r = row-read s (line (shapeOf shape)) (shape-law shape) 0 (told .result) (omega arith) (told .ensures) (c .before .before .if1 .taken) in
     rw (r .numbers-are) (options-narrow (r .list) (shape-law shape .was _ (r .list) _ (r .is .is) .right))
 
-options-of-requires-2 : tie.Need-options-of-requires-2
-options-of-requires-2 c κs = search needs
-
-resolve-requires : tie.Need-resolve-requires
-resolve-requires c κs = search needs
-
-returns : tie.Need-returns
-returns c = search needs
-
-preset-requires : tie.Need-preset-requires
-preset-requires c κs = search needs
-
-returns-2 : tie.Need-returns-2
-returns-2 c = search needs
-
 pub begun-spec : {M : Type 1} → statement M
 begun-spec =
     tie.close
     (tie.spec
-    slice-aggregate-line
-    line-requires
+    (λ c. search needs)
+    (λ c κs. search needs)
     options-of-requires
-    options-of-requires-2
-    resolve-requires
-    returns
-    preset-requires
-    returns-2)
+    (λ c κs. search needs)
+    (λ c κs. search needs)
+    (λ c. search needs)
+    (λ c κs. search needs)
+    (λ c. search needs))

@@ -14,8 +14,5 @@ returns : tie.Need-returns
 unfolding toBits
 returns c = ap (toBits binary64) (sym (differs-from-itself (c .before .args .x) (holds (c .if1 .taken))))
 
-returns-2 : tie.Need-returns-2
-returns-2 c = search needs
-
 pub bits-spec : {M : Type 1} → statement M
-bits-spec = tie.close (tie.spec float-to-bits-result returns returns-2)
+bits-spec = tie.close (tie.spec float-to-bits-result returns (λ c. search needs))

@@ -6,21 +6,15 @@ use Rattle.replay_text.proofs.Places.{puts-then, fits-width}
 use Rattle.replay_text.proofs.decimal_then.Statement.{statement}
 use Rattle.replay_text.proofs.decimal_then.Tie as tie
 
-width-of-requires : tie.Need-width-of-requires
-width-of-requires c κs = search needs
-
 digits-requires : tie.Need-digits-requires
 digits-requires c κs =
     let w = c .before .width-of .ensures in
     let f = fits-width (c .before .before .args .v) (c .before .width-of .result .digits) (omega arith) (w .0) in
     (omega arith, omega arith, f .0, w .1, f .1)
 
-put-requires : tie.Need-put-requires
-put-requires c κs = search needs
-
 returns : tie.Need-returns
 unfolding decimal
 returns c = rw (← c .before .before .before .before .width-of .ensures .0) (puts-then _ _ _ _ _ (c .before .before .digits .ensures) (c .put .ensures))
 
 pub decimal-then-spec : {M : Type 1} → statement M
-decimal-then-spec = tie.close (tie.spec width-of-requires digits-requires put-requires returns)
+decimal-then-spec = tie.close (tie.spec (λ c κs. search needs) digits-requires (λ c κs. search needs) returns)

@@ -25,9 +25,6 @@ taken c =
 loop-holds : tie.Need-loop-holds Inv-loop μ-loop
 loop-holds c = ((λ o. c .pre .3), c .pre .4, refl)
 
-sub-i : tie.Need-sub-i Inv-loop μ-loop
-sub-i c = search needs
-
 div-char-of : tie.Need-div-char-of Inv-loop μ-loop
 div-char-of c = taken (c .before) .above
 
@@ -37,17 +34,8 @@ cast-char-of c = let s = taken (c .before) .small in omega arith
 char-of-requires : tie.Need-char-of-requires Inv-loop μ-loop
 char-of-requires c κs = let s = taken (c .before) .small in omega arith
 
-put-requires : tie.Need-put-requires Inv-loop μ-loop
-put-requires c κs = search needs
-
 rem-rest : tie.Need-rem-rest Inv-loop μ-loop
 rem-rest c = taken (c .before .before .before) .above
-
-div-u : tie.Need-div-u Inv-loop μ-loop
-div-u c = search needs
-
-loop-less : tie.Need-loop-less Inv-loop μ-loop
-loop-less c = search needs
 
 loop-again : tie.Need-loop-again Inv-loop μ-loop
 unfolding puts
@@ -75,13 +63,13 @@ digits-spec =
     Inv-loop
     μ-loop
     loop-holds
-    sub-i
+    (λ c. search needs)
     div-char-of
     cast-char-of
     char-of-requires
-    put-requires
+    (λ c κs. search needs)
     rem-rest
-    div-u
-    loop-less
+    (λ c. search needs)
+    (λ c. search needs)
     loop-again
     returns)

@@ -4,14 +4,8 @@ use Rattle.replay_text.proofs.Places.{puts-then}
 use Rattle.replay_text.proofs.hex_then.Statement.{statement}
 use Rattle.replay_text.proofs.hex_then.Tie as tie
 
-digits-requires : tie.Need-digits-requires
-digits-requires c κs = search needs
-
-put-requires : tie.Need-put-requires
-put-requires c κs = search needs
-
 returns : tie.Need-returns
 returns c = puts-then _ _ _ _ _ (c .before .before .digits .ensures) (c .put .ensures)
 
 pub hex-then-spec : {M : Type 1} → statement M
-hex-then-spec = tie.close (tie.spec digits-requires put-requires returns)
+hex-then-spec = tie.close (tie.spec (λ c κs. search needs) (λ c κs. search needs) returns)

@@ -20,12 +20,6 @@ few c = let l = c .before .loop in not-wider (c .before .before .args .n) (l .di
 loop-holds : tie.Need-loop-holds Inv-loop μ-loop
 loop-holds c = (search needs, search needs, refl, inl refl)
 
-mul-unit : tie.Need-mul-unit Inv-loop μ-loop
-mul-unit c = search needs
-
-add-digits : tie.Need-add-digits Inv-loop μ-loop
-add-digits c = search needs
-
 loop-less : tie.Need-loop-less Inv-loop μ-loop
 loop-less c = let f = few c in omega arith
 
@@ -43,4 +37,4 @@ returns c =
 pub width-of-spec : {M : Type 1} → statement M
 width-of-spec =
     tie.close
-    (tie.spec Inv-loop μ-loop loop-holds mul-unit add-digits loop-less loop-again returns)
+    (tie.spec Inv-loop μ-loop loop-holds (λ c. search needs) (λ c. search needs) loop-less loop-again returns)

@@ -38,9 +38,6 @@ low r rest v e h = sq-lt r (2 ^ 53) (omega arith)
 in-loop : (n i : ℕ) → n < 2 ^ 54 → i < 53 → w n i / 2 ^ 64 < 2 ^ 106
 in-loop n i h k = div-lt-iff-lt-mul {k = 2 ^ 64} (lit< tt) .1 (lt-of-le-of-lt (mul-le-mul (le-of-lt h) (pow-mono {j = 114} (omega arith))) (lit< tt))
 
-loop-holds : tie.Need-loop-holds Inv-loop μ-loop
-loop-holds c = search needs
-
 digit-requires : tie.Need-digit-requires Inv-loop μ-loop
 digit-requires c κs =
     let l = c .before .loop in
@@ -50,12 +47,6 @@ digit-requires c κs =
           (in-loop (s .args .n) (l .i) (s .pre .1) (c .loop-test .taken)),
       omega arith,
     )
-
-add-i : tie.Need-add-i Inv-loop μ-loop
-add-i c = search needs
-
-loop-less : tie.Need-loop-less Inv-loop μ-loop
-loop-less c = search needs
 
 loop-again : tie.Need-loop-again Inv-loop μ-loop
 loop-again c =
@@ -117,10 +108,10 @@ by-digits-spec =
     (tie.spec
     Inv-loop
     μ-loop
-    loop-holds
+    (λ c. search needs)
     digit-requires
-    add-i
-    loop-less
+    (λ c. search needs)
+    (λ c. search needs)
     loop-again
     add-result
     returns

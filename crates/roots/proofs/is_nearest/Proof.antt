@@ -11,26 +11,8 @@ use Rattle.roots.proofs.is_nearest.Tie as tie
 below : (x y : ℕ) → x ≤ 2 ^ 28 → y ≤ 2 ^ 28 → x * y < 2 ^ 64
 below x y h k = lt-of-lt-of-le (product x y h k) (lit≤ tt)
 
-wrapping-sub-u64-requires : tie.Need-wrapping-sub-u64-requires
-wrapping-sub-u64-requires c κs = search needs
-
-returns : tie.Need-returns
-returns c = search needs
-
 mul-wrapping-sub-u64 : tie.Need-mul-wrapping-sub-u64
 mul-wrapping-sub-u64 c = let r = c .before .wrapping-sub-u64 .result in record { fits = below (r / 2 ^ 26) (r / 2 ^ 26) (omega arith) (omega arith) }
-
-wrapping-sub-u64-requires-2 : tie.Need-wrapping-sub-u64-requires-2
-wrapping-sub-u64-requires-2 c κs = search needs
-
-returns-2 : tie.Need-returns-2
-returns-2 c = search needs
-
-mul-wrapping-sub-u64-2 : tie.Need-mul-wrapping-sub-u64-2
-mul-wrapping-sub-u64-2 c = search needs
-
-mul-wrapping-sub-u64-3 : tie.Need-mul-wrapping-sub-u64-3
-mul-wrapping-sub-u64-3 c = search needs
 
 mul-wrapping-sub-u64-4 : tie.Need-mul-wrapping-sub-u64-4
 mul-wrapping-sub-u64-4 c = let r = c .before .before .before .wrapping-sub-u64 .result in record {
@@ -38,29 +20,11 @@ mul-wrapping-sub-u64-4 c = let r = c .before .before .before .wrapping-sub-u64 .
       (r % 2 ^ 26) (omega arith) (omega arith);
 }
 
-wrapping-sub-u64-requires-3 : tie.Need-wrapping-sub-u64-requires-3
-wrapping-sub-u64-requires-3 c κs = search needs
-
-returns-3 : tie.Need-returns-3
-returns-3 c = search needs
-
-mul-wrapping-sub-u64-5 : tie.Need-mul-wrapping-sub-u64-5
-mul-wrapping-sub-u64-5 c = search needs
-
 mul-wrapping-sub-u64-6 : tie.Need-mul-wrapping-sub-u64-6
 mul-wrapping-sub-u64-6 c = let r = c .before .before .before .before .before .wrapping-sub-u64 .result in record {
   fits = below
       (r % 2 ^ 26) (r % 2 ^ 26) (omega arith) (omega arith);
 }
-
-wrapping-sub-u64-requires-4 : tie.Need-wrapping-sub-u64-requires-4
-wrapping-sub-u64-requires-4 c κs = search needs
-
-mul-result : tie.Need-mul-result
-mul-result c = search needs
-
-add-result : tie.Need-add-result
-add-result c = search needs
 
 returns-4 : tie.Need-returns-4
 returns-4 c = λ t.
@@ -85,20 +49,20 @@ pub is-nearest-spec : {M : Type 1} → statement M
 is-nearest-spec =
     tie.close
     (tie.spec
-    wrapping-sub-u64-requires
-    returns
+    (λ c κs. search needs)
+    (λ c. search needs)
     mul-wrapping-sub-u64
-    wrapping-sub-u64-requires-2
-    returns-2
-    mul-wrapping-sub-u64-2
-    mul-wrapping-sub-u64-3
+    (λ c κs. search needs)
+    (λ c. search needs)
+    (λ c. search needs)
+    (λ c. search needs)
     mul-wrapping-sub-u64-4
-    wrapping-sub-u64-requires-3
-    returns-3
-    mul-wrapping-sub-u64-5
+    (λ c κs. search needs)
+    (λ c. search needs)
+    (λ c. search needs)
     mul-wrapping-sub-u64-6
-    wrapping-sub-u64-requires-4
-    mul-result
-    add-result
+    (λ c κs. search needs)
+    (λ c. search needs)
+    (λ c. search needs)
     returns-4
     returns-5)

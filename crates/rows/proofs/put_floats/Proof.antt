@@ -41,21 +41,6 @@ loop-holds c =
     let a = c .before .before .before .args in
     (search needs, none-written (a .out .now) (a .at) (floatsOf (shapeOf (a .shape .now)) (a .row .now)))
 
-shared-slice-read-letter : tie.Need-shared-slice-read-letter Inv-loop μ-loop
-shared-slice-read-letter c = search needs
-
-mul-n : tie.Need-mul-n Inv-loop μ-loop
-mul-n c = search needs
-
-shared-slice-read-n : tie.Need-shared-slice-read-n Inv-loop μ-loop
-shared-slice-read-n c = search needs
-
-add-i : tie.Need-add-i Inv-loop μ-loop
-add-i c = search needs
-
-float-of-requires : tie.Need-float-of-requires Inv-loop μ-loop
-float-of-requires c κs = search needs
-
 mul-out : tie.Need-mul-out Inv-loop μ-loop
 mul-out c = let h = writes c in let r = c .before .before .before .before .before .loop .inv .1 .room in omega arith
 
@@ -65,17 +50,11 @@ slice-write-out c = writes c
 add-k : tie.Need-add-k Inv-loop μ-loop
 add-k c = let h = writes c in let r = c .before .before .before .before .before .loop .inv .1 .room in omega arith
 
-loop-less : tie.Need-loop-less Inv-loop μ-loop
-loop-less c = search needs
-
 loop-again : tie.Need-loop-again Inv-loop μ-loop
 loop-again c =
     let a = c .before .before .before .before .before .before .before .before .before .args in
     let l = c .before .before .before .before .before .loop in
     (omega arith, one-written (a .out .now) (a .at) _ (l .out) (l .k) _ (l .inv .1) _ _ (one c))
-
-loop-less-2 : tie.Need-loop-less-2 Inv-loop μ-loop
-loop-less-2 c = search needs
 
 loop-again-2 : tie.Need-loop-again-2 Inv-loop μ-loop
 loop-again-2 c =
@@ -101,17 +80,17 @@ put-floats-spec =
     Inv-loop
     μ-loop
     loop-holds
-    shared-slice-read-letter
-    mul-n
-    shared-slice-read-n
-    add-i
-    float-of-requires
+    (λ c. search needs)
+    (λ c. search needs)
+    (λ c. search needs)
+    (λ c. search needs)
+    (λ c κs. search needs)
     mul-out
     slice-write-out
     add-k
-    loop-less
+    (λ c. search needs)
     loop-again
-    loop-less-2
+    (λ c. search needs)
     loop-again-2
     same-length
     returns)

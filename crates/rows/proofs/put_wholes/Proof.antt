@@ -41,18 +41,6 @@ loop-holds c =
     let a = c .args in
     (search needs, none-written (a .out .now) (a .at) (wholesOf (shapeOf (a .shape .now)) (a .row .now)), c .pre .2)
 
-shared-slice-read-letter : tie.Need-shared-slice-read-letter Inv-loop μ-loop
-shared-slice-read-letter c = search needs
-
-mul-n : tie.Need-mul-n Inv-loop μ-loop
-mul-n c = search needs
-
-shared-slice-read-n : tie.Need-shared-slice-read-n Inv-loop μ-loop
-shared-slice-read-n c = search needs
-
-add-i : tie.Need-add-i Inv-loop μ-loop
-add-i c = search needs
-
 cast-out : tie.Need-cast-out Inv-loop μ-loop
 cast-out c = record { fits = first-of (rw (one c) at (c .before .before .before .before .loop .inv .2)) }
 
@@ -65,17 +53,11 @@ slice-write-out c = writes c
 add-k : tie.Need-add-k Inv-loop μ-loop
 add-k c = let h = writes c in let r = c .before .before .before .before .loop .inv .1 .room in omega arith
 
-loop-less : tie.Need-loop-less Inv-loop μ-loop
-loop-less c = search needs
-
 loop-again : tie.Need-loop-again Inv-loop μ-loop
 loop-again c =
     let a = c .before .before .before .before .before .args in
     let l = c .before .before .before .before .loop in
     (omega arith, one-written (a .out .now) (a .at) _ (l .out) (l .k) _ (l .inv .1) _ _ (one c), others-of (rw (one c) at (l .inv .2)))
-
-loop-less-2 : tie.Need-loop-less-2 Inv-loop μ-loop
-loop-less-2 c = search needs
 
 loop-again-2 : tie.Need-loop-again-2 Inv-loop μ-loop
 loop-again-2 c =
@@ -101,17 +83,17 @@ put-wholes-spec =
     Inv-loop
     μ-loop
     loop-holds
-    shared-slice-read-letter
-    mul-n
-    shared-slice-read-n
-    add-i
+    (λ c. search needs)
+    (λ c. search needs)
+    (λ c. search needs)
+    (λ c. search needs)
     cast-out
     mul-out
     slice-write-out
     add-k
-    loop-less
+    (λ c. search needs)
     loop-again
-    loop-less-2
+    (λ c. search needs)
     loop-again-2
     same-length
     returns)

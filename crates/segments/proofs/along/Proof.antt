@@ -8,12 +8,6 @@ use Rattle.segments.proofs.along.Tie as tie
 returns : tie.Need-returns
 returns c = along-none _ _ _ _ _ (c .if1 .taken)
 
-own-parameter-requires : tie.Need-own-parameter-requires
-own-parameter-requires c κs = search needs
-
-point-at-requires : tie.Need-point-at-requires
-point-at-requires c κs = search needs
-
 returns-2 : tie.Need-returns-2
 returns-2 c = c .point-at .ensures ∙ along-low _ _ _ _ _ (c .before .before .before .before .if1 .left) (c .before .if2 .taken) _ (c .before .before .own-parameter .ensures)
 
@@ -22,4 +16,4 @@ returns-3 c = along-high _ _ _ _ _ (c .before .before .before .if1 .left) (c .if
 
 pub along-spec : {M : Type 1} → statement M
 along-spec =
-    tie.close (tie.spec returns own-parameter-requires point-at-requires returns-2 returns-3)
+    tie.close (tie.spec returns (λ c κs. search needs) (λ c κs. search needs) returns-2 returns-3)

@@ -6,24 +6,12 @@ use borrow.Author.Needs.{needs}
 use Rattle.segments.proofs.index_below.Statement.{statement}
 use Rattle.segments.proofs.index_below.Tie as tie
 
-floor-requires : tie.Need-floor-requires
-floor-requires c κs = search needs
-
-to-usize-requires : tie.Need-to-usize-requires
-to-usize-requires c κs = search needs
-
 returns : tie.Need-returns
 returns c = let e = c .before .to-usize .ensures ∙ ap (toUnsigned 64) (c .before .before .floor .ensures) in omega arith
-
-sub-result : tie.Need-sub-result
-sub-result c = search needs
-
-returns-2 : tie.Need-returns-2
-returns-2 c = search needs
 
 returns-3 : tie.Need-returns-3
 returns-3 c = let e = c .before .before .to-usize .ensures ∙ ap (toUnsigned 64) (c .before .before .before .floor .ensures) in omega arith
 
 pub index-below-spec : {M : Type 1} → statement M
 index-below-spec =
-    tie.close (tie.spec floor-requires to-usize-requires returns sub-result returns-2 returns-3)
+    tie.close (tie.spec (λ c κs. search needs) (λ c κs. search needs) returns (λ c. search needs) (λ c. search needs) returns-3)

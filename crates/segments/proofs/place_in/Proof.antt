@@ -3,18 +3,6 @@ use borrow.Author.Needs.{needs}
 use Rattle.segments.proofs.place_in.Statement.{statement}
 use Rattle.segments.proofs.place_in.Tie as tie
 
-nearest-u64-to-f64-requires : tie.Need-nearest-u64-to-f64-requires
-nearest-u64-to-f64-requires c κs = search needs
-
-clamp-requires : tie.Need-clamp-requires
-clamp-requires c κs = search needs
-
-index-below-requires : tie.Need-index-below-requires
-index-below-requires c κs = search needs
-
-nearest-u64-to-f64-requires-2 : tie.Need-nearest-u64-to-f64-requires-2
-nearest-u64-to-f64-requires-2 c κs = search needs
-
 returns : tie.Need-returns
 returns c =
     let e = c .before .before .before .nearest-u64-to-f64 .ensures in
@@ -27,8 +15,8 @@ pub place-in-spec : {M : Type 1} → statement M
 place-in-spec =
     tie.close
     (tie.spec
-    nearest-u64-to-f64-requires
-    clamp-requires
-    index-below-requires
-    nearest-u64-to-f64-requires-2
+    (λ c κs. search needs)
+    (λ c κs. search needs)
+    (λ c κs. search needs)
+    (λ c κs. search needs)
     returns)

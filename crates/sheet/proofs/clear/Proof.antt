@@ -23,21 +23,6 @@ parts-length c = search needs
 ranges-length : (c : tie.After-clear-floats-arg3) → length (c .before .before .before .before .before .before .before .before .before .args .ranges .now) ≡ 3448
 ranges-length c = search needs
 
-clear-floats-requires : tie.Need-clear-floats-requires
-clear-floats-requires c κs = search needs
-
-clear-wholes-requires : tie.Need-clear-wholes-requires
-clear-wholes-requires c κs = search needs
-
-clear-floats-requires-2 : tie.Need-clear-floats-requires-2
-clear-floats-requires-2 c κs = search needs
-
-clear-wholes-requires-2 : tie.Need-clear-wholes-requires-2
-clear-wholes-requires-2 c κs = search needs
-
-clear-floats-requires-3 : tie.Need-clear-floats-requires-3
-clear-floats-requires-3 c κs = search needs
-
 returns : tie.Need-returns
 returns c = cleared _ _ _ _ _
     (c .before .before .before .before .before .before .before .before .clear-floats .ensures ∙ ap (λ n. replicate n (floatOf 0)) (points-length (c .before .before .before .before .before .before .before .before .before)))
@@ -50,9 +35,9 @@ pub clear-spec : {M : Type 1} → statement M
 clear-spec =
     tie.close
     (tie.spec
-    clear-floats-requires
-    clear-wholes-requires
-    clear-floats-requires-2
-    clear-wholes-requires-2
-    clear-floats-requires-3
+    (λ c κs. search needs)
+    (λ c κs. search needs)
+    (λ c κs. search needs)
+    (λ c κs. search needs)
+    (λ c κs. search needs)
     returns)

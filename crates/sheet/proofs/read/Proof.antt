@@ -7,18 +7,6 @@ use borrow.Author.Needs.{needs}
 use Rattle.sheet.proofs.read.Statement.{statement}
 use Rattle.sheet.proofs.read.Tie as tie
 
-try-sheet-requires : tie.Need-try-sheet-requires
-try-sheet-requires c κs = search needs
-
-enum-told : tie.Need-enum-told
-enum-told c = search needs
-
-clear-requires : tie.Need-clear-requires
-clear-requires c κs = search needs
-
-enum-told-2 : tie.Need-enum-told-2
-enum-told-2 c = search needs
-
 returns : tie.Need-returns
 returns c = let s = c .before .before .before .before .before .before .before .before .before .before .before .before .before .before .before .args .text .now in let e = c .before .before .before .before .before .before .before .before .try-sheet .ensures .0 in (e, left-no (readSheet s) _ _ (sym (c .before .before .before .before .before .before .enum-told .given .1) ∙ e) (c .clear .ensures), means s)
 
@@ -27,4 +15,4 @@ returns-2 c = let s = c .before .before .before .before .before .before .before 
 
 pub read-spec : {M : Type 1} → statement M
 read-spec =
-    tie.close (tie.spec try-sheet-requires enum-told clear-requires enum-told-2 returns returns-2)
+    tie.close (tie.spec (λ c κs. search needs) (λ c. search needs) (λ c κs. search needs) (λ c. search needs) returns returns-2)

@@ -45,15 +45,6 @@ parts-length c = search needs
 ranges-length : (c : tie.After-segments-arg2) → length (c .before .before .before .before .before .before .before .before .before .before .before .before .before .before .args .ranges .now) ≡ 3448
 ranges-length c = search needs
 
-points-requires : tie.Need-points-requires
-points-requires c κs = search needs
-
-enum-known-n : tie.Need-enum-known-n
-enum-known-n c = search needs
-
-enum-told : tie.Need-enum-told
-enum-told c = search needs
-
 returns : tie.Need-returns
 returns c =
     let s = c .before .before .before .before .before .args .text .now in
@@ -63,12 +54,6 @@ returns c =
 curves-requires : tie.Need-curves-requires
 curves-requires c κs =
     let w = points-read (c .before .before) .is .within in (w, search needs, search needs, search needs)
-
-enum-known-m : tie.Need-enum-known-m
-enum-known-m c = search needs
-
-enum-told-2 : tie.Need-enum-told-2
-enum-told-2 c = search needs
 
 returns-2 : tie.Need-returns-2
 returns-2 c =
@@ -81,12 +66,6 @@ returns-2 c =
 segments-requires : tie.Need-segments-requires
 segments-requires c κs =
     let w = curves-read (c .before .before) .is .within in (w, search needs, search needs, search needs)
-
-enum-known-k : tie.Need-enum-known-k
-enum-known-k c = search needs
-
-enum-told-3 : tie.Need-enum-told-3
-enum-told-3 c = search needs
 
 returns-3 : tie.Need-returns-3
 returns-3 c =
@@ -120,16 +99,16 @@ pub three-spec : {M : Type 1} → statement M
 three-spec =
     tie.close
     (tie.spec
-    points-requires
-    enum-known-n
-    enum-told
+    (λ c κs. search needs)
+    (λ c. search needs)
+    (λ c. search needs)
     returns
     curves-requires
-    enum-known-m
-    enum-told-2
+    (λ c. search needs)
+    (λ c. search needs)
     returns-2
     segments-requires
-    enum-known-k
-    enum-told-3
+    (λ c. search needs)
+    (λ c. search needs)
     returns-3
     returns-4)

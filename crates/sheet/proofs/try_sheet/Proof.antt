@@ -33,15 +33,6 @@ returns c =
     let e = too-long s (c .if1 .taken) in
     (answer-no (readSheet s) 10 e, kept-no (readSheet s) 10 _ e)
 
-three-requires : tie.Need-three-requires
-three-requires c κs = search needs
-
-enum-known-n : tie.Need-enum-known-n
-enum-known-n c = search needs
-
-enum-told : tie.Need-enum-told
-enum-told c = search needs
-
 returns-2 : tie.Need-returns-2
 returns-2 c =
     let s = c .before .before .before .before .before .before .before .before .before .before .args .text .now in
@@ -51,23 +42,11 @@ returns-2 c =
 ends-requires : tie.Need-ends-requires
 ends-requires c κs = tables-read c .is .within
 
-enum-known-edge : tie.Need-enum-known-edge
-enum-known-edge c = search needs
-
-enum-told-2 : tie.Need-enum-told-2
-enum-told-2 c = search needs
-
 returns-3 : tie.Need-returns-3
 returns-3 c =
     let s = c .before .before .before .before .before .before .before .before .before .before .before .before .before .before .args .text .now in
     let e = no-ends s (fits (c .before .before .before .before .before .before .before .before .before .before .before .before)) _ _ (tables-read (c .before .before .before) .is) (read-no-ends s (c .before .before .before .before .n .given .0 .1 .1 .1 .0) (sym (c .enum-told2 .given .1) ∙ c .before .before .ends .ensures)) in
     (answer-no (readSheet s) 10 e, kept-no (readSheet s) 10 _ e)
-
-edge-from-requires : tie.Need-edge-from-requires
-edge-from-requires c κs = search needs
-
-options-from-requires : tie.Need-options-from-requires
-options-from-requires c κs = search needs
 
 returns-4 : tie.Need-returns-4
 returns-4 c =
@@ -91,15 +70,15 @@ try-sheet-spec =
     tie.close
     (tie.spec
     returns
-    three-requires
-    enum-known-n
-    enum-told
+    (λ c κs. search needs)
+    (λ c. search needs)
+    (λ c. search needs)
     returns-2
     ends-requires
-    enum-known-edge
-    enum-told-2
+    (λ c. search needs)
+    (λ c. search needs)
     returns-3
-    edge-from-requires
-    options-from-requires
+    (λ c κs. search needs)
+    (λ c κs. search needs)
     returns-4
     returns-5)

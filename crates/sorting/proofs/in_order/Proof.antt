@@ -17,28 +17,13 @@ abbrev μ-loop : tie.MeasureT-loop
 returns : tie.Need-returns Inv-loop μ-loop
 returns c = order-none (c .before .args .a .now) (c .if1 .taken)
 
-shared-slice-read-last : tie.Need-shared-slice-read-last Inv-loop μ-loop
-shared-slice-read-last c = search needs
-
 loop-holds : tie.Need-loop-holds Inv-loop μ-loop
 loop-holds c = ordering-start (c .before .before .args .a .now) (omega arith)
-
-mul-x : tie.Need-mul-x Inv-loop μ-loop
-mul-x c = search needs
-
-shared-slice-read-x : tie.Need-shared-slice-read-x Inv-loop μ-loop
-shared-slice-read-x c = search needs
 
 returns-2 : tie.Need-returns-2 Inv-loop μ-loop
 returns-2 c =
     let l = c .before .before .before .loop in
     ordering-below (c .before .before .before .before .before .before .args .a .now) (l .last) (l .i) (l .inv) (c .before .before .loop-test .taken) (c .if2 .taken)
-
-add-i : tie.Need-add-i Inv-loop μ-loop
-add-i c = search needs
-
-loop-less : tie.Need-loop-less Inv-loop μ-loop
-loop-less c = search needs
 
 loop-again : tie.Need-loop-again Inv-loop μ-loop
 loop-again c =
@@ -57,12 +42,12 @@ in-order-spec =
     Inv-loop
     μ-loop
     returns
-    shared-slice-read-last
+    (λ c. search needs)
     loop-holds
-    mul-x
-    shared-slice-read-x
+    (λ c. search needs)
+    (λ c. search needs)
     returns-2
-    add-i
-    loop-less
+    (λ c. search needs)
+    (λ c. search needs)
     loop-again
     returns-3)

@@ -5,24 +5,6 @@ use Rattle.sorting.proofs.Halves.{first-length, first-room, copied-leng
 use Rattle.sorting.proofs.join.Statement.{statement}
 use Rattle.sorting.proofs.join.Tie as tie
 
-sub-last : tie.Need-sub-last
-sub-last c = search needs
-
-mul-last : tie.Need-mul-last
-mul-last c = search needs
-
-slice-read-last : tie.Need-slice-read-last
-slice-read-last c = search needs
-
-mul-next : tie.Need-mul-next
-mul-next c = search needs
-
-slice-read-next : tie.Need-slice-read-next
-slice-read-next c = search needs
-
-slice-reshare-prefix-copy : tie.Need-slice-reshare-prefix-copy
-slice-reshare-prefix-copy c = search needs
-
 slice-aggregate-copy : tie.Need-slice-aggregate-copy
 slice-aggregate-copy c =
     let st = c .before .before .before .before .before .before in
@@ -35,9 +17,6 @@ copy-requires c κs =
     let a = st .args in
     first-room (a .a .now) (a .scratch .now) (a .m) (st .pre)
 
-slice-reshare-prefix-merge : tie.Need-slice-reshare-prefix-merge
-slice-reshare-prefix-merge c = search needs
-
 slice-aggregate-merge : tie.Need-slice-aggregate-merge
 slice-aggregate-merge c =
     let st = c .before .before .before .before .before .before .before .before .before .before .before in
@@ -49,12 +28,6 @@ merge-requires c κs =
     let st = c .before .before .before .before .before .before .before .before .before .before .before .before in
     let a = st .args in
     copied-room (a .a .now) (a .scratch .now) (a .m) (st .pre) _ (c .before .before .before .scratch .given)
-
-same-length : tie.Need-same-length
-same-length c = search needs
-
-same-length-2 : tie.Need-same-length-2
-same-length-2 c = search needs
 
 returns : tie.Need-returns
 returns c =
@@ -72,18 +45,18 @@ pub join-spec : {M : Type 1} → statement M
 join-spec =
     tie.close
     (tie.spec
-    sub-last
-    mul-last
-    slice-read-last
-    mul-next
-    slice-read-next
-    slice-reshare-prefix-copy
+    (λ c. search needs)
+    (λ c. search needs)
+    (λ c. search needs)
+    (λ c. search needs)
+    (λ c. search needs)
+    (λ c. search needs)
     slice-aggregate-copy
     copy-requires
-    slice-reshare-prefix-merge
+    (λ c. search needs)
     slice-aggregate-merge
     merge-requires
-    same-length
-    same-length-2
+    (λ c. search needs)
+    (λ c. search needs)
     returns
     returns-2)

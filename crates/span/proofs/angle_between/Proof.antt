@@ -4,18 +4,9 @@ use Rattle.span.specs.Span.{angleBetween}
 use Rattle.span.proofs.angle_between.Statement.{statement}
 use Rattle.span.proofs.angle_between.Tie as tie
 
-dot-requires : tie.Need-dot-requires
-dot-requires c κs = search needs
-
-clamp-requires : tie.Need-clamp-requires
-clamp-requires c κs = search needs
-
-acos-requires : tie.Need-acos-requires
-acos-requires c κs = search needs
-
 returns : tie.Need-returns
 unfolding angleBetween
 returns c = rw (c .acos .ensures, c .before .clamp .ensures, c .before .before .dot .ensures)
 
 pub angle-between-spec : {M : Type 1} → statement M
-angle-between-spec = tie.close (tie.spec dot-requires clamp-requires acos-requires returns)
+angle-between-spec = tie.close (tie.spec (λ c κs. search needs) (λ c κs. search needs) (λ c κs. search needs) returns)

@@ -6,19 +6,10 @@ use Rattle.span.proofs.Laws.{narrow, refuses, splits, leaves}
 use Rattle.span.proofs.decide.Statement.{statement}
 use Rattle.span.proofs.decide.Tie as tie
 
-add-if1 : tie.Need-add-if1
-add-if1 c = search needs
-
 returns : tie.Need-returns
 returns c =
     let a = c .before .before .args in
     sym (narrow (pointAt (a .chain .now)) (a .tolerance) (a .angle) (a .a) (a .b) (c .if1 .taken))
-
-find-worst-requires : tie.Need-find-worst-requires
-find-worst-requires c κs = search needs
-
-is-split-requires : tie.Need-is-split-requires
-is-split-requires c κs = search needs
 
 returns-2 : tie.Need-returns-2
 returns-2 c = refuses _ _ _ _ _ (c .before .before .before .before .before .if1 .left) (c .before .before .before .before .find-worst .ensures) (c .before .before .before .is-split .ensures) (c .before .before .if2 .taken) (c .if3 .taken)
@@ -32,4 +23,4 @@ returns-4 c = leaves _ _ _ _ _ (c .before .before .before .if1 .left) (c .before
 pub decide-spec : {M : Type 1} → statement M
 decide-spec =
     tie.close
-    (tie.spec add-if1 returns find-worst-requires is-split-requires returns-2 returns-3 returns-4)
+    (tie.spec (λ c. search needs) returns (λ c κs. search needs) (λ c κs. search needs) returns-2 returns-3 returns-4)

@@ -20,44 +20,11 @@ Inv-loop chain a b pa axis len2 far2₀ at₀ i₀ far2 at i =
 abbrev μ-loop : tie.MeasureT-loop
 μ-loop chain a b pa axis len2 far2₀ at₀ i₀ far2 at i = b - i
 
-point-at-requires : tie.Need-point-at-requires Inv-loop μ-loop
-point-at-requires c κs = search needs
-
-point-at-requires-2 : tie.Need-point-at-requires-2 Inv-loop μ-loop
-point-at-requires-2 c κs = search needs
-
-sub-requires : tie.Need-sub-requires Inv-loop μ-loop
-sub-requires c κs = search needs
-
-length-squared-requires : tie.Need-length-squared-requires Inv-loop μ-loop
-length-squared-requires c κs = search needs
-
-add-i : tie.Need-add-i Inv-loop μ-loop
-add-i c = search needs
-
 loop-holds : tie.Need-loop-holds Inv-loop μ-loop
 unfolding worstOf
 loop-holds c =
     let q = c .before .before .before .point-at .ensures in
     (search needs, search needs, c .length-squared .ensures, rw (root-none, c .before .sub .ensures, c .before .before .point-at2 .ensures, q))
-
-point-at-requires-3 : tie.Need-point-at-requires-3 Inv-loop μ-loop
-point-at-requires-3 c κs = search needs
-
-span-offset-requires : tie.Need-span-offset-requires Inv-loop μ-loop
-span-offset-requires c κs = search needs
-
-length-squared-requires-2 : tie.Need-length-squared-requires-2 Inv-loop μ-loop
-length-squared-requires-2 c κs = search needs
-
-is-below-requires : tie.Need-is-below-requires Inv-loop μ-loop
-is-below-requires c κs = search needs
-
-add-i-2 : tie.Need-add-i-2 Inv-loop μ-loop
-add-i-2 c = search needs
-
-loop-less : tie.Need-loop-less Inv-loop μ-loop
-loop-less c = search needs
 
 loop-again : tie.Need-loop-again Inv-loop μ-loop
 loop-again c =
@@ -72,9 +39,6 @@ loop-again c =
     (λ w. (omega arith, omega arith, l .inv .2, rw (w .1, w .2) (worst-old (pointAt (a .chain .now)) _ _ (a .b) _ (l .at) (l .i) (omega arith) (l .inv .2) q v d t (w .0 .left) ∙ l .inv .3)))
     (c .if1 .came)
 
-root-requires : tie.Need-root-requires Inv-loop μ-loop
-root-requires c κs = search needs
-
 returns : tie.Need-returns Inv-loop μ-loop
 returns c =
     let l = c .before .before .loop in
@@ -87,18 +51,18 @@ find-worst-spec =
     (tie.spec
     Inv-loop
     μ-loop
-    point-at-requires
-    point-at-requires-2
-    sub-requires
-    length-squared-requires
-    add-i
+    (λ c κs. search needs)
+    (λ c κs. search needs)
+    (λ c κs. search needs)
+    (λ c κs. search needs)
+    (λ c. search needs)
     loop-holds
-    point-at-requires-3
-    span-offset-requires
-    length-squared-requires-2
-    is-below-requires
-    add-i-2
-    loop-less
+    (λ c κs. search needs)
+    (λ c κs. search needs)
+    (λ c κs. search needs)
+    (λ c κs. search needs)
+    (λ c. search needs)
+    (λ c. search needs)
     loop-again
-    root-requires
+    (λ c κs. search needs)
     returns)

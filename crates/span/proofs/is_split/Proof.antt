@@ -7,11 +7,8 @@ use Rattle.span.proofs.is_split.Tie as tie
 returns : tie.Need-returns
 returns c = sym (rw (c .if1 .taken))
 
-turn-requires : tie.Need-turn-requires
-turn-requires c κs = search needs
-
 returns-2 : tie.Need-returns-2
 returns-2 c = rw (c .before .if1 .left, c .turn .ensures)
 
 pub is-split-spec : {M : Type 1} → statement M
-is-split-spec = tie.close (tie.spec returns turn-requires returns-2)
+is-split-spec = tie.close (tie.spec returns (λ c κs. search needs) returns-2)

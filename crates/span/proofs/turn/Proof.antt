@@ -12,37 +12,10 @@ use Rattle.span.proofs.turn.Tie as tie
 chord-of : (t : tie.After-try-normalized) → let a = t .before .before .before .before .before .args in let p = pointAt (a .chain .now) in t .try-normalized .result ≡ tryNormalized (vSub (p (a .b)) (p (a .a)))
 chord-of t = rw (t .try-normalized .ensures, t .before .sub .ensures, t .before .before .point-at2 .ensures, t .before .before .before .point-at .ensures)
 
-point-at-requires : tie.Need-point-at-requires
-point-at-requires c κs = search needs
-
-point-at-requires-2 : tie.Need-point-at-requires-2
-point-at-requires-2 c κs = search needs
-
-sub-requires : tie.Need-sub-requires
-sub-requires c κs = search needs
-
-try-normalized-requires : tie.Need-try-normalized-requires
-try-normalized-requires c κs = search needs
-
-enum-known-axis : tie.Need-enum-known-axis
-enum-known-axis c = search needs
-
-enum-told : tie.Need-enum-told
-enum-told c = search needs
-
 returns : tie.Need-returns
 returns c =
     let a = c .before .before .before .before .before .before .before .args in
     no-chord (pointAt (a .chain .now)) (a .a) (a .b) (c .before .before .try-normalized .result) (chord-of (c .before .before)) (c .enum-told .given .1)
-
-first-direction-requires : tie.Need-first-direction-requires
-first-direction-requires c κs = search needs
-
-enum-known-first : tie.Need-enum-known-first
-enum-known-first c = search needs
-
-enum-told-2 : tie.Need-enum-told-2
-enum-told-2 c = search needs
 
 returns-2 : tie.Need-returns-2
 returns-2 c =
@@ -50,26 +23,11 @@ returns-2 c =
     let d = c .before .before .first-direction in
     no-first (pointAt (a .chain .now)) (a .a) (a .b) (d .result) (d .ensures) (c .enum-told2 .given .1)
 
-last-direction-requires : tie.Need-last-direction-requires
-last-direction-requires c κs = search needs
-
-enum-known-last : tie.Need-enum-known-last
-enum-known-last c = search needs
-
-enum-told-3 : tie.Need-enum-told-3
-enum-told-3 c = search needs
-
 returns-3 : tie.Need-returns-3
 returns-3 c =
     let a = c .before .before .before .before .before .before .before .before .before .before .before .before .before .before .before .args in
     let d = c .before .before .last-direction in
     no-last (pointAt (a .chain .now)) (a .a) (a .b) (d .result) (d .ensures) (c .enum-told3 .given .1)
-
-angle-between-requires : tie.Need-angle-between-requires
-angle-between-requires c κs = search needs
-
-angle-between-requires-2 : tie.Need-angle-between-requires-2
-angle-between-requires-2 c κs = search needs
 
 returns-4 : tie.Need-returns-4
 returns-4 c =
@@ -84,21 +42,21 @@ pub turn-spec : {M : Type 1} → statement M
 turn-spec =
     tie.close
     (tie.spec
-    point-at-requires
-    point-at-requires-2
-    sub-requires
-    try-normalized-requires
-    enum-known-axis
-    enum-told
+    (λ c κs. search needs)
+    (λ c κs. search needs)
+    (λ c κs. search needs)
+    (λ c κs. search needs)
+    (λ c. search needs)
+    (λ c. search needs)
     returns
-    first-direction-requires
-    enum-known-first
-    enum-told-2
+    (λ c κs. search needs)
+    (λ c. search needs)
+    (λ c. search needs)
     returns-2
-    last-direction-requires
-    enum-known-last
-    enum-told-3
+    (λ c κs. search needs)
+    (λ c. search needs)
+    (λ c. search needs)
     returns-3
-    angle-between-requires
-    angle-between-requires-2
+    (λ c κs. search needs)
+    (λ c κs. search needs)
     returns-4)

@@ -19,12 +19,6 @@ Inv-loop chain tolerance angle keep₀ last a₀ keep a = (length keep ≡ lengt
 abbrev μ-loop : tie.MeasureT-loop
 μ-loop chain tolerance angle keep₀ last a₀ keep a = unset keep + (last - a)
 
-sub-last : tie.Need-sub-last Inv-loop μ-loop
-sub-last c = search needs
-
-slice-write-keep : tie.Need-slice-write-keep Inv-loop μ-loop
-slice-write-keep c = search needs
-
 slice-write-keep-2 : tie.Need-slice-write-keep-2 Inv-loop μ-loop
 slice-write-keep-2 c = simp length-set (omega arith)
 
@@ -32,12 +26,6 @@ loop-holds : tie.Need-loop-holds Inv-loop μ-loop
 loop-holds c =
     let a = c .before .before .args in
     (refl, simp length-set (omega arith), search needs, marking-none (a .chain .now) (a .tolerance) (a .angle) (a .keep .now) (length (a .keep .now) - 1) (omega arith) (omega arith) (c .before .before .pre .2))
-
-add-next-kept : tie.Need-add-next-kept Inv-loop μ-loop
-add-next-kept c = search needs
-
-next-kept-requires : tie.Need-next-kept-requires Inv-loop μ-loop
-next-kept-requires c κs = search needs
 
 decide-requires : tie.Need-decide-requires Inv-loop μ-loop
 decide-requires c κs =
@@ -48,9 +36,6 @@ decide-requires c κs =
     let g : length (a .keep .now) - 1 < length (l .keep) = omega arith in
     let f = c .next-kept .ensures in
     let s = span D (l .inv .3) h g f in (s .0, omega arith)
-
-enum-told : tie.Need-enum-told Inv-loop μ-loop
-enum-told c = search needs
 
 loop-less : tie.Need-loop-less Inv-loop μ-loop
 loop-less c =
@@ -72,9 +57,6 @@ loop-again c =
     let f = c .before .before .before .next-kept .ensures in
     let s = span D (l .inv .3) h g f in
     (l .inv .0, l .inv .1, s .1, leave D (l .inv .3) h g f (c .before .before .decide .ensures) (c .enum-told .given .1))
-
-enum-known-d : tie.Need-enum-known-d Inv-loop μ-loop
-enum-known-d c = search needs
 
 slice-write-keep-3 : tie.Need-slice-write-keep-3 Inv-loop μ-loop
 slice-write-keep-3 c =
@@ -113,9 +95,6 @@ loop-again-2 c =
     let e = c .before .before .before .decide .ensures in
     (length-set (l .keep) (k .0 .0) true ∙ l .inv .0, length-set (l .keep) (k .0 .0) true ∙ l .inv .1, l .inv .2, split D (l .inv .3) h g f e (k .0 .0) (k .1))
 
-enum-told-2 : tie.Need-enum-told-2 Inv-loop μ-loop
-enum-told-2 c = search needs
-
 same-length : tie.Need-same-length Inv-loop μ-loop
 same-length c = c .before .before .before .before .before .before .loop .inv .0 ∙ simp length-set
 
@@ -146,21 +125,21 @@ mark-spec =
     (tie.spec
     Inv-loop
     μ-loop
-    sub-last
-    slice-write-keep
+    (λ c. search needs)
+    (λ c. search needs)
     slice-write-keep-2
     loop-holds
-    add-next-kept
-    next-kept-requires
+    (λ c. search needs)
+    (λ c κs. search needs)
     decide-requires
-    enum-told
+    (λ c. search needs)
     loop-less
     loop-again
-    enum-known-d
+    (λ c. search needs)
     slice-write-keep-3
     loop-less-2
     loop-again-2
-    enum-told-2
+    (λ c. search needs)
     same-length
     returns
     same-length-2

@@ -15,33 +15,9 @@ use borrow.Author.Needs.{needs}
 use Rattle.tables.proofs.block.Statement.{statement}
 use Rattle.tables.proofs.block.Tie as tie
 
-clear-wholes-requires : tie.Need-clear-wholes-requires
-clear-wholes-requires c κs = search needs
-
-clear-floats-requires : tie.Need-clear-floats-requires
-clear-floats-requires c κs = search needs
-
 table-requires : tie.Need-table-requires
 table-requires c κs =
     (c .before .before .before .before .before .before .before .before .before .before .before .before .before .before .before .pre .0, c .before .before .before .before .before .before .before .before .before .before .before .before .before .before .before .pre .1, roomy-same _ _ _ _ _ (c .before .before .before .before .before .before .before .before .clear-wholes .kept .0) (c .before .before .before .before .clear-floats .kept .0) (c .before .before .before .before .before .before .before .before .before .before .before .before .before .before .before .pre .2))
-
-enum-known-n : tie.Need-enum-known-n
-enum-known-n c = search needs
-
-enum-told : tie.Need-enum-told
-enum-told c = search needs
-
-clear-wholes-requires-2 : tie.Need-clear-wholes-requires-2
-clear-wholes-requires-2 c κs = search needs
-
-clear-floats-requires-2 : tie.Need-clear-floats-requires-2
-clear-floats-requires-2 c κs = search needs
-
-same-length : tie.Need-same-length
-same-length c = search needs
-
-same-length-2 : tie.Need-same-length-2
-same-length-2 c = search needs
 
 returns : tie.Need-returns
 returns c =
@@ -60,12 +36,6 @@ returns c =
       table-is (floatsOf (shapeOf (a .shape .now))) (ofBits binary64 0) _ q (r .list) _ _ _ (r .is .is) f (c .before .before .before .before .before .before .before .before .before .before .before .before .clear-floats .ensures) (c .before .before .before .before .before .before .before .table .ensures .2),
     )
 
-same-length-3 : tie.Need-same-length-3
-same-length-3 c = search needs
-
-same-length-4 : tie.Need-same-length-4
-same-length-4 c = search needs
-
 returns-2 : tie.Need-returns-2
 returns-2 c =
     let a = c .before .before .before .before .before .before .before .before .before .before .before .before .before .before .before .before .before .before .before .before .before .before .before .before .before .before .before .before .before .before .args in
@@ -83,16 +53,16 @@ pub block-spec : {M : Type 1} → statement M
 block-spec =
     tie.close
     (tie.spec
-    clear-wholes-requires
-    clear-floats-requires
+    (λ c κs. search needs)
+    (λ c κs. search needs)
     table-requires
-    enum-known-n
-    enum-told
-    clear-wholes-requires-2
-    clear-floats-requires-2
-    same-length
-    same-length-2
+    (λ c. search needs)
+    (λ c. search needs)
+    (λ c κs. search needs)
+    (λ c κs. search needs)
+    (λ c. search needs)
+    (λ c. search needs)
     returns
-    same-length-3
-    same-length-4
+    (λ c. search needs)
+    (λ c. search needs)
     returns-2)

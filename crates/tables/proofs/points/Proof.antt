@@ -15,22 +15,10 @@ use borrow.Author.Needs.{needs}
 use Rattle.tables.proofs.points.Statement.{statement}
 use Rattle.tables.proofs.points.Tie as tie
 
-slice-aggregate-block : tie.Need-slice-aggregate-block
-slice-aggregate-block c = search needs
-
-slice-aggregate-block-2 : tie.Need-slice-aggregate-block-2
-slice-aggregate-block-2 c = search needs
-
-slice-aggregate-block-3 : tie.Need-slice-aggregate-block-3
-slice-aggregate-block-3 c = search needs
-
 block-requires : tie.Need-block-requires
 unfolding bytes
 block-requires c κs =
     (c .before .before .before .before .before .before .pre .0, c .before .before .before .before .before .before .pre .1, points-room _ _ (c .before .before .before .before .before .before .pre .2))
-
-same-length : tie.Need-same-length
-same-length c = search needs
 
 returns : tie.Need-returns
 unfolding bytes fields fieldOf
@@ -44,9 +32,9 @@ pub points-spec : {M : Type 1} → statement M
 points-spec =
     tie.close
     (tie.spec
-    slice-aggregate-block
-    slice-aggregate-block-2
-    slice-aggregate-block-3
+    (λ c. search needs)
+    (λ c. search needs)
+    (λ c. search needs)
     block-requires
-    same-length
+    (λ c. search needs)
     returns)

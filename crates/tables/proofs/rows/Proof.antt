@@ -58,12 +58,6 @@ loop-holds c =
     let a = c .before .before .before .before .args in
     no-rows (a .s .now) (a .shape .now) (a .at) (a .wholes .now) (a .floats .now) (c .before .before .before .before .pre .0)
 
-shared-slice-read-if1 : tie.Need-shared-slice-read-if1 Inv-loop μ-loop
-shared-slice-read-if1 c = search needs
-
-add-t17 : tie.Need-add-t17 Inv-loop μ-loop
-add-t17 c = search needs
-
 same-length : tie.Need-same-length Inv-loop μ-loop
 same-length c = c .before .before .before .loop .inv .wholes-same
 
@@ -154,8 +148,8 @@ rows-spec =
     Inv-loop
     μ-loop
     loop-holds
-    shared-slice-read-if1
-    add-t17
+    (λ c. search needs)
+    (λ c. search needs)
     same-length
     same-length-2
     returns

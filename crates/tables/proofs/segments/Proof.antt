@@ -15,22 +15,10 @@ use borrow.Author.Needs.{needs}
 use Rattle.tables.proofs.segments.Statement.{statement}
 use Rattle.tables.proofs.segments.Tie as tie
 
-slice-aggregate-block : tie.Need-slice-aggregate-block
-slice-aggregate-block c = search needs
-
-slice-aggregate-block-2 : tie.Need-slice-aggregate-block-2
-slice-aggregate-block-2 c = search needs
-
 block-requires : tie.Need-block-requires
 unfolding bytes
 block-requires c κs =
     (c .before .before .before .before .before .before .before .pre .0, c .before .before .before .before .before .before .before .pre .1, segments-room _ _ (c .before .before .before .before .before .before .before .pre .2) (c .before .before .before .before .before .before .before .pre .3))
-
-same-length : tie.Need-same-length
-same-length c = search needs
-
-same-length-2 : tie.Need-same-length-2
-same-length-2 c = search needs
 
 returns : tie.Need-returns
 unfolding bytes fields fieldOf
@@ -45,9 +33,9 @@ pub segments-spec : {M : Type 1} → statement M
 segments-spec =
     tie.close
     (tie.spec
-    slice-aggregate-block
-    slice-aggregate-block-2
+    (λ c. search needs)
+    (λ c. search needs)
     block-requires
-    same-length
-    same-length-2
+    (λ c. search needs)
+    (λ c. search needs)
     returns)

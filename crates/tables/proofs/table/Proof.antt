@@ -21,24 +21,9 @@ named c =
     let k = c .before .p .given in
     names-read (a .s .now) (a .names .now) 0 (a .at) (k .0 .0) (k .0 .1 .0) (c .before .before .before .before .before .before .before .before .before .pre .0) (sym (k .1) ∙ c .before .before .before .word .ensures)
 
-word-requires : tie.Need-word-requires
-word-requires c κs = search needs
-
-enum-known-p : tie.Need-enum-known-p
-enum-known-p c = search needs
-
 rows-requires : tie.Need-rows-requires
 rows-requires c κs =
     (named (c .before .before) .within, c .before .before .before .before .before .before .before .before .before .before .before .pre .1, c .before .before .before .before .before .before .before .before .before .before .before .pre .2)
-
-enum-told : tie.Need-enum-told
-enum-told c = search needs
-
-same-length : tie.Need-same-length
-same-length c = search needs
-
-same-length-2 : tie.Need-same-length-2
-same-length-2 c = search needs
 
 returns : tie.Need-returns
 returns c =
@@ -66,11 +51,11 @@ pub table-spec : {M : Type 1} → statement M
 table-spec =
     tie.close
     (tie.spec
-    word-requires
-    enum-known-p
+    (λ c κs. search needs)
+    (λ c. search needs)
     rows-requires
-    enum-told
-    same-length
-    same-length-2
+    (λ c. search needs)
+    (λ c. search needs)
+    (λ c. search needs)
     returns
     returns-2)

@@ -77,130 +77,13 @@ composite-derivative-returns : (t : ℕ) → composite-derivative-lts.Need-retur
 unfolding derivativeAt polylineDerivative
 composite-derivative-returns t c = derivative-none _ _ _ _ _ (c .if1 .taken)
 
-composite-derivative-int-to-float-clamp : (t : ℕ) → composite-derivative-lts.Need-int-to-float-clamp (composite-derivative-claims t) (composite-derivative-at t) composite-derivative.Post
-composite-derivative-int-to-float-clamp t c = search needs
-
-composite-derivative-clamp-requires : (t : ℕ) → composite-derivative-lts.Need-clamp-requires (composite-derivative-claims t) (composite-derivative-at t) composite-derivative.Post
-composite-derivative-clamp-requires t c κs = search needs
-
-composite-derivative-sub-index-in : (t : ℕ) → composite-derivative-lts.Need-sub-index-in (composite-derivative-claims t) (composite-derivative-at t) composite-derivative.Post
-composite-derivative-sub-index-in t c = search needs
-
-composite-derivative-index-in-requires : (t : ℕ) → composite-derivative-lts.Need-index-in-requires (composite-derivative-claims t) (composite-derivative-at t) composite-derivative.Post
-composite-derivative-index-in-requires t c κs = search needs
-
-composite-derivative-segment-at-requires : (t : ℕ) → composite-derivative-lts.Need-segment-at-requires (composite-derivative-claims t) (composite-derivative-at t) composite-derivative.Post
-composite-derivative-segment-at-requires t c κs = search needs
-
-composite-derivative-int-to-float-own-parameter : (t : ℕ) → composite-derivative-lts.Need-int-to-float-own-parameter (composite-derivative-claims t) (composite-derivative-at t) composite-derivative.Post
-composite-derivative-int-to-float-own-parameter t c = search needs
-
-composite-derivative-own-parameter-requires : (t : ℕ) → composite-derivative-lts.Need-own-parameter-requires (composite-derivative-claims t) (composite-derivative-at t) composite-derivative.Post
-composite-derivative-own-parameter-requires t c κs = search needs
-
-composite-derivative-signed-span-requires : (t : ℕ) → composite-derivative-lts.Need-signed-span-requires (composite-derivative-claims t) (composite-derivative-at t) composite-derivative.Post
-composite-derivative-signed-span-requires t c κs = search needs
-
-composite-derivative-derivative-at-requires : (t : ℕ) → composite-derivative-lts.Need-derivative-at-requires (composite-derivative-claims t) (composite-derivative-at t) composite-derivative.Post
-composite-derivative-derivative-at-requires t c κs = search needs
-
-composite-derivative-scale-requires : (t : ℕ) → composite-derivative-lts.Need-scale-requires (composite-derivative-claims t) (composite-derivative-at t) composite-derivative.Post
-composite-derivative-scale-requires t c κs = search needs
-
 composite-derivative-returns-2 : (t : ℕ) → composite-derivative-lts.Need-returns-2 (composite-derivative-claims t) (composite-derivative-at t) composite-derivative.Post
 unfolding derivativeAt polylineDerivative
 composite-derivative-returns-2 t c = c .scale .ensures ∙ ap (λ v. vScale v (c .before .before .before .signed-span .result)) (c .before .derivative-at .ensures) ∙ at-lower (λ x. vScale (derivativeAt x (c .before .before .before .before .own-parameter .result)) (c .before .before .before .signed-span .result)) _ _ (c .before .before .if2 .taken) ∙ derivative-some _ _ _ _ _ (c .before .before .before .before .before .before .before .before .before .before .before .if1 .left) _ (c .before .before .before .before .before .before .before .before .before .clamp .ensures) _ (c .before .before .before .before .before .before .before .before .index-in .ensures) _ (c .before .before .before .before .before .before .before .segment-at .ensures) _ (c .before .before .before .before .own-parameter .ensures) _ (c .before .before .before .signed-span .ensures)
 
-composite-derivative-scale-requires-2 : (t : ℕ) → composite-derivative-lts.Need-scale-requires-2 (composite-derivative-claims t) (composite-derivative-at t) composite-derivative.Post
-composite-derivative-scale-requires-2 t c κs = search needs
-
 composite-derivative-returns-3 : (t : ℕ) → composite-derivative-lts.Need-returns-3 (composite-derivative-claims t) (composite-derivative-at t) composite-derivative.Post
 unfolding derivativeAt polylineDerivative
 composite-derivative-returns-3 t c = c .scale2 .ensures ∙ at-high (λ x. vScale (derivativeAt x (c .before .before .before .own-parameter .result)) (c .before .before .signed-span .result)) _ _ (c .before .if2 .left) ∙ derivative-some _ _ _ _ _ (c .before .before .before .before .before .before .before .before .before .before .if1 .left) _ (c .before .before .before .before .before .before .before .before .clamp .ensures) _ (c .before .before .before .before .before .before .before .index-in .ensures) _ (c .before .before .before .before .before .before .segment-at .ensures) _ (c .before .before .before .own-parameter .ensures) _ (c .before .before .signed-span .ensures)
-
-derivative-at-under-trims-requires : (t : ℕ) → derivative-at-lts.Need-under-trims-requires (derivative-at-claims t) (derivative-at-at t) derivative-at.Post
-derivative-at-under-trims-requires t c κs = search needs
-
-derivative-at-cast-at : (t : ℕ) → derivative-at-lts.Need-cast-at (derivative-at-claims t) (derivative-at-at t) derivative-at.Post
-derivative-at-cast-at t c = search needs
-
-derivative-at-mul-at : (t : ℕ) → derivative-at-lts.Need-mul-at (derivative-at-claims t) (derivative-at-at t) derivative-at.Post
-derivative-at-mul-at t c = search needs
-
-derivative-at-int-at-requires : (t : ℕ) → derivative-at-lts.Need-int-at-requires (derivative-at-claims t) (derivative-at-at t) derivative-at.Post
-derivative-at-int-at-requires t c κs = search needs
-
-derivative-at-add-int-at : (t : ℕ) → derivative-at-lts.Need-add-int-at (derivative-at-claims t) (derivative-at-at t) derivative-at.Post
-derivative-at-add-int-at t c = search needs
-
-derivative-at-int-at-requires-2 : (t : ℕ) → derivative-at-lts.Need-int-at-requires-2 (derivative-at-claims t) (derivative-at-at t) derivative-at.Post
-derivative-at-int-at-requires-2 t c κs = search needs
-
-derivative-at-point-in-requires : (t : ℕ) → derivative-at-lts.Need-point-in-requires (derivative-at-claims t) (derivative-at-at t) derivative-at.Post
-derivative-at-point-in-requires t c κs = search needs
-
-derivative-at-cast-float-at : (t : ℕ) → derivative-at-lts.Need-cast-float-at (derivative-at-claims t) (derivative-at-at t) derivative-at.Post
-derivative-at-cast-float-at t c = search needs
-
-derivative-at-mul-float-at : (t : ℕ) → derivative-at-lts.Need-mul-float-at (derivative-at-claims t) (derivative-at-at t) derivative-at.Post
-derivative-at-mul-float-at t c = search needs
-
-derivative-at-float-at-requires : (t : ℕ) → derivative-at-lts.Need-float-at-requires (derivative-at-claims t) (derivative-at-at t) derivative-at.Post
-derivative-at-float-at-requires t c κs = search needs
-
-derivative-at-ellipse-derivative-requires : (t : ℕ) → derivative-at-lts.Need-ellipse-derivative-requires (derivative-at-claims t) (derivative-at-at t) derivative-at.Post
-derivative-at-ellipse-derivative-requires t c κs = search needs
-
-derivative-at-cast-float-at-2 : (t : ℕ) → derivative-at-lts.Need-cast-float-at-2 (derivative-at-claims t) (derivative-at-at t) derivative-at.Post
-derivative-at-cast-float-at-2 t c = search needs
-
-derivative-at-mul-float-at-2 : (t : ℕ) → derivative-at-lts.Need-mul-float-at-2 (derivative-at-claims t) (derivative-at-at t) derivative-at.Post
-derivative-at-mul-float-at-2 t c = search needs
-
-derivative-at-float-at-requires-2 : (t : ℕ) → derivative-at-lts.Need-float-at-requires-2 (derivative-at-claims t) (derivative-at-at t) derivative-at.Post
-derivative-at-float-at-requires-2 t c κs = search needs
-
-derivative-at-cast-float-at-3 : (t : ℕ) → derivative-at-lts.Need-cast-float-at-3 (derivative-at-claims t) (derivative-at-at t) derivative-at.Post
-derivative-at-cast-float-at-3 t c = search needs
-
-derivative-at-mul-float-at-3 : (t : ℕ) → derivative-at-lts.Need-mul-float-at-3 (derivative-at-claims t) (derivative-at-at t) derivative-at.Post
-derivative-at-mul-float-at-3 t c = search needs
-
-derivative-at-add-float-at : (t : ℕ) → derivative-at-lts.Need-add-float-at (derivative-at-claims t) (derivative-at-at t) derivative-at.Post
-derivative-at-add-float-at t c = search needs
-
-derivative-at-float-at-requires-3 : (t : ℕ) → derivative-at-lts.Need-float-at-requires-3 (derivative-at-claims t) (derivative-at-at t) derivative-at.Post
-derivative-at-float-at-requires-3 t c κs = search needs
-
-derivative-at-ellipse-derivative-requires-2 : (t : ℕ) → derivative-at-lts.Need-ellipse-derivative-requires-2 (derivative-at-claims t) (derivative-at-at t) derivative-at.Post
-derivative-at-ellipse-derivative-requires-2 t c κs = search needs
-
-derivative-at-cast-float-at-4 : (t : ℕ) → derivative-at-lts.Need-cast-float-at-4 (derivative-at-claims t) (derivative-at-at t) derivative-at.Post
-derivative-at-cast-float-at-4 t c = search needs
-
-derivative-at-mul-float-at-4 : (t : ℕ) → derivative-at-lts.Need-mul-float-at-4 (derivative-at-claims t) (derivative-at-at t) derivative-at.Post
-derivative-at-mul-float-at-4 t c = search needs
-
-derivative-at-float-at-requires-4 : (t : ℕ) → derivative-at-lts.Need-float-at-requires-4 (derivative-at-claims t) (derivative-at-at t) derivative-at.Post
-derivative-at-float-at-requires-4 t c κs = search needs
-
-derivative-at-parabola-derivative-requires : (t : ℕ) → derivative-at-lts.Need-parabola-derivative-requires (derivative-at-claims t) (derivative-at-at t) derivative-at.Post
-derivative-at-parabola-derivative-requires t c κs = search needs
-
-derivative-at-add-int-at-2 : (t : ℕ) → derivative-at-lts.Need-add-int-at-2 (derivative-at-claims t) (derivative-at-at t) derivative-at.Post
-derivative-at-add-int-at-2 t c = search needs
-
-derivative-at-int-at-requires-3 : (t : ℕ) → derivative-at-lts.Need-int-at-requires-3 (derivative-at-claims t) (derivative-at-at t) derivative-at.Post
-derivative-at-int-at-requires-3 t c κs = search needs
-
-derivative-at-polyline-derivative-requires : (t : ℕ) → derivative-at-lts.Need-polyline-derivative-requires (derivative-at-claims t) (derivative-at-at t) derivative-at.Post
-derivative-at-polyline-derivative-requires t c κs = search needs
-
-derivative-at-add-int-at-3 : (t : ℕ) → derivative-at-lts.Need-add-int-at-3 (derivative-at-claims t) (derivative-at-at t) derivative-at.Post
-derivative-at-add-int-at-3 t c = search needs
-
-derivative-at-int-at-requires-4 : (t : ℕ) → derivative-at-lts.Need-int-at-requires-4 (derivative-at-claims t) (derivative-at-at t) derivative-at.Post
-derivative-at-int-at-requires-4 t c κs = search needs
 
 derivative-at-composite-derivative-requires : (t : ℕ) → derivative-at-lts.Need-composite-derivative-requires (derivative-at-claims t) (derivative-at-at t) derivative-at.Post
 derivative-at-composite-derivative-requires t c κs = let l = under-low (c .before .before .before .before .before .before .before .before .before .before .args .curves .now) (c .before .before .before .before .before .before .before .before .before .before .args .row) (c .before .before .before .before .before .before .before .before .before .before .args .row) in let e = c .before .before .before .before .under-trims .ensures in search needs
@@ -237,48 +120,48 @@ pub +composite-derivative+derivative-at-spec : {M : Type 1} → statement M
 +composite-derivative+derivative-at-spec =
     close μ-composite-derivative μ-derivative-at (λ t. composite-derivative-lts.spec (composite-derivative-claims t) (composite-derivative-at t) composite-derivative.Post
     (composite-derivative-returns t)
-    (composite-derivative-int-to-float-clamp t)
-    (composite-derivative-clamp-requires t)
-    (composite-derivative-sub-index-in t)
-    (composite-derivative-index-in-requires t)
-    (composite-derivative-segment-at-requires t)
-    (composite-derivative-int-to-float-own-parameter t)
-    (composite-derivative-own-parameter-requires t)
-    (composite-derivative-signed-span-requires t)
-    (composite-derivative-derivative-at-requires t)
-    (composite-derivative-scale-requires t)
+    (λ c. search needs)
+    (λ c κs. search needs)
+    (λ c. search needs)
+    (λ c κs. search needs)
+    (λ c κs. search needs)
+    (λ c. search needs)
+    (λ c κs. search needs)
+    (λ c κs. search needs)
+    (λ c κs. search needs)
+    (λ c κs. search needs)
     (composite-derivative-returns-2 t)
-    (composite-derivative-scale-requires-2 t)
+    (λ c κs. search needs)
     (composite-derivative-returns-3 t))
     λ t. derivative-at-lts.spec (derivative-at-claims t) (derivative-at-at t) derivative-at.Post
-    (derivative-at-under-trims-requires t)
-    (derivative-at-cast-at t)
-    (derivative-at-mul-at t)
-    (derivative-at-int-at-requires t)
-    (derivative-at-add-int-at t)
-    (derivative-at-int-at-requires-2 t)
-    (derivative-at-point-in-requires t)
-    (derivative-at-cast-float-at t)
-    (derivative-at-mul-float-at t)
-    (derivative-at-float-at-requires t)
-    (derivative-at-ellipse-derivative-requires t)
-    (derivative-at-cast-float-at-2 t)
-    (derivative-at-mul-float-at-2 t)
-    (derivative-at-float-at-requires-2 t)
-    (derivative-at-cast-float-at-3 t)
-    (derivative-at-mul-float-at-3 t)
-    (derivative-at-add-float-at t)
-    (derivative-at-float-at-requires-3 t)
-    (derivative-at-ellipse-derivative-requires-2 t)
-    (derivative-at-cast-float-at-4 t)
-    (derivative-at-mul-float-at-4 t)
-    (derivative-at-float-at-requires-4 t)
-    (derivative-at-parabola-derivative-requires t)
-    (derivative-at-add-int-at-2 t)
-    (derivative-at-int-at-requires-3 t)
-    (derivative-at-polyline-derivative-requires t)
-    (derivative-at-add-int-at-3 t)
-    (derivative-at-int-at-requires-4 t)
+    (λ c κs. search needs)
+    (λ c. search needs)
+    (λ c. search needs)
+    (λ c κs. search needs)
+    (λ c. search needs)
+    (λ c κs. search needs)
+    (λ c κs. search needs)
+    (λ c. search needs)
+    (λ c. search needs)
+    (λ c κs. search needs)
+    (λ c κs. search needs)
+    (λ c. search needs)
+    (λ c. search needs)
+    (λ c κs. search needs)
+    (λ c. search needs)
+    (λ c. search needs)
+    (λ c. search needs)
+    (λ c κs. search needs)
+    (λ c κs. search needs)
+    (λ c. search needs)
+    (λ c. search needs)
+    (λ c κs. search needs)
+    (λ c κs. search needs)
+    (λ c. search needs)
+    (λ c κs. search needs)
+    (λ c κs. search needs)
+    (λ c. search needs)
+    (λ c κs. search needs)
     (derivative-at-composite-derivative-requires t)
     (derivative-at-returns t)
     (derivative-at-returns-2 t)

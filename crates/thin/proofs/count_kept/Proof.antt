@@ -21,18 +21,6 @@ loop-holds : tie.Need-loop-holds Inv-loop μ-loop
 unfolding count
 loop-holds c = (search needs, search needs, refl, refl)
 
-shared-slice-read-if1 : tie.Need-shared-slice-read-if1 Inv-loop μ-loop
-shared-slice-read-if1 c = search needs
-
-add-kept : tie.Need-add-kept Inv-loop μ-loop
-add-kept c = search needs
-
-add-i : tie.Need-add-i Inv-loop μ-loop
-add-i c = search needs
-
-loop-less : tie.Need-loop-less Inv-loop μ-loop
-loop-less c = search needs
-
 loop-again : tie.Need-loop-again Inv-loop μ-loop
 loop-again c =
     let a = c .before .before .before .before .args in
@@ -56,9 +44,9 @@ count-kept-spec =
     Inv-loop
     μ-loop
     loop-holds
-    shared-slice-read-if1
-    add-kept
-    add-i
-    loop-less
+    (λ c. search needs)
+    (λ c. search needs)
+    (λ c. search needs)
+    (λ c. search needs)
     loop-again
     returns)

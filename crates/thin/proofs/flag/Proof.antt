@@ -7,37 +7,19 @@ use Rattle.thin.proofs.Ways.{flag-refused, flag-few, flag-enough}
 use Rattle.thin.proofs.flag.Statement.{statement}
 use Rattle.thin.proofs.flag.Tie as tie
 
-mark-requires : tie.Need-mark-requires
-mark-requires c κs = search needs
-
-same-length : tie.Need-same-length
-same-length c = search needs
-
 returns : tie.Need-returns
 returns c =
     let m = c .before .before .before .mark in
     flag-refused _ _ _ (m .result) (m .ensures) (not-true (m .result) (c .if1 .taken))
 
-wanted-requires : tie.Need-wanted-requires
-wanted-requires c κs = search needs
-
-count-kept-requires : tie.Need-count-kept-requires
-count-kept-requires c κs = search needs
-
 mark-evenly-requires : tie.Need-mark-evenly-requires
 mark-evenly-requires c κs = (omega arith, c .before .before .before .before .wanted .ensures .1, omega arith)
-
-same-length-2 : tie.Need-same-length-2
-same-length-2 c = search needs
 
 returns-2 : tie.Need-returns-2
 returns-2 c =
     let m = c .before .before .before .before .before .before .before .before .before .before .before .mark in
     let r = c .before .before .before .before .before .count-kept in
     flag-few _ _ _ (m .result) (m .ensures) (not-false (m .result) (c .before .before .before .before .before .before .before .before .if1 .left)) _ (c .before .before .before .before .before .before .before .wanted .ensures .0) (r .result) _ (r .ensures) (c .before .before .before .before .if2 .taken) (c .before .before .mark-evenly .ensures)
-
-same-length-3 : tie.Need-same-length-3
-same-length-3 c = search needs
 
 returns-3 : tie.Need-returns-3
 returns-3 c =
@@ -49,13 +31,13 @@ pub flag-spec : {M : Type 1} → statement M
 flag-spec =
     tie.close
     (tie.spec
-    mark-requires
-    same-length
+    (λ c κs. search needs)
+    (λ c. search needs)
     returns
-    wanted-requires
-    count-kept-requires
+    (λ c κs. search needs)
+    (λ c κs. search needs)
     mark-evenly-requires
-    same-length-2
+    (λ c. search needs)
     returns-2
-    same-length-3
+    (λ c. search needs)
     returns-3)

@@ -20,12 +20,6 @@ Inv-loop keep₀ want last steps i₀ keep i =
 abbrev μ-loop : tie.MeasureT-loop
 μ-loop keep₀ want last steps i₀ keep i = want - i
 
-sub-last : tie.Need-sub-last Inv-loop μ-loop
-sub-last c = search needs
-
-sub-steps : tie.Need-sub-steps Inv-loop μ-loop
-sub-steps c = search needs
-
 loop-holds : tie.Need-loop-holds Inv-loop μ-loop
 unfolding evens
 loop-holds c =
@@ -49,12 +43,6 @@ slice-write-keep c =
     let l = c .before .before .loop in
     let h = even-inside (length (a .keep .now)) (a .want) (c .before .before .before .if1 .steps) (l .i) (l .inv .3) (omega arith) (omega arith) in omega arith
 
-add-i : tie.Need-add-i Inv-loop μ-loop
-add-i c = search needs
-
-loop-less : tie.Need-loop-less Inv-loop μ-loop
-loop-less c = search needs
-
 loop-again : tie.Need-loop-again Inv-loop μ-loop
 loop-again c =
     let a = c .before .before .before .before .args in
@@ -77,14 +65,14 @@ mark-evenly-spec =
     (tie.spec
     Inv-loop
     μ-loop
-    sub-last
-    sub-steps
+    (λ c. search needs)
+    (λ c. search needs)
     loop-holds
     mul-keep
     div-keep
     slice-write-keep
-    add-i
-    loop-less
+    (λ c. search needs)
+    (λ c. search needs)
     loop-again
     same-length
     returns)

@@ -21,9 +21,6 @@ returns-2 c =
     let a = c .before .before .before .args in
     said-as-it-was (a .tolerance) (a .angle) (a .floor) (a .n) (a .chain .now) (inr (not-true (lt nought (a .tolerance)) (c .if2 .taken)))
 
-array-borrow-prefix-few : tie.Need-array-borrow-prefix-few
-array-borrow-prefix-few c = search needs
-
 slice-aggregate-thin-with : tie.Need-slice-aggregate-thin-with
 slice-aggregate-thin-with c = sym (lent-length (c .before .before .before .before .before .before .args .n) 128 (omega arith))
 
@@ -34,16 +31,10 @@ thin-with-requires c κs =
     let fits = lent-fits n 128 (c .before .before .if3 .taken) (c .before .before .before .before .if1 .left) (st .pre .0) (st .pre .1) in
     (fits .0, fits .1, fits .2, lent-false n 128 (c .before .before .if3 .taken), not-false (lt nought (st .args .tolerance)) (c .before .before .before .if2 .left))
 
-same-length : tie.Need-same-length
-same-length c = search needs
-
 returns-3 : tie.Need-returns-3
 returns-3 c =
     let a = c .before .before .before .before .before .before .before .before .before .before .args in
     said-lent (a .tolerance) (a .angle) (a .floor) (a .n) (a .chain .now) (lent-length (a .n) 128 (omega arith)) (c .before .before .before .thin-with .ensures)
-
-array-borrow-prefix-keep : tie.Need-array-borrow-prefix-keep
-array-borrow-prefix-keep c = search needs
 
 slice-aggregate-thin-with-2 : tie.Need-slice-aggregate-thin-with-2
 slice-aggregate-thin-with-2 c = sym (lent-length (c .before .before .before .before .before .before .args .n) most (omega arith))
@@ -54,9 +45,6 @@ thin-with-requires-2 c κs =
     let n = st .args .n in
     let fits = lent-fits n most (st .pre .0) (c .before .before .before .before .if1 .left) (st .pre .0) (st .pre .1) in
     (fits .0, fits .1, fits .2, lent-false n most (st .pre .0), not-false (lt nought (st .args .tolerance)) (c .before .before .before .if2 .left))
-
-same-length-2 : tie.Need-same-length-2
-same-length-2 c = search needs
 
 returns-4 : tie.Need-returns-4
 returns-4 c =
@@ -69,13 +57,13 @@ thin-spec =
     (tie.spec
     returns
     returns-2
-    array-borrow-prefix-few
+    (λ c. search needs)
     slice-aggregate-thin-with
     thin-with-requires
-    same-length
+    (λ c. search needs)
     returns-3
-    array-borrow-prefix-keep
+    (λ c. search needs)
     slice-aggregate-thin-with-2
     thin-with-requires-2
-    same-length-2
+    (λ c. search needs)
     returns-4)

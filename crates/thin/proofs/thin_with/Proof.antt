@@ -11,18 +11,6 @@ use Rattle.thin.proofs.thin_with.Lts as lts
 use Rattle.thin.proofs.flag.Reads as flag-reads
 use Rattle.thin.proofs.retain.Reads as retain-reads
 
-flag-requires : tie.Need-flag-requires
-flag-requires c κs = search needs
-
-retain-requires : tie.Need-retain-requires
-retain-requires c κs = search needs
-
-same-length : tie.Need-same-length
-same-length c = search needs
-
-same-length-2 : tie.Need-same-length-2
-same-length-2 c = search needs
-
 returns : tie.Need-returns
 returns c =
     let a = c .before .before .before .before .before .before .before .before .before .before .before .before .before .args in
@@ -30,12 +18,6 @@ returns c =
     let f = c .before .before .before .before .before .before .before .before .flag in
     let r = c .before .before .retain in
     said-thinned (a .tolerance) (a .angle) (a .floor) (length (a .keep .now)) (a .chain .now) (pre .4) (omega arith) (length (a .keep .now)) refl (f .result) _ (f .ensures) _ (r .result) _ (c .before .before .before .before .before .if1 .taken) refl (search needs) (r .ensures)
-
-same-length-3 : tie.Need-same-length-3
-same-length-3 c = search needs
-
-same-length-4 : tie.Need-same-length-4
-same-length-4 c = search needs
 
 returns-2 : tie.Need-returns-2
 returns-2 c =
@@ -48,11 +30,11 @@ pub thin-with-spec : {M : Type 1} → statement M
 thin-with-spec =
     tie.close
     (tie.spec
-    flag-requires
-    retain-requires
-    same-length
-    same-length-2
+    (λ c κs. search needs)
+    (λ c κs. search needs)
+    (λ c. search needs)
+    (λ c. search needs)
     returns
-    same-length-3
-    same-length-4
+    (λ c. search needs)
+    (λ c. search needs)
     returns-2)

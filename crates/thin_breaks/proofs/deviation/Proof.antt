@@ -7,21 +7,6 @@ use borrow.Author.Needs.{needs}
 use Rattle.thin_breaks.proofs.deviation.Statement.{statement}
 use Rattle.thin_breaks.proofs.deviation.Tie as tie
 
-point-at-requires : tie.Need-point-at-requires
-point-at-requires c κs = search needs
-
-point-at-requires-2 : tie.Need-point-at-requires-2
-point-at-requires-2 c κs = search needs
-
-point-at-requires-3 : tie.Need-point-at-requires-3
-point-at-requires-3 c κs = search needs
-
-point-at-requires-4 : tie.Need-point-at-requires-4
-point-at-requires-4 c κs = search needs
-
-worst-of-requires : tie.Need-worst-of-requires
-worst-of-requires c κs = search needs
-
 returns : tie.Need-returns
 returns c =
     let st = c .before .before .before .before .before .before .before .before .before .before in
@@ -32,9 +17,9 @@ pub deviation-spec : {M : Type 1} → statement M
 deviation-spec =
     tie.close
     (tie.spec
-    point-at-requires
-    point-at-requires-2
-    point-at-requires-3
-    point-at-requires-4
-    worst-of-requires
+    (λ c κs. search needs)
+    (λ c κs. search needs)
+    (λ c κs. search needs)
+    (λ c κs. search needs)
+    (λ c κs. search needs)
     returns)

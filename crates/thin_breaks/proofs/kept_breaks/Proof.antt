@@ -21,34 +21,16 @@ told f =
     let st = k .before .before .before .before .before .before .before .before in
     some-found (st .args .out .now) (curve-of st) (st .args .lo) (st .args .hi) (k .curve-breaks .result) _ (k .curve-breaks .ensures .0) (k .curve-breaks .ensures .1) (f .before .before .before .out .given) (f .found .given .0 .0) (f .found .given .1)
 
-curve-breaks-requires : tie.Need-curve-breaks-requires
-curve-breaks-requires c κs = search needs
-
-enum-known-found : tie.Need-enum-known-found
-enum-known-found c = search needs
-
 slice-relend-prefix-kept : tie.Need-slice-relend-prefix-kept
 slice-relend-prefix-kept c = part-room (told (c .before))
 
 slice-aggregate-kept : tie.Need-slice-aggregate-kept
 slice-aggregate-kept c = sym (part-length (told (c .before .before)))
 
-thin-breaks-requires : tie.Need-thin-breaks-requires
-thin-breaks-requires c κs = search needs
-
-enum-told : tie.Need-enum-told
-enum-told c = search needs
-
-same-length : tie.Need-same-length
-same-length c = search needs
-
 returns : tie.Need-returns
 returns c =
     let t = c .before .before .thin-breaks in
     some-kept (told (c .before .before .before .before .before)) (c .before .before .before .before .before .before .before .before .before .before .before .before .before .before .before .before .before .args .sag) (t .result) (t .last .1 .1 .1 .1 .1 .1 .1 .1 .1 .0) (c .before .out2 .given .0) (t .ensures .0) (t .ensures .1)
-
-same-length-2 : tie.Need-same-length-2
-same-length-2 c = search needs
 
 returns-2 : tie.Need-returns-2
 returns-2 c =
@@ -60,13 +42,13 @@ pub kept-breaks-spec : {M : Type 1} → statement M
 kept-breaks-spec =
     tie.close
     (tie.spec
-    curve-breaks-requires
-    enum-known-found
+    (λ c κs. search needs)
+    (λ c. search needs)
     slice-relend-prefix-kept
     slice-aggregate-kept
-    thin-breaks-requires
-    enum-told
-    same-length
+    (λ c κs. search needs)
+    (λ c. search needs)
+    (λ c. search needs)
     returns
-    same-length-2
+    (λ c. search needs)
     returns-2)

@@ -21,20 +21,11 @@ Inv-loop points curves reals parts ranges row lo hi sag breaks₀ n start₀ pa�
 abbrev μ-loop : tie.MeasureT-loop
 μ-loop points curves reals parts ranges row lo hi sag breaks₀ n start₀ pa₀ k₀ i₀ breaks start pa k i = length breaks₀ - i
 
-point-at-requires : tie.Need-point-at-requires Inv-loop μ-loop
-point-at-requires c κs = search needs
-
 loop-holds : tie.Need-loop-holds Inv-loop μ-loop
 loop-holds c =
     let st = c .before .before .before .before .before .before .before .before in
     let a = st .args in
     (c .point-at .ensures, thinning-start (deviation (pointAt (tree (tables (a .points .now) (a .curves .now) (a .reals .now) (a .parts .now) (a .ranges .now)) (a .row)))) (a .sag) (a .hi) (a .lo) (a .breaks .now) (st .good .1 .1 .1 .1 .1 .1 .1 .1 .1 .0 .1))
-
-mul-b : tie.Need-mul-b Inv-loop μ-loop
-mul-b c = search needs
-
-slice-read-b : tie.Need-slice-read-b Inv-loop μ-loop
-slice-read-b c = search needs
 
 next-of-requires : tie.Need-next-of-requires Inv-loop μ-loop
 next-of-requires c κs =
@@ -64,20 +55,11 @@ add-k c =
     let l = c .before .before .before .before .before .before .loop in
     omega (arith, c .before .before .before .before .before .loop-test .taken, l .inv .1 .small, l .inv .1 .filtering .kept)
 
-point-at-requires-2 : tie.Need-point-at-requires-2 Inv-loop μ-loop
-point-at-requires-2 c κs = search needs
-
-loop-less : tie.Need-loop-less Inv-loop μ-loop
-loop-less c = search needs
-
 loop-again : tie.Need-loop-again Inv-loop μ-loop
 loop-again c =
     let l = c .before .before .before .before .before .before .before .loop in
     let a = c .before .before .before .before .before .before .before .before .before .before .before .before .before .before .before .before .args in
     (c .point-at2 .ensures, thinning-keep (deviation (pointAt (tree (tables (a .points .now) (a .curves .now) (a .reals .now) (a .parts .now) (a .ranges .now)) (a .row)))) (a .sag) (a .hi) (a .lo) (l .inv .1) (c .before .before .before .before .before .before .loop-test .taken) (c .before .before .before .next-of .result) (c .before .before .deviation .result) (c .before .before .before .next-of .ensures) (c .before .before .deviation .ensures) (c .before .if2 .taken))
-
-loop-less-2 : tie.Need-loop-less-2 Inv-loop μ-loop
-loop-less-2 c = search needs
 
 loop-again-2 : tie.Need-loop-again-2 Inv-loop μ-loop
 loop-again-2 c =
@@ -89,9 +71,6 @@ clear-from-requires : tie.Need-clear-from-requires Inv-loop μ-loop
 clear-from-requires c κs =
     let a = c .before .before .before .before .before .before .before .before .before .before .before .args in
     thinning-room (deviation (pointAt (tree (tables (a .points .now) (a .curves .now) (a .reals .now) (a .parts .now) (a .ranges .now)) (a .row)))) (a .sag) (a .hi) (a .lo) (c .before .before .loop .inv .1) (c .before .loop-test .left)
-
-same-length : tie.Need-same-length Inv-loop μ-loop
-same-length c = search needs
 
 returns : tie.Need-returns Inv-loop μ-loop
 returns c =
@@ -109,22 +88,22 @@ thin-breaks-spec =
     (tie.spec
     Inv-loop
     μ-loop
-    point-at-requires
+    (λ c κs. search needs)
     loop-holds
-    mul-b
-    slice-read-b
+    (λ c. search needs)
+    (λ c. search needs)
     next-of-requires
     deviation-requires
     add-i
     mul-breaks
     slice-write-breaks
     add-k
-    point-at-requires-2
-    loop-less
+    (λ c κs. search needs)
+    (λ c. search needs)
     loop-again
-    loop-less-2
+    (λ c. search needs)
     loop-again-2
     clear-from-requires
-    same-length
+    (λ c. search needs)
     returns
     returns-2)

@@ -5,12 +5,6 @@ use borrow.Author.Needs.{needs}
 use Rattle.trig.proofs.acos.Statement.{statement}
 use Rattle.trig.proofs.acos.Tie as tie
 
-root-requires : tie.Need-root-requires
-root-requires c κs = search needs
-
-acos-by-requires : tie.Need-acos-by-requires
-acos-by-requires c κs = search needs
-
 returns : tie.Need-returns
 unfolding acosOf
 returns c = rw (c .if1 .taken)
@@ -24,4 +18,4 @@ unfolding acosOf
 returns-3 c = rw (c .before .before .before .if1 .left, c .before .before .if2 .left) (c .acos-by .ensures ∙ ap acosBy (c .before .root .ensures))
 
 pub acos-spec : {M : Type 1} → statement M
-acos-spec = tie.close (tie.spec root-requires acos-by-requires returns returns-2 returns-3)
+acos-spec = tie.close (tie.spec (λ c κs. search needs) (λ c κs. search needs) returns returns-2 returns-3)

@@ -6,12 +6,6 @@ use borrow.Author.Needs.{needs}
 use Rattle.trig.proofs.acos_by.Statement.{statement}
 use Rattle.trig.proofs.acos_by.Tie as tie
 
-angle-requires : tie.Need-angle-requires
-angle-requires c κs = search needs
-
-angle-requires-2 : tie.Need-angle-requires-2
-angle-requires-2 c κs = search needs
-
 returns : tie.Need-returns
 unfolding acosBy
 returns c = rw (c .before .if1 .taken) (ap (λ (x : Float). sub binary64 pi x) (c .angle .ensures))
@@ -21,4 +15,4 @@ unfolding acosBy
 returns-2 c = rw (c .before .if1 .left) (c .angle2 .ensures)
 
 pub acos-by-spec : {M : Type 1} → statement M
-acos-by-spec = tie.close (tie.spec angle-requires angle-requires-2 returns returns-2)
+acos-by-spec = tie.close (tie.spec (λ c κs. search needs) (λ c κs. search needs) returns returns-2)

@@ -7,12 +7,6 @@ use Rattle.trig.proofs.Cases.{picked, cos-as-sin}
 use Rattle.trig.proofs.both.Statement.{statement}
 use Rattle.trig.proofs.both.Tie as tie
 
-sin-series-requires : tie.Need-sin-series-requires
-sin-series-requires c κs = search needs
-
-cos-series-requires : tie.Need-cos-series-requires
-cos-series-requires c κs = search needs
-
 add-j : tie.Need-add-j
 add-j c = omega arith
 
@@ -53,8 +47,8 @@ pub both-spec : {M : Type 1} → statement M
 both-spec =
     tie.close
     (tie.spec
-    sin-series-requires
-    cos-series-requires
+    (λ c κs. search needs)
+    (λ c κs. search needs)
     add-j
     mul-t10
     array-read-t8

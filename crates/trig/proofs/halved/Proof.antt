@@ -4,12 +4,9 @@ use borrow.Author.Needs.{needs}
 use Rattle.trig.proofs.halved.Statement.{statement}
 use Rattle.trig.proofs.halved.Tie as tie
 
-root-requires : tie.Need-root-requires
-root-requires c κs = search needs
-
 returns : tie.Need-returns
 unfolding halved
 returns c = rw (c .root .ensures)
 
 pub halved-spec : {M : Type 1} → statement M
-halved-spec = tie.close (tie.spec root-requires returns)
+halved-spec = tie.close (tie.spec (λ c κs. search needs) returns)

@@ -13,11 +13,5 @@ returns : tie.Need-returns
 unfolding ofBits
 returns c = quarter-near (c .before .before .before .args .k) (c .before .before .if1 .taken) (c .before .if2 .taken) (c .if3 .taken)
 
-quarter-far-requires : tie.Need-quarter-far-requires
-quarter-far-requires c κs = search needs
-
-returns-2 : tie.Need-returns-2
-returns-2 c = search needs
-
 pub quarter-spec : {M : Type 1} → statement M
-quarter-spec = tie.close (tie.spec float-to-bits-result returns quarter-far-requires returns-2)
+quarter-spec = tie.close (tie.spec float-to-bits-result returns (λ c κs. search needs) (λ c. search needs))

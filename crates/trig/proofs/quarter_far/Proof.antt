@@ -9,9 +9,6 @@ use borrow.Author.Needs.{needs}
 use Rattle.trig.proofs.quarter_far.Statement.{statement}
 use Rattle.trig.proofs.quarter_far.Tie as tie
 
-abs-requires : tie.Need-abs-requires
-abs-requires c κs = search needs
-
 truncating-f64-to-u64-requires : tie.Need-truncating-f64-to-u64-requires
 unfolding ofBits
 truncating-f64-to-u64-requires c κs =
@@ -42,4 +39,4 @@ returns-3 c = of-large (c .before .before .args .k) (holds (c .before .before .g
 pub quarter-far-spec : {M : Type 1} → statement M
 quarter-far-spec =
     tie.close
-    (tie.spec abs-requires truncating-f64-to-u64-requires sub-result returns returns-2 returns-3)
+    (tie.spec (λ c κs. search needs) truncating-f64-to-u64-requires sub-result returns returns-2 returns-3)

@@ -6,12 +6,9 @@ use Rattle.trig.specs.declared.SinCos.{SinCos}
 use Rattle.trig.proofs.sin.Statement.{statement}
 use Rattle.trig.proofs.sin.Tie as tie
 
-sin-cos-requires : tie.Need-sin-cos-requires
-sin-cos-requires c κs = search needs
-
 returns : tie.Need-returns
 unfolding sinCosOf
 returns c = ap (λ (s : SinCos). s .sin) (c .sin-cos .ensures)
 
 pub sin-spec : {M : Type 1} → statement M
-sin-spec = tie.close (tie.spec sin-cos-requires returns)
+sin-spec = tie.close (tie.spec (λ c κs. search needs) returns)

@@ -5,15 +5,6 @@ use Rattle.trig.proofs.Modulo.{below-four}
 use Rattle.trig.proofs.sin_cos.Statement.{statement}
 use Rattle.trig.proofs.sin_cos.Tie as tie
 
-turns-requires : tie.Need-turns-requires
-turns-requires c κs = search needs
-
-reduced-requires : tie.Need-reduced-requires
-reduced-requires c κs = search needs
-
-quarter-requires : tie.Need-quarter-requires
-quarter-requires c κs = search needs
-
 both-requires : tie.Need-both-requires
 both-requires c κs = rw (c .quarter .ensures) (below-four (c .before .before .turns .result))
 
@@ -26,4 +17,4 @@ returns c =
 
 pub sin-cos-spec : {M : Type 1} → statement M
 sin-cos-spec =
-    tie.close (tie.spec turns-requires reduced-requires quarter-requires both-requires returns)
+    tie.close (tie.spec (λ c κs. search needs) (λ c κs. search needs) (λ c κs. search needs) both-requires returns)

@@ -14,11 +14,8 @@ returns c =
     let a = c .before .before .before .args in
     surely-within (a .a) (a .limit) (a .cut) (search needs) (c .before .before .before .pre) (c .before .before .if1 .taken) (c .before .if2 .taken) (c .if3 .taken)
 
-acos-requires : tie.Need-acos-requires
-acos-requires c κs = search needs
-
 returns-2 : tie.Need-returns-2
 returns-2 c = ap (λ d. le d (c .before .before .args .limit)) (c .acos .ensures)
 
 pub is-turn-within-spec : {M : Type 1} → statement M
-is-turn-within-spec = tie.close (tie.spec returns acos-requires returns-2)
+is-turn-within-spec = tie.close (tie.spec returns (λ c κs. search needs) returns-2)

@@ -8,18 +8,9 @@ use Rattle.turning.proofs.turn_cut.Reads as reads
 use Rattle.turning.proofs.turn_cut.Lts as lts
 use Rattle.roots.proofs.root.Reads as root-reads
 
-root-requires : tie.Need-root-requires
-root-requires c κs = search needs
-
-cut-if-requires : tie.Need-cut-if-requires
-cut-if-requires c κs = search needs
-
-cut-if-requires-2 : tie.Need-cut-if-requires-2
-cut-if-requires-2 c κs = search needs
-
 returns : tie.Need-returns
 unfolding turnCut ofBits ofInt
 returns c = rw (c .cut-if2 .ensures, c .before .cut-if .ensures, c .before .before .root .ensures)
 
 pub turn-cut-spec : {M : Type 1} → statement M
-turn-cut-spec = tie.close (tie.spec root-requires cut-if-requires cut-if-requires-2 returns)
+turn-cut-spec = tie.close (tie.spec (λ c κs. search needs) (λ c κs. search needs) (λ c κs. search needs) returns)

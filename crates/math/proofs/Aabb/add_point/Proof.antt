@@ -4,15 +4,9 @@ use borrow.Author.Needs.{needs}
 use Rattle.math.proofs.Aabb.add_point.Statement.{statement}
 use Rattle.math.proofs.Aabb.add_point.Tie as tie
 
-min-requires : tie.Need-min-requires
-min-requires c κs = search needs
-
-max-requires : tie.Need-max-requires
-max-requires c κs = search needs
-
 returns : tie.Need-returns
 unfolding addPoint
 returns c = rw (c .max .ensures, c .before .min .ensures)
 
 pub add-point-spec : {M : Type 1} → statement M
-add-point-spec = tie.close (tie.spec min-requires max-requires returns)
+add-point-spec = tie.close (tie.spec (λ c κs. search needs) (λ c κs. search needs) returns)

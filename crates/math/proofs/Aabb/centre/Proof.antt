@@ -4,15 +4,6 @@ use borrow.Author.Needs.{needs}
 use Rattle.math.proofs.Aabb.centre.Statement.{statement}
 use Rattle.math.proofs.Aabb.centre.Tie as tie
 
-is-empty-requires : tie.Need-is-empty-requires
-is-empty-requires c κs = search needs
-
-add-requires : tie.Need-add-requires
-add-requires c κs = search needs
-
-scale-requires : tie.Need-scale-requires
-scale-requires c κs = search needs
-
 returns : tie.Need-returns
 unfolding centre
 returns c = rw (← c .before .is-empty .ensures, c .if1 .taken)
@@ -22,4 +13,4 @@ unfolding centre
 returns-2 c = rw (← c .before .before .before .is-empty .ensures, c .before .before .if1 .left, c .scale .ensures, c .before .add .ensures)
 
 pub centre-spec : {M : Type 1} → statement M
-centre-spec = tie.close (tie.spec is-empty-requires add-requires scale-requires returns returns-2)
+centre-spec = tie.close (tie.spec (λ c κs. search needs) (λ c κs. search needs) (λ c κs. search needs) returns returns-2)

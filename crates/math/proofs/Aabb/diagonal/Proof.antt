@@ -4,15 +4,9 @@ use borrow.Author.Needs.{needs}
 use Rattle.math.proofs.Aabb.diagonal.Statement.{statement}
 use Rattle.math.proofs.Aabb.diagonal.Tie as tie
 
-size-requires : tie.Need-size-requires
-size-requires c κs = search needs
-
-length-requires : tie.Need-length-requires
-length-requires c κs = search needs
-
 returns : tie.Need-returns
 unfolding diagonal
 returns c = rw (c .length .ensures, c .before .size .ensures)
 
 pub diagonal-spec : {M : Type 1} → statement M
-diagonal-spec = tie.close (tie.spec size-requires length-requires returns)
+diagonal-spec = tie.close (tie.spec (λ c κs. search needs) (λ c κs. search needs) returns)

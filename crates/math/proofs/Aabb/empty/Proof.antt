@@ -4,12 +4,9 @@ use borrow.Author.Needs.{needs}
 use Rattle.math.proofs.Aabb.empty.Statement.{statement}
 use Rattle.math.proofs.Aabb.empty.Tie as tie
 
-infinity-requires : tie.Need-infinity-requires
-infinity-requires c κs = search needs
-
 returns : tie.Need-returns
 unfolding neg
 returns c = rw (c .infinity .ensures)
 
 pub empty-spec : {M : Type 1} → statement M
-empty-spec = tie.close (tie.spec infinity-requires returns)
+empty-spec = tie.close (tie.spec (λ c κs. search needs) returns)

@@ -4,12 +4,6 @@ use borrow.Author.Needs.{needs}
 use Rattle.math.proofs.Aabb.size.Statement.{statement}
 use Rattle.math.proofs.Aabb.size.Tie as tie
 
-is-empty-requires : tie.Need-is-empty-requires
-is-empty-requires c κs = search needs
-
-sub-requires : tie.Need-sub-requires
-sub-requires c κs = search needs
-
 returns : tie.Need-returns
 unfolding boxSize
 returns c = rw (← c .before .is-empty .ensures, c .if1 .taken)
@@ -19,4 +13,4 @@ unfolding boxSize
 returns-2 c = rw (← c .before .before .is-empty .ensures, c .before .if1 .left, c .sub .ensures)
 
 pub size-spec : {M : Type 1} → statement M
-size-spec = tie.close (tie.spec is-empty-requires sub-requires returns returns-2)
+size-spec = tie.close (tie.spec (λ c κs. search needs) (λ c κs. search needs) returns returns-2)

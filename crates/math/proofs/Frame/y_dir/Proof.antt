@@ -4,12 +4,9 @@ use borrow.Author.Needs.{needs}
 use Rattle.math.proofs.Frame.y_dir.Statement.{statement}
 use Rattle.math.proofs.Frame.y_dir.Tie as tie
 
-cross-requires : tie.Need-cross-requires
-cross-requires c κs = search needs
-
 returns : tie.Need-returns
 unfolding yDir
 returns c = c .cross .ensures
 
 pub y-dir-spec : {M : Type 1} → statement M
-y-dir-spec = tie.close (tie.spec cross-requires returns)
+y-dir-spec = tie.close (tie.spec (λ c κs. search needs) returns)

@@ -6,15 +6,6 @@ use borrow.Author.Needs.{needs}
 use Rattle.math.proofs.Vec3.is_finite.Statement.{statement}
 use Rattle.math.proofs.Vec3.is_finite.Tie as tie
 
-is-finite-requires : tie.Need-is-finite-requires
-is-finite-requires c κs = search needs
-
-is-finite-requires-2 : tie.Need-is-finite-requires-2
-is-finite-requires-2 c κs = search needs
-
-is-finite-requires-3 : tie.Need-is-finite-requires-3
-is-finite-requires-3 c κs = search needs
-
 returns : tie.Need-returns
 unfolding vFinite
 returns c = c .is-finite3 .ensures ∙ and-second _ _ (sym (c .before .before .is-finite2 .ensures) ∙ c .before .if2 .taken) ∙ and-second _ _ (sym (c .before .before .before .before .is-finite .ensures) ∙ c .before .before .before .if1 .taken)
@@ -30,4 +21,4 @@ returns-3 c = c .before .is-finite .ensures ∙ and-first _ _ (sym (c .before .i
 pub is-finite-spec : {M : Type 1} → statement M
 is-finite-spec =
     tie.close
-    (tie.spec is-finite-requires is-finite-requires-2 is-finite-requires-3 returns returns-2 returns-3)
+    (tie.spec (λ c κs. search needs) (λ c κs. search needs) (λ c κs. search needs) returns returns-2 returns-3)

@@ -4,15 +4,9 @@ use borrow.Author.Needs.{needs}
 use Rattle.math.proofs.Vec3.length.Statement.{statement}
 use Rattle.math.proofs.Vec3.length.Tie as tie
 
-dot-requires : tie.Need-dot-requires
-dot-requires c κs = search needs
-
-root-requires : tie.Need-root-requires
-root-requires c κs = search needs
-
 returns : tie.Need-returns
 unfolding vLength
 returns c = rw (c .root .ensures, c .before .dot .ensures)
 
 pub length-spec : {M : Type 1} → statement M
-length-spec = tie.close (tie.spec dot-requires root-requires returns)
+length-spec = tie.close (tie.spec (λ c κs. search needs) (λ c κs. search needs) returns)

@@ -4,15 +4,6 @@ use borrow.Author.Needs.{needs}
 use Rattle.math.proofs.Vec3.try_normalized.Statement.{statement}
 use Rattle.math.proofs.Vec3.try_normalized.Tie as tie
 
-length-requires : tie.Need-length-requires
-length-requires c κs = search needs
-
-is-finite-requires : tie.Need-is-finite-requires
-is-finite-requires c κs = search needs
-
-scale-requires : tie.Need-scale-requires
-scale-requires c κs = search needs
-
 returns : tie.Need-returns
 unfolding tryNormalized
 returns c = rw (← c .before .before .before .before .length .ensures, ← c .before .before .before .is-finite .ensures, c .before .before .if1 .taken, c .before .if2 .taken, c .scale .ensures)
@@ -27,4 +18,4 @@ returns-3 c = rw (← c .before .before .length .ensures, ← c .before .is-fini
 
 pub try-normalized-spec : {M : Type 1} → statement M
 try-normalized-spec =
-    tie.close (tie.spec length-requires is-finite-requires scale-requires returns returns-2 returns-3)
+    tie.close (tie.spec (λ c κs. search needs) (λ c κs. search needs) (λ c κs. search needs) returns returns-2 returns-3)

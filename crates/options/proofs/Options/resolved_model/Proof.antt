@@ -5,9 +5,6 @@ use borrow.Author.Needs.{needs}
 use Rattle.options.proofs.Options.resolved_model.Statement.{statement}
 use Rattle.options.proofs.Options.resolved_model.Tie as tie
 
-has-scale-requires : tie.Need-has-scale-requires
-has-scale-requires c κs = search needs
-
 returns : tie.Need-returns
 unfolding resolvedModel
 returns c = rw (sym (c .before .has-scale .ensures) ∙ c .if1 .taken)
@@ -17,4 +14,4 @@ unfolding resolvedModel
 returns-2 c = rw (sym (c .before .has-scale .ensures) ∙ c .if1 .left)
 
 pub resolved-model-spec : {M : Type 1} → statement M
-resolved-model-spec = tie.close (tie.spec has-scale-requires returns returns-2)
+resolved-model-spec = tie.close (tie.spec (λ c κs. search needs) returns returns-2)

@@ -4,12 +4,9 @@ use borrow.Author.Needs.{needs}
 use Rattle.options.proofs.Resolved.for_extent.Statement.{statement}
 use Rattle.options.proofs.Resolved.for_extent.Tie as tie
 
-sag-for-requires : tie.Need-sag-for-requires
-sag-for-requires c κs = search needs
-
 returns : tie.Need-returns
 unfolding forExtent
 returns c = rw (c .sag-for .ensures)
 
 pub for-extent-spec : {M : Type 1} → statement M
-for-extent-spec = tie.close (tie.spec sag-for-requires returns)
+for-extent-spec = tie.close (tie.spec (λ c κs. search needs) returns)

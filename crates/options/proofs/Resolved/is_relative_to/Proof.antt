@@ -3,9 +3,6 @@ use borrow.Author.Needs.{needs}
 use Rattle.options.proofs.Resolved.is_relative_to.Statement.{statement}
 use Rattle.options.proofs.Resolved.is_relative_to.Tie as tie
 
-is-finite-requires : tie.Need-is-finite-requires
-is-finite-requires c κs = search needs
-
 returns : tie.Need-returns
 returns c = rw (c .before .before .before .before .if1 .taken, c .before .before .if2 .taken, c .before .if3 .taken) (c .is-finite .ensures)
 
@@ -19,4 +16,4 @@ returns-4 : tie.Need-returns-4
 returns-4 c = rw (c .if1 .left)
 
 pub is-relative-to-spec : {M : Type 1} → statement M
-is-relative-to-spec = tie.close (tie.spec is-finite-requires returns returns-2 returns-3 returns-4)
+is-relative-to-spec = tie.close (tie.spec (λ c κs. search needs) returns returns-2 returns-3 returns-4)

@@ -5,15 +5,6 @@ use borrow.Author.Needs.{needs}
 use Rattle.options.proofs.Resolved.sag_for.Statement.{statement}
 use Rattle.options.proofs.Resolved.sag_for.Tie as tie
 
-is-relative-to-requires : tie.Need-is-relative-to-requires
-is-relative-to-requires c κs = search needs
-
-clamp-requires : tie.Need-clamp-requires
-clamp-requires c κs = search needs
-
-max-requires : tie.Need-max-requires
-max-requires c κs = search needs
-
 returns : tie.Need-returns
 unfolding sagFor
 returns c = rw (sym (c .before .before .before .before .before .before .is-relative-to .ensures) ∙ c .before .before .before .before .before .if1 .taken) (rw (c .max .ensures, c .before .before .before .clamp .ensures))
@@ -24,4 +15,4 @@ returns-2 c = rw (sym (c .before .is-relative-to .ensures) ∙ c .if1 .left)
 
 pub sag-for-spec : {M : Type 1} → statement M
 sag-for-spec =
-    tie.close (tie.spec is-relative-to-requires clamp-requires max-requires returns returns-2)
+    tie.close (tie.spec (λ c κs. search needs) (λ c κs. search needs) (λ c κs. search needs) returns returns-2)

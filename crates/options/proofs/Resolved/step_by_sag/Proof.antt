@@ -3,12 +3,6 @@ use borrow.Author.Needs.{needs}
 use Rattle.options.proofs.Resolved.step_by_sag.Statement.{statement}
 use Rattle.options.proofs.Resolved.step_by_sag.Tie as tie
 
-clamp-requires : tie.Need-clamp-requires
-clamp-requires c κs = search needs
-
-acos-requires : tie.Need-acos-requires
-acos-requires c κs = search needs
-
 returns : tie.Need-returns
 returns c = rw (c .before .before .before .if1 .taken, c .acos .ensures, c .before .clamp .ensures)
 
@@ -16,4 +10,4 @@ returns-2 : tie.Need-returns-2
 returns-2 c = rw (c .if1 .left)
 
 pub step-by-sag-spec : {M : Type 1} → statement M
-step-by-sag-spec = tie.close (tie.spec clamp-requires acos-requires returns returns-2)
+step-by-sag-spec = tie.close (tie.spec (λ c κs. search needs) (λ c κs. search needs) returns returns-2)
