@@ -1,6 +1,6 @@
 // Bisection of a curve's spans: subdivide of edge.rs, on rows. Each point and each tangent is evaluated once and handed down.
 use cuts::Limit;
-use listed::Listed;
+use params::Listed;
 use math::Direction;
 use math::Vec3;
 use options::Resolved;
@@ -15,7 +15,7 @@ ghost use Rattle.brep.specs.Rows.{lent};
 ghost use Rattle.brep.specs.Tree.{tree};
 ghost use Rattle.ready.specs.Ready.{readyOf};
 ghost use Rattle.params.specs.Params.{subdivided};
-ghost use Rattle.listed.specs.Held.{Behind};
+ghost use Rattle.params.specs.Held.{Behind};
 ghost use Rattle.bisect.specs.Bisect.{endAt, turnOf, isWithin, splitOf, withinBudget, limitsOf};
 
 // An end of a span: its parameter, and the curve's point and tangent there.
@@ -194,7 +194,7 @@ pub fn subdivide(
     let Listed::Count(n) = before else {
         return Listed::Refused;
     };
-    let pushed = listed::push(out, n, m.t);
+    let pushed = params::push(out, n, m.t);
     let Listed::Count(next) = pushed else {
         return Listed::Refused;
     };

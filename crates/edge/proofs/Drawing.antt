@@ -15,9 +15,9 @@ use Rattle.brep.specs.declared.Edge.{Edge}
 use Rattle.brep.specs.Rows.{Tables}
 use Rattle.brep.specs.Tree.{CurveTree}
 use Rattle.options.specs.declared.Resolved.{Resolved}
-use Rattle.listed.specs.declared.Listed.{Listed}
-use Rattle.listed.specs.declared.Listed.the-variants as listed
-use Rattle.listed.specs.Held.{said}
+use Rattle.params.specs.declared.Listed.{Listed}
+use Rattle.params.specs.declared.Listed.the-variants as listed
+use Rattle.params.specs.Held.{said}
 use Rattle.samples.specs.declared.Sample.{Sample}
 use Rattle.samples.specs.declared.Counted.{Counted}
 use Rattle.samples.specs.declared.Counted.the-variants.{Refused, Count}

@@ -1,6 +1,6 @@
 // The chain of an edge: discretise of edge.rs, on rows.
 use brep::Edge;
-use listed::Listed;
+use params::Listed;
 use math::Interval;
 use options::Resolved;
 use sample::sample_params;

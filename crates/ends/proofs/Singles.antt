@@ -5,10 +5,10 @@ use mathlib.Core.List.{List, [], _∷_, _++_}
 use Prim.Native.Nat.{ℕ, zero, suc, _+_, _-_, _^_, _<_, _≤_}
 use native.Mathlib.Omega.{arith}
 use lib.ListN.{length, getD, drop, replicate, length-drop}
-use Rattle.formats.specs.Bytes.{bytes}
-use Rattle.formats.specs.Format.{Format, Parsed, bad, got, plain, _and_, none as no-cells, ValidCons, _before_}
-use Rattle.formats.specs.Table.{Field, float, whole, word, fields, behind, names, cell, line, single}
-use Rattle.formats.proofs.Laws.{Lawful}
+use Rattle.text.specs.Bytes.{bytes}
+use Rattle.text.specs.Format.{Format, Parsed, bad, got, plain, _and_, none as no-cells, ValidCons, _before_}
+use Rattle.text.specs.Table.{Field, float, whole, word, fields, behind, names, cell, line, single}
+use Rattle.text.proofs.Laws.{Lawful}
 use Rattle.layout.specs.Layout.{edgeColumns, optionColumns}
 use Rattle.layout.specs.Letters.{fieldOf, padded}
 use Rattle.layout.proofs.Laws.{edge-law, options-law}

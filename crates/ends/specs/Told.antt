@@ -2,8 +2,8 @@
 use mathlib.Core.List.{List}
 use Prim.Native.Nat.{ℕ, _-_}
 use lib.ListN.{length}
-use Rattle.formats.specs.Format.{Format, Parsed, bad, got, _before_}
-use Rattle.formats.specs.Table.{line}
+use Rattle.text.specs.Format.{Format, Parsed, bad, got, _before_}
+use Rattle.text.specs.Table.{line}
 use Rattle.layout.specs.Letters.{shapeOf}
 use Rattle.rows.specs.Rows.{edgeOf, optionsOf}
 use Rattle.ends.specs.declared.EdgeAt.{EdgeAt}

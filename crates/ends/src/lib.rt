@@ -2,7 +2,7 @@
 ghost use mathlib.Core.Path.{_≡_};
 ghost use Prim.Native.Nat.{_≤_};
 ghost use lib.ListN.{length, drop};
-ghost use Rattle.formats.specs.Table.{single};
+ghost use Rattle.text.specs.Table.{single};
 ghost use Rattle.layout.specs.Layout.{edgeColumns, optionColumns, ends};
 ghost use Rattle.layout.specs.Letters.{toldRow};
 ghost use Rattle.ends.specs.Told.{singleOf, toldEdge, toldOptions, toldEnds};

@@ -3,8 +3,8 @@ use mathlib.Core.Path.{_≡_, refl}
 use mathlib.Core.List.{List, [], _∷_}
 use Prim.Native.Nat.{ℕ, _-_, _^_}
 use borrow.Author.Tests.{eq-eqb, ne-eqb}
-use Rattle.formats.specs.Format.{hex16, readPlain, oneOf, _ending_}
-use Rattle.formats.specs.Table.{cell}
+use Rattle.text.specs.Format.{hex16, readPlain, oneOf, _ending_}
+use Rattle.text.specs.Table.{cell}
 use Rattle.layout.specs.Layout.{kinds}
 use Rattle.layout.specs.Letters.{fieldOf}
 

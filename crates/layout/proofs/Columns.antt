@@ -9,10 +9,10 @@ use lib.ListN.{length, getD, drop, length-append, drop-of-length-le}
 use lib.Seq.{drop-cons}
 use lib.Dec.{eqb}
 use Rattle.lists.specs.Sub.{All, none as all-none, more}
-use Rattle.formats.specs.Format.{Parsed, bad, got, Format, andThen, _and_, none}
-use Rattle.formats.specs.Table.{Field, float, whole, word, behind, cell, line}
-use Rattle.formats.proofs.Laws.{Lawful}
-use Rattle.formats.proofs.Tables.{Good, behind-no-digit, cell-law, line-law}
+use Rattle.text.specs.Format.{Parsed, bad, got, Format, andThen, _and_, none}
+use Rattle.text.specs.Table.{Field, float, whole, word, behind, cell, line}
+use Rattle.text.proofs.Laws.{Lawful}
+use Rattle.text.proofs.Tables.{Good, behind-no-digit, cell-law, line-law}
 use Rattle.layout.specs.Layout.{u32, u64, kind}
 use Rattle.layout.specs.Letters.{fieldOf, shapeOf}
 use Rattle.layout.proofs.Laws.{u32-good, u64-good, kind-good}

@@ -4,9 +4,9 @@ use mathlib.Core.List.{List, [], _∷_, _++_, map}
 use Prim.Native.Nat.{ℕ}
 use Prim.Native.String.{String}
 use Rattle.lists.specs.Result.{Result, refused, got}
-use Rattle.formats.specs.Bytes.{bytes}
-use Rattle.formats.specs.Format.{when, andThen, orElse, expect, charOf, digitOf, digits, readDigits, widthUpTo, decimal, readDecimal, readPlain, readWord, _ending_, _before_, _then_, none, writeCons, _and_, as-of, writeLines, readLines, lines, all, whole}
-use Rattle.formats.specs.Table.{fields, behind, names, cell, line}
+use Rattle.text.specs.Bytes.{bytes}
+use Rattle.text.specs.Format.{when, andThen, orElse, expect, charOf, digitOf, digits, readDigits, widthUpTo, decimal, readDecimal, readPlain, readWord, _ending_, _before_, _then_, none, writeCons, _and_, as-of, writeLines, readLines, lines, all, whole}
+use Rattle.text.specs.Table.{fields, behind, names, cell, line}
 use Rattle.layout.specs.Layout.{kinds, RawSheet, sheet, layout, readSheet}
 
 -- the sheet of the scope

@@ -9,13 +9,13 @@ use lib.Dec.{leb}
 use borrow.Author.Tests.{le-leb, leb-true}
 use Rattle.lists.specs.Sub.{All, none, more}
 use Rattle.lists.specs.Result.{Result, refused, got}
-use Rattle.formats.specs.Bytes.{bytes}
-use Rattle.formats.specs.Format.{Format, Parsed, bad, got as parsed, all, oneOf, _ending_, _then_, whole as whole-text}
-use Rattle.formats.specs.Table.{Field, Column, fields, line, table, single}
-use Rattle.formats.proofs.Laws.{Lawful, Is, ending-law, then-law, as-law, whole-back, whole-was}
-use Rattle.formats.proofs.Words.{oneOf-law}
-use Rattle.formats.proofs.Lines.{NoLine}
-use Rattle.formats.proofs.Tables.{Good, line-law, no-line, table-law, single-law}
+use Rattle.text.specs.Bytes.{bytes}
+use Rattle.text.specs.Format.{Format, Parsed, bad, got as parsed, all, oneOf, _ending_, _then_, whole as whole-text}
+use Rattle.text.specs.Table.{Field, Column, fields, line, table, single}
+use Rattle.text.proofs.Laws.{Lawful, Is, ending-law, then-law, as-law, whole-back, whole-was}
+use Rattle.text.proofs.Words.{oneOf-law}
+use Rattle.text.proofs.Lines.{NoLine}
+use Rattle.text.proofs.Tables.{Good, line-law, no-line, table-law, single-law}
 use Rattle.layout.specs.Layout.{kinds, u32, u64, kind, pointColumns, curveColumns, segmentColumns, edgeColumns, optionColumns, RawSheet, tables, ends, sheet, layout, Valid, size, readSheet, Follows, Means}
 
 -- ---- what the columns hold

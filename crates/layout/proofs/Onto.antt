@@ -2,7 +2,7 @@
 use mathlib.Core.Path.{_≡_, refl, ap}
 use mathlib.Core.List.{List, [], _∷_, _++_, append-assoc}
 use Prim.Native.Nat.{ℕ}
-use Rattle.formats.specs.Format.{Parsed, bad, got, andThen}
+use Rattle.text.specs.Format.{Parsed, bad, got, andThen}
 
 -- l in front of what is read
 unfoldable pub onto : {A : Type 0} → List A → Parsed (List A) → Parsed (List A)

@@ -5,7 +5,7 @@ use Prim.Native.Nat.{ℕ, suc, _+_, _-_, _<_, _≤_}
 use native.Mathlib.Omega.{arith}
 use lib.ListN.{length, set, replicate, length-append, length-replicate}
 use lib.Seq.{sets, set-at, length-sets}
-use Rattle.formats.specs.Format.{Parsed, bad, got}
+use Rattle.text.specs.Format.{Parsed, bad, got}
 use Rattle.text.proofs.Place.{Read}
 use Rattle.layout.specs.Letters.{padded, toldRow}
 use Rattle.layout.specs.declared.Row.{Row}

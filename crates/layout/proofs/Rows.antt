@@ -5,8 +5,8 @@ use mathlib.Core.List.{List, [], _∷_}
 use Prim.Native.Nat.{ℕ, _-_, _≤_}
 use native.Mathlib.Omega.{arith}
 use lib.ListN.{length, drop, length-drop}
-use Rattle.formats.specs.Format.{Parsed, bad, got, Format}
-use Rattle.formats.proofs.Laws.{Lawful}
+use Rattle.text.specs.Format.{Parsed, bad, got, Format}
+use Rattle.text.proofs.Laws.{Lawful}
 use Rattle.text.proofs.Place.{Read, placed}
 use Rattle.layout.specs.Letters.{padded, toldRow}
 use Rattle.layout.specs.declared.Row.{Row}

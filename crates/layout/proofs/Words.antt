@@ -4,7 +4,7 @@ use mathlib.Core.List.{List, [], _∷_}
 use Prim.Native.Nat.{ℕ, suc, _<_}
 use lib.ListN.{length, getD, drop}
 use lib.Seq.{drop-cons}
-use Rattle.formats.specs.Format.{Parsed, bad, got, orElse, expect, readWord}
+use Rattle.text.specs.Format.{Parsed, bad, got, orElse, expect, readWord}
 use Rattle.text.specs.Told.{told}
 use Rattle.text.specs.declared.Num.{Num}
 use Rattle.text.specs.declared.Num.the-variants.{Got, Bad}

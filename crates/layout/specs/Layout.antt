@@ -7,9 +7,9 @@ use Prim.Native.Nat.{ℕ, _-_, _^_, _≤_}
 use lib.ListN.{length}
 use lib.Dec.{leb}
 use Rattle.lists.specs.Result.{Result, refused, got}
-use Rattle.formats.specs.Bytes.{bytes}
-use Rattle.formats.specs.Format.{Format, _ending_, _then_, as-of, whole as whole-text}
-use Rattle.formats.specs.Table.{Field, float, whole, word, Column, _of_, table, single}
+use Rattle.text.specs.Bytes.{bytes}
+use Rattle.text.specs.Format.{Format, _ending_, _then_, as-of, whole as whole-text}
+use Rattle.text.specs.Table.{Field, float, whole, word, Column, _of_, table, single}
 
 -- the kinds' words, numbered from 1
 unfoldable pub kinds : List (List ℕ)

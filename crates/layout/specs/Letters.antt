@@ -4,8 +4,8 @@ use mathlib.Core.List.{List, [], map, _++_}
 use Prim.Native.Nat.{ℕ, _-_}
 use lib.ListN.{length, replicate}
 use lib.Dec.{eqb}
-use Rattle.formats.specs.Format.{Parsed, bad, got}
-use Rattle.formats.specs.Table.{Field, float}
+use Rattle.text.specs.Format.{Parsed, bad, got}
+use Rattle.text.specs.Table.{Field, float}
 use Rattle.text.specs.declared.Num.{Num}
 use Rattle.text.specs.declared.Num.the-variants.{Got, Bad}
 use Rattle.layout.specs.Layout.{u32, u64, kind}

@@ -2,8 +2,8 @@
 ghost use mathlib.Core.Path.{_≡_};
 ghost use Prim.Native.Nat.{_+_, _<_, _≤_};
 ghost use lib.ListN.{length, drop};
-ghost use Rattle.formats.specs.Format.{expect, readWord};
-ghost use Rattle.formats.specs.Table.{behind, cell, line};
+ghost use Rattle.text.specs.Format.{expect, readWord};
+ghost use Rattle.text.specs.Table.{behind, cell, line};
 ghost use Rattle.text.specs.Told.{told};
 ghost use Rattle.layout.specs.Layout.{kinds};
 ghost use Rattle.layout.specs.Letters.{orTold, fieldOf, shapeOf, toldRow};

@@ -3,9 +3,9 @@ use mathlib.Core.Path.{_≡_, refl}
 use mathlib.Core.List.{[], _∷_, flatMap}
 use Prim.Native.Nat.{ℕ}
 use lib.Ieee.{isNan, binary64, ofBits, toBits}
-use Rattle.formats.specs.Bytes.{bytes}
-use Rattle.formats.specs.Format.{charOf, digits, widthUpTo, decimal, _ending_, _and_, none, writeCons}
-use Rattle.formats.specs.Table.{fields, behind, names, cell, line}
+use Rattle.text.specs.Bytes.{bytes}
+use Rattle.text.specs.Format.{charOf, digits, widthUpTo, decimal, _ending_, _and_, none, writeCons}
+use Rattle.text.specs.Table.{fields, behind, names, cell, line}
 use Rattle.math.specs.Math.{vec}
 use Rattle.samples.specs.declared.Sample.{Sample}
 use Rattle.listing.specs.Listing.{bitsOr, ownOf, rowsFrom, listing, refusal}

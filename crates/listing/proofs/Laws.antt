@@ -8,13 +8,13 @@ use lib.ListN.{length, length-append}
 use lib.Dec.{ltb}
 use lib.Ieee.{Float}
 use Rattle.lists.specs.Sub.{All, none, more}
-use Rattle.formats.specs.Bytes.{bytes}
-use Rattle.formats.specs.Format.{decimal, widthUpTo, lines, writeLines}
-use Rattle.formats.specs.Table.{fields, behind, names, line, table}
-use Rattle.formats.proofs.Digits.{digits-length}
-use Rattle.formats.proofs.Laws.{Lawful, same-got}
-use Rattle.formats.proofs.Lines.{lines-law}
-use Rattle.formats.proofs.Tables.{Good, line-law, no-line}
+use Rattle.text.specs.Bytes.{bytes}
+use Rattle.text.specs.Format.{decimal, widthUpTo, lines, writeLines}
+use Rattle.text.specs.Table.{fields, behind, names, line, table}
+use Rattle.text.proofs.Digits.{digits-length}
+use Rattle.text.proofs.Laws.{Lawful, same-got}
+use Rattle.text.proofs.Lines.{lines-law}
+use Rattle.text.proofs.Tables.{Good, line-law, no-line}
 use Rattle.samples.specs.Chain.{samples}
 use Rattle.listing.specs.Listing.{columns, lineOf, listing, refusal}
 use Rattle.listing.proofs.Written.{width-ten}

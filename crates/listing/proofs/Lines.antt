@@ -7,10 +7,10 @@ use native.Mathlib.Numerals.{add-one}
 use lib.ListN.{length, set, length-append}
 use lib.Seq.{sets}
 use lib.Ieee.{Float}
-use Rattle.formats.specs.Bytes.{bytes}
-use Rattle.formats.specs.Format.{hex16, digits, decimal, widthUpTo, _ending_, _and_, none, writeCons}
-use Rattle.formats.specs.Table.{fields, behind, names, cell, line}
-use Rattle.formats.proofs.Digits.{digits-length}
+use Rattle.text.specs.Bytes.{bytes}
+use Rattle.text.specs.Format.{hex16, digits, decimal, widthUpTo, _ending_, _and_, none, writeCons}
+use Rattle.text.specs.Table.{fields, behind, names, cell, line}
+use Rattle.text.proofs.Digits.{digits-length}
 use Rattle.text.proofs.Buffer.{none-written, some-written, all-written, sets-append}
 use Rattle.samples.specs.declared.Sample.{Sample}
 use Rattle.samples.specs.Chain.{sampleAt, samplesFrom, samples}

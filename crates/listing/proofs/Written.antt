@@ -8,8 +8,8 @@ use native.Mathlib.Nat.{pow-suc, one-le-pow, mod-lt, mul-div-cancel}
 use lib.ListN.{length, getD, drop}
 use lib.Seq.{drop-cons}
 use borrow.Author.Tests.{lt-ltb, le-ltb}
-use Rattle.formats.specs.Format.{charOf, digits, widthUpTo}
-use Rattle.formats.proofs.Digits.{first-small}
+use Rattle.text.specs.Format.{charOf, digits, widthUpTo}
+use Rattle.text.proofs.Digits.{first-small}
 
 -- ---- the next byte of w
 pub next-byte : (w : List ℕ) (i : ℕ) → i < length w → drop i w ≡ getD w i 0 ∷ drop (i + 1) w

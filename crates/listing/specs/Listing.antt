@@ -5,9 +5,9 @@ use Prim.Native.Nat.{ℕ, suc, _+_, _-_, _^_}
 use lib.ListN.{length}
 use lib.Dec.{eqb}
 use lib.Ieee.{Float, isNan, binary64, toBits}
-use Rattle.formats.specs.Bytes.{bytes}
-use Rattle.formats.specs.Format.{plain}
-use Rattle.formats.specs.Table.{float, Column, _of_, fields, names, line}
+use Rattle.text.specs.Bytes.{bytes}
+use Rattle.text.specs.Format.{plain}
+use Rattle.text.specs.Table.{float, Column, _of_, fields, names, line}
 use Rattle.samples.specs.declared.Sample.{Sample}
 
 -- a chain's columns: floats by their 64 bits

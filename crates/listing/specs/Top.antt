@@ -1,7 +1,7 @@
 -- For the code's own use: the first digit of a plain decimal. Definitions only.
 use mathlib.Core.Path.{_≡_}
 use Prim.Native.Nat.{ℕ, _-_, _^_, _<_, _≤_}
-use Rattle.formats.specs.Format.{widthUpTo}
+use Rattle.text.specs.Format.{widthUpTo}
 use Rattle.listing.specs.declared.Top.{Top}
 
 -- how many digits n has, and the power of ten that its first digit stands for

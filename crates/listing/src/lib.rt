@@ -4,7 +4,7 @@ ghost use mathlib.Core.List.{[], _∷_};
 ghost use Prim.Native.Nat.{_+_, _-_, _*_, _^_, _<_, _≤_};
 ghost use lib.ListN.{length};
 ghost use lib.Seq.{sets};
-ghost use Rattle.formats.specs.Format.{digits, hex16, plain, _ending_};
+ghost use Rattle.text.specs.Format.{digits, hex16, plain, _ending_};
 ghost use Rattle.samples.specs.Chain.{width, samples};
 ghost use Rattle.listing.specs.Listing.{bitsOr, rowOf, ownOf, lineOf, listing, refusal};
 ghost use Rattle.listing.specs.Top.{TopOf};

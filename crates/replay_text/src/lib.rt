@@ -4,7 +4,7 @@ ghost use mathlib.Core.Path.{_≡_};
 ghost use mathlib.Core.List.{[], _∷_, _++_};
 ghost use Prim.Native.Nat.{_-_, _^_, _≤_, _<_};
 ghost use lib.Ieee.{binary64, toBits};
-ghost use Rattle.formats.specs.Format.{digits, decimal, widthUpTo, hex16};
+ghost use Rattle.text.specs.Format.{digits, decimal, widthUpTo, hex16};
 ghost use Rattle.replay_text.specs.Waiting.{waits, put, puts};
 use libc::STDOUT_FILENO;
 

@@ -9,7 +9,7 @@ use lib.Seq.{drop-cons}
 use lib.Dec.{eqb}
 use borrow.Author.Tests.{eq-eqb, ne-eqb}
 use Rattle.lists.specs.Sub.{All, more}
-use Rattle.formats.specs.Table.{Field, float, whole, word}
+use Rattle.text.specs.Table.{Field, float, whole, word}
 use Rattle.layout.specs.Layout.{u32, u64, kind}
 use Rattle.layout.specs.Letters.{fieldOf, shapeOf}
 use Rattle.rows.specs.Rows.{isFloat, chosen}

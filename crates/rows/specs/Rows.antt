@@ -4,7 +4,7 @@ use mathlib.Core.List.{List, [], _∷_, map}
 use Prim.Native.Nat.{ℕ, _^_, _<_}
 use lib.ListN.{getD}
 use lib.Ieee.{Float, binary64, ofBits}
-use Rattle.formats.specs.Table.{Field, float, whole, word}
+use Rattle.text.specs.Table.{Field, float, whole, word}
 use Rattle.rows.specs.declared.RawEdge.{RawEdge}
 use Rattle.rows.specs.declared.RawOptions.{RawOptions}
 

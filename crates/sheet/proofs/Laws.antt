@@ -7,10 +7,10 @@ use lib.ListN.{length, take, replicate, length-append}
 use lib.Seq.{take-at}
 use Rattle.lists.specs.Sub.{All}
 use Rattle.lists.specs.Result.{Result, refused, got}
-use Rattle.formats.specs.Format.{_then_, _before_, as-of, lines}
-use Rattle.formats.specs.Table.{Column, fields, line, table}
-use Rattle.formats.proofs.Lines.{lines-long}
-use Rattle.formats.proofs.Tables.{Good}
+use Rattle.text.specs.Format.{_then_, _before_, as-of, lines}
+use Rattle.text.specs.Table.{Column, fields, line, table}
+use Rattle.text.proofs.Lines.{lines-long}
+use Rattle.text.proofs.Tables.{Good}
 use Rattle.layout.specs.Layout.{RawSheet, pointColumns, curveColumns, segmentColumns, sheet, size, readSheet, Follows}
 use Rattle.layout.specs.Letters.{padded}
 use Rattle.layout.proofs.Laws.{points-good, curves-good, segments-good, layout-read}

@@ -9,8 +9,8 @@ use lib.Seq.{drop-cons}
 use lib.Ieee.{Float}
 use borrow.Author.Tests.{le-leb, lt-leb}
 use Rattle.lists.specs.Result.{Result, refused, got as accepted}
-use Rattle.formats.specs.Format.{Parsed, bad, got, _then_, all, whole}
-use Rattle.formats.specs.Table.{fields, table}
+use Rattle.text.specs.Format.{Parsed, bad, got, _then_, all, whole}
+use Rattle.text.specs.Table.{fields, table}
 use Rattle.layout.specs.Layout.{RawSheet, pointColumns, curveColumns, segmentColumns, tables, ends, sheet, size, readSheet}
 use Rattle.layout.specs.Letters.{padded}
 use Rattle.layout.proofs.Laws.{tables-law, ends-law}

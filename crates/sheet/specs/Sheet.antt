@@ -4,7 +4,7 @@ use Prim.Native.Nat.{ℕ, _*_}
 use lib.ListN.{length, take}
 use lib.Ieee.{Float, binary64, ofBits}
 use Rattle.lists.specs.Result.{Result, refused, got}
-use Rattle.formats.specs.Table.{fields}
+use Rattle.text.specs.Table.{fields}
 use Rattle.layout.specs.Layout.{RawSheet, pointColumns, curveColumns, segmentColumns}
 use Rattle.layout.specs.Letters.{padded}
 use Rattle.rows.specs.Rows.{floatsOf, wholesOf, edgeOf, optionsOf}

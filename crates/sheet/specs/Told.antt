@@ -4,7 +4,7 @@ use mathlib.Core.List.{List, []}
 use Prim.Native.Nat.{ℕ, _-_}
 use lib.ListN.{length}
 use Rattle.lists.specs.Result.{Result, refused, got as accepted}
-use Rattle.formats.specs.Format.{Parsed, bad, got}
+use Rattle.text.specs.Format.{Parsed, bad, got}
 use Rattle.layout.specs.Layout.{RawSheet}
 use Rattle.brep.specs.Rows.{Tables}
 use Rattle.sheet.specs.Sheet.{tablesOf, stored}

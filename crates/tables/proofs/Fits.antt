@@ -9,10 +9,10 @@ use lib.ListN.{length, drop, replicate, length-append, length-drop, length-repli
 use lib.Seq.{sets, sets-eq}
 use lib.Ieee.{binary64, ofBits}
 use Rattle.lists.specs.Sub.{All, none, more}
-use Rattle.formats.specs.Format.{Parsed, bad, got, Format, lines, writeLines, _before_}
-use Rattle.formats.specs.Table.{Field, line}
-use Rattle.formats.proofs.Laws.{Lawful, before-law}
-use Rattle.formats.proofs.Lines.{lines-law, lines-long}
+use Rattle.text.specs.Format.{Parsed, bad, got, Format, lines, writeLines, _before_}
+use Rattle.text.specs.Table.{Field, line}
+use Rattle.text.proofs.Laws.{Lawful, before-law}
+use Rattle.text.proofs.Lines.{lines-law, lines-long}
 use Rattle.layout.specs.Layout.{size}
 use Rattle.layout.specs.Letters.{shapeOf, padded}
 use Rattle.layout.proofs.Columns.{shape-good, shape-law}

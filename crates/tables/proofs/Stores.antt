@@ -5,7 +5,7 @@ use Prim.Native.Nat.{ℕ, suc, _+_, _-_, _≤_}
 use native.Mathlib.Omega.{arith}
 use lib.ListN.{length, drop, replicate, length-append, length-replicate}
 use lib.Seq.{sets, sets-eq}
-use Rattle.formats.specs.Format.{Parsed, bad, got}
+use Rattle.text.specs.Format.{Parsed, bad, got}
 use Rattle.text.proofs.Buffer.{sets-append}
 use Rattle.layout.specs.Letters.{padded}
 use Rattle.tables.specs.Told.{flat, numbersOf, Stored}

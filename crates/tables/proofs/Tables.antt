@@ -3,8 +3,8 @@ use mathlib.Core.Path.{_≡_, refl}
 use mathlib.Core.Bool.{true}
 use Prim.Native.Nat.{ℕ, _*_, _≤_}
 use native.Mathlib.Omega.{arith}
-use Rattle.formats.specs.Bytes.{bytes}
-use Rattle.formats.specs.Table.{fields, behind, names, table}
+use Rattle.text.specs.Bytes.{bytes}
+use Rattle.text.specs.Table.{fields, behind, names, table}
 use Rattle.layout.specs.Layout.{pointColumns, curveColumns, segmentColumns}
 use Rattle.layout.specs.Letters.{fieldOf}
 use Rattle.rows.specs.Rows.{isFloat}

@@ -11,11 +11,11 @@ use lib.Seq.{sets, drop-cons, length-sets}
 use lib.Ieee.{Float, binary64, ofBits}
 use borrow.Author.Tests.{eq-eqb, ne-eqb}
 use Rattle.lists.specs.Sub.{All}
-use Rattle.formats.specs.Format.{Parsed, bad, got, Format, andThen, readLines, lines}
-use Rattle.formats.specs.Table.{Field, line}
-use Rattle.formats.proofs.Laws.{Lawful}
-use Rattle.formats.proofs.Lines.{NoLine, line-some, turns}
-use Rattle.formats.proofs.Tables.{no-line}
+use Rattle.text.specs.Format.{Parsed, bad, got, Format, andThen, readLines, lines}
+use Rattle.text.specs.Table.{Field, line}
+use Rattle.text.proofs.Laws.{Lawful}
+use Rattle.text.proofs.Lines.{NoLine, line-some, turns}
+use Rattle.text.proofs.Tables.{no-line}
 use Rattle.layout.specs.Layout.{size}
 use Rattle.layout.specs.Letters.{fieldOf, shapeOf, padded}
 use Rattle.rows.specs.Rows.{isFloat, chosen, floatsOf, wholesOf}

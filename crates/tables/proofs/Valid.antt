@@ -8,11 +8,11 @@ use lib.ListN.{length, getD, replicate, length-append}
 use lib.Dec.{eqb}
 use borrow.Author.Tests.{eq-eqb, ne-eqb}
 use Rattle.lists.specs.Sub.{All, none as all-none, more}
-use Rattle.formats.specs.Format.{Format, hex16, plain, oneOf, decimal, digits, _ending_, _and_, none, ValidCons, writeCons}
-use Rattle.formats.specs.Table.{Field, float, whole, word, behind, cell, line}
-use Rattle.formats.proofs.Digits.{digits-length, decimal-some}
-use Rattle.formats.proofs.Words.{differ, differAll, differ-at, apart, and-left, no-truth}
-use Rattle.formats.proofs.Tables.{Good}
+use Rattle.text.specs.Format.{Format, hex16, plain, oneOf, decimal, digits, _ending_, _and_, none, ValidCons, writeCons}
+use Rattle.text.specs.Table.{Field, float, whole, word, behind, cell, line}
+use Rattle.text.proofs.Digits.{digits-length, decimal-some}
+use Rattle.text.proofs.Words.{differ, differAll, differ-at, apart, and-left, no-truth}
+use Rattle.text.proofs.Tables.{Good}
 use Rattle.layout.specs.Layout.{kinds, u32, u64, kind}
 use Rattle.layout.specs.Letters.{fieldOf, shapeOf, padded}
 use Rattle.rows.specs.Rows.{isFloat, chosen, wholesOf}

@@ -5,7 +5,7 @@ use mathlib.Core.List.{List, [], _∷_}
 use Prim.Native.Nat.{ℕ, _+_, _*_, _<_, _≤_}
 use lib.ListN.{length}
 use lib.Dec.{eqb}
-use Rattle.formats.specs.Table.{Field}
+use Rattle.text.specs.Table.{Field}
 use Rattle.layout.specs.Layout.{size}
 use Rattle.layout.specs.Letters.{shapeOf}
 use Rattle.rows.specs.Rows.{isFloat}

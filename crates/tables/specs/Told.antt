@@ -3,8 +3,8 @@ use mathlib.Core.Path.{_≡_}
 use mathlib.Core.List.{List, [], _∷_, _++_}
 use Prim.Native.Nat.{ℕ}
 use lib.Seq.{sets}
-use Rattle.formats.specs.Format.{Format, Parsed, bad, got, _before_, lines}
-use Rattle.formats.specs.Table.{line}
+use Rattle.text.specs.Format.{Format, Parsed, bad, got, _before_, lines}
+use Rattle.text.specs.Table.{line}
 use Rattle.layout.specs.Letters.{shapeOf}
 
 -- a table by its names and letters

@@ -10,7 +10,7 @@ use lib.ListN.{length, getD, drop, drop-of-length-le}
 use lib.Seq.{drop-cons}
 use lib.Dec.{leb}
 use borrow.Author.Tests.{leb-true, leb-false, lt-ltb, le-ltb, le-leb, lt-leb, eq-eqb, ne-eqb}
-use Rattle.formats.specs.Format.{Parsed, bad, got, when, digitOf, readDigits, readDecimal, readPlain, expect}
+use Rattle.text.specs.Format.{Parsed, bad, got, when, digitOf, readDigits, readDecimal, readPlain, expect}
 
 ruleset ring = (add-mul, mul-add, mul-assoc, mul-comm, mul-left-comm)
 

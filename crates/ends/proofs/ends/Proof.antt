@@ -2,10 +2,10 @@
 use mathlib.Core.Path.{_≡_, refl, sym, ap, _∙_}
 use mathlib.Core.List.{[], _∷_}
 use lib.ListN.{length, drop}
-use Rattle.formats.specs.Format.{_ending_, _then_}
-use Rattle.formats.specs.Table.{single}
+use Rattle.text.specs.Format.{_ending_, _then_}
+use Rattle.text.specs.Table.{single}
 use Rattle.layout.specs.Layout.{edgeColumns, optionColumns, ends}
-use Rattle.formats.proofs.Laws.{Lawful}
+use Rattle.text.proofs.Laws.{Lawful}
 use Rattle.layout.proofs.Laws.{edge-law, options-law}
 use Rattle.text.proofs.Place.{Read, ending-bad, ending-none, ending-read, then-bad, then-bad-on, then-read}
 use Rattle.ends.proofs.Singles.{EdgeRead, read-edge, read-no-edge, OptionsRead, read-options, read-no-options, told-ends, told-no-ends}

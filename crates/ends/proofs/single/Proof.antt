@@ -2,8 +2,8 @@
 use mathlib.Core.Path.{_≡_, refl, sym, ap, _∙_}
 use mathlib.Core.List.{[], _∷_}
 use lib.ListN.{drop}
-use Rattle.formats.specs.Format.{expect}
-use Rattle.formats.specs.Table.{line}
+use Rattle.text.specs.Format.{expect}
+use Rattle.text.specs.Table.{line}
 use Rattle.layout.specs.Letters.{shapeOf, padded, toldRow}
 use Rattle.text.proofs.Place.{Read, names-read, names-bad, before-bad, before-is}
 use Rattle.layout.proofs.Rows.{told-no-row}

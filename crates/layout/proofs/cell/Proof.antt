@@ -2,9 +2,9 @@
 use mathlib.Core.Path.{_≡_, refl, sym, ap, _∙_}
 use mathlib.Core.List.{[], _∷_}
 use lib.ListN.{drop}
-use Rattle.formats.specs.Bytes.{bytes}
-use Rattle.formats.specs.Format.{oneOf}
-use Rattle.formats.proofs.Laws.{Lawful}
+use Rattle.text.specs.Bytes.{bytes}
+use Rattle.text.specs.Format.{oneOf}
+use Rattle.text.proofs.Laws.{Lawful}
 use Rattle.text.specs.Told.{told}
 use Rattle.text.proofs.Place.{Read, told-bad, read-at, read-bad, ending-is, ending-bad}
 use Rattle.layout.specs.Layout.{kinds}

@@ -2,7 +2,7 @@
 use mathlib.Core.Path.{_≡_, refl, sym, ap, _∙_}
 use native.Mathlib.Omega.{arith}
 use lib.ListN.{drop}
-use Rattle.formats.specs.Bytes.{bytes}
+use Rattle.text.specs.Bytes.{bytes}
 use Rattle.text.specs.declared.Num.the-variants.{Bad}
 use Rattle.layout.specs.Layout.{kinds}
 use Rattle.layout.specs.Letters.{orTold}

@@ -5,7 +5,7 @@ use mathlib.Core.List.{[], _∷_}
 use Prim.Native.Nat.{_+_, _-_, _≤_}
 use native.Mathlib.Omega.{arith}
 use lib.ListN.{length, drop, getD}
-use Rattle.formats.specs.Table.{cell, line}
+use Rattle.text.specs.Table.{cell, line}
 use Rattle.text.specs.Told.{told}
 use Rattle.layout.specs.Letters.{fieldOf, shapeOf, padded}
 use Rattle.text.proofs.Place.{Read, read-at, read-bad}

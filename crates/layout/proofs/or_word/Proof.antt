@@ -1,7 +1,7 @@
 -- `layout::or_word` meets its contract. Assumes nothing.
 use mathlib.Core.Path.{_≡_, refl, sym, ap, _∙_}
 use lib.ListN.{drop}
-use Rattle.formats.specs.Format.{expect}
+use Rattle.text.specs.Format.{expect}
 use Rattle.text.specs.Told.{told}
 use Rattle.layout.specs.Letters.{orTold}
 use borrow.Author.Needs.{needs}

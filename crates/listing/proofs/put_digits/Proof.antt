@@ -5,8 +5,8 @@ use Prim.Native.Nat.{_-_, _%_, _^_, _<_}
 use native.Mathlib.Omega.{arith}
 use lib.ListN.{length}
 use borrow.Author.Needs.{needs}
-use Rattle.formats.specs.Format.{digits}
-use Rattle.formats.proofs.Digits.{digits-length}
+use Rattle.text.specs.Format.{digits}
+use Rattle.text.proofs.Digits.{digits-length}
 use Rattle.text.proofs.Buffer.{Part, none-written, all-written, one-fits, one-written}
 use Rattle.listing.proofs.Written.{pow-some, digit-small, rest-small, digits-next, pow-next}
 use Rattle.listing.proofs.put_digits.Statement.{statement}

@@ -3,7 +3,7 @@ use mathlib.Core.Path.{_≡_, refl, sym, _∙_}
 use Prim.Native.Nat.{_-_, _^_, _<_, _≤_}
 use native.Mathlib.Omega.{arith}
 use borrow.Author.Needs.{needs}
-use Rattle.formats.specs.Format.{widthUpTo}
+use Rattle.text.specs.Format.{widthUpTo}
 use Rattle.listing.proofs.Written.{pow-next, width-less, width-here, width-one, width-ten}
 use Rattle.listing.proofs.top_of.Statement.{statement}
 use Rattle.listing.proofs.top_of.Tie as tie

@@ -3,7 +3,7 @@ use mathlib.Core.Path.{sym, ap, _∙_}
 use Prim.Native.Nat.{_+_, _-_, _≤_}
 use native.Mathlib.Omega.{arith}
 use lib.ListN.{length}
-use Rattle.formats.specs.Bytes.{bytes}
+use Rattle.text.specs.Bytes.{bytes}
 use Rattle.text.proofs.Buffer.{Part, none-written, some-written, some-fit, all-written}
 use Rattle.listing.specs.Listing.{rowOf, lineOf}
 use Rattle.listing.proofs.Lines.{row-length, linesFrom, next-line, no-line, lines-length, names-are, chain-written}

@@ -2,9 +2,9 @@
 use mathlib.Core.List.{List}
 use Prim.Native.Nat.{ℕ}
 use native.Mathlib.Omega.{arith}
-use Rattle.formats.specs.Bytes.{bytes}
-use Rattle.formats.specs.Format.{_before_}
-use Rattle.formats.specs.Table.{fields, line}
+use Rattle.text.specs.Bytes.{bytes}
+use Rattle.text.specs.Format.{_before_}
+use Rattle.text.specs.Table.{fields, line}
 use Rattle.layout.specs.Letters.{fieldOf, shapeOf}
 use Rattle.layout.proofs.Columns.{shape-law}
 use Rattle.layout.proofs.Rows.{row-read}

@@ -2,8 +2,8 @@
 use mathlib.Core.Path.{_≡_, sym, _∙_}
 use native.Mathlib.Omega.{arith}
 use lib.ListN.{length, drop}
-use Rattle.formats.specs.Format.{_then_}
-use Rattle.formats.specs.Table.{fields, table}
+use Rattle.text.specs.Format.{_then_}
+use Rattle.text.specs.Table.{fields, table}
 use Rattle.layout.specs.Layout.{pointColumns, curveColumns, segmentColumns, tables}
 use Rattle.layout.proofs.Laws.{points-law, curves-law, segments-law}
 use Rattle.rows.specs.Rows.{floatsOf, wholesOf}

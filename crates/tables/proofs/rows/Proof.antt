@@ -5,8 +5,8 @@ use mathlib.Core.List.{List}
 use Prim.Native.Nat.{ℕ, _+_, _-_}
 use native.Mathlib.Omega.{arith}
 use lib.ListN.{length, drop, getD}
-use Rattle.formats.specs.Format.{lines}
-use Rattle.formats.specs.Table.{line}
+use Rattle.text.specs.Format.{lines}
+use Rattle.text.specs.Table.{line}
 use Rattle.layout.specs.Letters.{shapeOf, padded}
 use Rattle.rows.specs.Rows.{floatsOf, wholesOf}
 use Rattle.tables.specs.Told.{flat}

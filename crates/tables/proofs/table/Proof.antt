@@ -1,8 +1,8 @@
 -- `tables::table` meets its contract. Assumes nothing.
 use mathlib.Core.Path.{_≡_, refl, sym, ap, _∙_}
 use lib.ListN.{length, drop}
-use Rattle.formats.specs.Format.{expect, lines}
-use Rattle.formats.specs.Table.{line}
+use Rattle.text.specs.Format.{expect, lines}
+use Rattle.text.specs.Table.{line}
 use Rattle.text.specs.Told.{toldList}
 use Rattle.layout.specs.Letters.{shapeOf}
 use Rattle.rows.specs.Rows.{floatsOf, wholesOf}

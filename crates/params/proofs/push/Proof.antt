@@ -1,8 +1,8 @@
 -- `push` meets its contract. Assumes nothing.
 use borrow.Author.Needs.{needs}
-use Rattle.listed.proofs.Held.{behind-one, behind-over}
-use Rattle.listed.proofs.push.Statement.{statement}
-use Rattle.listed.proofs.push.Tie as tie
+use Rattle.params.proofs.Held.{behind-one, behind-over}
+use Rattle.params.proofs.push.Statement.{statement}
+use Rattle.params.proofs.push.Tie as tie
 
 returns : tie.Need-returns
 returns c =

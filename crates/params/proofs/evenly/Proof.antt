@@ -4,13 +4,13 @@ use Prim.Native.Nat.{_+_, _-_, _≤_}
 use lib.ListN.{length}
 use native.Mathlib.Omega.{arith}
 use borrow.Author.Needs.{needs}
-use Rattle.listed.specs.declared.Listed.the-variants.{Count}
+use Rattle.params.specs.declared.Listed.the-variants.{Count}
 use Rattle.params.specs.Params.{steps}
-use Rattle.listed.specs.Held.{Held}
-use Rattle.listed.proofs.Held.{held-length}
-use Rattle.listed.proofs.Steps.{steps-none, steps-push, steps-stop, steps-done}
-use Rattle.listed.proofs.evenly.Statement.{statement}
-use Rattle.listed.proofs.evenly.Tie as tie
+use Rattle.params.specs.Held.{Held}
+use Rattle.params.proofs.Held.{held-length}
+use Rattle.params.proofs.Steps.{steps-none, steps-push, steps-stop, steps-done}
+use Rattle.params.proofs.evenly.Statement.{statement}
+use Rattle.params.proofs.evenly.Tie as tie
 
 abbrev Inv-loop : tie.InvT-loop
 Inv-loop range n out₀ total i₀ out i = (i ≤ n + 1) × (length out ≡ length out₀) × Held out₀ (steps range n i) (Count i) out

@@ -3,8 +3,8 @@ use Prim.Native.Nat.{ℕ, _+_, _*_}
 use Prim.Native.String.{String}
 use mathlib.Core.List.{List, [], _∷_, _++_}
 use lib.Ieee.{Float, binary64, ofBits}
-use Rattle.formats.specs.Bytes.{bytes}
-use Rattle.formats.specs.Format.{Format, hex16, plain, oneOf, _ending_, _before_, _and_, none, lines}
+use Rattle.text.specs.Bytes.{bytes}
+use Rattle.text.specs.Format.{Format, hex16, plain, oneOf, _ending_, _before_, _and_, none, lines}
 
 -- what a column holds: the 64 bits of a float; whole numbers up to some number; words, numbered from 1
 pub data Field : Type 0 where

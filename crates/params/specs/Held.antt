@@ -6,9 +6,9 @@ use lib.ListN.{length, take}
 use lib.Seq.{sets}
 use lib.Ieee.{Float}
 use Rattle.lists.specs.Result.{Result, refused, got, each}
-use Rattle.listed.specs.declared.Listed.{Listed}
-use Rattle.listed.specs.declared.Listed.the-variants.{Count, Refused}
+use Rattle.params.specs.declared.Listed.{Listed}
+use Rattle.params.specs.declared.Listed.the-variants.{Count, Refused}
 use Rattle.params.specs.Params.{fitting}
 
 -- the number that an answer of the code stands for
 abbrev pub said : Listed → Result ℕ

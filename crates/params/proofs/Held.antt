@@ -12,10 +12,10 @@ use lib.Dec.{leb}
 use lib.Ieee.{Float}
 use borrow.Author.Tests.{le-leb, lt-leb, leb-true, leb-false}
 use Rattle.lists.specs.Result.{refused, got, each}
-use Rattle.listed.specs.declared.Listed.{Listed}
-use Rattle.listed.specs.declared.Listed.the-variants.{Count, Refused}
+use Rattle.params.specs.declared.Listed.{Listed}
+use Rattle.params.specs.declared.Listed.the-variants.{Count, Refused}
 use Rattle.params.specs.Params.{fitting}
-use Rattle.listed.specs.Held.{Held, Behind}
+use Rattle.params.specs.Held.{Held, Behind}
 
 -- ---- stores in parts
 pub sets-append : (l : List Float) (n : ℕ) (a b : List Float) → sets l n (a ++ b) ≡ sets (sets l n a) (n + length a) b

@@ -9,8 +9,8 @@ use lib.ListN.{length, length-append}
 use lib.Dec.{eqb}
 use borrow.Author.Tests.{eqb-true, ne-eqb}
 use Rattle.lists.specs.Sub.{All, none, more}
-use Rattle.formats.specs.Format.{Parsed, bad, got, Format, andThen, writeLines, readLines, lines}
-use Rattle.formats.proofs.Laws.{Lawful, no-got, then-got, same-got}
+use Rattle.text.specs.Format.{Parsed, bad, got, Format, andThen, writeLines, readLines, lines}
+use Rattle.text.proofs.Laws.{Lawful, no-got, then-got, same-got}
 
 -- a text that begins with the newline is no line
 abbrev pub NoLine : {A : Type 0} → Format A → Type 0

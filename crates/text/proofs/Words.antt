@@ -6,8 +6,8 @@ use Prim.Native.Nat.{ℕ, zero, suc, _+_, _-_, _<_, _≤_}
 use native.Mathlib.Omega.{arith}
 use lib.ListN.{length, getD}
 use lib.Dec.{eqb}
-use Rattle.formats.specs.Format.{Parsed, bad, got, Format, when, expect, orElse, readWord, oneOf}
-use Rattle.formats.proofs.Laws.{Lawful, no-got, same-got, expect-back, expect-was}
+use Rattle.text.specs.Format.{Parsed, bad, got, Format, when, expect, orElse, readWord, oneOf}
+use Rattle.text.proofs.Laws.{Lawful, no-got, same-got, expect-back, expect-was}
 
 abbrev pub differ : List ℕ → List ℕ → Bool
 differ [] v = false

@@ -7,12 +7,12 @@ use native.Mathlib.Omega.{arith}
 use lib.Dec.{eqb}
 use borrow.Author.Tests.{eqb-true, eqb-false, ne-eqb}
 use Rattle.lists.specs.Sub.{All, none as all-none, more}
-use Rattle.formats.specs.Format.{Parsed, bad, got, Format, when, andThen, orElse, expect, digitOf, hex16, plain, oneOf, readDigits, readPlain, readWord, _ending_, _before_, _and_, none, lines}
-use Rattle.formats.specs.Table.{Field, float, whole, word, Column, fields, behind, names, cell, line, table, single}
-use Rattle.formats.proofs.Laws.{Lawful, ending-law, before-law, and-law, none-law}
-use Rattle.formats.proofs.Digits.{hex16-law, plain-law}
-use Rattle.formats.proofs.Words.{differ, differAll, apart, oneOf-law, and-left, and-right, no-truth}
-use Rattle.formats.proofs.Lines.{NoLine, lines-law}
+use Rattle.text.specs.Format.{Parsed, bad, got, Format, when, andThen, orElse, expect, digitOf, hex16, plain, oneOf, readDigits, readPlain, readWord, _ending_, _before_, _and_, none, lines}
+use Rattle.text.specs.Table.{Field, float, whole, word, Column, fields, behind, names, cell, line, table, single}
+use Rattle.text.proofs.Laws.{Lawful, ending-law, before-law, and-law, none-law}
+use Rattle.text.proofs.Digits.{hex16-law, plain-law}
+use Rattle.text.proofs.Words.{differ, differAll, apart, oneOf-law, and-left, and-right, no-truth}
+use Rattle.text.proofs.Lines.{NoLine, lines-law}
 
 -- a number of 1 to 20 digits; words that no newline begins
 abbrev pub Good : Field → Type 0

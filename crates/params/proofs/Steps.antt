@@ -9,10 +9,10 @@ use native.Mathlib.Omega.{arith}
 use lib.ListN.{length, set}
 use lib.Ieee.{Float}
 use Rattle.math.specs.declared.Interval.{Interval}
-use Rattle.listed.specs.declared.Listed.the-variants.{Count, Refused}
+use Rattle.params.specs.declared.Listed.the-variants.{Count, Refused}
 use Rattle.params.specs.Params.{stepAt, steps, evenly}
-use Rattle.listed.specs.Held.{Held}
-use Rattle.listed.proofs.Held.{held-none, held-push, held-stop, held-full}
+use Rattle.params.specs.Held.{Held}
+use Rattle.params.proofs.Held.{held-none, held-push, held-stop, held-full}
 
 module _ (range : Interval) (n : ℕ) where
   pub steps-none : (out : List Float) → Held out (steps range n 0) (Count 0) out

@@ -1,1 +1,0 @@
-// Formats of texts: definitions in specs/, laws in proofs/. There is no code.
