@@ -10,7 +10,7 @@ use lib.Ieee.{Float, nan, inf, fin, Format, up, down, ne, eq, lt, le, neg, isNan
 use lib.Ieee.Bits.{is-true}
 use lib.Ieee.Fits.{up-pos, and-l}
 use lib.Ieee.Scale.{finite}
-use Rattle.order.proofs.Signed.{number, nlt→le}
+use Rattle.arith_order.proofs.Signed.{number, nlt→le}
 use Rattle.arith.specs.Pick.{absOf}
 
 abbrev pub zeroF : Float

@@ -13,8 +13,8 @@ use lib.Ieee.Fits.{down-pos, and-l}
 use lib.Ieee.Exact.{HasValue}
 use lib.Ieee.Back.{round-whole}
 use borrow.Author.Tests.{eq-eqb, ne-eqb}
-use Rattle.order.proofs.Rounds.{round-neg}
-use Rattle.order.proofs.Middle.{parts}
+use Rattle.arith_order.proofs.Rounds.{round-neg}
+use Rattle.arith_order.proofs.Middle.{parts}
 use Rattle.arith.specs.Floor.{floorOf}
 use Rattle.arith.specs.Pick.{absOf}
 use Rattle.arith.proofs.Cmp.{zeroF, never, holds, not-below, not-minus, minus-zero}

@@ -13,10 +13,10 @@ use lib.Ieee.Fits.{ofInt-fits, add-fits}
 use lib.Ieee.Scale.{finite}
 use lib.Ieee.Positive.{den, den-pos}
 use borrow.Author.Tests.{eq-eqb}
-use Rattle.order.proofs.Signed.{plus, neg', le→, lt→}
-use Rattle.order.proofs.Rounds.{Rounds, add-rounds}
-use Rattle.order.proofs.Lerp.{whole}
-use Rattle.order.proofs.Middle.{above, under}
+use Rattle.arith_order.proofs.Signed.{plus, neg', le→, lt→}
+use Rattle.arith_order.proofs.Rounds.{Rounds, add-rounds}
+use Rattle.arith_order.proofs.Lerp.{whole}
+use Rattle.arith_order.proofs.Middle.{above, under}
 use Rattle.arith.specs.Floor.{floorOf}
 use Rattle.arith.specs.Notation.{_⊕_, _⊖_, count}
 use Rattle.arith.proofs.Cmp.{holds, refused, finite-number}

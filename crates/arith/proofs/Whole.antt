@@ -14,9 +14,9 @@ use lib.Ieee.Exact.{HasValue}
 use lib.Ieee.Back.{round-whole, whole-unique}
 use lib.Ieee.Scale.{finite, round-same}
 use lib.Ieee.Positive.{den, den-pos}
-use Rattle.order.proofs.Signed.{plus, neg', le→, lt→}
-use Rattle.order.proofs.Lerp.{whole}
-use Rattle.order.proofs.Middle.{parts}
+use Rattle.arith_order.proofs.Signed.{plus, neg', le→, lt→}
+use Rattle.arith_order.proofs.Lerp.{whole}
+use Rattle.arith_order.proofs.Middle.{parts}
 use Rattle.arith.specs.Notation.{_⊖_, count}
 use Rattle.arith.proofs.Cmp.{never, holds}
 use Rattle.arith.proofs.Floors.{whole-big, int-value}

@@ -3,8 +3,8 @@ ghost use mathlib.Core.Path.{_≡_};
 ghost use mathlib.Core.List.{[]};
 ghost use Prim.Native.Nat.{_≤_};
 ghost use lib.ListN.{length};
-ghost use Rattle.lists.specs.Room.{filled};
-ghost use Rattle.breaks.specs.Breaks.{insideOf};
+ghost use Rattle.base_lists.specs.Room.{filled};
+ghost use Rattle.knots_inside.specs.Breaks.{insideOf};
 ghost use Rattle.brep.specs.Rows.{lent};
 ghost use Rattle.brep.specs.Tree.{tree};
 ghost use Rattle.curve.specs.Eval.{pointAt};
@@ -37,7 +37,7 @@ pub extern "C" fn cs_breaks(knots: &mut [f64], lo: f64, hi: f64) -> usize
     requires { ⌜ length (now knots) ≤ 8192 ⌝ }
     ensures { λ r. ⌜ (r ≡ length (insideOf (now (knots .entry)) lo hi)) × (now (knots .exit) ≡ filled (length (now (knots .entry))) (insideOf (now (knots .entry)) lo hi)) ⌝ }
 {
-    breaks::inside(knots, lo, hi)
+    knots_inside::inside(knots, lo, hi)
 }
 
 // +0.0 in all of a buffer, as drawing does it.
@@ -45,5 +45,5 @@ pub extern "C" fn cs_breaks(knots: &mut [f64], lo: f64, hi: f64) -> usize
 pub extern "C" fn cs_clear(buffer: &mut [f64])
     ensures { λ _. ⌜ now (buffer .exit) ≡ filled (length (now (buffer .entry))) [] ⌝ }
 {
-    lists::clear_from(buffer, 0);
+    base_lists::clear_from(buffer, 0);
 }

@@ -6,8 +6,8 @@ use native.Mathlib.Omega.{arith}
 use Rattle.brep.specs.declared.Edge.{Edge}
 use Rattle.brep.specs.Rows.{Tables}
 use Rattle.options.specs.declared.Options.{Options}
-use Rattle.bounds.specs.Bounds.{unboundedTables, unboundedEdge, unbounded}
-use Rattle.forms.specs.Forms.{illFormedTables, illFormedEdge, illFormed}
+use Rattle.causes_bounds.specs.Bounds.{unboundedTables, unboundedEdge, unbounded}
+use Rattle.causes_form.specs.Forms.{illFormedTables, illFormedEdge, illFormed}
 use Rattle.causes.specs.declared.Verdict.{Verdict}
 use Rattle.causes.specs.declared.Verdict.the-variants.{Accepted, Refused}
 use Rattle.causes.specs.Causes.{oversize, unordered, tooDeep, missing, verdict, tablesVerdict, edgeVerdict, lowestOf}

@@ -15,13 +15,13 @@ use Rattle.brep.specs.declared.Curve.the-variants.{Trimmed, Composite}
 use Rattle.brep.specs.declared.Edge.{Edge}
 use Rattle.brep.specs.Rows.{Tables, segmentOf}
 use Rattle.brep.specs.Tree.{segmentIn, rowIn, tree}
-use Rattle.nest.specs.Nest.{highSegment, notLower, unorderedRow, nesting, deepRow}
+use Rattle.causes_nesting.specs.Nest.{highSegment, notLower, unorderedRow, nesting, deepRow}
 use Rattle.options.specs.declared.Options.{Options}
-use Rattle.bounds.specs.Some.{someBelow, atIndex, some}
-use Rattle.bounds.specs.Bounds.{largest, within, beyond, finiteBeyond, edgeBeyond, optionsBeyond, unbounded}
-use Rattle.bounds.proofs.Laws.{some-none, neither, three, four}
-use Rattle.forms.specs.Forms.{pointCount, curveCount, segmentCount, broken, uneven, room, malformedRow, malformedSegment, illFormedTables, illFormedEdge, illFormed}
-use Rattle.forms.proofs.Laws.{row-inside}
+use Rattle.causes_bounds.specs.Some.{someBelow, atIndex, some}
+use Rattle.causes_bounds.specs.Bounds.{largest, within, beyond, finiteBeyond, edgeBeyond, optionsBeyond, unbounded}
+use Rattle.causes_bounds.proofs.Laws.{some-none, neither, three, four}
+use Rattle.causes_form.specs.Forms.{pointCount, curveCount, segmentCount, broken, uneven, room, malformedRow, malformedSegment, illFormedTables, illFormedEdge, illFormed}
+use Rattle.causes_form.proofs.Laws.{row-inside}
 use Rattle.causes.specs.declared.Verdict.{Verdict}
 use Rattle.causes.specs.declared.Verdict.the-variants.{Accepted, Refused}
 use Rattle.causes.proofs.Laws.{sizes}

@@ -11,12 +11,12 @@ use Rattle.math.specs.Math.{interval}
 use Rattle.brep.specs.declared.Edge.{Edge}
 use Rattle.brep.specs.Rows.{Tables, tables, segmentOf, curveOf, kindOf, pointOf, frameOf}
 use Rattle.brep.specs.Tree.{tree, below, grown, segments, run}
-use Rattle.nest.specs.Nest.{highSegment, notLower, unorderedRow, nesting, deepest, deepRow}
+use Rattle.causes_nesting.specs.Nest.{highSegment, notLower, unorderedRow, nesting, deepest, deepRow}
 use Rattle.options.specs.declared.Options.{Options}
 use Rattle.options.specs.Options.{preset, radians}
-use Rattle.bounds.specs.Some.{someBelow}
-use Rattle.bounds.specs.Bounds.{within, beyond, finiteBeyond, edgeBeyond, optionsBeyond, unbounded}
-use Rattle.forms.specs.Forms.{broken, uneven, unknownKind, wrongCount, spareP, spareQ, unusedSet, room, malformed, malformedRow, malformedSegment, illFormed}
+use Rattle.causes_bounds.specs.Some.{someBelow}
+use Rattle.causes_bounds.specs.Bounds.{within, beyond, finiteBeyond, edgeBeyond, optionsBeyond, unbounded}
+use Rattle.causes_form.specs.Forms.{broken, uneven, unknownKind, wrongCount, spareP, spareQ, unusedSet, room, malformed, malformedRow, malformedSegment, illFormed}
 use Rattle.causes.specs.declared.Verdict.{Verdict}
 use Rattle.causes.specs.declared.Verdict.the-variants.{Accepted, Refused}
 use Rattle.causes.specs.Causes.{oversize, missing, verdict}

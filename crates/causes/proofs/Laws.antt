@@ -7,11 +7,11 @@ use lib.ListN.{length}
 use lib.Dec.{ltb}
 use borrow.Author.Tests.{ltb-false}
 use Rattle.brep.specs.Rows.{Tables}
-use Rattle.bounds.specs.Some.{someBelow}
-use Rattle.bounds.specs.Bounds.{unboundedTables}
-use Rattle.bounds.proofs.Laws.{or-true, or-false, neither, four}
-use Rattle.forms.specs.Forms.{curveCount, segmentCount, malformedRow, malformedSegment, ragged}
-use Rattle.nest.specs.Nest.{rowsCause}
+use Rattle.causes_bounds.specs.Some.{someBelow}
+use Rattle.causes_bounds.specs.Bounds.{unboundedTables}
+use Rattle.causes_bounds.proofs.Laws.{or-true, or-false, neither, four}
+use Rattle.causes_form.specs.Forms.{curveCount, segmentCount, malformedRow, malformedSegment, ragged}
+use Rattle.causes_nesting.specs.Nest.{rowsCause}
 use Rattle.causes.specs.declared.Verdict.{Verdict}
 use Rattle.causes.specs.declared.Verdict.the-variants.{Accepted, Refused}
 use Rattle.causes.specs.Causes.{oversize, unordered, tooDeep, tablesVerdict}

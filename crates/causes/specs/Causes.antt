@@ -5,10 +5,10 @@ use lib.ListN.{length}
 use lib.Dec.{ltb, leb}
 use Rattle.brep.specs.declared.Edge.{Edge}
 use Rattle.brep.specs.Rows.{Tables}
-pub use Rattle.nest.specs.Nest.{unordered, tooDeep}
+pub use Rattle.causes_nesting.specs.Nest.{unordered, tooDeep}
 use Rattle.options.specs.declared.Options.{Options}
-use Rattle.bounds.specs.Bounds.{unboundedTables, unboundedEdge, unbounded}
-use Rattle.forms.specs.Forms.{pointCount, curveCount, illFormedTables, illFormedEdge, illFormed}
+use Rattle.causes_bounds.specs.Bounds.{unboundedTables, unboundedEdge, unbounded}
+use Rattle.causes_form.specs.Forms.{pointCount, curveCount, illFormedTables, illFormedEdge, illFormed}
 use Rattle.causes.specs.declared.Verdict.{Verdict}
 use Rattle.causes.specs.declared.Verdict.the-variants.{Accepted, Refused}
 

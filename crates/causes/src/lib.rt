@@ -1,6 +1,6 @@
 // When an edge is turned away: causes 1 to 6, in order, the lowest that applies. Every row and segment is looked at.
-use bounds::either;
 use brep::Edge;
+use causes_bounds::either;
 use options::Options;
 ghost use mathlib.Core.Path.{_≡_};
 ghost use Rattle.brep.specs.Rows.{lent};
@@ -43,15 +43,15 @@ pub fn check_tables(
     if oversize(points, curves, reals, parts, ranges) {
         return Verdict::Refused(1);
     }
-    if bounds::unbounded_tables(points, reals, ranges) {
+    if causes_bounds::unbounded_tables(points, reals, ranges) {
         return Verdict::Refused(2);
     }
-    let ragged = forms::ragged(points, curves, reals, parts, ranges);
-    let segments = forms::malformed_segments(parts, curves.len() / 3);
+    let ragged = causes_form::ragged(points, curves, reals, parts, ranges);
+    let segments = causes_form::malformed_segments(parts, curves.len() / 3);
     if either(ragged, segments) {
         return Verdict::Refused(3);
     }
-    match nest::rows_cause(points, curves, reals, parts, ranges) {
+    match causes_nesting::rows_cause(points, curves, reals, parts, ranges) {
         0 => Verdict::Accepted,
         n => Verdict::Refused(n),
     }
@@ -69,10 +69,10 @@ pub fn check_edge(
 ) -> Verdict
     ensures { λ r. ⌜ r ≡ edgeVerdict (lent (points .entry) (curves .entry) (reals .entry) (parts .entry) (ranges .entry)) edge options ⌝ }
 {
-    if bounds::unbounded_edge(edge, options) {
+    if causes_bounds::unbounded_edge(edge, options) {
         return Verdict::Refused(2);
     }
-    if forms::ill_formed_edge(edge, options) {
+    if causes_form::ill_formed_edge(edge, options) {
         return Verdict::Refused(3);
     }
     if missing(points.len() / 3, curves.len() / 3, edge) {

@@ -21,12 +21,12 @@ fn drain() {
 
 fn main() {
     let mut text = [0u8; SIZE];
-    let mut out = [0u8; answer::BYTES];
+    let mut out = [0u8; chain_answer::BYTES];
     let n = io::read_full(STDIN_FILENO, &mut text);
     drain();
-    let written = answer::print(&text[..n], &mut out);
+    let written = chain_answer::print(&text[..n], &mut out);
     // Always so, but the contract of `print` names the bytes and not how many they are at most.
-    if written <= answer::BYTES {
+    if written <= chain_answer::BYTES {
         // A program has no exit status: what cannot be written, as to a full disk, is lost without a word.
         io::write_all(STDOUT_FILENO, &out[..written]);
     }

@@ -12,8 +12,8 @@ use Rattle.math.specs.Math.{interval, spanOf}
 use Rattle.brep.specs.Tree.{CurveTree, line, circle, ellipse, parabola, polyline, trimmed, composite}
 use Rattle.curve.specs.declared.Repeats.{Repeats}
 use Rattle.curve.specs.declared.Repeats.the-variants.{Every, Never}
-pub use Rattle.curve_run.specs.Run.{indexIn, clampedTo, segmentIndex, segmentLocal}
-unfoldable pub use Rattle.curve_run.specs.Run.{countOf, closes, polylineParameter, ownParameter}
+pub use Rattle.curve_parameter.specs.Run.{indexIn, clampedTo, segmentIndex, segmentLocal}
+unfoldable pub use Rattle.curve_parameter.specs.Run.{countOf, closes, polylineParameter, ownParameter}
 pub use Rattle.curve_point.specs.Point.{alongFrom, around}
 unfoldable pub use Rattle.curve_point.specs.Point.{polylinePoint, ellipsePoint, parabolaPoint, pointAt, segmentPoint}
 

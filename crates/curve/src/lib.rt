@@ -2,8 +2,8 @@
 // A row's kind is read by its number, as brep::kind_of has them, and of its other numbers only those that are used: 1 line, 2 circle,
 // 3 ellipse, 4 parabola, 5 polyline, 6 trim, 7 composite; any other is the empty polyline. A match has an arm for each kind, as the Rust's,
 // and `_` is for numbers that are none; after `under_trims` also for a trim whose base is not lower.
-use curve_run::closes_at;
-use curve_run::last_of;
+use curve_parameter::closes_at;
+use curve_parameter::last_of;
 use math::Interval;
 ghost use mathlib.Core.Path.{_≡_};
 ghost use Prim.Native.Nat.{_+_, _*_};
@@ -15,9 +15,9 @@ ghost use Rattle.brep.specs.Tree.{tree, run, polyline};
 ghost use Rattle.curve.specs.Eval.{naturalRange, isClosed, everySpan, period, isSampled};
 
 // What others name here of eval/curve.rs's parameters and points.
+pub use curve_parameter::own_parameter;
+pub use curve_parameter::under_trims;
 pub use curve_point::point_at;
-pub use curve_run::own_parameter;
-pub use curve_run::under_trims;
 
 // 2π
 const TAU: f64 = 6.283185307179586;

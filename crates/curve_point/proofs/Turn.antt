@@ -8,8 +8,8 @@ use native.Mathlib.Omega.{arith}
 use lib.Dec.{eqb}
 use lib.Ieee.{Float}
 use borrow.Author.Tests.{eqb-true}
-use Rattle.trig.specs.declared.SinCos.{SinCos}
-use Rattle.trig.specs.Trig.{sinCosOf}
+use Rattle.arith_trig.specs.declared.SinCos.{SinCos}
+use Rattle.arith_trig.specs.Trig.{sinCosOf}
 use Rattle.math.specs.declared.Frame.{Frame}
 use Rattle.math.specs.declared.Interval.{Interval}
 use Rattle.math.specs.Math.{interval, polar}
@@ -19,9 +19,9 @@ use Rattle.brep.specs.Rows.{Tables, pointOf, frameOf, kindOf, curveOf}
 use Rattle.brep.specs.Tree.{CurveTree, polyline, circle, ellipse, trimmed, rowIn, tree}
 use Rattle.brep.proofs.ByKind.{kindIn, firstIn, countIn, pIn, qIn}
 use Rattle.curve_point.specs.Point.{around, ellipsePoint, pointAt}
-use Rattle.curve_run.specs.Under.{under}
+use Rattle.curve_parameter.specs.Under.{under}
 use Rattle.curve_point.specs.Turn.{turnOf}
-use Rattle.curve_run.proofs.Under.{Left, under-rest}
+use Rattle.curve_parameter.proofs.Under.{Left, under-rest}
 
 -- a curve's number among the kinds
 numberOf : Curve → ℕ

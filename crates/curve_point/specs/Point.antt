@@ -6,13 +6,13 @@ use lib.ListN.{length, getD}
 use lib.Dec.{eqb}
 use lib.Ieee.{Float}
 use Rattle.arith.specs.Notation.{_⊖_, _⊗_, count, two}
-use Rattle.trig.specs.declared.SinCos.{SinCos}
-use Rattle.trig.specs.Trig.{sinOf, cosOf}
+use Rattle.arith_trig.specs.declared.SinCos.{SinCos}
+use Rattle.arith_trig.specs.Trig.{sinOf, cosOf}
 use Rattle.math.specs.declared.Vec3.{Vec3}
 use Rattle.math.specs.declared.Frame.{Frame}
 use Rattle.math.specs.Math.{vZero, vAdd, vScale, vLerp, yDir, polar}
 use Rattle.brep.specs.Tree.{CurveTree, line, circle, ellipse, parabola, polyline, trimmed, composite, Segments, none, segment}
-use Rattle.curve_run.specs.Run.{countOf, indexIn, polylineParameter, segmentIndex, segmentLocal, ownParameter}
+use Rattle.curve_parameter.specs.Run.{countOf, indexIn, polylineParameter, segmentIndex, segmentLocal, ownParameter}
 
 -- from point i towards the next, by what t has above i
 abbrev pub alongFrom : List Vec3 → ℕ → Float → Vec3

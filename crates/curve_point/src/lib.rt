@@ -1,8 +1,8 @@
 // Points on rows: point_at of eval/curve.rs. Each contract is the definition at the row's curve.
+use arith_trig::SinCos;
 use brep::Curve;
 use math::Frame;
 use math::Vec3;
-use trig::SinCos;
 ghost use mathlib.Core.Path.{_≡_};
 ghost use Prim.Native.Nat.{_*_};
 ghost use lib.ListN.{getD};
@@ -21,8 +21,8 @@ pub fn polyline_point(points: &[f64], first: u32, count: u32, t: f64) -> Vec3
     if count == 1 {
         return brep::point_in(points, first, 0);
     }
-    let u = curve_run::polyline_parameter(points, first, count, t);
-    let i = curve_run::index_in(count - 2, u);
+    let u = curve_parameter::polyline_parameter(points, first, count, t);
+    let i = curve_parameter::index_in(count - 2, u);
     let a = brep::point_in(points, first, i);
     let b = brep::point_in(points, first, i + 1);
     a.lerp(b, u - i as f64)
@@ -50,8 +50,8 @@ fn turn_at(curves: &[u32], row: u32, t: f64) -> SinCos
     ensures { λ r. ⌜ r ≡ turnOf (getD (now (curves .entry)) (row * 3) 0) t ⌝ }
 {
     match brep::int_at(curves, row as usize * 3) {
-        2 => trig::sin_cos(t),
-        3 => trig::sin_cos(t),
+        2 => arith_trig::sin_cos(t),
+        3 => arith_trig::sin_cos(t),
         _ => SinCos { sin: 0.0, cos: 0.0 },
     }
 }
@@ -67,7 +67,7 @@ pub fn point_at(
 ) -> Vec3
     ensures { λ r. ⌜ r ≡ pointAt (tree (lent (points .entry) (curves .entry) (reals .entry) (parts .entry) (ranges .entry)) row) t ⌝ }
 {
-    let r = curve_run::under_trims(curves, row);
+    let r = curve_parameter::under_trims(curves, row);
     // Before the row, whose nine floats need not be kept over the call.
     let sc = turn_at(curves, r, t);
     let c = brep::row_at(points, curves, reals, r);
@@ -107,11 +107,11 @@ fn composite_at(
         return Vec3::ZERO;
     }
     let clamped = arith::clamp(t, 0.0, count as f64);
-    let i = curve_run::index_in(count - 1, clamped);
+    let i = curve_parameter::index_in(count - 1, clamped);
     let s = brep::segment_at(parts, ranges, first, i);
     let base = s.curve;
     let range = s.range;
-    let u = curve_run::own_parameter(range, s.same_sense, clamped - i as f64);
+    let u = curve_parameter::own_parameter(range, s.same_sense, clamped - i as f64);
     if base < row {
         return point_at(points, curves, reals, parts, ranges, base, u);
     }

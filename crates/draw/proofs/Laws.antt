@@ -9,9 +9,9 @@ use lib.ListN.{length, replicate, take}
 use lib.Dec.{ltb, leb}
 use lib.Ieee.{Float, binary64, ofBits}
 use borrow.Author.Tests.{lt-ltb, le-ltb, le-leb, lt-leb}
-use Rattle.lists.specs.Result.{Result, refused, got}
-use Rattle.lists.specs.Room.{filled}
-use Rattle.lists.proofs.Filled.{filled-length, filled-front}
+use Rattle.base_lists.specs.Result.{Result, refused, got}
+use Rattle.base_lists.specs.Room.{filled}
+use Rattle.base_lists.proofs.Filled.{filled-length, filled-front}
 use Rattle.brep.specs.declared.Edge.{Edge}
 use Rattle.brep.specs.Rows.{Tables}
 use Rattle.options.specs.declared.Options.{Options}
@@ -19,32 +19,32 @@ use Rattle.options.specs.declared.Resolved.{Resolved}
 use Rattle.causes.specs.declared.Verdict.the-variants as verdicts
 use Rattle.causes.specs.Causes.{verdict}
 use Rattle.causes.proofs.Checked.{verdict-numbers}
-use Rattle.usable.specs.declared.Usable.{Usable}
-use Rattle.usable.specs.declared.Usable.the-variants.{Range, Unusable}
-use Rattle.usable.specs.Usable.{usableRange}
-use Rattle.samples.specs.declared.Sample.{Sample}
-use Rattle.samples.specs.declared.Counted.{Counted}
-use Rattle.samples.specs.declared.Counted.the-variants as counted
-use Rattle.samples.specs.Chain.{width, flat, samples, answerOf}
-use Rattle.samples.proofs.Laws.{length-flat, reads}
-use Rattle.merge.specs.Merge.{mergeFloor}
-use Rattle.chains.specs.declared.Way.{Way}
-use Rattle.chains.specs.declared.Drawn.{Drawn}
-use Rattle.chains.specs.declared.Drawn.the-variants.{Refused, Chain}
-use Rattle.chains.specs.Edge.{edgeCurve, discretised}
-use Rattle.chains.specs.Repair.{Got, by, repaired}
-use Rattle.chains.specs.Draw as draw
-use Rattle.chains.specs.Draw.{firstWay, localOptions, drawnIn, roomOf, tooShort, drawn, Lowest, Outcome, inFirst, afterRefusal, firstAfter, secondAfter}
-use Rattle.chains.proofs.Outcome.{outcome-got, outcome-refused}
-use Rattle.chains.proofs.Discretised.{Chained, Room, discretised-outcome}
-use Rattle.chains.proofs.Repaired.{drawn-in-outcome}
-use Rattle.chains.proofs.Sound.{Binary}
-use Rattle.chains.proofs.Accepted.{given, by-tables, by-buffers, refused-so}
-use Rattle.chains.proofs.Table.{lowest}
-use Rattle.chains.proofs.Held.{held, outcome}
-use Rattle.edge.specs.Discretised.{chainOf, Discretised}
-use Rattle.repair.specs.Redrawn.{Left}
-use Rattle.chains.specs.Draw.{liesInFirst, floatsOf}
+use Rattle.edge_range.specs.declared.Usable.{Usable}
+use Rattle.edge_range.specs.declared.Usable.the-variants.{Range, Unusable}
+use Rattle.edge_range.specs.Usable.{usableRange}
+use Rattle.edge_record.specs.declared.Sample.{Sample}
+use Rattle.edge_record.specs.declared.Counted.{Counted}
+use Rattle.edge_record.specs.declared.Counted.the-variants as counted
+use Rattle.edge_record.specs.Chain.{width, flat, samples, answerOf}
+use Rattle.edge_record.proofs.Laws.{length-flat, reads}
+use Rattle.edge_merge.specs.Merge.{mergeFloor}
+use Rattle.draw_spec.specs.declared.Way.{Way}
+use Rattle.draw_spec.specs.declared.Drawn.{Drawn}
+use Rattle.draw_spec.specs.declared.Drawn.the-variants.{Refused, Chain}
+use Rattle.draw_spec.specs.Edge.{edgeCurve, discretised}
+use Rattle.draw_spec.specs.Repair.{Got, by, repaired}
+use Rattle.draw_spec.specs.Draw as draw
+use Rattle.draw_spec.specs.Draw.{firstWay, localOptions, drawnIn, roomOf, tooShort, drawn, Lowest, Outcome, inFirst, afterRefusal, firstAfter, secondAfter}
+use Rattle.draw_spec.proofs.Outcome.{outcome-got, outcome-refused}
+use Rattle.draw_spec.proofs.Discretised.{Chained, Room, discretised-outcome}
+use Rattle.draw_spec.proofs.Repaired.{drawn-in-outcome}
+use Rattle.draw_spec.proofs.Sound.{Binary}
+use Rattle.draw_spec.proofs.Accepted.{given, by-tables, by-buffers, refused-so}
+use Rattle.draw_spec.proofs.Table.{lowest}
+use Rattle.draw_spec.proofs.Held.{held, outcome}
+use Rattle.edge_discretise.specs.Discretised.{chainOf, Discretised}
+use Rattle.edge_repair.specs.Redrawn.{Left}
+use Rattle.draw_spec.specs.Draw.{liesInFirst, floatsOf}
 
 -- ---- the room of buffers that are long enough
 room-fine : (first second : ℕ) → 8 ≤ first → 8 ≤ second → Room (roomOf first second)

@@ -2,13 +2,13 @@
 // or one of the numbered refusals.
 use brep::Edge;
 use causes::Verdict;
-use chains::Drawn;
-use chains::Way;
+use draw_spec::Drawn;
+use draw_spec::Way;
+use edge_range::Usable;
+use edge_record::Counted;
 use math::Interval;
 use options::Options;
 use options::Resolved;
-use samples::Counted;
-use usable::Usable;
 ghost use mathlib.Core.Path.{_≡_};
 ghost use mathlib.Core.Bool.{cond};
 ghost use Prim.Native.Nat.{_*_, _≤_};
@@ -21,11 +21,11 @@ ghost use Rattle.brep.specs.Tree.{tree};
 ghost use Rattle.causes.specs.declared.Verdict.the-variants.{Accepted};
 ghost use Rattle.causes.specs.Causes.{verdict, tablesVerdict};
 ghost use Rattle.knots.specs.Knots.{curveKnots};
-ghost use Rattle.samples.specs.Chain.{width};
-ghost use Rattle.usable.specs.Usable.{usableRange};
-ghost use Rattle.chains.specs.Draw.{firstWay, localOptions, drawnIn, roomOf, inFirst, liesInFirst, floatsOf, Outcome};
-ghost use Rattle.chains.specs.Binary.{Fitting};
-ghost use Rattle.repair.specs.Redrawn.{Left};
+ghost use Rattle.edge_record.specs.Chain.{width};
+ghost use Rattle.edge_range.specs.Usable.{usableRange};
+ghost use Rattle.draw_spec.specs.Draw.{firstWay, localOptions, drawnIn, roomOf, inFirst, liesInFirst, floatsOf, Outcome};
+ghost use Rattle.draw_spec.specs.Binary.{Fitting};
+ghost use Rattle.edge_repair.specs.Redrawn.{Left};
 
 // The way of the first drawing: the chord where the edge has no usable range.
 fn first_way(usable: Usable) -> Way
@@ -67,7 +67,7 @@ fn local_options(
 {
     let r = options.resolve();
     if 0.0 < r.relative {
-        let extent = extent::extent_over(points, curves, reals, parts, ranges, edge, usable);
+        let extent = edge_extent::extent_over(points, curves, reals, parts, ranges, edge, usable);
         return r.for_extent(extent);
     }
     // No extent changes these.
@@ -91,7 +91,7 @@ fn drawn_in(
         × (usable ≡ usableRange (tree (lent points curves reals parts ranges) (edge .curve)) (edge .range)) ⌝ }
     ensures { λ w. ⌜ Left (drawnIn (roomOf (length (now (first .entry))) (length (now (second .entry)))) (lent (points .entry) (curves .entry) (reals .entry) (parts .entry) (ranges .entry)) edge r) (now (first .entry)) (now (second .entry)) w (now (first .exit)) (now (second .exit)) ⌝ }
 {
-    let counted = edge::discretise_over(
+    let counted = edge_discretise::discretise_over(
         points,
         curves,
         reals,
@@ -107,7 +107,7 @@ fn drawn_in(
         Counted::Refused(n) => Drawn::Refused(n),
         Counted::Count(n) => {
             let way = first_way(usable);
-            repair::repair_runaway(
+            edge_repair::repair_runaway(
                 points,
                 curves,
                 reals,
@@ -145,7 +145,15 @@ pub fn draw_checked(
     fitting(reals);
     fitting(ranges);
     fitting_ends(edge.range);
-    let usable = usable::usable_range(points, curves, reals, parts, ranges, edge.curve, edge.range);
+    let usable = edge_range::usable_range(
+        points,
+        curves,
+        reals,
+        parts,
+        ranges,
+        edge.curve,
+        edge.range,
+    );
     let r = local_options(points, curves, reals, parts, ranges, edge, usable, options);
     drawn_in(
         points,
@@ -241,8 +249,8 @@ fn is_in_first(way: Way) -> bool
 fn leading<'a>(buffer: &'a mut [f64], n: usize) -> &'a mut [f64]
     ensures { λ r. ⌜ (now r ≡ take (width * n) (now (buffer .entry))) × (ptr r ≡ ptr (buffer .entry)) ⌝ }
 {
-    if n <= buffer.len() / samples::WIDTH {
-        return &mut buffer[..samples::WIDTH * n];
+    if n <= buffer.len() / edge_record::WIDTH {
+        return &mut buffer[..edge_record::WIDTH * n];
     }
     buffer
 }

@@ -7,24 +7,24 @@ use Prim.Native.Nat.{ℕ, _≤_}
 use native.Mathlib.Omega.{arith}
 use lib.ListN.{length}
 use lib.Ieee.{Float}
-use Rattle.lists.specs.Result.{Result, refused, got}
+use Rattle.base_lists.specs.Result.{Result, refused, got}
 use Rattle.brep.specs.declared.Edge.{Edge}
 use Rattle.brep.specs.Rows.{Tables}
 use Rattle.options.specs.declared.Options.{Options}
 use Rattle.causes.specs.declared.Verdict.{Verdict}
 use Rattle.causes.specs.declared.Verdict.the-variants as verdicts
 use Rattle.causes.specs.Causes.{oversize, unordered, tooDeep, tablesVerdict}
-use Rattle.bounds.specs.Bounds.{unboundedTables}
-use Rattle.forms.specs.Forms.{illFormedTables}
-use Rattle.chains.specs.declared.Way.{Way}
-use Rattle.chains.specs.declared.Way.the-variants.{AsDrawn, Chord, Complement, ShortArc, Runaway}
-use Rattle.chains.specs.declared.Drawn.{Drawn}
-use Rattle.chains.specs.Repair.{Got}
-use Rattle.chains.specs.Draw.{drawn, answerOf, Outcome}
-use Rattle.chains.proofs.Sound.{drawn-numbers}
-use Rattle.chains.proofs.Held.{fits-first, fits-second}
-use Rattle.numbers.specs.declared.Codes.{Codes}
-use Rattle.numbers.specs.Numbers.{causeOf, numberOf, codesOf}
+use Rattle.causes_bounds.specs.Bounds.{unboundedTables}
+use Rattle.causes_form.specs.Forms.{illFormedTables}
+use Rattle.draw_spec.specs.declared.Way.{Way}
+use Rattle.draw_spec.specs.declared.Way.the-variants.{AsDrawn, Chord, Complement, ShortArc, Runaway}
+use Rattle.draw_spec.specs.declared.Drawn.{Drawn}
+use Rattle.draw_spec.specs.Repair.{Got}
+use Rattle.draw_spec.specs.Draw.{drawn, answerOf, Outcome}
+use Rattle.draw_spec.proofs.Sound.{drawn-numbers}
+use Rattle.draw_spec.proofs.Held.{fits-first, fits-second}
+use Rattle.ffi_numbers.specs.declared.Codes.{Codes}
+use Rattle.ffi_numbers.specs.Numbers.{causeOf, numberOf, codesOf}
 use Rattle.ffi.specs.Told.{answerTo, Numbered, Told}
 
 -- ways are numbered from 1 to 5

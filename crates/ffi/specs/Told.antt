@@ -8,10 +8,10 @@ use lib.Ieee.{Float}
 use Rattle.brep.specs.declared.Edge.{Edge}
 use Rattle.brep.specs.Rows.{Tables}
 use Rattle.options.specs.declared.Options.{Options}
-use Rattle.chains.specs.declared.Drawn.{Drawn}
-use Rattle.chains.specs.Draw.{drawn, answerOf, Outcome}
-use Rattle.samples.specs.Chain.{width}
-use Rattle.numbers.specs.Numbers.{codesOf}
+use Rattle.draw_spec.specs.declared.Drawn.{Drawn}
+use Rattle.draw_spec.specs.Draw.{drawn, answerOf, Outcome}
+use Rattle.edge_record.specs.Chain.{width}
+use Rattle.ffi_numbers.specs.Numbers.{codesOf}
 
 -- the answer of drawing into buffers that hold these floats
 abbrev pub answerTo : Tables → Edge → Options → List Float → List Float → Drawn

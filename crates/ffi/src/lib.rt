@@ -8,8 +8,8 @@ ghost use Rattle.brep.specs.Rows.{lent};
 ghost use Rattle.causes.specs.declared.Verdict.the-variants.{Accepted};
 ghost use Rattle.causes.specs.Causes.{verdict, tablesVerdict};
 ghost use Rattle.options.specs.Options.{radians, degrees, isClamped, defaultOptions, draftOptions, fineOptions};
-ghost use Rattle.walker.specs.Walk.{startOf, stepped};
-ghost use Rattle.numbers.specs.Numbers.{edgeOf, optionsOf, causeOf, passed, pointAfter};
+ghost use Rattle.edge_walker.specs.Walk.{startOf, stepped};
+ghost use Rattle.ffi_numbers.specs.Numbers.{edgeOf, optionsOf, causeOf, passed, pointAfter};
 ghost use Rattle.ffi.specs.Told.{Told};
 
 // Draws an edge: 0, or the refusal's number.
@@ -42,8 +42,8 @@ pub extern "C" fn cs_draw(
 ) -> u32
     ensures { λ r. ⌜ Told (lent (points .entry) (curves .entry) (reals .entry) (parts .entry) (ranges .entry)) (edgeOf curve start end sense lo hi tolerance low high) (optionsOf deflection angle relative segments depth scale) (now (first .entry)) (now (second .entry)) r (now (way .exit)) (now (count .exit)) (now (first .exit)) (now (second .exit)) ⌝ }
 {
-    let edge = numbers::edge_of(curve, start, end, sense, lo, hi, tolerance, low, high);
-    let options = numbers::options_of(deflection, angle, relative, segments, depth, scale);
+    let edge = ffi_numbers::edge_of(curve, start, end, sense, lo, hi, tolerance, low, high);
+    let options = ffi_numbers::options_of(deflection, angle, relative, segments, depth, scale);
     let drawn = draw::draw(
         points,
         curves,
@@ -55,7 +55,7 @@ pub extern "C" fn cs_draw(
         first,
         second,
     );
-    let codes = numbers::codes_of(drawn);
+    let codes = ffi_numbers::codes_of(drawn);
     *way = codes.way;
     *count = codes.count;
     codes.refusal
@@ -99,12 +99,12 @@ pub extern "C" fn cs_draw_over(
         reals,
         parts,
         ranges,
-        numbers::edge_of(curve, start, end, sense, lo, hi, tolerance, low, high),
-        numbers::options_of(deflection, angle, relative, segments, depth, scale),
+        ffi_numbers::edge_of(curve, start, end, sense, lo, hi, tolerance, low, high),
+        ffi_numbers::options_of(deflection, angle, relative, segments, depth, scale),
         first,
         second,
     );
-    let codes = numbers::codes_of(drawn);
+    let codes = ffi_numbers::codes_of(drawn);
     *way = codes.way;
     *count = codes.count;
     codes.refusal
@@ -136,9 +136,9 @@ pub extern "C" fn cs_check(
 ) -> u32
     ensures { λ r. ⌜ r ≡ causeOf (verdict (lent (points .entry) (curves .entry) (reals .entry) (parts .entry) (ranges .entry)) (edgeOf curve start end sense lo hi tolerance low high) (optionsOf deflection angle relative segments depth scale)) ⌝ }
 {
-    let e = numbers::edge_of(curve, start, end, sense, lo, hi, tolerance, low, high);
-    let o = numbers::options_of(deflection, angle, relative, segments, depth, scale);
-    numbers::cause_of(causes::check(points, curves, reals, parts, ranges, e, o))
+    let e = ffi_numbers::edge_of(curve, start, end, sense, lo, hi, tolerance, low, high);
+    let o = ffi_numbers::options_of(deflection, angle, relative, segments, depth, scale);
+    ffi_numbers::cause_of(causes::check(points, curves, reals, parts, ranges, e, o))
 }
 
 // The lowest of the causes 1 to 5 that the tables alone have, or 0.
@@ -153,7 +153,7 @@ pub extern "C" fn cs_check_tables(
     ensures { λ r. ⌜ (r ≡ causeOf (tablesVerdict (lent (points .entry) (curves .entry) (reals .entry) (parts .entry) (ranges .entry))))
         × (r ≡ 0 → tablesVerdict (lent (points .entry) (curves .entry) (reals .entry) (parts .entry) (ranges .entry)) ≡ Accepted) ⌝ }
 {
-    numbers::cause_of(causes::check_tables(points, curves, reals, parts, ranges))
+    ffi_numbers::cause_of(causes::check_tables(points, curves, reals, parts, ranges))
 }
 
 // The place where a walk of a chain begins.
@@ -161,7 +161,7 @@ pub extern "C" fn cs_check_tables(
 pub extern "C" fn cs_start(chain: &[f64], forward: bool) -> usize
     ensures { λ r. ⌜ r ≡ startOf (now (chain .entry)) forward ⌝ }
 {
-    walker::start_at(chain, forward)
+    edge_walker::start_at(chain, forward)
 }
 
 // A step of a walk: 1 and the point that it passed, or 0 where none is left.
@@ -171,11 +171,11 @@ pub extern "C" fn cs_step(chain: &[f64], forward: bool, at: &mut usize, point: &
         × (now (at .exit) ≡ stepped (now (chain .entry)) (now (at .entry)) forward .at)
         × (now (point .exit) ≡ pointAfter (now (point .entry)) (stepped (now (chain .entry)) (now (at .entry)) forward .step)) ⌝ }
 {
-    let s = walker::step_at(chain, *at, forward);
+    let s = edge_walker::step_at(chain, *at, forward);
     *at = s.at;
     let step = s.step;
-    *point = numbers::point_after(*point, step);
-    numbers::has_passed(step)
+    *point = ffi_numbers::point_after(*point, step);
+    ffi_numbers::has_passed(step)
 }
 
 #[no_mangle]

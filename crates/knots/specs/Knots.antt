@@ -7,8 +7,8 @@ use Rattle.arith.specs.Pick.{maxOf}
 use Rattle.math.specs.declared.Vec3.{Vec3}
 use Rattle.math.specs.Math.{vSub, vLengthSquared}
 use Rattle.brep.specs.Tree.{CurveTree, line, circle, ellipse, parabola, polyline, trimmed, composite, Segments, none, segment}
-use Rattle.breaks.specs.Breaks.{insideOf}
-use Rattle.chord.specs.Chord.{spanDistance}
+use Rattle.knots_inside.specs.Breaks.{insideOf}
+use Rattle.math_chord.specs.Chord.{spanDistance}
 
 -- segments.iter().flat_map(|s| [s.range.lo, s.range.hi])
 unfoldable pub segmentKnots : Segments → List Float

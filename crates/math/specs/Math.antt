@@ -4,8 +4,8 @@ use lib.Ieee.{Float, inf, lt, le, neg}
 use lib.Ieee.Scale.{finite}
 use Rattle.arith.specs.Notation.{_⊕_, _⊖_, _⊗_, _⊘_, bits, nought, half, one}
 use Rattle.arith.specs.Pick.{minOf, maxOf}
-use Rattle.roots.specs.Root.{rootOf}
-use Rattle.trig.specs.Trig.{sinOf, cosOf}
+use Rattle.arith_root.specs.Root.{rootOf}
+use Rattle.arith_trig.specs.Trig.{sinOf, cosOf}
 use Rattle.math.specs.declared.Vec3.{Vec3}
 use Rattle.math.specs.declared.Direction.{Direction}
 use Rattle.math.specs.declared.Direction.the-variants.{Unit, Nothing}

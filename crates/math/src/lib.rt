@@ -64,7 +64,7 @@ impl Vec3 {
     pub fn length(self) -> f64
         ensures { λ r. ⌜ r ≡ vLength self ⌝ }
     {
-        roots::root(self.dot(self))
+        arith_root::root(self.dot(self))
     }
 
     pub fn length_squared(self) -> f64
@@ -178,7 +178,7 @@ impl Frame {
     pub fn polar(self, r: f64, theta: f64) -> Vec3
         ensures { λ p. ⌜ p ≡ polar self r theta ⌝ }
     {
-        let turn = trig::sin_cos(theta);
+        let turn = arith_trig::sin_cos(theta);
         let along = self.ref_dir.scale(r * turn.cos);
         let across = self.y_dir().scale(r * turn.sin);
         self.origin.add(along).add(across)

@@ -7,7 +7,7 @@ use lib.Ieee.Scale.{finite}
 use Rattle.arith.specs.Notation.{_⊖_, _⊗_, _⊘_, bits, nought, half, one, two}
 use Rattle.arith.specs.Pick.{absOf, minOf, maxOf, clampOf}
 use Rattle.arith.specs.Floor.{ceilOf}
-use Rattle.trig.specs.Trig.{acosOf, pi}
+use Rattle.arith_trig.specs.Trig.{acosOf, pi}
 use Rattle.options.specs.declared.Radians.{Radians}
 use Rattle.options.specs.declared.Options.{Options}
 use Rattle.options.specs.declared.Resolved.{Resolved}

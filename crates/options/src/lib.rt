@@ -204,7 +204,7 @@ impl Resolved {
         ensures { λ r. ⌜ r ≡ stepBySag self radius ⌝ }
     {
         if self.sag < radius {
-            2.0 * trig::acos(arith::clamp(1.0 - self.sag / radius, -1.0, 1.0))
+            2.0 * arith_trig::acos(arith::clamp(1.0 - self.sag / radius, -1.0, 1.0))
         } else {
             self.angle
         }

@@ -2,7 +2,7 @@
 // answer's bits, of a NaN 7ff8000000000000; `?` for a malformed line. One space between, floats by
 // their bits as 16 lowercase hex digits, clamp's operands in the order x, lower, upper.
 use libc::STDIN_FILENO;
-use text::Num;
+use text_format::Num;
 
 // Names as numbers: their letters in base 256, behind a 1.
 const ROOT: u64 = 0x01726f6f74;
@@ -60,7 +60,7 @@ fn next(line: &[u8], at: usize) -> Num {
     if line.len() < at {
         return Num::Bad;
     }
-    text::hex_then(line, at, b' ')
+    text_format::hex_then(line, at, b' ')
 }
 
 // An operand that the line's end ends.
@@ -68,7 +68,7 @@ fn last(line: &[u8], at: usize) -> Num {
     if line.len() < at {
         return Num::Bad;
     }
-    match text::hex(line, at) {
+    match text_format::hex(line, at) {
         Num::Got(v, p) => {
             if p == line.len() {
                 Num::Got(v, p)
@@ -84,12 +84,12 @@ fn one(line: &[u8], at: usize, name: u64) -> Answer {
     let Num::Got(operand, _) = last(line, at) else {
         return Answer::Malformed;
     };
-    let x = rows::float_of(operand);
+    let x = sheet_row::float_of(operand);
     match name {
-        ROOT => Answer::Value(roots::root(x)),
-        SIN => Answer::Value(trig::sin(x)),
-        COS => Answer::Value(trig::cos(x)),
-        ACOS => Answer::Value(trig::acos(x)),
+        ROOT => Answer::Value(arith_root::root(x)),
+        SIN => Answer::Value(arith_trig::sin(x)),
+        COS => Answer::Value(arith_trig::cos(x)),
+        ACOS => Answer::Value(arith_trig::acos(x)),
         FLOOR => Answer::Value(arith::floor(x)),
         CEIL => Answer::Value(arith::ceil(x)),
         ABS => Answer::Value(arith::abs(x)),
@@ -105,8 +105,8 @@ fn two(line: &[u8], at: usize, name: u64) -> Answer {
     let Num::Got(second, _) = last(line, p) else {
         return Answer::Malformed;
     };
-    let a = rows::float_of(first);
-    let b = rows::float_of(second);
+    let a = sheet_row::float_of(first);
+    let b = sheet_row::float_of(second);
     if name == MIN {
         Answer::Value(arith::min(a, b))
     } else {
@@ -124,9 +124,9 @@ fn three(line: &[u8], at: usize) -> Answer {
     let Num::Got(third, _) = last(line, q) else {
         return Answer::Malformed;
     };
-    let x = rows::float_of(first);
-    let lower = rows::float_of(second);
-    let upper = rows::float_of(third);
+    let x = sheet_row::float_of(first);
+    let lower = sheet_row::float_of(second);
+    let upper = sheet_row::float_of(third);
     Answer::Value(arith::clamp(x, lower, upper))
 }
 

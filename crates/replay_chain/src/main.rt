@@ -4,10 +4,10 @@
 ghost use mathlib.Core.Path.{_≡_};
 ghost use Prim.Native.Nat.{_≤_};
 ghost use lib.ListN.{length};
-use layout::Row;
 use libc::STDIN_FILENO;
 use libc::STDOUT_FILENO;
-use text::Num;
+use sheet_layout::Row;
+use text_format::Num;
 
 // One byte more than a sheet may have, and four for the separator behind it.
 const SIZE: usize = 65541;
@@ -47,13 +47,13 @@ fn sizes_of(row: Row) -> Sizes {
 }
 
 fn asked_sizes(text: &[u8]) -> Sizes {
-    let Num::Got(_, at) = text::word(text, 0, b"buffers ", 0) else {
+    let Num::Got(_, at) = text_format::word(text, 0, b"buffers ", 0) else {
         return Sizes::NotAsked;
     };
     if text.len() < at {
         return Sizes::NotAsked;
     }
-    sizes_of(layout::line(text, at, b"ww"))
+    sizes_of(sheet_layout::line(text, at, b"ww"))
 }
 
 // A size that a buffer has.
@@ -69,7 +69,7 @@ fn put_answer(text: &[u8], first: &mut [f64], second: &mut [f64], out: &mut [u8]
 {
     let n = at_most(kept.first);
     let m = at_most(kept.second);
-    let written = answer::answer(text, &mut first[..n], &mut second[..m], out);
+    let written = chain_answer::answer(text, &mut first[..n], &mut second[..m], out);
     // Always so, but the contract of `answer` names the bytes and not how many they are at most.
     if written <= out.len() {
         io::write_all(STDOUT_FILENO, &out[..written]);

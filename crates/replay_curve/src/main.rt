@@ -7,6 +7,7 @@ ghost use lib.ListN.{length};
 use brep::Edge;
 use causes::Verdict;
 use curve::Repeats;
+use edge_range::Usable;
 use knots::Knots;
 use libc::STDIN_FILENO;
 use math::Direction;
@@ -14,8 +15,7 @@ use math::Interval;
 use math::Vec3;
 use options::Options;
 use sheet::Sheet;
-use text::Num;
-use usable::Usable;
+use text_format::Num;
 
 // A group has at most so many bytes; what is more is left out.
 const SIZE: usize = 131072;
@@ -142,7 +142,7 @@ fn put_kept(
     at: usize,
 ) -> usize {
     let mut list = [0.0f64; 4096];
-    let found = thin_breaks::kept_breaks(
+    let found = knots_thin::kept_breaks(
         points,
         curves,
         reals,
@@ -212,11 +212,11 @@ fn put_edge(
 ) -> usize {
     let row = edge.curve;
     let range = edge.range;
-    let extent = extent::edge_extent(points, curves, reals, parts, ranges, edge);
+    let extent = edge_extent::edge_extent(points, curves, reals, parts, ranges, edge);
     let n = put_float(b"extent ", extent, out, at);
     let sag = options.resolve().sag_for(extent);
     let m = put_float(b"sag ", sag, out, n);
-    let found = usable::usable_range(points, curves, reals, parts, ranges, row, range);
+    let found = edge_range::usable_range(points, curves, reals, parts, ranges, row, range);
     put_usable(
         points,
         curves,
@@ -243,14 +243,14 @@ fn put_at(
     out: &mut [u8; 4096],
     at: usize,
 ) -> usize {
-    let t = rows::float_of(pattern);
+    let t = sheet_row::float_of(pattern);
     let n = replay_text::word(out, at, b"at ");
     let m = replay_text::hex_then(out, n, pattern, b'\n');
     let point = curve::point_at(points, curves, reals, parts, ranges, row, t);
     let k = put_vector(b"point ", point, out, m);
-    let derivative = tangent::derivative_at(points, curves, reals, parts, ranges, row, t);
+    let derivative = curve_tangent::derivative_at(points, curves, reals, parts, ranges, row, t);
     let l = put_vector(b"derivative ", derivative, out, k);
-    let tangent = tangent::tangent_at(points, curves, reals, parts, ranges, row, t);
+    let tangent = curve_tangent::tangent_at(points, curves, reals, parts, ranges, row, t);
     put_tangent(tangent, out, l)
 }
 
@@ -269,7 +269,7 @@ fn put_line(
 ) -> usize
     requires { ⌜ place ≤ length (now text) ⌝ }
 {
-    match text::hex_then(text, place, b'\n') {
+    match text_format::hex_then(text, place, b'\n') {
         Num::Got(pattern, _) => put_at(points, curves, reals, parts, ranges, row, pattern, out, at),
         Num::Bad => replay_text::word(out, at, b"?\n"),
     }
@@ -542,7 +542,7 @@ fn line_end(text: &[u8], n: usize, out: &mut [u8; 4096], kept: Kept) -> Kept {
     if 5 <= n {
         let end = n - 5;
         if end <= text.len() {
-            if let Num::Got(_, _) = text::word(text, end, b"====\n", 0) {
+            if let Num::Got(_, _) = text_format::word(text, end, b"====\n", 0) {
                 return part_end(text, end, n, out, kept);
             }
         }

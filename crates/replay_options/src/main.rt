@@ -7,8 +7,8 @@ use libc::STDIN_FILENO;
 use options::Options;
 use options::Radians;
 use options::Resolved;
-use rows::RawOptions;
-use text::Num;
+use sheet_row::RawOptions;
+use text_format::Num;
 
 // What a group began with: nothing yet, its options, or something else.
 enum Group {
@@ -26,18 +26,18 @@ struct Kept {
 
 fn options_of(raw: RawOptions) -> Options {
     Options {
-        deflection: rows::float_of(raw.deflection),
-        angle: Radians::of(rows::float_of(raw.angle)),
+        deflection: sheet_row::float_of(raw.deflection),
+        angle: Radians::of(sheet_row::float_of(raw.angle)),
         relative: raw.relative,
         segments: raw.segments,
         depth: raw.depth,
-        scale: rows::float_of(raw.scale),
+        scale: sheet_row::float_of(raw.scale),
     }
 }
 
 // Whether the line begins with this word.
 fn starts(line: &[u8; 128], word: &[u8]) -> bool {
-    match text::word(line, 0, word, 0) {
+    match text_format::word(line, 0, word, 0) {
         Num::Got(_, _) => true,
         Num::Bad => false,
     }
@@ -59,10 +59,10 @@ fn preset(line: &[u8; 128]) -> Group {
 
 // The group that a line begins.
 fn begun(line: &[u8; 128]) -> Group {
-    let row = layout::line(line, 0, b"ffwlwf");
+    let row = sheet_layout::line(line, 0, b"ffwlwf");
     if row.ok {
         let numbers = row.numbers;
-        return Group::Begun(options_of(rows::options_of(&numbers)).resolve());
+        return Group::Begun(options_of(sheet_row::options_of(&numbers)).resolve());
     }
     preset(line)
 }
@@ -102,10 +102,10 @@ fn flag(b: bool) -> u64 {
 // The answer to a line `degrees ANGLE`.
 fn put_degrees(line: &[u8; 128], out: &mut [u8; 4096], at: usize) -> usize {
     if starts(line, b"degrees ") {
-        let row = layout::line(line, 8, b"f");
+        let row = sheet_layout::line(line, 8, b"f");
         if row.ok {
             let numbers = row.numbers;
-            let angle = Radians::degrees(rows::float_of(numbers[0]));
+            let angle = Radians::degrees(sheet_row::float_of(numbers[0]));
             let n = replay_text::float_then(out, at, angle.radians(), b' ');
             return replay_text::decimal_then(out, n, flag(angle.is_clamped()), b'\n');
         }
@@ -115,12 +115,12 @@ fn put_degrees(line: &[u8; 128], out: &mut [u8; 4096], at: usize) -> usize {
 
 // The answer to a line of three floats, or of degrees.
 fn answer(r: Resolved, line: &[u8; 128], out: &mut [u8; 4096], at: usize) -> usize {
-    let row = layout::line(line, 0, b"fff");
+    let row = sheet_layout::line(line, 0, b"fff");
     if row.ok {
         let numbers = row.numbers;
-        let extent = rows::float_of(numbers[0]);
-        let radius = rows::float_of(numbers[1]);
-        let total = rows::float_of(numbers[2]);
+        let extent = sheet_row::float_of(numbers[0]);
+        let radius = sheet_row::float_of(numbers[1]);
+        let total = sheet_row::float_of(numbers[2]);
         return put_arc(r, extent, radius, total, out, at);
     }
     put_degrees(line, out, at)
@@ -162,7 +162,7 @@ fn next(line: &[u8; 128], out: &mut [u8; 4096], at: usize, group: Group) -> Kept
 // A whole line. Its newline is the first in the buffer, so what an older line left behind it is not read.
 fn line_end(line: &[u8; 128], out: &mut [u8; 4096], kept: Kept) -> Kept {
     let group = kept.group;
-    match text::word(line, 0, b"====\n", 0) {
+    match text_format::word(line, 0, b"====\n", 0) {
         Num::Got(_, _) => Kept {
             line: 0,
             out: replay_text::word(out, kept.out, b"====\n"),

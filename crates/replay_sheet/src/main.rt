@@ -8,7 +8,7 @@ use causes::Verdict;
 use libc::STDIN_FILENO;
 use options::Options;
 use sheet::Sheet;
-use text::Num;
+use text_format::Num;
 
 // So many bytes of a sheet are kept; what is more is left out.
 const SIZE: usize = 131072;
@@ -297,7 +297,7 @@ fn line_end(text: &[u8], n: usize, out: &mut [u8; 4096], kept: Kept) -> Kept {
     if 5 <= n {
         let end = n - 5;
         if end <= text.len() {
-            if let Num::Got(_, _) = text::word(text, end, b"====\n", 0) {
+            if let Num::Got(_, _) = text_format::word(text, end, b"====\n", 0) {
                 let at = put_first(text, end, out, kept.out);
                 return Kept {
                     text: 0,

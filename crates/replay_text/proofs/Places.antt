@@ -11,8 +11,8 @@ use borrow.Author.Tests.{ltb-true, ltb-false}
 use lib.ListN.{length, drop, getD}
 use lib.Seq.{drop-cons}
 use native.Mathlib.Numerals.{add-one, unary-clauses}
-use Rattle.text.specs.Format.{charOf, digits, widthUpTo}
-use Rattle.text.proofs.Digits.{first-small, width, width-is}
+use Rattle.text_format.specs.Format.{charOf, digits, widthUpTo}
+use Rattle.text_format.proofs.Digits.{first-small, width, width-is}
 use Rattle.replay_text.specs.Waiting.{Waiting, put, puts}
 
 module _ (base : ℕ) (some : 1 < base) where

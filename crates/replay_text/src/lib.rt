@@ -4,7 +4,7 @@ ghost use mathlib.Core.Path.{_≡_};
 ghost use mathlib.Core.List.{[], _∷_, _++_};
 ghost use Prim.Native.Nat.{_-_, _^_, _≤_, _<_};
 ghost use lib.Ieee.{binary64, toBits};
-ghost use Rattle.text.specs.Format.{digits, decimal, widthUpTo, hex16};
+ghost use Rattle.text_format.specs.Format.{digits, decimal, widthUpTo, hex16};
 ghost use Rattle.replay_text.specs.Waiting.{waits, put, puts};
 use libc::STDOUT_FILENO;
 
@@ -45,7 +45,7 @@ fn digits(out: &mut [u8; 4096], at: usize, v: u64, base: u64, left: usize, unit:
     let mut i = left;
     while 0 < i {
         i -= 1;
-        n = put(out, n, text::char_of((rest / u) as u8));
+        n = put(out, n, text_format::char_of((rest / u) as u8));
         rest = rest % u;
         u = u / base;
     }

@@ -5,19 +5,19 @@ use Prim.Native.Nat.{ℕ, _*_, _-_, _<_, _≤_}
 use native.Mathlib.Omega.{arith}
 use lib.ListN.{length, take, replicate, length-append}
 use lib.Seq.{take-at}
-use Rattle.lists.specs.Sub.{All}
-use Rattle.lists.specs.Result.{Result, refused, got}
-use Rattle.text.specs.Format.{_then_, _before_, as-of, lines}
-use Rattle.text.specs.Table.{Column, fields, line, table}
-use Rattle.text.proofs.Lines.{lines-long}
-use Rattle.text.proofs.Tables.{Good}
-use Rattle.layout.specs.Layout.{RawSheet, pointColumns, curveColumns, segmentColumns, sheet, size, readSheet, Follows}
-use Rattle.layout.specs.Letters.{padded}
-use Rattle.layout.proofs.Laws.{points-good, curves-good, segments-good, layout-read}
-use Rattle.rows.specs.Rows.{isFloat, edgeOf, optionsOf}
-use Rattle.tables.specs.Room.{least, countOf}
-use Rattle.tables.proofs.Valid.{line-long}
-use Rattle.tables.proofs.Fits.{wholes-length, floats-length}
+use Rattle.base_lists.specs.Sub.{All}
+use Rattle.base_lists.specs.Result.{Result, refused, got}
+use Rattle.text_format.specs.Format.{_then_, _before_, as-of, lines}
+use Rattle.text_format.specs.Table.{Column, fields, line, table}
+use Rattle.text_format.proofs.Lines.{lines-long}
+use Rattle.text_format.proofs.Tables.{Good}
+use Rattle.sheet_layout.specs.Layout.{RawSheet, pointColumns, curveColumns, segmentColumns, sheet, size, readSheet, Follows}
+use Rattle.sheet_layout.specs.Letters.{padded}
+use Rattle.sheet_layout.proofs.Laws.{points-good, curves-good, segments-good, layout-read}
+use Rattle.sheet_row.specs.Rows.{isFloat, edgeOf, optionsOf}
+use Rattle.sheet_tables.specs.Room.{least, countOf}
+use Rattle.sheet_tables.proofs.Valid.{line-long}
+use Rattle.sheet_tables.proofs.Fits.{wholes-length, floats-length}
 use Rattle.brep.specs.Rows.{Tables, tables}
 use Rattle.brep.specs.declared.Edge.{Edge}
 use Rattle.options.specs.declared.Options.{Options}

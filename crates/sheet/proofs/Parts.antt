@@ -8,21 +8,21 @@ use lib.ListN.{length, drop, replicate, length-drop, drop-of-length-le}
 use lib.Seq.{drop-cons}
 use lib.Ieee.{Float}
 use borrow.Author.Tests.{le-leb, lt-leb}
-use Rattle.lists.specs.Result.{Result, refused, got as accepted}
-use Rattle.text.specs.Format.{Parsed, bad, got, _then_, all, whole}
-use Rattle.text.specs.Table.{fields, table}
-use Rattle.layout.specs.Layout.{RawSheet, pointColumns, curveColumns, segmentColumns, tables, ends, sheet, size, readSheet}
-use Rattle.layout.specs.Letters.{padded}
-use Rattle.layout.proofs.Laws.{tables-law, ends-law}
-use Rattle.rows.specs.Rows.{floatsOf, wholesOf, edgeOf, optionsOf}
-use Rattle.rows.specs.declared.RawEdge.{RawEdge}
-use Rattle.rows.specs.declared.RawOptions.{RawOptions}
-use Rattle.text.proofs.Place.{Read, placed, then-bad, then-bad-on, then-read, as-bad, as-read}
-use Rattle.tables.specs.Told.{flat, numbersOf}
-use Rattle.tables.proofs.Stores.{numbers-got}
-use Rattle.tables.proofs.Fits.{zeros-padded}
-use Rattle.ends.specs.Told.{toldEnds}
-use Rattle.ends.specs.declared.Last.the-variants.{Pair, NoPair}
+use Rattle.base_lists.specs.Result.{Result, refused, got as accepted}
+use Rattle.text_format.specs.Format.{Parsed, bad, got, _then_, all, whole}
+use Rattle.text_format.specs.Table.{fields, table}
+use Rattle.sheet_layout.specs.Layout.{RawSheet, pointColumns, curveColumns, segmentColumns, tables, ends, sheet, size, readSheet}
+use Rattle.sheet_layout.specs.Letters.{padded}
+use Rattle.sheet_layout.proofs.Laws.{tables-law, ends-law}
+use Rattle.sheet_row.specs.Rows.{floatsOf, wholesOf, edgeOf, optionsOf}
+use Rattle.sheet_row.specs.declared.RawEdge.{RawEdge}
+use Rattle.sheet_row.specs.declared.RawOptions.{RawOptions}
+use Rattle.text_format.proofs.Place.{Read, placed, then-bad, then-bad-on, then-read, as-bad, as-read}
+use Rattle.sheet_tables.specs.Told.{flat, numbersOf}
+use Rattle.sheet_tables.proofs.Stores.{numbers-got}
+use Rattle.sheet_tables.proofs.Fits.{zeros-padded}
+use Rattle.sheet_edge.specs.Told.{toldEnds}
+use Rattle.sheet_edge.specs.declared.Last.the-variants.{Pair, NoPair}
 use Rattle.brep.specs.Rows.{Tables, tables as tables-of}
 use Rattle.brep.specs.declared.Edge.{Edge}
 use Rattle.options.specs.declared.Options.{Options}

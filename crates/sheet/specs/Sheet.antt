@@ -3,14 +3,14 @@ use mathlib.Core.List.{[]}
 use Prim.Native.Nat.{ℕ, _*_}
 use lib.ListN.{length, take}
 use lib.Ieee.{Float, binary64, ofBits}
-use Rattle.lists.specs.Result.{Result, refused, got}
-use Rattle.text.specs.Table.{fields}
-use Rattle.layout.specs.Layout.{RawSheet, pointColumns, curveColumns, segmentColumns}
-use Rattle.layout.specs.Letters.{padded}
-use Rattle.rows.specs.Rows.{floatsOf, wholesOf, edgeOf, optionsOf}
-use Rattle.rows.specs.declared.RawEdge.{RawEdge}
-use Rattle.rows.specs.declared.RawOptions.{RawOptions}
-use Rattle.tables.specs.Told.{flat}
+use Rattle.base_lists.specs.Result.{Result, refused, got}
+use Rattle.text_format.specs.Table.{fields}
+use Rattle.sheet_layout.specs.Layout.{RawSheet, pointColumns, curveColumns, segmentColumns}
+use Rattle.sheet_layout.specs.Letters.{padded}
+use Rattle.sheet_row.specs.Rows.{floatsOf, wholesOf, edgeOf, optionsOf}
+use Rattle.sheet_row.specs.declared.RawEdge.{RawEdge}
+use Rattle.sheet_row.specs.declared.RawOptions.{RawOptions}
+use Rattle.sheet_tables.specs.Told.{flat}
 use Rattle.math.specs.Math.{interval}
 use Rattle.brep.specs.Rows.{Tables, tables}
 use Rattle.brep.specs.declared.Edge.{Edge}

@@ -3,9 +3,9 @@ use mathlib.Core.Path.{_≡_}
 use mathlib.Core.List.{List, []}
 use Prim.Native.Nat.{ℕ, _-_}
 use lib.ListN.{length}
-use Rattle.lists.specs.Result.{Result, refused, got as accepted}
-use Rattle.text.specs.Format.{Parsed, bad, got}
-use Rattle.layout.specs.Layout.{RawSheet}
+use Rattle.base_lists.specs.Result.{Result, refused, got as accepted}
+use Rattle.text_format.specs.Format.{Parsed, bad, got}
+use Rattle.sheet_layout.specs.Layout.{RawSheet}
 use Rattle.brep.specs.Rows.{Tables}
 use Rattle.sheet.specs.Sheet.{tablesOf, stored}
 use Rattle.sheet.specs.declared.Counted.{Counted}

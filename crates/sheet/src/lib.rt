@@ -1,19 +1,19 @@
-// THE reader of a sheet: the layout is Rattle.layout.specs.Layout, and what is read of it specs/Sheet.antt.
+// THE reader of a sheet: the layout is Rattle.sheet_layout.specs.Layout, and what is read of it specs/Sheet.antt.
 ghost use mathlib.Core.Path.{_≡_};
 ghost use Prim.Native.Nat.{_≤_};
 ghost use lib.ListN.{length};
-ghost use Rattle.layout.specs.Layout.{size, tables, readSheet, Means};
+ghost use Rattle.sheet_layout.specs.Layout.{size, tables, readSheet, Means};
 ghost use Rattle.brep.specs.Rows.{lent};
 ghost use Rattle.sheet.specs.Sheet.{edgeFrom, optionsFrom, answer, none, stored, left};
 ghost use Rattle.sheet.specs.Told.{toldTables, Held, Kept};
 use brep::Edge;
-use ends::Last;
 use math::Interval;
 use options::Options;
 use options::Radians;
-use rows::RawEdge;
-use rows::RawOptions;
-use text::Num;
+use sheet_edge::Last;
+use sheet_row::RawEdge;
+use sheet_row::RawOptions;
+use text_format::Num;
 
 // What 65,536 bytes can hold at most: 1,285 points of 51 bytes, 1,638 curves of 40 or more, 1,724 segments of 38.
 pub const POINTS: usize = 3855;
@@ -52,8 +52,8 @@ fn edge_from(raw: RawEdge) -> Edge
     ensures { λ r. ⌜ r ≡ edgeFrom raw ⌝ }
 {
     let range = Interval {
-        lo: rows::float_of(raw.lo),
-        hi: rows::float_of(raw.hi),
+        lo: sheet_row::float_of(raw.lo),
+        hi: sheet_row::float_of(raw.hi),
     };
     Edge {
         curve: raw.curve,
@@ -61,7 +61,7 @@ fn edge_from(raw: RawEdge) -> Edge
         end: raw.end,
         sense: raw.sense,
         range,
-        tolerance: rows::float_of(raw.tolerance),
+        tolerance: sheet_row::float_of(raw.tolerance),
         low: raw.low,
         high: raw.high,
     }
@@ -72,12 +72,12 @@ fn options_from(raw: RawOptions) -> Options
     ensures { λ r. ⌜ r ≡ optionsFrom raw ⌝ }
 {
     Options {
-        deflection: rows::float_of(raw.deflection),
-        angle: Radians::of(rows::float_of(raw.angle)),
+        deflection: sheet_row::float_of(raw.deflection),
+        angle: Radians::of(sheet_row::float_of(raw.angle)),
         relative: raw.relative,
         segments: raw.segments,
         depth: raw.depth,
-        scale: rows::float_of(raw.scale),
+        scale: sheet_row::float_of(raw.scale),
     }
 }
 
@@ -94,13 +94,13 @@ fn three(
     ensures { λ r. ⌜ (r ≡ toldTables (now (text .entry)) (tables .read (now (text .entry))))
         × Held (tables .read (now (text .entry))) (lent (points .exit) (curves .exit) (reals .exit) (parts .exit) (ranges .exit)) ⌝ }
 {
-    let Num::Got(n, p) = tables::points(text, 0, points) else {
+    let Num::Got(n, p) = sheet_tables::points(text, 0, points) else {
         return Counted::NoTables;
     };
-    let Num::Got(m, q) = tables::curves(text, p, curves, reals) else {
+    let Num::Got(m, q) = sheet_tables::curves(text, p, curves, reals) else {
         return Counted::NoTables;
     };
-    let Num::Got(k, next) = tables::segments(text, q, parts, ranges) else {
+    let Num::Got(k, next) = sheet_tables::segments(text, q, parts, ranges) else {
         return Counted::NoTables;
     };
     Counted::Counts(n, m, k, next)
@@ -124,7 +124,7 @@ fn try_sheet(
     let Counted::Counts(n, m, k, at) = three(text, points, curves, reals, parts, ranges) else {
         return Sheet::Refused(10);
     };
-    let Last::Pair(edge, options, end) = ends::ends(text, at) else {
+    let Last::Pair(edge, options, end) = sheet_edge::ends(text, at) else {
         return Sheet::Refused(10);
     };
     if end == text.len() {
@@ -152,11 +152,11 @@ fn clear(
 )
     ensures { λ _. ⌜ lent (points .exit) (curves .exit) (reals .exit) (parts .exit) (ranges .exit) ≡ stored none ⌝ }
 {
-    rows::clear_floats(points);
-    rows::clear_wholes(curves);
-    rows::clear_floats(reals);
-    rows::clear_wholes(parts);
-    rows::clear_floats(ranges);
+    sheet_row::clear_floats(points);
+    sheet_row::clear_wholes(curves);
+    sheet_row::clear_floats(reals);
+    sheet_row::clear_wholes(parts);
+    sheet_row::clear_floats(ranges);
 }
 
 // The sheet that the text stands for: its numbers in the tables, zeros behind them. Zeros alone, and cause 10, where it

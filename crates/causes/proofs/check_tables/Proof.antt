@@ -2,7 +2,7 @@
 use mathlib.Core.Path.{sym, _∙_}
 use native.Mathlib.Omega.{arith}
 use borrow.Author.Needs.{needs}
-use Rattle.forms.specs.Forms.{malformedSegment}
+use Rattle.causes_form.specs.Forms.{malformedSegment}
 use Rattle.causes.specs.Causes.{tablesVerdict}
 use Rattle.causes.proofs.Laws.{sizes, third, accepted, refused}
 use Rattle.causes.proofs.check_tables.Statement.{statement}

@@ -12,7 +12,7 @@ use Rattle.curve.proofs.is_closed.Kinds as is-closed-kinds
 use Rattle.curve.proofs.+is_closed.Lts-is_closed as is-closed-lts
 use Rattle.arith.proofs.abs.Reads as abs-reads
 use Rattle.brep.proofs.int_at.Reads as int-at-reads
-use Rattle.curve_run.proofs.closes_at.Reads as closes-at-reads
+use Rattle.curve_parameter.proofs.closes_at.Reads as closes-at-reads
 use Rattle.curve.proofs.natural_range.Reads as natural-range-reads
 use Rattle.curve.proofs.range_at.Reads as range-at-reads
 use Rattle.math.proofs.Interval.span.Reads as span-reads

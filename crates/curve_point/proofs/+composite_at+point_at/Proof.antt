@@ -1,6 +1,6 @@
 -- `curve_point::composite_at` and `curve_point::point_at` meet their contracts. Assumes nothing.
 use Rattle.curve_point.proofs.Turn.{circle-around, ellipse-around, trim-stays}
-use Rattle.curve_run.proofs.Under.{under-same, under-low}
+use Rattle.curve_parameter.proofs.Under.{under-same, under-low}
 use Rattle.curve_point.proofs.Laws.{composite-none, composite-some}
 use Rattle.curve_point.specs.Point.{pointAt, polylinePoint}
 use Rattle.brep.proofs.Laws.{at-row, at-lower, at-high}
@@ -22,12 +22,12 @@ use Rattle.arith.proofs.clamp.Reads as clamp-reads
 use Rattle.brep.proofs.row_at.Reads as row-at-reads
 use Rattle.brep.proofs.segment_at.Reads as segment-at-reads
 use Rattle.curve_point.proofs.around.Reads as around-reads
-use Rattle.curve_run.proofs.index_in.Reads as index-in-reads
-use Rattle.curve_run.proofs.own_parameter.Reads as own-parameter-reads
+use Rattle.curve_parameter.proofs.index_in.Reads as index-in-reads
+use Rattle.curve_parameter.proofs.own_parameter.Reads as own-parameter-reads
 use Rattle.curve_point.proofs.parabola_point.Reads as parabola-point-reads
 use Rattle.curve_point.proofs.polyline_point.Reads as polyline-point-reads
 use Rattle.curve_point.proofs.turn_at.Reads as turn-at-reads
-use Rattle.curve_run.proofs.under_trims.Reads as under-trims-reads
+use Rattle.curve_parameter.proofs.under_trims.Reads as under-trims-reads
 use Rattle.math.proofs.Vec3.add.Reads as add-reads
 use Rattle.math.proofs.Vec3.scale.Reads as scale-reads
 use Rattle.curve_point.proofs.+composite_at+point_at.{statement}

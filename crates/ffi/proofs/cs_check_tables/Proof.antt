@@ -1,6 +1,6 @@
 -- `ffi::cs_check_tables` meets its contract. Assumes nothing.
 use mathlib.Core.Path.{ap, _∙_}
-use Rattle.numbers.specs.Numbers.{causeOf}
+use Rattle.ffi_numbers.specs.Numbers.{causeOf}
 use Rattle.ffi.proofs.Laws.{accepted}
 use borrow.Author.Needs.{needs}
 use Rattle.ffi.proofs.cs_check_tables.Statement.{statement}

@@ -1,7 +1,7 @@
 -- `ffi::cs_step` meets its contract. Assumes nothing.
 use mathlib.Core.Path.{ap, _∙_}
-use Rattle.walker.specs.declared.Stepped.{Stepped}
-use Rattle.numbers.specs.Numbers.{passed, pointAfter}
+use Rattle.edge_walker.specs.declared.Stepped.{Stepped}
+use Rattle.ffi_numbers.specs.Numbers.{passed, pointAfter}
 use borrow.Author.Needs.{needs}
 use Rattle.ffi.proofs.cs_step.Statement.{statement}
 use Rattle.ffi.proofs.cs_step.Tie as tie

@@ -2,7 +2,7 @@
 use mathlib.Core.Path.{sym}
 use native.Mathlib.Omega.{arith}
 use lib.Seq.{length-take-le}
-use Rattle.chains.specs.Draw.{roomOf}
+use Rattle.draw_spec.specs.Draw.{roomOf}
 use borrow.Author.Needs.{needs}
 use Rattle.replay_chain.proofs.put_answer.Statement.{statement}
 use Rattle.replay_chain.proofs.put_answer.Tie as tie

@@ -2,13 +2,13 @@
 use mathlib.Core.List.{List}
 use Prim.Native.Nat.{ℕ}
 use native.Mathlib.Omega.{arith}
-use Rattle.text.specs.Bytes.{bytes}
-use Rattle.text.specs.Format.{_before_}
-use Rattle.text.specs.Table.{fields, line}
-use Rattle.layout.specs.Letters.{fieldOf, shapeOf}
-use Rattle.layout.proofs.Columns.{shape-law}
-use Rattle.layout.proofs.Rows.{row-read}
-use Rattle.ends.proofs.Singles.{options-narrow}
+use Rattle.text_format.specs.Bytes.{bytes}
+use Rattle.text_format.specs.Format.{_before_}
+use Rattle.text_format.specs.Table.{fields, line}
+use Rattle.sheet_layout.specs.Letters.{fieldOf, shapeOf}
+use Rattle.sheet_layout.proofs.Columns.{shape-law}
+use Rattle.sheet_layout.proofs.Rows.{row-read}
+use Rattle.sheet_edge.proofs.Singles.{options-narrow}
 use borrow.Author.Needs.{needs}
 use Rattle.replay_options.proofs.begun.Statement.{statement}
 use Rattle.replay_options.proofs.begun.Tie as tie

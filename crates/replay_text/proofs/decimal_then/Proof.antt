@@ -1,7 +1,7 @@
 -- `replay_text::decimal_then` meets its contract: the width is that of the number. Assumes nothing.
 use native.Mathlib.Omega.{arith}
 use borrow.Author.Needs.{needs}
-use Rattle.text.specs.Format.{decimal}
+use Rattle.text_format.specs.Format.{decimal}
 use Rattle.replay_text.proofs.Places.{puts-then, fits-width}
 use Rattle.replay_text.proofs.decimal_then.Statement.{statement}
 use Rattle.replay_text.proofs.decimal_then.Tie as tie

@@ -3,7 +3,7 @@ use mathlib.Core.Path.{_≡_, refl, sym, ap, _∙_}
 use Prim.Native.Nat.{_-_, _%_, _^_, _≤_, _<_}
 use native.Mathlib.Omega.{arith}
 use borrow.Author.Needs.{needs}
-use Rattle.text.specs.Format.{digits}
+use Rattle.text_format.specs.Format.{digits}
 use Rattle.replay_text.specs.Waiting.{waits, put, puts}
 use Rattle.replay_text.proofs.Places.{First, first}
 use Rattle.replay_text.proofs.digits.Statement.{statement}

@@ -1,7 +1,7 @@
 -- `sheet::read` meets its contract. Assumes nothing.
 use Rattle.sheet.proofs.Parts.{left-no, left-is}
-use Rattle.layout.proofs.Laws.{means}
-use Rattle.layout.specs.Layout.{readSheet}
+use Rattle.sheet_layout.proofs.Laws.{means}
+use Rattle.sheet_layout.specs.Layout.{readSheet}
 use mathlib.Core.Path.{sym, _∙_}
 use borrow.Author.Needs.{needs}
 use Rattle.sheet.proofs.read.Statement.{statement}

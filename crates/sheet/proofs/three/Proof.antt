@@ -2,13 +2,13 @@
 use mathlib.Core.Path.{_≡_, sym, _∙_}
 use native.Mathlib.Omega.{arith}
 use lib.ListN.{length, drop}
-use Rattle.text.specs.Format.{_then_}
-use Rattle.text.specs.Table.{fields, table}
-use Rattle.layout.specs.Layout.{pointColumns, curveColumns, segmentColumns, tables}
-use Rattle.layout.proofs.Laws.{points-law, curves-law, segments-law}
-use Rattle.rows.specs.Rows.{floatsOf, wholesOf}
-use Rattle.text.proofs.Place.{ReadList, read-list, read-no-list, then-bad, then-bad-on, then-read}
-use Rattle.tables.specs.Told.{flat}
+use Rattle.text_format.specs.Format.{_then_}
+use Rattle.text_format.specs.Table.{fields, table}
+use Rattle.sheet_layout.specs.Layout.{pointColumns, curveColumns, segmentColumns, tables}
+use Rattle.sheet_layout.proofs.Laws.{points-law, curves-law, segments-law}
+use Rattle.sheet_row.specs.Rows.{floatsOf, wholesOf}
+use Rattle.text_format.proofs.Place.{ReadList, read-list, read-no-list, then-bad, then-bad-on, then-read}
+use Rattle.sheet_tables.specs.Told.{flat}
 use Rattle.sheet.specs.Sheet.{floatOf}
 use Rattle.sheet.proofs.Parts.{held-part, told-no-tables, told-tables, held-bad, held-got, stored-is}
 use borrow.Author.Needs.{needs}

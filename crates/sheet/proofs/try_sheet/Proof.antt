@@ -3,7 +3,7 @@ use mathlib.Core.Path.{sym, _∙_}
 use Prim.Native.Nat.{_≤_}
 use native.Mathlib.Omega.{arith}
 use lib.ListN.{length}
-use Rattle.layout.specs.Layout.{size, readSheet}
+use Rattle.sheet_layout.specs.Layout.{size, readSheet}
 use Rattle.sheet.proofs.Parts.{TablesRead, read-tables, read-no-tables, held-is, EndsRead, read-ends, read-no-ends, too-long, no-tables, no-ends, is-sheet, not-all, answer-no, answer-is, kept-no, kept-is}
 use borrow.Author.Needs.{needs}
 use Rattle.sheet.proofs.try_sheet.Statement.{statement}

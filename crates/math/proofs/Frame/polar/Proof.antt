@@ -1,5 +1,5 @@
 -- `math::Frame::polar` meets its contract: the one call gives the sine and the cosine. Assumes nothing.
-use Rattle.trig.specs.Trig.{sinCosOf}
+use Rattle.arith_trig.specs.Trig.{sinCosOf}
 use Rattle.math.specs.Math.{polar}
 use borrow.Author.Needs.{needs}
 use Rattle.math.proofs.Frame.polar.Statement.{statement}

@@ -1,0 +1,16 @@
+-- `arith_turn_limit::turn_cut` meets its contract. Assumes nothing.
+use lib.Ieee.{ofBits, ofInt}
+use Rattle.arith_turn_limit.specs.Turning.{turnCut}
+use borrow.Author.Needs.{needs}
+use Rattle.arith_turn_limit.proofs.turn_cut.Statement.{statement}
+use Rattle.arith_turn_limit.proofs.turn_cut.Tie as tie
+use Rattle.arith_turn_limit.proofs.turn_cut.Reads as reads
+use Rattle.arith_turn_limit.proofs.turn_cut.Lts as lts
+use Rattle.arith_root.proofs.root.Reads as root-reads
+
+returns : tie.Need-returns
+unfolding turnCut ofBits ofInt
+returns c = rw (c .cut-if2 .ensures, c .before .cut-if .ensures, c .before .before .root .ensures)
+
+pub turn-cut-spec : {M : Type 1} → statement M
+turn-cut-spec = tie.close (tie.spec (λ c κs. search needs) (λ c κs. search needs) (λ c κs. search needs) returns)

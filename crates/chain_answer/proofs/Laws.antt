@@ -1,0 +1,118 @@
+-- What is printed, by the way through reading and drawing. Assumes nothing but what its statements say.
+use mathlib.Core.Path.{_≡_, refl, sym, ap, subst, _∙_}
+use mathlib.Core.Bool.{cond}
+use mathlib.Core.List.{List, []}
+use Prim.Native.Nat.{ℕ, _+_, _*_, _-_, _≤_}
+use native.Mathlib.Omega.{arith}
+use lib.ListN.{length, replicate, length-append, length-replicate}
+use lib.Seq.{sets}
+use lib.Ieee.{Float, binary64, ofBits}
+use Rattle.base_lists.specs.Result.{Result, refused, got}
+use Rattle.base_lists.specs.Room.{filled}
+use Rattle.sheet_layout.specs.Layout.{RawSheet, readSheet}
+use Rattle.sheet_row.specs.Rows.{edgeOf}
+use Rattle.sheet.specs.Sheet.{leading}
+use Rattle.sheet.proofs.Laws.{SheetRead}
+use Rattle.brep.specs.Rows.{Tables}
+use Rattle.brep.specs.declared.Edge.{Edge}
+use Rattle.options.specs.declared.Options.{Options}
+use Rattle.edge_record.specs.Chain.{width, flat, samples}
+use Rattle.text_listing.specs.Listing.{listing, refusal}
+use Rattle.draw_spec.specs.declared.Way.{Way}
+use Rattle.draw_spec.specs.declared.Drawn.{Drawn}
+use Rattle.draw_spec.specs.declared.Drawn.the-variants.{Refused, Chain}
+use Rattle.draw_spec.specs.Repair.{Got}
+use Rattle.draw_spec.specs.Draw.{roomOf, drawn, answerOf, inFirst, firstAfter, secondAfter, chainIn, Outcome}
+use Rattle.draw_spec.proofs.Sound.{drawn-fits}
+use Rattle.draw_spec.proofs.Held.{held}
+use Rattle.draw_spec.specs.Draw.{floatsOf}
+use Rattle.chain_answer.specs.Printed.{lastBits, shown, printedDrawn, drawnOf, printedRead, firstLeft, secondLeft, Answered}
+
+-- bytes at the start of a buffer, and how many they are
+abbrev pub Put : ℕ → List ℕ → List ℕ → List ℕ → Type 0
+Put n out out' l = (n ≡ length l) × (out' ≡ sets out 0 l)
+
+-- ---- the listing of an answer
+module _ (lo hi : ℕ) (d : Drawn) (first second : List Float) (r : ℕ) (out out' : List ℕ) where
+  pub show-refusal : (n : ℕ) → d ≡ Refused n → Put r out out' (refusal n) → Put r out out' (shown lo hi d (chainIn first second d))
+  unfolding shown
+  show-refusal n e h = subst (λ (x : Drawn). Put r out out' (shown lo hi x (chainIn first second x))) (sym e) h
+
+  pub show-chain : (way : Way) (n : ℕ) → d ≡ Chain way n → Put r out out' (listing lo (lastBits way lo hi) (samples n (cond (inFirst way) first second)))
+      → Put r out out' (shown lo hi d (chainIn first second d))
+  unfolding shown chainIn
+  show-chain way n e h = subst (λ (x : Drawn). Put r out out' (shown lo hi x (chainIn first second x))) (sym e) h
+
+-- ---- the room that a chain needs
+filled-long : (n : ℕ) (l : List Float) → n ≤ length (filled n l)
+filled-long n l =
+    let a = length-append l (replicate (n - length l) (ofBits binary64 0)) in
+    let b = length-replicate (n - length l) (ofBits binary64 0) in
+    omega arith
+
+module _ (t : Tables) (e : Edge) (o : Options) (first second : List Float) (d : Drawn) (f s : List Float) (h : Outcome t e o first second d f s) where
+  abbrev made : Result Got
+  made = drawn t e o (length first) (length second)
+
+  pub floats-few : floatsOf d ≤ width * roomOf (length first) (length second)
+  unfolding answerOf
+  floats-few = go made refl
+    where
+      go : (g : Result Got) → made ≡ g → floatsOf d ≤ width * roomOf (length first) (length second)
+      go (refused n) q = let z = ap floatsOf (h .answered ∙ ap answerOf q) in omega arith
+      go (got g) q = let z = ap floatsOf (h .answered ∙ ap answerOf q) in let k = drawn-fits t e o (length first) (length second) g q in omega arith
+
+  -- both buffers are as long as before, so they hold the chain
+  buffers-hold : (floatsOf d ≤ length f) × (floatsOf d ≤ length s)
+  unfolding answerOf roomOf firstAfter secondAfter
+  buffers-hold = go made refl
+    where
+      go : (g : Result Got) → made ≡ g → (floatsOf d ≤ length f) × (floatsOf d ≤ length s)
+      go (refused n) q = let z = ap floatsOf (h .answered ∙ ap answerOf q) in (omega arith, omega arith)
+      go (got g) q =
+          let k = floats-few in
+          let x = ap length (h .firstHolds ∙ ap (firstAfter first) q) in
+          let y = ap length (h .secondHolds ∙ ap (secondAfter second) q) in
+          let v = filled-long (length first) (cond (inFirst (g .way)) (flat (g .chain)) []) in
+          let w = filled-long (length second) (cond (inFirst (g .way)) [] (flat (g .chain))) in
+          (omega arith, omega arith)
+
+  pub held-in-room : (bytes : ℕ) → 19 + 68 * roomOf (length first) (length second) ≤ bytes
+      → (floatsOf d ≤ length f) × (floatsOf d ≤ length s) × (19 + 17 * floatsOf d ≤ bytes)
+  held-in-room bytes fits = let k = floats-few in (buffers-hold .0, buffers-hold .1, omega arith)
+
+  -- what is shown of the answer and the buffers is what is printed for the drawing
+  pub shown-is : (lo hi : ℕ) → shown lo hi d (chainIn f s d) ≡ printedDrawn lo hi made
+  unfolding shown printedDrawn answerOf
+  shown-is lo hi = go made refl
+    where
+      go : (g : Result Got) → made ≡ g → shown lo hi d (chainIn f s d) ≡ printedDrawn lo hi g
+      go (refused n) q = ap (λ (x : Drawn). shown lo hi x (chainIn f s x)) (h .answered ∙ ap answerOf q)
+      go (got g) q =
+          rw (h .answered, h .firstHolds, h .secondHolds, q) (ap (listing lo (lastBits (g .way) lo hi)) (held first second g))
+
+-- ---- the whole answer
+module _ (text : List ℕ) (first second : List Float) (out : List ℕ) (r : ℕ) (out' : List ℕ) where
+  -- no sheet was read
+  pub no-sheet : (cause : ℕ) → readSheet text ≡ refused cause → Put r out out' (refusal cause) → Answered text first second out r first second out'
+  unfolding printedRead firstLeft secondLeft
+  no-sheet cause q h = record { count = rw q (h .0); bytes = rw q (h .1); firstHolds = rw q; secondHolds = rw q }
+
+  -- a sheet was read, and its edge was drawn
+  module _ (n m k : ℕ) (e : Edge) (o : Options) (lo hi : ℕ) (t : Tables) (read : SheetRead text n m k e o lo hi t) (d : Drawn) (f s : List Float)
+      (h : Outcome (leading n m k t) e o first second d f s) where
+    made-is : drawn (leading n m k t) e o (length first) (length second) ≡ drawnOf (read .raw) (length first) (length second)
+    made-is = rw (read .tables-are, read .edge-is, read .options-is)
+
+    bytes-are : shown lo hi d (chainIn f s d) ≡ printedRead (length first) (length second) (readSheet text)
+    unfolding printedRead
+    bytes-are = rw (read .is) (shown-is (leading n m k t) e o first second d f s h lo hi ∙ rw (read .lo-is, read .hi-is, made-is))
+
+    pub sheet-drawn : Put r out out' (shown lo hi d (chainIn f s d)) → Answered text first second out r f s out'
+    unfolding firstLeft secondLeft
+    sheet-drawn p = record {
+      count = p .0 ∙ ap length bytes-are;
+      bytes = p .1 ∙ ap (sets out 0) bytes-are;
+      firstHolds = rw (read .is) (h .firstHolds ∙ ap (firstAfter first) made-is);
+      secondHolds = rw (read .is) (h .secondHolds ∙ ap (secondAfter second) made-is);
+    }

@@ -1,0 +1,68 @@
+-- What is printed for a sheet, byte by byte, and what both chain buffers hold afterwards. Definitions only.
+use mathlib.Core.Path.{_≡_}
+use mathlib.Core.List.{List}
+use Prim.Native.Nat.{ℕ}
+use lib.ListN.{length}
+use lib.Seq.{sets}
+use lib.Ieee.{Float}
+use Rattle.base_lists.specs.Result.{Result, refused, got}
+use Rattle.sheet_layout.specs.Layout.{RawSheet, readSheet}
+use Rattle.sheet_row.specs.Rows.{edgeOf, optionsOf}
+use Rattle.sheet.specs.Sheet.{edgeFrom, optionsFrom, tablesOf}
+use Rattle.edge_record.specs.declared.Sample.{Sample}
+use Rattle.text_listing.specs.Listing.{listing, refusal}
+use Rattle.draw_spec.specs.declared.Way.{Way}
+use Rattle.draw_spec.specs.declared.Way.the-variants.{AsDrawn, Chord, Complement, ShortArc, Runaway}
+use Rattle.draw_spec.specs.declared.Drawn.{Drawn}
+use Rattle.draw_spec.specs.declared.Drawn.the-variants.{Refused, Chain}
+use Rattle.draw_spec.specs.Repair.{Got}
+use Rattle.draw_spec.specs.Draw.{drawn, firstAfter, secondAfter}
+
+-- ---- what is printed
+-- the bits of a chain's last parameter if it is NaN: a copy of hi; the runaway chord has lo twice
+abbrev pub lastBits : Way → ℕ → ℕ → ℕ
+lastBits AsDrawn lo hi = hi
+lastBits Chord lo hi = hi
+lastBits Complement lo hi = hi
+lastBits ShortArc lo hi = hi
+lastBits Runaway lo hi = lo
+
+-- for an answer and its chain, where the edge's range has the bits lo and hi
+unfoldable pub shown : ℕ → ℕ → Drawn → List Sample → List ℕ
+shown lo hi (Refused n) chain = refusal n
+shown lo hi (Chain way n) chain = listing lo (lastBits way lo hi) chain
+
+-- for what drawing gives
+unfoldable pub printedDrawn : ℕ → ℕ → Result Got → List ℕ
+printedDrawn lo hi (refused n) = refusal n
+printedDrawn lo hi (got g) = listing lo (lastBits (g .way) lo hi) (g .chain)
+
+-- what drawing the edge of a sheet gives, in buffers of so many floats
+abbrev pub drawnOf : RawSheet → ℕ → ℕ → Result Got
+drawnOf raw first second = drawn (tablesOf raw) (edgeFrom (edgeOf (raw .edge))) (optionsFrom (optionsOf (raw .options))) first second
+
+-- for what reading gives
+unfoldable pub printedRead : ℕ → ℕ → Result RawSheet → List ℕ
+printedRead first second (refused cause) = refusal cause
+printedRead first second (got raw) =
+    printedDrawn (edgeOf (raw .edge) .lo) (edgeOf (raw .edge) .hi) (drawnOf raw first second)
+
+-- THE BYTES for a text: the chain of the sheet that it stands for, or the refusal
+abbrev pub printed : List ℕ → ℕ → ℕ → List ℕ
+printed text first second = printedRead first second (readSheet text)
+
+-- ---- the chain buffers afterwards: as before where there is no sheet
+unfoldable pub firstLeft : List Float → ℕ → Result RawSheet → List Float
+firstLeft first second (refused cause) = first
+firstLeft first second (got raw) = firstAfter first (drawnOf raw (length first) second)
+
+unfoldable pub secondLeft : ℕ → List Float → Result RawSheet → List Float
+secondLeft first second (refused cause) = second
+secondLeft first second (got raw) = secondAfter second (drawnOf raw first (length second))
+
+-- ---- the whole answer: how many bytes, those bytes at the start of `out`, and both buffers
+pub record Answered (text : List ℕ) (first second : List Float) (out : List ℕ) (n : ℕ) (first' second' : List Float) (out' : List ℕ) : Type 0 where
+  pub count : n ≡ length (printed text (length first) (length second))
+  pub bytes : out' ≡ sets out 0 (printed text (length first) (length second))
+  pub firstHolds : first' ≡ firstLeft first (length second) (readSheet text)
+  pub secondHolds : second' ≡ secondLeft (length first) second (readSheet text)

@@ -1,0 +1,47 @@
+use Rattle.math.specs.Math.{vAdd}
+use Rattle.curve_prepared.proofs.Laws.{point-by}
+use Rattle.curve_prepared.specs.Ready.{readyPoint}
+use mathlib.Core.Path.{_≡_, refl, sym, ap, _∙_}
+use borrow.Author.Needs.{needs}
+use Rattle.curve_prepared.proofs.point_of.Statement.{statement}
+use Rattle.curve_prepared.proofs.point_of.Tie as tie
+use Rattle.curve_prepared.proofs.point_of.Reads as reads
+use Rattle.curve_prepared.proofs.point_of.Lts as lts
+use Rattle.math.proofs.Vec3.add.Reads as add-reads
+use Rattle.math.proofs.Vec3.scale.Reads as scale-reads
+use Rattle.curve_prepared.proofs.parabola_point.Reads as parabola-point-reads
+use Rattle.curve_prepared.proofs.round_point.Reads as round-point-reads
+
+returns : tie.Need-returns
+unfolding readyPoint
+returns c = point-by _ _ (c .before .before .before .ready .given .1) (c .add .ensures ∙ ap (vAdd _) (c .before .scale .ensures))
+
+returns-2 : tie.Need-returns-2
+unfolding readyPoint
+returns-2 c = point-by _ _ (c .before .before .ready2 .given .1) (c .round-point .ensures)
+
+returns-3 : tie.Need-returns-3
+unfolding readyPoint
+returns-3 c = point-by _ _ (c .before .before .ready3 .given .1) (c .parabola-point .ensures)
+
+returns-4 : tie.Need-returns-4
+unfolding readyPoint
+returns-4 c = point-by _ _ (c .before .enum-told .given .1) (c .other-point .ensures)
+
+pub point-of-spec : {M : Type 1} → statement M
+point-of-spec =
+    tie.close
+    (tie.spec
+    (λ c. search needs)
+    (λ c κs. search needs)
+    (λ c κs. search needs)
+    (λ c. search needs)
+    (λ c κs. search needs)
+    (λ c. search needs)
+    (λ c κs. search needs)
+    (λ c. search needs)
+    (λ c κs. search needs)
+    returns
+    returns-2
+    returns-3
+    returns-4)

@@ -1,0 +1,61 @@
+-- A curve made ready for many points, and its points and derivatives. For the code's own use: the laws beside it say that they are
+-- those of eval/curve.rs. Definitions only.
+use lib.Ieee.{Float, neg}
+use Rattle.arith.specs.Notation.{_⊗_, two}
+use Rattle.arith_trig.specs.Trig.{sinOf, cosOf}
+use Rattle.math.specs.declared.Vec3.{Vec3}
+use Rattle.math.specs.declared.Frame.{Frame}
+use Rattle.math.specs.Math.{vAdd, vScale, yDir}
+use Rattle.brep.specs.Tree.{CurveTree, line, circle, ellipse, parabola, polyline, trimmed, composite}
+use Rattle.curve_point.specs.Point.{pointAt}
+use Rattle.curve_tangent.specs.Derivative.{derivativeAt}
+use Rattle.curve_prepared.specs.declared.Ready.{Ready}
+use Rattle.curve_prepared.specs.declared.Ready.the-variants.{Line, Round, Parabola, Other}
+
+-- an ellipse, or a circle as one of equal axes, with its frame's second axis worked out
+abbrev pub roundOf : Frame → Float → Float → Ready
+roundOf f major minor = Round (f .origin) (f .«ref_dir») (yDir f) major minor
+
+-- a parabola, likewise
+abbrev pub parabolaOf : Frame → Float → Ready
+parabolaOf f focal = Parabola (f .origin) (f .«ref_dir») (yDir f) focal
+
+-- trims taken off; a polyline or a composite stays to be looked up
+unfoldable pub readyOf : CurveTree → Ready
+readyOf (line origin direction) = Line origin direction
+readyOf (circle f r) = roundOf f r r
+readyOf (ellipse f major minor) = roundOf f major minor
+readyOf (parabola f focal) = parabolaOf f focal
+readyOf (polyline points) = Other
+readyOf (trimmed base range) = readyOf base
+readyOf (composite segments) = Other
+
+-- O + x (a cos t) + y (b sin t)
+unfoldable pub roundPoint : Vec3 → Vec3 → Vec3 → Float → Float → Float → Vec3
+roundPoint origin x y major minor t = vAdd (vAdd origin (vScale x (major ⊗ cosOf t))) (vScale y (minor ⊗ sinOf t))
+
+-- O + x (F t t) + y (2 F t)
+unfoldable pub parabolaPoint : Vec3 → Vec3 → Vec3 → Float → Float → Vec3
+parabolaPoint origin x y focal t = vAdd (vAdd origin (vScale x (focal ⊗ t ⊗ t))) (vScale y (two ⊗ focal ⊗ t))
+
+-- the point at t of a curve that was made ready
+unfoldable pub readyPoint : Ready → CurveTree → Float → Vec3
+readyPoint (Line origin direction) c t = vAdd origin (vScale direction t)
+readyPoint (Round origin x y major minor) c t = roundPoint origin x y major minor t
+readyPoint (Parabola origin x y focal) c t = parabolaPoint origin x y focal t
+readyPoint Other c t = pointAt c t
+
+-- x (-a sin t) + y (b cos t)
+unfoldable pub roundDerivative : Vec3 → Vec3 → Float → Float → Float → Vec3
+roundDerivative x y major minor t = vAdd (vScale x (neg major ⊗ sinOf t)) (vScale y (minor ⊗ cosOf t))
+
+-- x (2 F t) + y (2 F)
+unfoldable pub parabolaSlope : Vec3 → Vec3 → Float → Float → Vec3
+parabolaSlope x y focal t = vAdd (vScale x (two ⊗ focal ⊗ t)) (vScale y (two ⊗ focal))
+
+-- the derivative at t of a curve that was made ready
+unfoldable pub readyDerivative : Ready → CurveTree → Float → Vec3
+readyDerivative (Line origin direction) c t = direction
+readyDerivative (Round origin x y major minor) c t = roundDerivative x y major minor t
+readyDerivative (Parabola origin x y focal) c t = parabolaSlope x y focal t
+readyDerivative Other c t = derivativeAt c t

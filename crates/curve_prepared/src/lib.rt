@@ -1,0 +1,229 @@
+// A curve made ready for many points: its trims taken off, its row read and the second axis of its frame worked out once.
+use math::Frame;
+use math::Vec3;
+ghost use mathlib.Core.Path.{_≡_};
+ghost use Prim.Native.Nat.{_+_};
+ghost use Rattle.brep.specs.Rows.{lent, pointOf};
+ghost use Rattle.brep.specs.Tree.{tree};
+ghost use Rattle.curve_point.specs.Point.{pointAt};
+ghost use Rattle.curve_prepared.specs.declared.Ready.the-variants.{Line};
+ghost use Rattle.curve_prepared.specs.Ready.{roundOf, parabolaOf, readyOf, roundPoint, parabolaPoint, readyPoint};
+ghost use Rattle.curve_prepared.specs.Ready.{roundDerivative, parabolaSlope, readyDerivative};
+
+// Axes are as they are: nothing is normalised. A circle is round with equal axes.
+pub enum Ready {
+    Line {
+        origin: Vec3,
+        direction: Vec3,
+    },
+    Round {
+        origin: Vec3,
+        x: Vec3,
+        y: Vec3,
+        major: f64,
+        minor: f64,
+    },
+    Parabola {
+        origin: Vec3,
+        x: Vec3,
+        y: Vec3,
+        focal_dist: f64,
+    },
+    // A polyline or a composite, whose row is looked up at each point.
+    Other,
+}
+
+fn round_of(frame: Frame, major: f64, minor: f64) -> Ready
+    ensures { λ r. ⌜ r ≡ roundOf frame major minor ⌝ }
+{
+    let origin = frame.origin;
+    let x = frame.ref_dir;
+    let y = frame.y_dir();
+    Ready::Round {
+        origin,
+        x,
+        y,
+        major,
+        minor,
+    }
+}
+
+fn parabola_of(frame: Frame, focal_dist: f64) -> Ready
+    ensures { λ r. ⌜ r ≡ parabolaOf frame «focal_dist» ⌝ }
+{
+    let origin = frame.origin;
+    let x = frame.ref_dir;
+    let y = frame.y_dir();
+    Ready::Parabola {
+        origin,
+        x,
+        y,
+        focal_dist,
+    }
+}
+
+fn line_of(points: &[f64], first: u32) -> Ready
+    ensures { λ r. ⌜ r ≡ Line (pointOf (now (points .entry)) first) (pointOf (now (points .entry)) (first + 1)) ⌝ }
+{
+    let origin = brep::point(points, first);
+    let direction = brep::point_in(points, first, 1);
+    Ready::Line { origin, direction }
+}
+
+// The curve of a row, by the number of its kind under its trims: an arm for each kind, as in `curve`.
+pub fn ready_at(
+    points: &[f64],
+    curves: &[u32],
+    reals: &[f64],
+    parts: &[u32],
+    ranges: &[f64],
+    row: u32,
+) -> Ready
+    ensures { λ r. ⌜ r ≡ readyOf (tree (lent (points .entry) (curves .entry) (reals .entry) (parts .entry) (ranges .entry)) row) ⌝ }
+{
+    let r = curve_parameter::under_trims(curves, row);
+    let at = r as usize * 3;
+    let kind = brep::int_at(curves, at);
+    let first = brep::int_at(curves, at + 1);
+    match kind {
+        1 => line_of(points, first),
+        2 => {
+            let p = brep::float_at(reals, r as usize * 2);
+            round_of(brep::frame_at(points, first), p, p)
+        }
+        3 => {
+            let p = brep::float_at(reals, r as usize * 2);
+            let q = brep::float_at(reals, r as usize * 2 + 1);
+            round_of(brep::frame_at(points, first), p, q)
+        }
+        4 => {
+            let p = brep::float_at(reals, r as usize * 2);
+            parabola_of(brep::frame_at(points, first), p)
+        }
+        5 => Ready::Other,
+        7 => Ready::Other,
+        _ => Ready::Other,
+    }
+}
+
+fn round_point(origin: Vec3, x: Vec3, y: Vec3, major: f64, minor: f64, t: f64) -> Vec3
+    ensures { λ r. ⌜ r ≡ roundPoint origin x y major minor t ⌝ }
+{
+    let sc = arith_trig::sin_cos(t);
+    origin
+        .add(x.scale(major * sc.cos))
+        .add(y.scale(minor * sc.sin))
+}
+
+fn parabola_point(origin: Vec3, x: Vec3, y: Vec3, focal_dist: f64, t: f64) -> Vec3
+    ensures { λ r. ⌜ r ≡ parabolaPoint origin x y «focal_dist» t ⌝ }
+{
+    origin
+        .add(x.scale(focal_dist * t * t))
+        .add(y.scale(2.0 * focal_dist * t))
+}
+
+// The point at t of a polyline or a composite. A polyline's row is read as far as it is needed.
+fn other_point(
+    points: &[f64],
+    curves: &[u32],
+    reals: &[f64],
+    parts: &[u32],
+    ranges: &[f64],
+    row: u32,
+    t: f64,
+) -> Vec3
+    ensures { λ r. ⌜ r ≡ pointAt (tree (lent (points .entry) (curves .entry) (reals .entry) (parts .entry) (ranges .entry)) row) t ⌝ }
+{
+    let r = curve_parameter::under_trims(curves, row);
+    let at = r as usize * 3;
+    let kind = brep::int_at(curves, at);
+    match kind {
+        5 => {
+            let first = brep::int_at(curves, at + 1);
+            let count = brep::int_at(curves, at + 2);
+            curve_point::polyline_point(points, first, count, t)
+        }
+        _ => curve_point::point_at(points, curves, reals, parts, ranges, row, t),
+    }
+}
+
+// The point at t of the curve of a row, made ready.
+pub fn point_of(
+    ready: Ready,
+    points: &[f64],
+    curves: &[u32],
+    reals: &[f64],
+    parts: &[u32],
+    ranges: &[f64],
+    row: u32,
+    t: f64,
+) -> Vec3
+    ensures { λ r. ⌜ r ≡ readyPoint ready (tree (lent (points .entry) (curves .entry) (reals .entry) (parts .entry) (ranges .entry)) row) t ⌝ }
+{
+    match ready {
+        Ready::Line { origin, direction } => origin.add(direction.scale(t)),
+        Ready::Round {
+            origin,
+            x,
+            y,
+            major,
+            minor,
+        } => round_point(origin, x, y, major, minor, t),
+        Ready::Parabola {
+            origin,
+            x,
+            y,
+            focal_dist,
+        } => parabola_point(origin, x, y, focal_dist, t),
+        Ready::Other => other_point(points, curves, reals, parts, ranges, row, t),
+    }
+}
+
+fn round_derivative(x: Vec3, y: Vec3, major: f64, minor: f64, t: f64) -> Vec3
+    ensures { λ r. ⌜ r ≡ roundDerivative x y major minor t ⌝ }
+{
+    let sc = arith_trig::sin_cos(t);
+    x.scale(-major * sc.sin).add(y.scale(minor * sc.cos))
+}
+
+fn parabola_slope(x: Vec3, y: Vec3, focal_dist: f64, t: f64) -> Vec3
+    ensures { λ r. ⌜ r ≡ parabolaSlope x y «focal_dist» t ⌝ }
+{
+    x.scale(2.0 * focal_dist * t).add(y.scale(2.0 * focal_dist))
+}
+
+// The derivative at t of the curve of a row, made ready.
+pub fn derivative_of(
+    ready: Ready,
+    points: &[f64],
+    curves: &[u32],
+    reals: &[f64],
+    parts: &[u32],
+    ranges: &[f64],
+    row: u32,
+    t: f64,
+) -> Vec3
+    ensures { λ r. ⌜ r ≡ readyDerivative ready (tree (lent (points .entry) (curves .entry) (reals .entry) (parts .entry) (ranges .entry)) row) t ⌝ }
+{
+    match ready {
+        Ready::Line {
+            origin: _,
+            direction,
+        } => direction,
+        Ready::Round {
+            origin: _,
+            x,
+            y,
+            major,
+            minor,
+        } => round_derivative(x, y, major, minor, t),
+        Ready::Parabola {
+            origin: _,
+            x,
+            y,
+            focal_dist,
+        } => parabola_slope(x, y, focal_dist, t),
+        Ready::Other => curve_tangent::derivative_at(points, curves, reals, parts, ranges, row, t),
+    }
+}

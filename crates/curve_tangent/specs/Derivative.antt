@@ -1,0 +1,57 @@
+-- eval/curve.rs: derivative and tangent, by recursion on the curve, as the Rust's `match`. Definitions only.
+use mathlib.Core.Bool.{Bool, true, false, cond}
+use mathlib.Core.List.{List}
+use Prim.Native.Nat.{ℕ, zero, suc, _+_, _-_}
+use lib.ListN.{length, getD}
+use lib.Dec.{ltb}
+use lib.Ieee.{Float, neg}
+use Rattle.arith.specs.Notation.{_⊗_, one, two}
+use Rattle.arith_trig.specs.Trig.{sinOf, cosOf}
+use Rattle.math.specs.declared.Vec3.{Vec3}
+use Rattle.math.specs.declared.Frame.{Frame}
+use Rattle.math.specs.declared.Direction.{Direction}
+use Rattle.math.specs.declared.Interval.{Interval}
+use Rattle.math.specs.Math.{vZero, vAdd, vSub, vScale, yDir, tryNormalized, spanOf}
+use Rattle.brep.specs.Tree.{CurveTree, line, circle, ellipse, parabola, polyline, trimmed, composite, Segments, none, segment}
+use Rattle.curve_parameter.specs.Run.{countOf, indexIn, polylineParameter, segmentIndex, segmentLocal, ownParameter}
+
+-- polyline_derivative: the segment's own vector
+unfoldable pub polylineDerivative : List Vec3 → Float → Vec3
+polylineDerivative ps t =
+    let i = indexIn (length ps - 2) (polylineParameter ps t) in
+    cond (ltb (length ps) 2) vZero (vSub (getD ps (i + 1) vZero) (getD ps i vZero))
+
+-- what a segment's derivative is scaled by: its span, or that the other way round
+unfoldable pub signedSpan : Interval → Bool → Float
+signedSpan range true = one ⊗ spanOf range
+signedSpan range false = neg one ⊗ spanOf range
+
+-- an ellipse's derivative: x (-a sin t) + y (b cos t); a circle's is that of equal axes
+unfoldable pub ellipseDerivative : Frame → Float → Float → Float → Vec3
+ellipseDerivative f a b t = vAdd (vScale (f .«ref_dir») (neg a ⊗ sinOf t)) (vScale (yDir f) (b ⊗ cosOf t))
+
+-- a parabola's derivative: x (2 F t) + y (2 F)
+unfoldable pub parabolaDerivative : Frame → Float → Float → Vec3
+parabolaDerivative f d t = vAdd (vScale (f .«ref_dir») (two ⊗ d ⊗ t)) (vScale (yDir f) (two ⊗ d))
+
+-- Curve::derivative_at
+unfoldable mutual
+  pub derivativeAt : CurveTree → Float → Vec3
+  derivativeAt (line o d) t = d
+  derivativeAt (circle f r) t = ellipseDerivative f r r t
+  derivativeAt (ellipse f a b) t = ellipseDerivative f a b t
+  derivativeAt (parabola f d) t = parabolaDerivative f d t
+  derivativeAt (polyline ps) t = polylineDerivative ps t
+  derivativeAt (trimmed base range) t = derivativeAt base t
+  derivativeAt (composite ss) t = segmentDerivative ss (segmentIndex (countOf ss) t) (segmentLocal (countOf ss) t)
+
+  -- the derivative of composite_at: a reversed segment's flips
+  pub segmentDerivative : Segments → ℕ → Float → Vec3
+  segmentDerivative none i local = vZero
+  segmentDerivative (segment curve range same rest) zero local =
+      vScale (derivativeAt curve (ownParameter range same local)) (signedSpan range same)
+  segmentDerivative (segment curve range same rest) (suc i) local = segmentDerivative rest i local
+
+-- Curve::tangent_at
+abbrev pub tangentAt : CurveTree → Float → Direction
+tangentAt c t = tryNormalized (derivativeAt c t)

@@ -1,0 +1,184 @@
+-- The examples of the scope that are proved, as one list under one claim. Definitions only.
+use mathlib.Core.Path.{_≡_}
+use mathlib.Core.List.{List, [], _∷_, map}
+use Prim.Native.Nat.{ℕ, _+_}
+use lib.Ieee.{Float}
+use Rattle.base_lists.specs.Result.{Result, refused, got, each}
+use Rattle.arith.specs.Notation.{bits, nought, half, one, two}
+use Rattle.math.specs.declared.Vec3.{Vec3}
+use Rattle.math.specs.declared.Interval.{Interval}
+use Rattle.math.specs.Math.{vec, interval}
+use Rattle.brep.specs.declared.Edge.{Edge}
+use Rattle.brep.specs.Rows.{Tables, tables}
+use Rattle.brep.specs.Tree.{tree}
+use Rattle.curve.specs.Eval.{pointAt}
+use Rattle.options.specs.declared.Options.{Options}
+use Rattle.options.specs.Options.{radians, resolve, forExtent}
+use Rattle.edge_record.specs.declared.Sample.{Sample}
+use Rattle.edge_merge.specs.Merge.{mergeFloor}
+use Rattle.edge_range.specs.declared.Usable.the-variants.{Range}
+use Rattle.edge_range.specs.Usable.{usableRange}
+use Rattle.draw_spec.specs.declared.Way.{Way}
+use Rattle.draw_spec.specs.declared.Way.the-variants.{AsDrawn, Chord, Runaway}
+use Rattle.draw_spec.specs.Repair.{Got}
+use Rattle.draw_spec.specs.Draw.{drawn}
+
+-- what an example says
+pub data Example : Type 0 where
+  -- the sag of resolved options for an extent
+  sag : Options → Float → Float → Example
+  -- the merge floor of a tolerance and a sag
+  floor : Float → Float → Float → Example
+  -- the usable range of row 0 for an edge's range
+  usable : Tables → Interval → Interval → Example
+  -- row 0's point at a parameter
+  point : Tables → Float → Vec3 → Example
+  -- the way in which an edge's chain is got, and its parameters, in two buffers of 2,048 points
+  draws : Tables → Edge → Options → Way → List Float → Example
+  -- the number of a refusal, in the same
+  refuses : Tables → Edge → Options → ℕ → Example
+
+-- how a chain was got, and its parameters
+pub record Outline : Type 0 where
+  pub way : Way
+  pub params : List Float
+
+abbrev pub outlineOf : Got → Outline
+outlineOf g = record { way = g .way; params = map (λ (s : Sample). s .param) (g .chain) }
+
+-- an example holds of the definitions
+unfoldable pub Holds : Example → Type 0
+Holds (sag o extent s) = forExtent (resolve o) extent .sag ≡ s
+Holds (floor tolerance s f) = mergeFloor tolerance s ≡ f
+Holds (usable T range used) = usableRange (tree T 0) range ≡ Range used
+Holds (point T t p) = pointAt (tree T 0) t ≡ p
+Holds (draws T e o way params) = each outlineOf (drawn T e o 8192 8192) ≡ got (record { way = way; params = params })
+Holds (refuses T e o n) = each outlineOf (drawn T e o 8192 8192) ≡ refused n
+
+-- ---- numbers
+abbrev three : Float
+three = bits 0x4008000000000000
+
+abbrev five : Float
+five = bits 0x4014000000000000
+
+abbrev ten : Float
+ten = bits 0x4024000000000000
+
+abbrev hundred : Float
+hundred = bits 0x4059000000000000
+
+-- 6e8 plus so many times 2^-23
+abbrev far : ℕ → Float
+far n = bits (0x41C1E1A300000000 + n)
+
+-- ---- tables, edges and options
+-- one row of this kind with its points from the first on, and p
+abbrev oneRow : List Float → ℕ → ℕ → Float → Tables
+oneRow points kind count p = tables points (kind ∷ 0 ∷ count ∷ []) (p ∷ nought ∷ []) [] []
+
+-- an edge of row 0 with sense 1
+abbrev edgeOf : ℕ → ℕ → Float → Float → Float → ℕ → ℕ → Edge
+edgeOf start end lo hi tolerance low high = record {
+  curve = 0;
+  start = start;
+  end = end;
+  sense = 1;
+  range = interval lo hi;
+  tolerance = tolerance;
+  low = low;
+  high = high;
+}
+
+-- a sag that is not relative
+abbrev absolute : Float → Float → ℕ → ℕ → Options
+absolute deflection angle segments depth = record {
+  deflection = deflection;
+  angle = radians angle;
+  relative = 0;
+  segments = segments;
+  depth = depth;
+  scale = nought;
+}
+
+-- 2^-10 of 1024
+abbrev ofScale : Options
+ofScale = record {
+  deflection = bits 0x3F50000000000000;
+  angle = radians one;
+  relative = 1;
+  segments = 1;
+  depth = 12;
+  scale = bits 0x4090000000000000;
+}
+
+-- the line from 0 with direction (2,0,0), its points x = 0 and x = 10 being 0 and 2
+abbrev line : Tables
+line = oneRow (nought ∷ nought ∷ nought ∷ two ∷ nought ∷ nought ∷ ten ∷ nought ∷ nought ∷ []) 1 2 nought
+
+-- the edge between those points, with this range
+abbrev along : Float → Float → Edge
+along lo hi = edgeOf 0 2 lo hi nought 0 2
+
+-- a parabola with focal distance 1
+abbrev parabola : Tables
+parabola = oneRow (nought ∷ nought ∷ nought ∷ nought ∷ nought ∷ one ∷ one ∷ nought ∷ nought ∷ []) 4 3 one
+
+-- x = 1e9, then 0.1
+abbrev uneven : Tables
+uneven = oneRow (bits 0x41CDCD6500000000 ∷ nought ∷ nought ∷ bits 0x3FB999999999999A ∷ nought ∷ nought ∷ []) 5 2 nought
+
+-- (0,0,0), (1,0,0), (1,1,0), and the edge over it with tolerance 0.25
+abbrev corner : Tables
+corner = oneRow (nought ∷ nought ∷ nought ∷ one ∷ nought ∷ nought ∷ one ∷ one ∷ nought ∷ []) 5 3 nought
+
+abbrev round : Edge
+round = edgeOf 0 2 nought two (bits 0x3FD0000000000000) 0 2
+
+-- a line with direction (1,0,0), the point x = 100, and a box from 0 to 1 on each axis
+abbrev pub boxed : Tables
+boxed =
+    oneRow
+    (nought ∷ nought ∷ nought ∷ one ∷ nought ∷ nought ∷ hundred ∷ nought ∷ nought ∷ nought ∷ nought ∷ nought ∷ one ∷ one ∷ one ∷ [])
+    1
+    2
+    nought
+
+-- the edge from 0 to 100 along it
+abbrev pub escaping : Edge
+escaping = edgeOf 0 2 nought hundred nought 3 4
+
+-- an absolute sag of 0.01
+abbrev pub close : Options
+close = absolute (bits 0x3F847AE147AE147B) one 1 12
+
+-- a corner so small and so far out that no distance in it is above zero
+abbrev flat : Tables
+flat =
+    oneRow (far 0 ∷ far 0 ∷ nought ∷ far 1 ∷ far 0 ∷ nought ∷ far 10 ∷ far 3 ∷ nought ∷ []) 5 3 nought
+
+-- 0.14
+abbrev narrow : Float
+narrow = bits 0x3FC1EB851EB851EC
+
+-- ---- the list, in the scope's order
+abbrev pub examples : List Example
+examples =
+    sag ofScale (bits 0x4090000000000000) one
+    ∷ sag ofScale (bits 0x4060000000000000) half
+    ∷ sag ofScale (bits 0x4030000000000000) (bits 0x3FC0000000000000)
+    ∷ draws line (along nought five) (absolute one one 1 12) AsDrawn (nought ∷ five ∷ [])
+    ∷ draws line (along nought five) (absolute one one 4 12) AsDrawn
+    (nought ∷ bits 0x3FF4000000000000 ∷ bits 0x4004000000000000 ∷ bits 0x400E000000000000 ∷ five ∷ [])
+    ∷ draws line (edgeOf 2 0 nought five nought 0 2) (absolute one one 1 12) AsDrawn (five ∷ nought ∷ [])
+    ∷ draws line (along three three) (absolute one one 1 12) Chord (three ∷ three ∷ [])
+    ∷ draws line (along five two) (absolute one one 1 12) Chord (five ∷ two ∷ [])
+    ∷ usable parabola (interval one one) (interval (bits 0xC12E848000000000) (bits 0x412E848000000000))
+    -- 838861 / 8388608
+    ∷ point uneven one (vec (bits 0x3FB9999A00000000) nought nought)
+    ∷ draws corner round (absolute one narrow 1 1) AsDrawn (nought ∷ one ∷ two ∷ [])
+    ∷ floor (bits 0x3FD0000000000000) two one
+    ∷ draws corner round (absolute two narrow 1 1) AsDrawn (nought ∷ two ∷ [])
+    ∷ draws boxed escaping close Runaway (nought ∷ nought ∷ [])
+    ∷ refuses flat (edgeOf 0 2 nought two nought 0 2) (absolute one narrow 1 1) 9
+    ∷ []

@@ -1,0 +1,123 @@
+-- Demand 3 of every chain that `repair_runaway` leaves or puts in another's place. Assumes nothing.
+use mathlib.Core.Path.{_≡_, refl}
+use mathlib.Core.Bool.{Bool, true, false, cond, not, _&&_, _||_}
+use mathlib.Core.List.{List}
+use Prim.Native.Nat.{ℕ}
+use lib.Dec.{T}
+use lib.Ieee.{Float, lt}
+use lib.Ieee.Scale.{finite}
+use Rattle.arith.specs.Notation.{_⊕_, nought}
+use Rattle.base_lists.specs.Result.{Result, got, bind}
+use Rattle.math.specs.declared.Interval.{Interval}
+use Rattle.math.specs.Math.{interval, spanOf, isEmpty, diagonal}
+use Rattle.brep.specs.declared.Edge.{Edge}
+use Rattle.brep.specs.Rows.{Tables}
+use Rattle.curve.specs.declared.Repeats.{Repeats}
+use Rattle.curve.specs.declared.Repeats.the-variants.{Every, Never}
+use Rattle.curve.specs.Eval.{naturalRange, period}
+use Rattle.options.specs.declared.Resolved.{Resolved}
+use Rattle.edge_params.proofs.Ends.{Size}
+use Rattle.edge_record.specs.declared.Sample.{Sample}
+use Rattle.edge_merge.specs.Merge.{mergeFloor}
+use Rattle.edge_range.specs.Usable.{usableRange}
+use Rattle.draw_spec.specs.declared.Way.the-variants.{Complement, ShortArc}
+use Rattle.draw_spec.specs.Edge.{edgeCurve, edgeStart, edgeEnd, discretised}
+use Rattle.draw_spec.specs.Repair.{Got, by, withRange, reference, escapes, reaches, nearest, ordered, runaway, arcOrChord, byShortArc, byComplement, byPeriod, repaired}
+use Rattle.draw_spec.specs.Draw.{firstWay, drawnIn}
+use Rattle.draw_spec.proofs.Tame.{Tame}
+use Rattle.draw_spec.proofs.Ranges.{Ends, goods-ends, complement-ends, short-goods}
+use Rattle.draw_spec.proofs.Outcome.{Outcome, answer, outcome-bind}
+use Rattle.draw_spec.proofs.Discretised.{Chained, Room, chord-chained, discretised-outcome}
+
+-- an edge's own range: a lo that is finite is small enough to have a period added to it
+pub record OwnRange (range : Interval) : Type 0 where
+  pub ends : Ends range
+  pub low : T (finite (range .lo)) → Size 40 (range .lo)
+
+module _ (H : Type 0) (t : Tables) (e : Edge) (tame : H → Tame (edgeCurve t e)) (own : H → OwnRange (e .range)) (room : ℕ) (fine : Room room) (r : Resolved) where
+  -- a chain of this edge, whichever way it was got
+  abbrev Fine : Got → Type 0
+  Fine g = Chained H t e (mergeFloor (e .tolerance) (r .sag)) room (g .chain)
+
+  -- a chain of the edge with another range is one of the edge
+  another : (range : Interval) (l : List Sample) → Chained H t (withRange e range) (mergeFloor (e .tolerance) (r .sag)) room l → Chained H t e (mergeFloor (e .tolerance) (r .sag)) room l
+  another range l c = record {
+    sound = λ x. let s = c .sound x in record { two = s .two; ends = s .ends; own = s .own; oneWay = s .oneWay; apart = s .apart };
+    fits = c .fits;
+  }
+
+  redrawn : (range : Interval) → (H → Ends range) → (f : List Sample → Result Got)
+      → ((l : List Sample) → Chained H t e (mergeFloor (e .tolerance) (r .sag)) room l → Outcome Fine (f l))
+      → Outcome Fine (bind (discretised room t (withRange e range) r) f)
+  redrawn range ends f g =
+      outcome-bind f (discretised-outcome H t (withRange e range) tame ends room fine r) (λ l c. g l (another range l c))
+
+  runaway-fine : Outcome Fine (got (runaway t e))
+  runaway-fine = answer (chord-chained H t e (mergeFloor (e .tolerance) (r .sag)) room (fine .least) (e .range .lo) (e .range .lo))
+
+  arc-fine : (arc : List Sample) → Chained H t e (mergeFloor (e .tolerance) (r .sag)) room arc → Outcome Fine (got (arcOrChord t e r arc))
+  unfolding arcOrChord
+  arc-fine arc c = go (not (escapes (reference t e) r arc) && (reaches e r (edgeStart t e) arc && reaches e r (edgeEnd t e) arc))
+    where
+      go : (b : Bool) → Outcome Fine (got (cond b (by ShortArc arc) (runaway t e)))
+      go true = answer c
+      go false = runaway-fine
+
+  short-outcome : Outcome Fine (byShortArc room t e r)
+  unfolding byShortArc
+  short-outcome =
+      let natural = naturalRange (edgeCurve t e) in
+      let short = ordered (nearest (edgeCurve t e) (edgeStart t e)) (nearest (edgeCurve t e) (edgeEnd t e)) in
+      go (finite (spanOf natural) && (lt nought (spanOf natural) && lt nought (spanOf short)))
+    where
+      go : (b : Bool) → Outcome Fine (elim b [
+        | true ↦ bind (discretised room t (withRange e (ordered (nearest (edgeCurve t e) (edgeStart t e)) (nearest (edgeCurve t e) (edgeEnd t e)))) r) (λ arc. got (arcOrChord t e r arc))
+        | false ↦ got (runaway t e)
+      ])
+      go true =
+          redrawn (ordered (nearest (edgeCurve t e) (edgeStart t e)) (nearest (edgeCurve t e) (edgeEnd t e)))
+          (λ x. goods-ends (short-goods (edgeCurve t e) (tame x) (edgeStart t e) (edgeEnd t e)))
+          (λ arc. got (arcOrChord t e r arc)) arc-fine
+      go false = runaway-fine
+
+  complement-outcome : (p : Float) → (H → Size 40 p) → Outcome Fine (byComplement room t e r p)
+  unfolding byComplement
+  complement-outcome p s = go (lt nought (spanOf (interval (e .range .hi) (e .range .lo ⊕ p))))
+    where
+      kept : (arc : List Sample) → Chained H t e (mergeFloor (e .tolerance) (r .sag)) room arc → (b : Bool)
+          → Outcome Fine (elim b [ true ↦ byShortArc room t e r | false ↦ got (by Complement arc) ])
+      kept arc c true = short-outcome
+      kept arc c false = answer c
+
+      go : (b : Bool) → Outcome Fine (elim b [
+        | true ↦ bind (discretised room t (withRange e (interval (e .range .hi) (e .range .lo ⊕ p))) r)
+            (λ arc. elim (escapes (reference t e) r arc) [ true ↦ byShortArc room t e r | false ↦ got (by Complement arc) ])
+        | false ↦ byShortArc room t e r
+      ])
+      go true =
+          redrawn (interval (e .range .hi) (e .range .lo ⊕ p))
+          (λ x. complement-ends (e .range) p (own x .ends) (own x .low) (s x))
+          (λ arc. elim (escapes (reference t e) r arc) [ true ↦ byShortArc room t e r | false ↦ got (by Complement arc) ])
+          (λ arc c. kept arc c (escapes (reference t e) r arc))
+      go false = short-outcome
+
+  period-outcome : (p : Repeats) → period (edgeCurve t e) ≡ p → Outcome Fine (byPeriod room t e r p)
+  unfolding byPeriod
+  period-outcome (Every p) q = complement-outcome p (λ x. tame x .every p q)
+  period-outcome Never q = short-outcome
+
+  repaired-outcome : (g : Got) → Fine g → Outcome Fine (repaired room t e r g)
+  unfolding repaired
+  repaired-outcome g c = go (isEmpty (reference t e) || (not (lt nought (diagonal (reference t e))) || not (escapes (reference t e) r (g .chain))))
+    where
+      go : (b : Bool) → Outcome Fine (elim b [ true ↦ got g | false ↦ byPeriod room t e r (period (edgeCurve t e)) ])
+      go true = answer c
+      go false = period-outcome (period (edgeCurve t e)) refl
+
+  -- whichever way
+  pub drawn-in-outcome : Outcome (λ (g : Got). Chained H t e (mergeFloor (e .tolerance) (r .sag)) room (g .chain)) (drawnIn room t e r)
+  unfolding drawnIn
+  drawn-in-outcome =
+      let way = firstWay (usableRange (edgeCurve t e) (e .range)) in
+      outcome-bind (λ chain. repaired room t e r (by way chain)) (discretised-outcome H t e tame (λ x. own x .ends) room fine r)
+      (λ l c. repaired-outcome (by way l) c)

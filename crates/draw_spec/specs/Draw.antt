@@ -1,0 +1,161 @@
+-- Drawing an edge: the answer, what both chain buffers hold afterwards, and what holds of every chain. Definitions only.
+use mathlib.Core.Path.{_≡_}
+use mathlib.Core.Bool.{Bool, true, false, cond, _||_}
+use mathlib.Core.List.{List, [], map, dropLast}
+use Prim.Native.Nat.{ℕ, _<_, _≤_, _-_, _*_, _/_, min}
+use lib.ListN.{length}
+use lib.Dec.{ltb, leb}
+use lib.Ieee.{Float, lt}
+use Rattle.base_lists.specs.Result.{Result, refused, got, bind}
+use Rattle.base_lists.specs.Sub.{All}
+use Rattle.base_lists.specs.Room.{filled}
+use Rattle.arith.specs.Notation.{nought}
+use Rattle.brep.specs.declared.Edge.{Edge}
+use Rattle.brep.specs.Rows.{Tables}
+use Rattle.curve.specs.Eval.{pointAt}
+use Rattle.options.specs.declared.Options.{Options}
+use Rattle.options.specs.declared.Resolved.{Resolved}
+use Rattle.options.specs.Options.{resolve, forExtent}
+use Rattle.causes.specs.declared.Verdict.the-variants as verdicts
+use Rattle.causes_bounds.specs.Bounds.{unbounded}
+use Rattle.causes_form.specs.Forms.{illFormed}
+use Rattle.causes.specs.Causes.{oversize, unordered, tooDeep, missing, verdict}
+use Rattle.edge_params.specs.OneWay.{OneWay}
+use Rattle.edge_record.specs.declared.Sample.{Sample}
+use Rattle.edge_record.specs.Chain.{width, most, flat, samples, pointOf, between}
+use Rattle.edge_merge.specs.Merge.{mergeFloor, Apart}
+use Rattle.edge_range.specs.declared.Usable.{Usable}
+use Rattle.edge_range.specs.declared.Usable.the-variants.{Range, Unusable}
+use Rattle.edge_range.specs.Usable.{usableRange}
+use Rattle.draw_spec.specs.declared.Way.{Way}
+use Rattle.draw_spec.specs.declared.Way.the-variants.{AsDrawn, Chord, Complement, ShortArc, Runaway}
+use Rattle.draw_spec.specs.declared.Drawn.{Drawn}
+use Rattle.draw_spec.specs.declared.Drawn.the-variants.{Refused, Chain}
+use Rattle.draw_spec.specs.Edge.{edgeCurve, edgeStart, edgeEnd, edgeExtent, discretised}
+use Rattle.draw_spec.specs.Repair.{Got, by, repaired}
+
+-- ---- the closure inside discretise_all
+-- options.for_extent(edge_extent(solid, e))
+unfoldable pub localOptions : Tables → Edge → Options → Resolved
+localOptions T e o = forExtent (resolve o) (edgeExtent T e)
+
+-- the way of the first drawing
+unfoldable pub firstWay : Usable → Way
+firstWay (Range range) = AsDrawn
+firstWay Unusable = Chord
+
+-- discretise, then repair_runaway
+unfoldable pub drawnIn : ℕ → Tables → Edge → Resolved → Result Got
+drawnIn room T e r =
+    bind (discretised room T e r) (λ chain. repaired room T e r (by (firstWay (usableRange (edgeCurve T e) (e .range))) chain))
+
+-- ---- the entry point
+-- room R, of buffers of so many floats: the smallest of 16,384 and the number of whole records in either
+unfoldable pub roomOf : ℕ → ℕ → ℕ
+roomOf first second = min most (min (first / width) (second / width))
+
+-- cause 7: a chain buffer shorter than 8 floats
+abbrev pub tooShort : ℕ → ℕ → Bool
+tooShort first second = ltb first 8 || ltb second 8
+
+-- the refusal with the lowest number from 1 to 7; else 8 or 9 in the reference's order of work; else the chain and its way
+unfoldable pub drawn : Tables → Edge → Options → ℕ → ℕ → Result Got
+drawn T e o first second =
+    elim (verdict T e o) [
+      | verdicts.Refused n ↦ refused n
+      | verdicts.Accepted ↦
+          cond (tooShort first second) (refused 7) (drawnIn (roomOf first second) T e (localOptions T e o))
+    ]
+
+-- the answer
+unfoldable pub answerOf : Result Got → Drawn
+answerOf (refused n) = Refused n
+answerOf (got g) = Chain (g .way) (length (g .chain))
+
+-- ---- the buffers afterwards
+-- a chain lies in the first buffer where it was kept as first drawn, in the second where repair replaced it
+abbrev pub inFirst : Way → Bool
+inFirst AsDrawn = true
+inFirst Chord = true
+inFirst Complement = false
+inFirst ShortArc = false
+inFirst Runaway = false
+
+-- the same of an answer, the empty chain of a refusal counting as lying in the first; and how many floats its chain has
+abbrev pub liesInFirst : Drawn → Bool
+liesInFirst (Refused n) = true
+liesInFirst (Chain way n) = inFirst way
+
+abbrev pub floatsOf : Drawn → ℕ
+floatsOf (Refused n) = 0
+floatsOf (Chain way n) = width * n
+
+-- 1 to 7 leave a buffer as before, 8 and 9 leave it all +0.0
+abbrev pub afterRefusal : ℕ → List Float → List Float
+afterRefusal n entry = cond (leb n 7) entry (filled (length entry) [])
+
+-- the first buffer, and the second; a buffer that holds no chain is all +0.0
+unfoldable pub firstAfter : List Float → Result Got → List Float
+firstAfter entry (refused n) = afterRefusal n entry
+firstAfter entry (got g) = filled (length entry) (cond (inFirst (g .way)) (flat (g .chain)) [])
+
+unfoldable pub secondAfter : List Float → Result Got → List Float
+secondAfter entry (refused n) = afterRefusal n entry
+secondAfter entry (got g) = filled (length entry) (cond (inFirst (g .way)) [] (flat (g .chain)))
+
+-- the chain as the buffers hold it
+unfoldable pub chainIn : List Float → List Float → Drawn → List Sample
+chainIn first second (Refused n) = []
+chainIn first second (Chain way n) = samples n (cond (inFirst way) first second)
+
+-- ---- the five clauses that hold of every chain
+-- what holds of every chain of an edge, whichever way it was got, with its merge floor
+pub record Sound (T : Tables) (e : Edge) (floor : Float) (chain : List Sample) : Type 0 where
+  -- it has at least two points
+  pub two : 2 ≤ length chain
+  -- its first point is the edge's start vertex and its last the end vertex, bit for bit
+  pub ends : (pointOf chain 0 ≡ edgeStart T e) × (pointOf chain (length chain - 1) ≡ edgeEnd T e)
+  -- every point between is the curve's own point at the parameter beside it
+  pub own : All (λ (s : Sample). s .point ≡ pointAt (edgeCurve T e) (s .param)) (between chain)
+  -- its parameters do not rise in one place and fall in another
+  pub oneWay : OneWay (map (λ (s : Sample). s .param) chain)
+  -- where the merge floor is above zero, each point but the last is further than it from the one before
+  pub apart : lt nought floor ≡ true → Apart floor (dropLast chain)
+
+-- ---- the table of causes
+-- cause n applies, whether or not a lower one does
+pub data Applies (T : Tables) (e : Edge) (o : Options) (first second : ℕ) : ℕ → Type 0 where
+  -- a table above its size
+  one : oversize T ≡ true → Applies T e o first second 1
+  -- a float not finite, or above 1e9 in magnitude
+  two : unbounded (T .points) (T .reals) (T .ranges) e o ≡ true → Applies T e o first second 2
+  -- what does not follow the tables' form
+  three : illFormed T e o ≡ true → Applies T e o first second 3
+  -- a reference that does not fall
+  four : unordered T ≡ true → Applies T e o first second 4
+  -- nested deeper than 8
+  five : tooDeep T ≡ true → Applies T e o first second 5
+  -- the edge's curve, start, end, low or high outside its table
+  six : missing T e ≡ true → Applies T e o first second 6
+  -- a chain buffer shorter than 8 floats
+  seven : tooShort first second ≡ true → Applies T e o first second 7
+  -- on the reference's way, what comes first: a parameter list longer than the room
+  eight : drawnIn (roomOf first second) T e (localOptions T e o) ≡ refused 8 → Applies T e o first second 8
+  -- or a span that the reference splits for ever
+  nine : drawnIn (roomOf first second) T e (localOptions T e o) ≡ refused 9 → Applies T e o first second 9
+
+-- cause n applies, and none of 1 to 7 that is lower
+pub record Lowest (T : Tables) (e : Edge) (o : Options) (first second n : ℕ) : Type 0 where
+  pub applies : Applies T e o first second n
+  pub lowest : (m : ℕ) → m ≤ 7 → m < n → Applies T e o first second m → ⊥
+
+-- the outcome of drawing: answer and buffers by the definition, and the five clauses of the chain that the buffers hold
+pub record Outcome (T : Tables) (e : Edge) (o : Options) (first second : List Float) (answer : Drawn) (first' second' : List Float) : Type 0 where
+  pub answered : answer ≡ answerOf (drawn T e o (length first) (length second))
+  pub firstHolds : first' ≡ firstAfter first (drawn T e o (length first) (length second))
+  pub secondHolds : second' ≡ secondAfter second (drawn T e o (length first) (length second))
+  -- a refusal is that of a cause that applies, the lowest; a chain is answered exactly where none applies
+  pub refuses : (n : ℕ) → answer ≡ Refused n → Lowest T e o (length first) (length second) n
+  pub accepts : (way : Way) (n : ℕ) → answer ≡ Chain way n → (m : ℕ) → Applies T e o (length first) (length second) m → ⊥
+  pub sound : (way : Way) (n : ℕ) → answer ≡ Chain way n
+      → Sound T e (mergeFloor (e .tolerance) (localOptions T e o .sag)) (chainIn first' second' answer)

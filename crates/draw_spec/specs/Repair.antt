@@ -1,0 +1,127 @@
+-- edge.rs: repair_runaway. Definitions only.
+use mathlib.Core.Bool.{Bool, true, false, cond, not, _&&_, _||_}
+use mathlib.Core.List.{List, [], _∷_}
+use Prim.Native.Nat.{ℕ, zero, suc}
+use lib.Ieee.{Float, lt, le}
+use lib.Ieee.Scale.{finite}
+use Rattle.base_lists.specs.Result.{Result, refused, got, bind}
+use Rattle.arith.specs.Notation.{_⊕_, _⊗_, _⊘_, bits, count, nought}
+use Rattle.arith.specs.Pick.{maxOf}
+use Rattle.math.specs.declared.Vec3.{Vec3}
+use Rattle.math.specs.declared.Aabb.{Aabb}
+use Rattle.math.specs.declared.Interval.{Interval}
+use Rattle.math.specs.Math.{distance, isEmpty, diagonal, centre, interval, spanOf, at}
+use Rattle.brep.specs.declared.Edge.{Edge}
+use Rattle.brep.specs.Rows.{Tables, pointOf}
+use Rattle.brep.specs.Tree.{CurveTree}
+use Rattle.curve.specs.declared.Repeats.{Repeats}
+use Rattle.curve.specs.declared.Repeats.the-variants.{Every, Never}
+use Rattle.curve.specs.Eval.{naturalRange, period, pointAt}
+use Rattle.options.specs.declared.Resolved.{Resolved}
+use Rattle.edge_record.specs.declared.Sample.{Sample}
+use Rattle.draw_spec.specs.Edge.{edgeCurve, edgeStart, edgeEnd, chordOf, discretised}
+use Rattle.draw_spec.specs.declared.Way.{Way}
+use Rattle.draw_spec.specs.declared.Way.the-variants.{AsDrawn, Chord, Complement, ShortArc, Runaway}
+
+-- a chain, and the way that it was got
+pub record Got : Type 0 where
+  pub way : Way
+  pub chain : List Sample
+
+abbrev pub by : Way → List Sample → Got
+by way chain = record { way = way; chain = chain }
+
+-- Edge { range, ..edge.clone() }
+abbrev pub withRange : Edge → Interval → Edge
+withRange e range = record {
+  curve = e .curve;
+  start = e .start;
+  end = e .end;
+  sense = e .sense;
+  range = range;
+  tolerance = e .tolerance;
+  low = e .low;
+  high = e .high;
+}
+
+-- the reference box, as the caller gives it
+abbrev pub reference : Tables → Edge → Aabb
+reference T e = record { min = pointOf (T .points) (e .low); max = pointOf (T .points) (e .high) }
+
+-- reference.diagonal() + options.sag * 16.0
+abbrev pub limitOf : Aabb → Resolved → Float
+limitOf box r = diagonal box ⊕ r .sag ⊗ bits 0x4030000000000000
+
+-- escapes: some point lies further than the limit from the box's centre
+unfoldable pub escapes : Aabb → Resolved → List Sample → Bool
+escapes box r [] = false
+escapes box r (s ∷ l) = lt (limitOf box r) (distance (s .point) (centre box)) || escapes box r l
+
+-- reaches: some point lies within max(sag, tolerance * 10) of p
+unfoldable pub reaches : Edge → Resolved → Vec3 → List Sample → Bool
+reaches e r p [] = false
+reaches e r p (s ∷ l) =
+    le (distance (s .point) p) (maxOf (r .sag) (e .tolerance ⊗ bits 0x4024000000000000)) || reaches e r p l
+
+-- natural.at(i as f64 / steps as f64), with 512 steps
+abbrev pub sweepAt : Interval → ℕ → Float
+sweepAt natural i = at natural (count i ⊘ bits 0x4080000000000000)
+
+-- nearest: of the first n + 1 of these the one whose point is nearest to the target, the first of equals
+unfoldable pub nearestOf : CurveTree → Interval → Vec3 → ℕ → Float
+nearestOf c natural target zero = sweepAt natural 0
+nearestOf c natural target (suc n) =
+    let best = nearestOf c natural target n in
+    let next = sweepAt natural (suc n) in
+    cond (lt (distance (pointAt c next) target) (distance (pointAt c best) target)) next best
+
+-- of all 513
+abbrev pub nearest : CurveTree → Vec3 → Float
+nearest c target = nearestOf c (naturalRange c) target 512
+
+-- from the lower to the higher of two parameters
+abbrev pub ordered : Float → Float → Interval
+ordered a b = cond (le a b) (interval a b) (interval b a)
+
+-- the chord of the vertices, its parameters lo twice
+abbrev pub runaway : Tables → Edge → Got
+runaway T e = by Runaway (chordOf T e (e .range .lo) (e .range .lo))
+
+-- the short arc, where it stays inside and reaches both vertices
+unfoldable pub arcOrChord : Tables → Edge → Resolved → List Sample → Got
+arcOrChord T e r arc =
+    cond (not (escapes (reference T e) r arc) && (reaches e r (edgeStart T e) arc && reaches e r (edgeEnd T e) arc))
+    (by ShortArc arc)
+    (runaway T e)
+
+unfoldable pub byShortArc : ℕ → Tables → Edge → Resolved → Result Got
+byShortArc room T e r =
+    let natural = naturalRange (edgeCurve T e) in
+    let short = ordered (nearest (edgeCurve T e) (edgeStart T e)) (nearest (edgeCurve T e) (edgeEnd T e)) in
+    elim (finite (spanOf natural) && (lt nought (spanOf natural) && lt nought (spanOf short))) [
+      | true ↦ bind (discretised room T (withRange e short) r) (λ arc. got (arcOrChord T e r arc))
+      | false ↦ got (runaway T e)
+    ]
+
+-- the complementary arc of a periodic curve, where it stays inside
+unfoldable pub byComplement : ℕ → Tables → Edge → Resolved → Float → Result Got
+byComplement room T e r p =
+    let complement = interval (e .range .hi) (e .range .lo ⊕ p) in
+    elim (lt nought (spanOf complement)) [
+      | true ↦ bind (discretised room T (withRange e complement) r)
+          (λ arc. elim (escapes (reference T e) r arc) [ true ↦ byShortArc room T e r | false ↦ got (by Complement arc) ])
+      | false ↦ byShortArc room T e r
+    ]
+
+unfoldable pub byPeriod : ℕ → Tables → Edge → Resolved → Repeats → Result Got
+byPeriod room T e r (Every p) = byComplement room T e r p
+byPeriod room T e r Never = byShortArc room T e r
+
+-- repair_runaway: a chain stays where the box has no extent or holds it
+unfoldable pub repaired : ℕ → Tables → Edge → Resolved → Got → Result Got
+repaired room T e r g =
+    let box = reference T e in
+    elim (isEmpty box || (not (lt nought (diagonal box)) || not (escapes box r (g .chain)))) [
+      | true ↦ got g
+      | false ↦ byPeriod room T e r (period (edgeCurve T e))
+    ]

@@ -1,0 +1,27 @@
+-- `edge_closed_form::meets` meets its contract. Assumes nothing.
+use mathlib.Core.Path.{sym, ap, _∙_}
+use native.Mathlib.Omega.{arith}
+use lib.Ieee.{Float, le}
+use lib.Seq.{length-take-le}
+use Rattle.edge_closed_form.proofs.Squares.{same-test}
+use borrow.Author.Needs.{needs}
+use Rattle.edge_closed_form.proofs.meets.Statement.{statement}
+use Rattle.edge_closed_form.proofs.meets.Tie as tie
+
+slice-aggregate-params : tie.Need-slice-aggregate-params
+slice-aggregate-params c =
+    let st = c .before .before .before .before .before .before .before .before in
+    sym (length-take-le (st .args .n) (st .args .out .now) (st .pre .0))
+
+worst-square-requires : tie.Need-worst-square-requires
+worst-square-requires c κs =
+    let st = c .before .before .before .before .before .before .before .before .before in
+    omega (arith, length-take-le (st .args .n) (st .args .out .now) (st .pre .0), st .pre .1)
+
+returns : tie.Need-returns
+returns c =
+    let sag = c .before .before .before .before .before .before .before .before .before .before .before .before .before .args .sag in
+    (ap (λ (x : Float). le x sag) (c .root .ensures) ∙ same-test _ _ sag (c .before .before .before .worst-square .ensures .0), c .before .before .before .worst-square .ensures .1)
+
+pub meets-spec : {M : Type 1} → statement M
+meets-spec = tie.close (tie.spec slice-aggregate-params worst-square-requires (λ c κs. search needs) (λ c. search needs) returns)

@@ -1,0 +1,131 @@
+// The check of a closed form: how far a curve's middles lie from those of its chords. The points at its parameters are left in
+// the chain, where they are wanted if the form is good enough.
+use curve_prepared::Ready;
+use edge_record::Sample;
+use math::Vec3;
+ghost use mathlib.Core.Path.{_≡_};
+ghost use Prim.Native.Nat.{_*_, _≤_};
+ghost use lib.ListN.{length, take};
+ghost use lib.Seq.{sets};
+ghost use lib.Ieee.{le};
+ghost use Rattle.arith.specs.Notation.{nought};
+ghost use Rattle.arith_root.specs.Root.{rootOf};
+ghost use Rattle.brep.specs.Rows.{lent};
+ghost use Rattle.brep.specs.Tree.{tree};
+ghost use Rattle.curve.specs.Eval.{pointAt};
+ghost use Rattle.curve_prepared.specs.Ready.{readyOf};
+ghost use Rattle.edge_record.specs.Chain.{width, flat};
+ghost use Rattle.edge_closed_form.specs.Miss.{worstMiss};
+ghost use Rattle.edge_closed_form.specs.Located.{located};
+ghost use Rattle.edge_closed_form.specs.Worst.{missSquare, largerOf, Alike};
+
+// How far the middle of the curve of a row lies from the middle of the chord from a to b, squared; pa and pb are its points there.
+fn miss_square(
+    points: &[f64],
+    curves: &[u32],
+    reals: &[f64],
+    parts: &[u32],
+    ranges: &[f64],
+    row: u32,
+    ready: Ready,
+    a: f64,
+    b: f64,
+    pa: Vec3,
+    pb: Vec3,
+) -> f64
+    requires { ⌜ (ready ≡ readyOf (tree (lent points curves reals parts ranges) row))
+        × (pa ≡ pointAt (tree (lent points curves reals parts ranges) row) a) × (pb ≡ pointAt (tree (lent points curves reals parts ranges) row) b) ⌝ }
+    ensures { λ w. ⌜ w ≡ missSquare (tree (lent (points .entry) (curves .entry) (reals .entry) (parts .entry) (ranges .entry)) row) a b ⌝ }
+{
+    let t = 0.5 * (a + b);
+    let m = curve_prepared::point_of(ready, points, curves, reals, parts, ranges, row, t);
+    m.sub(pa.add(pb).scale(0.5)).length_squared()
+}
+
+// The larger of the worst square so far and the next; a NaN is passed over.
+fn larger(worst: f64, s: f64) -> f64
+    ensures { λ w. ⌜ w ≡ largerOf worst s ⌝ }
+{
+    if worst < s { s } else { worst }
+}
+
+// The square of the largest miss between parameters that follow each other. Each point is evaluated once, and is a record of
+// the chain from then on.
+fn worst_square(
+    points: &[f64],
+    curves: &[u32],
+    reals: &[f64],
+    parts: &[u32],
+    ranges: &[f64],
+    row: u32,
+    params: &[f64],
+    chain: &mut [f64],
+) -> f64
+    requires { ⌜ width * length (now params) ≤ length (now chain) ⌝ }
+    ensures { λ w. ⌜ Alike (rootOf w) (worstMiss (tree (lent (points .entry) (curves .entry) (reals .entry) (parts .entry) (ranges .entry)) row) nought (now (params .entry)))
+        × (now (chain .exit) ≡ sets (now (chain .entry)) 0 (flat (located (tree (lent (points .entry) (curves .entry) (reals .entry) (parts .entry) (ranges .entry)) row) (now (params .entry))))) ⌝ }
+{
+    if params.len() == 0 {
+        return 0.0;
+    }
+    let mut worst = 0.0;
+    let ready = curve_prepared::ready_at(points, curves, reals, parts, ranges, row);
+    let mut a = params[0];
+    let mut pa = curve_prepared::point_of(ready, points, curves, reals, parts, ranges, row, a);
+    let mut i = 0usize;
+    while i + 1 < params.len() {
+        let here = Sample {
+            point: pa,
+            param: a,
+        };
+        edge_record::put(chain, i, here);
+        let b = params[i + 1];
+        let pb = curve_prepared::point_of(ready, points, curves, reals, parts, ranges, row, b);
+        let s = miss_square(
+            points,
+            curves,
+            reals,
+            parts,
+            ranges,
+            row,
+            ready,
+            a,
+            b,
+            pa,
+            pb,
+        );
+        worst = larger(worst, s);
+        a = b;
+        pa = pb;
+        i += 1;
+    }
+    let last = Sample {
+        point: pa,
+        param: a,
+    };
+    edge_record::put(chain, i, last);
+    worst
+}
+
+// Whether the chords between the first n parameters stay within the sag. The chain then holds the points at those.
+pub fn meets(
+    points: &[f64],
+    curves: &[u32],
+    reals: &[f64],
+    parts: &[u32],
+    ranges: &[f64],
+    row: u32,
+    out: &[f64],
+    n: usize,
+    sag: f64,
+    chain: &mut [f64],
+) -> bool
+    requires { ⌜ (n ≤ length (now out)) × (width * n ≤ length (now chain)) ⌝ }
+    ensures { λ w. ⌜ (w ≡ le (worstMiss (tree (lent (points .entry) (curves .entry) (reals .entry) (parts .entry) (ranges .entry)) row) nought (take n (now (out .entry)))) sag)
+        × (now (chain .exit) ≡ sets (now (chain .entry)) 0 (flat (located (tree (lent (points .entry) (curves .entry) (reals .entry) (parts .entry) (ranges .entry)) row) (take n (now (out .entry)))))) ⌝ }
+{
+    let params = &out[..n];
+    // The largest of the roots is the root of the largest.
+    let worst = worst_square(points, curves, reals, parts, ranges, row, params, chain);
+    arith_root::root(worst) <= sag
+}

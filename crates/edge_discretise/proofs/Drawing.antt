@@ -1,0 +1,200 @@
+-- The ways through `draw_range` and `discretise_over`. Assumes nothing.
+use mathlib.Core.Path.{_≡_, refl, sym, ap, _∙_}
+use mathlib.Core.Bool.{Bool, true}
+use mathlib.Core.List.{List, [], _∷_, _++_}
+use Prim.Native.Nat.{ℕ, _+_, _-_, _*_, _<_, _≤_}
+use native.Mathlib.Omega.{arith}
+use lib.ListN.{length, getD, take, drop, replicate, length-append, length-replicate, replicate-append-replicate, take-append-drop}
+use lib.Seq.{sets, length-sets, length-take-le, take-at}
+use lib.Ieee.{Float, nan, binary64, ofBits}
+use Rattle.base_lists.specs.Result.{Result, refused, got, bind, each}
+use Rattle.base_lists.specs.Room.{filled}
+use Rattle.base_lists.proofs.Filled.{filled-length, filled-front, filled-part}
+use Rattle.math.specs.declared.Interval.{Interval}
+use Rattle.brep.specs.declared.Edge.{Edge}
+use Rattle.brep.specs.Rows.{Tables}
+use Rattle.brep.specs.Tree.{CurveTree}
+use Rattle.options.specs.declared.Resolved.{Resolved}
+use Rattle.edge_params.specs.declared.Listed.{Listed}
+use Rattle.edge_params.specs.declared.Listed.the-variants as listed
+use Rattle.edge_params.specs.Held.{said}
+use Rattle.edge_record.specs.declared.Sample.{Sample}
+use Rattle.edge_record.specs.declared.Counted.{Counted}
+use Rattle.edge_record.specs.declared.Counted.the-variants.{Refused, Count}
+use Rattle.edge_record.specs.Chain.{width, most, flat, samples, pointOf, pointAt, answerOf}
+use Rattle.curve.specs.Eval as eval
+use Rattle.edge_record.proofs.Laws.{pointOf-samples}
+use Rattle.edge_range.specs.declared.Usable.{Usable}
+use Rattle.edge_range.specs.declared.Usable.the-variants.{Range, Unusable}
+use Rattle.edge_range.specs.Usable.{usableRange}
+use Rattle.edge_sample.specs.Sample.{sampled, listOf}
+use Rattle.edge_sample.specs.Answered.{Answered}
+use Rattle.edge_sample.specs.Tried.{tried, isKept}
+use Rattle.edge_sample.proofs.Laws.{sampled-two, sampled-room}
+use Rattle.edge_sample.proofs.Ways.{tried-sampled}
+use Rattle.edge_closed_form.specs.Located.{located}
+use Rattle.edge_closed_form.proofs.Located.{located-length, located-at}
+use Rattle.draw_spec.specs.Edge.{edgeCurve, atLeastTwo, chordOf, placed, finished, discretised}
+use Rattle.draw_spec.specs.Draw.{roomOf}
+use Rattle.edge_place.specs.Place.{Holds}
+use Rattle.edge_place.proofs.Laws.{placed-length}
+use Rattle.edge_discretise.specs.Discretised.{chainOf, thinnedMerged, overRange, Drew}
+use Rattle.edge_discretise.proofs.Thinning.{read-back}
+
+drew : (n m : ℕ) (D E : Result (List Sample)) {w : Counted} {g : List Float} → n ≡ m → D ≡ E → Drew n D w g → Drew m E w g
+drew n m D E k e p = record {
+  answered = p .answered ∙ ap answerOf e;
+  holds = p .holds ∙ ap (λ (i : ℕ). filled i (flat (chainOf D))) k ∙ ap (λ (x : Result (List Sample)). filled m (flat (chainOf x))) e;
+}
+
+pub drew-as : {n m : ℕ} {D : Result (List Sample)} {w : Counted} {g : List Float} → n ≡ m → Drew n D w g → Drew m D w g
+drew-as {n} {m} {D} e p = drew n m D D e refl p
+
+-- ---- `draw_range`
+two-or-more : (range : Interval) (l : List Float) → 2 ≤ length l → atLeastTwo range l ≡ l
+unfolding atLeastTwo
+two-or-more range [] h = absurd (omega arith)
+two-or-more range (t ∷ []) h = absurd (omega arith)
+two-or-more range (t ∷ u ∷ l) h = refl
+
+-- out is the buffer after sample_params, which counted n parameters
+pub record Sampling (room : ℕ) (S : Result (List Float)) (n : ℕ) (out : List Float) : Type 0 where
+  pub params : List Float
+  pub is : S ≡ got params
+  pub size : length params ≡ n
+  pub two : 2 ≤ n
+  pub fits : n ≤ room
+  pub floats : out ≡ filled room params
+
+pub sampling-some : (room : ℕ) (c : CurveTree) (range : Interval) (r : Resolved) (w : Listed) (n : ℕ) (out : List Float)
+    → Answered room (sampled room c range r) w out → w ≡ listed.Count n → Sampling room (sampled room c range r) n out
+sampling-some room c range r w n out p e = go (sampled room c range r) (λ l q. sampled-two room c range r l q) (λ l q. sampled-room room c range r l q) p
+  where
+    go : (S : Result (List Float)) → ((l : List Float) → S ≡ got l → 2 ≤ length l) → ((l : List Float) → S ≡ got l → length l ≤ room)
+        → Answered room S w out → Sampling room S n out
+    go (refused x) f g a = let q : got n ≡ refused x = ap said (sym e) ∙ a .0 in let z : _≡_ {A = ℕ} 0 1 = cc in absurd (omega arith)
+    go (got l) f g a =
+        let q : got n ≡ got (length l) = ap said (sym e) ∙ a .0 in
+        let k : n ≡ length l = cc in
+        record { params = l; is = refl; size = sym k; two = omega (arith, f l refl); fits = omega (arith, g l refl); floats = a .1 }
+
+module _ {room : ℕ} {S : Result (List Float)} {n : ℕ} {out : List Float} (s : Sampling room S n out) where
+  pub part-room : n ≤ length out
+  part-room = omega (arith, s .fits, s .size, ap length (s .floats), filled-length room (s .params) (omega (arith, s .fits, s .size)))
+
+  pub part-length : length (take n out) ≡ n
+  part-length = length-take-le n out part-room
+
+  part : take n out ≡ s .params
+  part = ap (take n) (s .floats) ∙ ap (λ (k : ℕ). take k (filled room (s .params))) (sym (s .size)) ∙ filled-front room (s .params)
+
+  -- scratch, with the parameters cleared
+  pub cleared-used : {left : List Float} → left ≡ filled (length (take n out)) (take 0 (take n out)) → left ++ drop n out ≡ filled room []
+  cleared-used h =
+      ap (λ (l : List Float). l ++ drop n out) (h ∙ ap (λ (k : ℕ). filled k []) part-length) ∙ ap (λ (l : List Float). filled n [] ++ drop n l) (s .floats)
+      ∙ filled-part room n (s .params) [] (s .size) (s .fits) (omega arith)
+
+module _ {room : ℕ} (T : Tables) (e : Edge) (r : Resolved) (range : Interval) {n : ℕ} {out : List Float} (s : Sampling room (sampled room (edgeCurve T e) range r) n out)
+    (chain d : List Float) (fits : width * n ≤ length chain) (p : d ≡ sets chain 0 (flat (placed T e (take n out)))) where
+  pub placed-room : width * n ≤ length d
+  placed-room = omega (arith, ap length p, length-sets chain 0 (flat (placed T e (take n out))))
+
+  reads-placed : samples n d ≡ placed T e (s .params)
+  reads-placed =
+      let P = placed T e (s .params) in
+      let k : length P ≡ n = placed-length T e (s .params) (omega (arith, s .two, s .size)) ∙ s .size in
+      ap (λ (i : ℕ). samples i d) (sym k) ∙ ap (samples (length P)) (p ∙ ap (λ (l : List Float). sets chain 0 (flat (placed T e l))) (part s)) ∙ read-back chain P (omega arith)
+
+  over-some : thinnedMerged T e r (samples n d) ≡ overRange room T e r range
+  unfolding finished
+  over-some =
+      ap (thinnedMerged T e r) reads-placed
+      ∙ ap (finished T e r) (sym (two-or-more range (s .params) (omega (arith, s .two, s .size))))
+      ∙ ap (λ (x : Result (List Float)). bind x (λ params. finished T e r (atLeastTwo range params))) (sym (s .is))
+
+  pub drew-some : (w : Counted) (g : List Float) → Drew (length d) (thinnedMerged T e r (samples n d)) w g → Drew (length chain) (overRange room T e r range) w g
+  drew-some w g = drew (length d) (length chain) _ _ (ap length p ∙ length-sets chain 0 (flat (placed T e (take n out)))) over-some
+
+-- what sample_params left in the chain, where it says that these are the parameters' points
+module _ {room : ℕ} (T : Tables) (e : Edge) (r : Resolved) (range : Interval) {n : ℕ} {out : List Float} (s : Sampling room (sampled room (edgeCurve T e) range r) n out)
+    (known : Bool) (k : known ≡ isKept room (edgeCurve T e) range r) (chain left : List Float) (fits : width * n ≤ length chain)
+    (p : left ≡ sets chain 0 (flat (located (edgeCurve T e) (tried room (edgeCurve T e) range r)))) where
+  pub held : known ≡ true → Holds (edgeCurve T e) (take n out) left
+  held h = record { point = λ i l. go i (omega (arith, part-length s, l)) }
+    where
+      own : tried room (edgeCurve T e) range r ≡ s .params
+      own = ap listOf (sym (tried-sampled room (edgeCurve T e) range r (sym k ∙ h)) ∙ s .is)
+
+      size : length (located (edgeCurve T e) (s .params)) ≡ n
+      size = located-length (edgeCurve T e) (s .params) ∙ s .size
+
+      reads : samples n left ≡ located (edgeCurve T e) (s .params)
+      reads =
+          ap (λ (i : ℕ). samples i left) (sym size)
+          ∙ ap (samples (length (located (edgeCurve T e) (s .params)))) (p ∙ ap (λ (l : List Float). sets chain 0 (flat (located (edgeCurve T e) l))) own)
+          ∙ read-back chain (located (edgeCurve T e) (s .params)) (omega (arith, size, fits))
+
+      go : (i : ℕ) → i < n → pointAt left i ≡ eval.pointAt (edgeCurve T e) (getD (take n out) i nan)
+      go i l =
+          sym (pointOf-samples left n i l) ∙ ap (λ (q : List Sample). pointOf q i) reads
+          ∙ ap (λ (q : Sample). q .point) (located-at (edgeCurve T e) (s .params) i _ (omega (arith, s .size, l)))
+          ∙ ap (λ (q : List Float). eval.pointAt (edgeCurve T e) (getD q i nan)) (sym (part s))
+
+pub drew-none : (S : Result (List Float)) (f : List Float → Result (List Sample)) (w : Listed) (chain g : List Float) → said w ≡ each length S → w ≡ listed.Refused
+    → g ≡ filled (length chain) (take 0 chain) → Drew (length chain) (bind S f) (Refused 8) g
+unfolding flat
+drew-none (refused n) f w chain g a e b = let q : refused 8 ≡ refused n = ap said (sym e) ∙ a in record { answered = cc; holds = b }
+drew-none (got l) f w chain g a e b = let q : refused 8 ≡ got (length l) = ap said (sym e) ∙ a in let z : _≡_ {A = ℕ} 0 1 = cc in absurd (omega arith)
+
+pub none-listed : (room : ℕ) (S : Result (List Float)) (w : Listed) {out : List Float} → said w ≡ each length S → w ≡ listed.Refused → out ≡ filled room (listOf S) → out ≡ filled room []
+none-listed room (refused n) w a e h = h
+none-listed room (got l) w a e h = let q : refused 8 ≡ got (length l) = ap said (sym e) ∙ a in let z : _≡_ {A = ℕ} 0 1 = cc in absurd (omega arith)
+
+-- ---- `discretise_over`
+-- n is the room that both buffers give, and scratch's first n floats are lent
+pub record Lent (first n : ℕ) (scratch : List Float) : Type 0 where
+  pub few : n ≤ most
+  pub fits : width * n ≤ first
+  pub inside : n ≤ length scratch
+  pub size : length (take n scratch) ≡ n
+
+pub lent-part : (first n : ℕ) (scratch : List Float) → n ≡ roomOf first (length scratch) → Lent first n scratch
+unfolding roomOf
+lent-part first n scratch e =
+    let h : n ≤ length scratch = omega arith in
+    record { few = omega arith; fits = omega arith; inside = h; size = length-take-le n scratch h }
+
+-- scratch afterwards, with what was left in that part, has its length
+pub whole-length : (n : ℕ) (left scratch : List Float) → length left ≡ length (take n scratch) → length (left ++ drop n scratch) ≡ length scratch
+whole-length n left scratch h =
+    length-append left (drop n scratch) ∙ ap (λ (k : ℕ). k + length (drop n scratch)) h
+    ∙ sym (length-append (take n scratch) (drop n scratch)) ∙ ap length (take-append-drop n scratch)
+
+filled-twice : (m n : ℕ) → n ≤ m → filled m (filled n []) ≡ filled m []
+filled-twice m n h =
+    let z = ofBits binary64 0 in
+    let k : n - 0 + (m - (n - 0)) ≡ m - 0 = omega arith in
+    ap (λ (i : ℕ). replicate (n - 0) z ++ replicate (m - i) z) (length-replicate (n - 0) z)
+    ∙ replicate-append-replicate (n - 0) (m - (n - 0)) z ∙ ap (λ (i : ℕ). replicate i z) k
+
+-- it is clear where that part is, and the rest is cleared
+pub cleared-whole : (n : ℕ) (left scratch : List Float) {g : List Float} → n ≤ length scratch → left ≡ filled (length (take n scratch)) []
+    → g ≡ filled (length (left ++ drop n scratch)) (take n (left ++ drop n scratch)) → g ≡ filled (length scratch) []
+cleared-whole n left scratch h l q =
+    let k : length (take n scratch) ≡ n = length-take-le n scratch h in
+    let clear : left ≡ filled n [] = l ∙ ap (λ (i : ℕ). filled i []) k in
+    let m : length left ≡ n = ap length clear ∙ filled-length n [] (omega arith) in
+    q ∙ ap (λ (i : ℕ). filled i (take n (left ++ drop n scratch))) (whole-length n left scratch (m ∙ sym k))
+    ∙ ap (filled (length scratch)) (take-at left (drop n scratch) n m ∙ clear)
+    ∙ filled-twice (length scratch) n h
+
+module _ (room : ℕ) (T : Tables) (e : Edge) (r : Resolved) (k : ℕ) {w : Counted} {g : List Float} (u : Usable) (own : u ≡ usableRange (edgeCurve T e) (e .range)) where
+  pub drew-range : (range : Interval) (j : ℕ) → u ≡ Range range → j ≡ room → Drew k (overRange j T e r range) w g → Drew k (discretised room T e r) w g
+  unfolding discretised
+  drew-range range j q h =
+      let s : overRange room T e r range ≡ discretised room T e r = rw (sym own ∙ q, discretised) in
+      drew k k _ _ refl (ap (λ (i : ℕ). overRange i T e r range) h ∙ s)
+
+  pub drew-chord : u ≡ Unusable → w ≡ Count 2 → g ≡ filled k (flat (chordOf T e (e .range .lo) (e .range .hi))) → Drew k (discretised room T e r) w g
+  unfolding discretised
+  drew-chord q a b = rw (sym own ∙ q, discretised) (record { answered = a; holds = b })

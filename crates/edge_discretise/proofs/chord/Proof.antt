@@ -1,0 +1,28 @@
+-- `chord` meets its contract. Assumes nothing.
+use denote.Ref.{now}
+use borrow.Author.Needs.{needs}
+use Rattle.edge_place.specs.Place.{ofPoints}
+use Rattle.edge_discretise.proofs.Thinning.{chord-held}
+use Rattle.edge_discretise.proofs.chord.Statement.{statement}
+use Rattle.edge_discretise.proofs.chord.Tie as tie
+
+returns : tie.Need-returns
+returns c =
+    let a = c .before .before .before .before .before .before .before .before .before .before .before .before .before .before .before .before .args in
+    chord-held (ofPoints (now (a .points))) (a .edge) (a .a) (a .b) (now (a .chain)) _ _ _ _ _ (c .before .before .before .before .before .before .before .before .before .before .before .before .before .before .before .before .pre)
+    (c .before .before .before .before .before .before .before .before .before .before .before .before .before .point .ensures)
+    (c .before .before .before .before .before .before .before .before .before .before .before .before .point2 .ensures) (c .before .before .before .before .before .before .before .before .before .before .put .ensures)
+    (c .before .before .before .before .before .before .put2 .ensures) (c .before .before .clear-from .ensures)
+
+pub chord-spec : {M : Type 1} → statement M
+chord-spec =
+    tie.close
+    (tie.spec
+    (λ c κs. search needs)
+    (λ c κs. search needs)
+    (λ c κs. search needs)
+    (λ c κs. search needs)
+    (λ c. search needs)
+    (λ c κs. search needs)
+    (λ c. search needs)
+    returns)

@@ -1,0 +1,264 @@
+// The chain of an edge: discretise of edge.rs, on rows.
+use brep::Edge;
+use edge_params::Listed;
+use edge_range::Usable;
+use edge_record::Counted;
+use edge_record::Sample;
+use edge_sample::sample_params;
+use math::Interval;
+use options::Resolved;
+ghost use mathlib.Core.Path.{_≡_};
+ghost use mathlib.Core.List.{[]};
+ghost use Prim.Native.Nat.{_*_, _≤_, min};
+ghost use lib.ListN.{length};
+ghost use Rattle.base_lists.specs.Room.{filled};
+ghost use Rattle.brep.specs.Rows.{lent};
+ghost use Rattle.brep.specs.Tree.{tree};
+ghost use Rattle.curve.specs.Eval.{isSampled};
+ghost use Rattle.knots.specs.Knots.{curveKnots};
+ghost use Rattle.edge_range.specs.Usable.{usableRange};
+ghost use Rattle.edge_record.specs.Chain.{width, most, flat, samples, answerOf, after};
+ghost use Rattle.draw_spec.specs.Edge.{thinnedIf, chordOf, discretised};
+ghost use Rattle.draw_spec.specs.Draw.{roomOf};
+ghost use Rattle.edge_place.specs.Place.{ofPoints};
+ghost use Rattle.edge_discretise.specs.Discretised.{thinnedMerged, overRange, Drew, Discretised};
+
+// The smaller of two.
+fn least(a: usize, b: usize) -> usize
+    ensures { λ r. ⌜ r ≡ min a b ⌝ }
+{
+    if a < b { a } else { b }
+}
+
+// How many records there is room for, in buffers of so many floats.
+fn room(first: usize, second: usize) -> usize
+    ensures { λ r. ⌜ r ≡ roomOf first second ⌝ }
+{
+    least(
+        edge_record::MOST,
+        least(first / edge_record::WIDTH, second / edge_record::WIDTH),
+    )
+}
+
+// Thins the first n records where the curve of the row is a polyline or a trim of one.
+fn thin_sampled(
+    points: &[f64],
+    curves: &[u32],
+    reals: &[f64],
+    parts: &[u32],
+    ranges: &[f64],
+    row: u32,
+    r: Resolved,
+    chain: &mut [f64],
+    n: usize,
+) -> Counted
+    requires { ⌜ (n ≤ most) × (width * n ≤ length (now chain)) ⌝ }
+    ensures { λ w. ⌜ (w ≡ answerOf (thinnedIf (isSampled (tree (lent (points .entry) (curves .entry) (reals .entry) (parts .entry) (ranges .entry)) row)) r (samples n (now (chain .entry)))))
+        × (now (chain .exit) ≡ after (now (chain .entry)) (thinnedIf (isSampled (tree (lent (points .entry) (curves .entry) (reals .entry) (parts .entry) (ranges .entry)) row)) r (samples n (now (chain .entry))))) ⌝ }
+{
+    if curve::is_sampled(points, curves, reals, parts, ranges, row) {
+        // A chain has no more than MOST records, so that a higher floor says nothing more.
+        let floor = least(r.segments as usize, edge_record::MOST) + 1;
+        return edge_thin::thin(chain, n, r.sag * 0.01, r.angle, floor);
+    }
+    Counted::Count(n)
+}
+
+// Thins and merges the first n records, and leaves +0.0 behind what is kept, or everywhere where thinning refuses.
+fn finish(
+    points: &[f64],
+    curves: &[u32],
+    reals: &[f64],
+    parts: &[u32],
+    ranges: &[f64],
+    edge: Edge,
+    r: Resolved,
+    chain: &mut [f64],
+    n: usize,
+) -> Counted
+    requires { ⌜ (2 ≤ n) × (n ≤ most) × (width * n ≤ length (now chain)) ⌝ }
+    ensures { λ w. ⌜ Drew (length (now (chain .entry))) (thinnedMerged (lent (points .entry) (curves .entry) (reals .entry) (parts .entry) (ranges .entry)) edge r (samples n (now (chain .entry)))) w (now (chain .exit)) ⌝ }
+{
+    let thinned = thin_sampled(
+        points,
+        curves,
+        reals,
+        parts,
+        ranges,
+        edge.curve,
+        r,
+        chain,
+        n,
+    );
+    match thinned {
+        Counted::Count(m) => {
+            let floor = edge_merge::merge_floor(edge.tolerance, r.sag);
+            let k = edge_merge::merge(chain, m, floor);
+            base_lists::clear_from(chain, edge_record::WIDTH * k);
+            Counted::Count(k)
+        }
+        Counted::Refused(cause) => {
+            base_lists::clear_from(chain, 0);
+            Counted::Refused(cause)
+        }
+    }
+}
+
+// The two-vertex chord with the parameters a and b, and +0.0 behind it.
+pub fn chord(points: &[f64], edge: Edge, a: f64, b: f64, chain: &mut [f64])
+    requires { ⌜ 8 ≤ length (now chain) ⌝ }
+    ensures { λ _. ⌜ now (chain .exit) ≡ filled (length (now (chain .entry))) (flat (chordOf (ofPoints (now (points .entry))) edge a b)) ⌝ }
+{
+    let start = brep::point(points, edge.start);
+    let end = brep::point(points, edge.end);
+    edge_record::put(
+        chain,
+        0,
+        Sample {
+            point: start,
+            param: a,
+        },
+    );
+    edge_record::put(
+        chain,
+        1,
+        Sample {
+            point: end,
+            param: b,
+        },
+    );
+    base_lists::clear_from(chain, 2 * edge_record::WIDTH);
+}
+
+// Samples a usable range into scratch, whose length is the room, finishes the chain, and leaves scratch cleared.
+fn draw_range(
+    points: &[f64],
+    curves: &[u32],
+    reals: &[f64],
+    parts: &[u32],
+    ranges: &[f64],
+    edge: Edge,
+    range: Interval,
+    r: Resolved,
+    chain: &mut [f64],
+    scratch: &mut [f64],
+) -> Counted
+    requires { ⌜ (length (now scratch) ≤ most) × (width * length (now scratch) ≤ length (now chain))
+        × (length (curveKnots (tree (lent points curves reals parts ranges) (edge .curve))) ≤ 8192) ⌝ }
+    ensures { λ w. ⌜ Drew (length (now (chain .entry))) (overRange (length (now (scratch .entry))) (lent (points .entry) (curves .entry) (reals .entry) (parts .entry) (ranges .entry)) edge r range) w (now (chain .exit))
+        × (now (scratch .exit) ≡ filled (length (now (scratch .entry))) []) ⌝ }
+{
+    let row = edge.curve;
+    let sampled = sample_params(
+        points,
+        curves,
+        reals,
+        parts,
+        ranges,
+        row,
+        range,
+        r,
+        scratch,
+        chain,
+    );
+    let known = sampled.known;
+    let listed = sampled.listed;
+    let Listed::Count(n) = listed else {
+        base_lists::clear_from(chain, 0);
+        return Counted::Refused(8);
+    };
+    let params = &scratch[..n];
+    edge_place::place(
+        points,
+        curves,
+        reals,
+        parts,
+        ranges,
+        edge,
+        params,
+        known,
+        chain,
+    );
+    let used = &mut scratch[..n];
+    base_lists::clear_from(used, 0);
+    finish(points, curves, reals, parts, ranges, edge, r, chain, n)
+}
+
+// The edge's chain, from the start of chain, and +0.0 behind it, or everywhere where it is refused; +0.0 in all of scratch. The
+// usable range is known.
+pub fn discretise_over(
+    points: &[f64],
+    curves: &[u32],
+    reals: &[f64],
+    parts: &[u32],
+    ranges: &[f64],
+    edge: Edge,
+    usable: Usable,
+    r: Resolved,
+    chain: &mut [f64],
+    scratch: &mut [f64],
+) -> Counted
+    requires { ⌜ (8 ≤ length (now chain)) × (8 ≤ length (now scratch)) × (length (curveKnots (tree (lent points curves reals parts ranges) (edge .curve))) ≤ 8192)
+        × (usable ≡ usableRange (tree (lent points curves reals parts ranges) (edge .curve)) (edge .range)) ⌝ }
+    ensures { λ w. ⌜ Discretised (λ room. discretised room (lent (points .entry) (curves .entry) (reals .entry) (parts .entry) (ranges .entry)) edge r) (now (chain .entry)) (now (scratch .entry)) w (now (chain .exit)) (now (scratch .exit)) ⌝ }
+{
+    let Usable::Range(range) = usable else {
+        chord(points, edge, edge.range.lo, edge.range.hi, chain);
+        base_lists::clear_from(scratch, 0);
+        return Counted::Count(2);
+    };
+    let n = room(chain.len(), scratch.len());
+    let part = &mut scratch[..n];
+    let drawn = draw_range(
+        points,
+        curves,
+        reals,
+        parts,
+        ranges,
+        edge,
+        range,
+        r,
+        chain,
+        part,
+    );
+    base_lists::clear_from(scratch, n);
+    drawn
+}
+
+// The same of an edge alone.
+pub fn discretise(
+    points: &[f64],
+    curves: &[u32],
+    reals: &[f64],
+    parts: &[u32],
+    ranges: &[f64],
+    edge: Edge,
+    r: Resolved,
+    chain: &mut [f64],
+    scratch: &mut [f64],
+) -> Counted
+    requires { ⌜ (8 ≤ length (now chain)) × (8 ≤ length (now scratch)) × (length (curveKnots (tree (lent points curves reals parts ranges) (edge .curve))) ≤ 8192) ⌝ }
+    ensures { λ w. ⌜ Discretised (λ room. discretised room (lent (points .entry) (curves .entry) (reals .entry) (parts .entry) (ranges .entry)) edge r) (now (chain .entry)) (now (scratch .entry)) w (now (chain .exit)) (now (scratch .exit)) ⌝ }
+{
+    let usable = edge_range::usable_range(
+        points,
+        curves,
+        reals,
+        parts,
+        ranges,
+        edge.curve,
+        edge.range,
+    );
+    discretise_over(
+        points,
+        curves,
+        reals,
+        parts,
+        ranges,
+        edge,
+        usable,
+        r,
+        chain,
+        scratch,
+    )
+}

@@ -1,0 +1,63 @@
+-- The definitions at what the code has at hand. Assumes nothing.
+use mathlib.Core.Path.{_≡_, refl, _∙_}
+use mathlib.Core.Bool.{Bool, true, false}
+use Prim.Native.Nat.{ℕ}
+use lib.Dec.{eqb}
+use lib.Ieee.{Float, lt}
+use borrow.Author.Tests.{eqb-true, eqb-false}
+use Rattle.arith.specs.Notation.{_⊗_, _⊘_, nought}
+use Rattle.arith.specs.Pick.{absOf, minOf, maxOf}
+use Rattle.math.specs.declared.Interval.{Interval}
+use Rattle.math.specs.Math.{spanOf}
+use Rattle.brep.specs.Rows.{Tables}
+use Rattle.brep.specs.Tree.{CurveTree, tree}
+use Rattle.brep.proofs.ByKind.{kindIn, at-parabola, at-polyline, at-composite}
+use Rattle.curve.specs.declared.Repeats.{Repeats}
+use Rattle.curve.specs.Eval.{naturalRange, period}
+use Rattle.curve_parameter.specs.Under.{under}
+use Rattle.curve.proofs.Under.{under-same, under-rest}
+use Rattle.options.specs.declared.Resolved.{Resolved}
+use Rattle.options.specs.Options.{segmentsForArc}
+use Rattle.edge_params.specs.declared.Closed.{Closed}
+use Rattle.edge_params.specs.declared.Closed.the-variants.{Unknown, Segments}
+use Rattle.edge_range.specs.declared.Usable.the-variants.{Range}
+use Rattle.edge_range.specs.Usable.{ownRange, withinDomain, isNoRange, usableRange, ellipseRadius, analyticSegments}
+
+-- usable_range, of the curve's own range and its period
+module _ (c : CurveTree) (range : Interval) {natural : Interval} (e : natural ≡ naturalRange c) where
+  pub by-own : isNoRange range ≡ true → ownRange natural ≡ usableRange c range
+  unfolding usableRange
+  by-own h = rw (h, e)
+
+  pub by-edge : isNoRange range ≡ false → {p : Repeats} → p ≡ period c → Range (withinDomain p natural range) ≡ usableRange c range
+  unfolding usableRange
+  by-edge h g = rw (h, e, g)
+
+-- ellipse_radius, of the axes' lengths m and n, the larger a and the smaller b
+module _ (major minor : Float) {m n a b : Float} (em : m ≡ absOf major) (en : n ≡ absOf minor) (ea : a ≡ maxOf m n) (eb : b ≡ minOf m n) where
+  pub of-axes : lt nought a ≡ true → maxOf (b ⊗ b ⊘ a) b ≡ ellipseRadius major minor
+  unfolding ellipseRadius
+  of-axes h = rw (← em, ← en, ← ea, ← eb, h)
+
+  pub of-none : lt nought a ≡ false → maxOf nought b ≡ ellipseRadius major minor
+  unfolding ellipseRadius
+  of-none h = rw (← em, ← en, ← ea, ← eb, h)
+
+-- the segments of an arc
+pub arc : (r : Resolved) (range : Interval) {radius of total : Float} → radius ≡ of → total ≡ spanOf range → Segments (segmentsForArc r radius total) ≡ Segments (segmentsForArc r of (spanOf range))
+arc r range e g = rw (e, g)
+
+-- the curves whose curvature is not known: all but the first three kinds, at the row that the trims lead down to
+module _ (T : Tables) (range : Interval) (s : Resolved) (row : ℕ) {r kind : ℕ} (u : r ≡ under (T .curves) row) (k : kind ≡ kindIn T r) where
+  abbrev segments-at : CurveTree → Closed
+  segments-at c = analyticSegments c range s
+
+  pub unknown : ((Unit {0} × (kind ≡ 1 → ⊥)) × (kind ≡ 2 → ⊥)) × (kind ≡ 3 → ⊥) → Unknown ≡ analyticSegments (tree T row) range s
+  unfolding analyticSegments
+  unknown n = go (eqb kind 4) (eqb kind 5) (eqb kind 7) refl refl refl
+    where
+      go : (a b c : Bool) → eqb kind 4 ≡ a → eqb kind 5 ≡ b → eqb kind 7 ≡ c → Unknown ≡ segments-at (tree T row)
+      go true b c h i j = at-parabola segments-at T r k (eqb-true kind 4 h) refl refl ∙ under-same segments-at (λ b r. refl) T row u
+      go false true c h i j = at-polyline segments-at T r k (eqb-true kind 5 i) refl refl ∙ under-same segments-at (λ b r. refl) T row u
+      go false false true h i j = at-composite segments-at T r k (eqb-true kind 7 j) refl refl ∙ under-same segments-at (λ b r. refl) T row u
+      go false false false h i j = under-rest segments-at (λ b r. refl) T row u k (((n, eqb-false kind 4 h), eqb-false kind 5 i), eqb-false kind 7 j)

@@ -1,0 +1,61 @@
+-- edge.rs: usable_range and analytic_segments. Definitions only.
+use mathlib.Core.Bool.{Bool, cond, not, _&&_, _||_}
+use Prim.Native.Nat.{max}
+use lib.Ieee.{Float, lt, le}
+use lib.Ieee.Scale.{finite}
+use Rattle.arith.specs.Notation.{_⊕_, _⊖_, _⊗_, _⊘_, bits, nought}
+use Rattle.arith.specs.Pick.{absOf, minOf, maxOf}
+use Rattle.math.specs.declared.Interval.{Interval}
+use Rattle.math.specs.Math.{interval, spanOf}
+use Rattle.brep.specs.Tree.{CurveTree, line, circle, ellipse, parabola, polyline, trimmed, composite}
+use Rattle.curve.specs.declared.Repeats.{Repeats}
+use Rattle.curve.specs.declared.Repeats.the-variants.{Every, Never}
+use Rattle.curve.specs.Eval.{naturalRange, period}
+use Rattle.options.specs.declared.Resolved.{Resolved}
+use Rattle.options.specs.Options.{segmentsForArc}
+use Rattle.edge_params.specs.declared.Closed.{Closed}
+use Rattle.edge_params.specs.declared.Closed.the-variants.{Unknown, Segments}
+use Rattle.edge_range.specs.declared.Usable.{Usable}
+use Rattle.edge_range.specs.declared.Usable.the-variants.{Range, Unusable}
+
+-- ---- usable_range
+-- the curve's own range, where that spans under 1e9
+unfoldable pub ownRange : Interval → Usable
+ownRange natural =
+    cond (finite (spanOf natural) && lt (absOf (spanOf natural)) (bits 0x41CDCD6500000000)) (Range natural) Unusable
+
+-- the edge's range, held to the curve's own with a slack of 1e-9 of its span
+unfoldable pub heldTo : Interval → Interval → Interval
+heldTo natural range =
+    let slack = absOf (spanOf natural) ⊗ bits 0x3E112E0BE826D695 in
+    interval (maxOf (range .lo) (natural .lo ⊖ slack)) (minOf (range .hi) (natural .hi ⊕ slack))
+
+-- a periodic curve may run past its own range
+unfoldable pub withinDomain : Repeats → Interval → Interval → Interval
+withinDomain (Every p) natural range = range
+withinDomain Never natural range = heldTo natural range
+
+-- an edge's range is no range where it is not finite, empty or reversed
+abbrev pub isNoRange : Interval → Bool
+isNoRange range = not (finite (range .lo)) || (not (finite (range .hi)) || le (spanOf range) nought)
+
+unfoldable pub usableRange : CurveTree → Interval → Usable
+usableRange c range =
+    cond (isNoRange range) (ownRange (naturalRange c)) (Range (withinDomain (period c) (naturalRange c) range))
+
+-- ---- analytic_segments
+-- b * b / a, the radius of the tightest curvature, where a is above zero; the radius that an ellipse is sampled for
+unfoldable pub ellipseRadius : Float → Float → Float
+ellipseRadius major minor =
+    let a = maxOf (absOf major) (absOf minor) in
+    let b = minOf (absOf major) (absOf minor) in
+    maxOf (cond (lt nought a) (b ⊗ b ⊘ a) nought) b
+
+unfoldable pub analyticSegments : CurveTree → Interval → Resolved → Closed
+analyticSegments (line o d) range r = Segments (max (r .segments) 1)
+analyticSegments (circle f radius) range r = Segments (segmentsForArc r radius (spanOf range))
+analyticSegments (ellipse f major minor) range r = Segments (segmentsForArc r (ellipseRadius major minor) (spanOf range))
+analyticSegments (parabola f d) range r = Unknown
+analyticSegments (polyline ps) range r = Unknown
+analyticSegments (trimmed base own) range r = analyticSegments base range r
+analyticSegments (composite ss) range r = Unknown

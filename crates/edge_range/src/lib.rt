@@ -1,0 +1,132 @@
+// usable_range and analytic_segments of edge.rs, on rows.
+use curve::Repeats;
+use edge_params::Closed;
+use math::Interval;
+use options::Resolved;
+ghost use mathlib.Core.Path.{_≡_};
+ghost use Prim.Native.Nat.{max};
+ghost use Rattle.brep.specs.Rows.{lent};
+ghost use Rattle.brep.specs.Tree.{tree};
+ghost use Rattle.edge_range.specs.Usable.{ownRange, heldTo, withinDomain, isNoRange, usableRange, ellipseRadius, analyticSegments};
+
+// What `usable_range` finds: the range to sample, or none.
+pub enum Usable {
+    Range(Interval),
+    Unusable,
+}
+
+// Only a real domain will do: a line's spans the whole of model space.
+fn own_range(natural: Interval) -> Usable
+    ensures { λ r. ⌜ r ≡ ownRange natural ⌝ }
+{
+    let span = natural.span();
+    if arith::is_finite(span) {
+        if arith::abs(span) < 1e9 {
+            return Usable::Range(natural);
+        }
+    }
+    Usable::Unusable
+}
+
+fn held_to(natural: Interval, range: Interval) -> Interval
+    ensures { λ r. ⌜ r ≡ heldTo natural range ⌝ }
+{
+    let slack = arith::abs(natural.span()) * 1e-9;
+    Interval {
+        lo: arith::max(range.lo, natural.lo - slack),
+        hi: arith::min(range.hi, natural.hi + slack),
+    }
+}
+
+// A periodic curve may run past its own range.
+fn within_domain(repeats: Repeats, natural: Interval, range: Interval) -> Interval
+    ensures { λ r. ⌜ r ≡ withinDomain repeats natural range ⌝ }
+{
+    match repeats {
+        Repeats::Every(_) => range,
+        Repeats::Never => held_to(natural, range),
+    }
+}
+
+// Not finite, empty or reversed.
+fn is_no_range(range: Interval) -> bool
+    ensures { λ r. ⌜ r ≡ isNoRange range ⌝ }
+{
+    if arith::is_finite(range.lo) {
+        if arith::is_finite(range.hi) {
+            return range.span() <= 0.0;
+        }
+    }
+    true
+}
+
+pub fn usable_range(
+    points: &[f64],
+    curves: &[u32],
+    reals: &[f64],
+    parts: &[u32],
+    ranges: &[f64],
+    row: u32,
+    range: Interval,
+) -> Usable
+    ensures { λ r. ⌜ r ≡ usableRange (tree (lent (points .entry) (curves .entry) (reals .entry) (parts .entry) (ranges .entry)) row) range ⌝ }
+{
+    let natural = curve::natural_range(points, curves, reals, parts, ranges, row);
+    if is_no_range(range) {
+        return own_range(natural);
+    }
+    let repeats = curve::period(points, curves, reals, parts, ranges, row);
+    Usable::Range(within_domain(repeats, natural, range))
+}
+
+fn at_least_one(n: u64) -> u64
+    ensures { λ r. ⌜ r ≡ max n 1 ⌝ }
+{
+    if n < 1 { 1 } else { n }
+}
+
+// The tightest curvature of an ellipse is at the end of its longer axis. Either length may be written negative.
+fn ellipse_radius(semi_major: f64, semi_minor: f64) -> f64
+    ensures { λ r. ⌜ r ≡ ellipseRadius «semi_major» «semi_minor» ⌝ }
+{
+    let major = arith::abs(semi_major);
+    let minor = arith::abs(semi_minor);
+    let a = arith::max(major, minor);
+    let b = arith::min(major, minor);
+    if 0.0 < a {
+        return arith::max(b * b / a, b);
+    }
+    arith::max(0.0, b)
+}
+
+// The number of segments of a curve whose curvature is known in closed form.
+pub fn analytic_segments(
+    points: &[f64],
+    curves: &[u32],
+    reals: &[f64],
+    parts: &[u32],
+    ranges: &[f64],
+    row: u32,
+    range: Interval,
+    r: Resolved,
+) -> Closed
+    ensures { λ s. ⌜ s ≡ analyticSegments (tree (lent (points .entry) (curves .entry) (reals .entry) (parts .entry) (ranges .entry)) row) range r ⌝ }
+{
+    let base = curve::under_trims(curves, row);
+    let kind = brep::int_at(curves, base as usize * 3);
+    let at = base as usize * 2;
+    match kind {
+        1 => Closed::Segments(at_least_one(r.segments)),
+        2 => {
+            let radius = brep::float_at(reals, at);
+            Closed::Segments(r.segments_for_arc(radius, range.span()))
+        }
+        3 => {
+            let semi_major = brep::float_at(reals, at);
+            let semi_minor = brep::float_at(reals, at + 1);
+            let radius = ellipse_radius(semi_major, semi_minor);
+            Closed::Segments(r.segments_for_arc(radius, range.span()))
+        }
+        _ => Closed::Unknown,
+    }
+}

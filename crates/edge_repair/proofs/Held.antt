@@ -1,0 +1,200 @@
+-- What the buffers hold of a repair, from what they hold of its parts. Assumes nothing.
+use mathlib.Core.Path.{_≡_, refl, sym, ap, _∙_}
+use mathlib.Core.Logic.{⊎-elim}
+use mathlib.Core.Bool.{Bool, true, false}
+use mathlib.Core.List.{List, []}
+use Prim.Native.Nat.{ℕ, _-_, _*_, _≤_, _<_}
+use native.Mathlib.Omega.{arith}
+use lib.ListN.{length, replicate}
+use lib.Dec.{leb}
+use lib.Ieee.{Float, binary64, ofBits}
+use borrow.Author.Tests.{leb-true}
+use Rattle.base_lists.specs.Result.{Result, refused, got, bind}
+use Rattle.base_lists.specs.Room.{filled}
+use Rattle.base_lists.proofs.Filled.{filled-most}
+use Rattle.math.specs.declared.Aabb.{Aabb}
+use Rattle.brep.specs.declared.Edge.{Edge}
+use Rattle.brep.specs.Rows.{Tables}
+use Rattle.options.specs.declared.Resolved.{Resolved}
+use Rattle.edge_record.specs.declared.Sample.{Sample}
+use Rattle.edge_record.specs.declared.Counted.{Counted}
+use Rattle.edge_record.specs.declared.Counted.the-variants as counts
+use Rattle.edge_record.specs.Chain.{width, flat, samples}
+use Rattle.edge_record.specs.Chain.{answerOf as counted}
+use Rattle.edge_record.proofs.Laws.{length-flat, reads, samplesFrom-length}
+use Rattle.draw_spec.specs.declared.Way.{Way}
+use Rattle.draw_spec.specs.declared.Drawn.{Drawn}
+use Rattle.draw_spec.specs.declared.Drawn.the-variants.{Refused, Chain}
+use Rattle.draw_spec.specs.declared.Way.the-variants.{Runaway}
+use Rattle.draw_spec.specs.Edge.{chordOf, discretised}
+use Rattle.draw_spec.specs.Repair.{Got, by, escapes, runaway}
+use Rattle.draw_spec.specs.Draw.{roomOf, answerOf, inFirst, firstAfter, secondAfter}
+use Rattle.draw_spec.proofs.Outcome.{outcome-refused}
+use Rattle.draw_spec.proofs.Discretised.{Room, discretised-outcome}
+use Rattle.edge_discretise.specs.Discretised.{chainOf, Discretised}
+use Rattle.edge_repair.specs.Redrawn.{heldFirst, heldSecond, Redrawn, Left, InSecond}
+
+-- ---- `discretise` into the second buffer
+room-swap : (a b : ℕ) → roomOf a b ≡ roomOf b a
+unfolding roomOf
+room-swap a b = omega arith
+
+enough : (a b : ℕ) → 8 ≤ a → 8 ≤ b → Room (roomOf a b)
+unfolding roomOf
+enough a b h k = record { least = omega arith; most = omega arith }
+
+discretised-late : (T : Tables) (e : Edge) (r : Resolved) (a b n : ℕ) → 8 ≤ a → 8 ≤ b → discretised (roomOf a b) T e r ≡ refused n → 7 < n
+discretised-late T e r a b n h k q =
+    ⊎-elim (λ (z : n ≡ 8). omega arith) (λ (z : n ≡ 9). omega arith)
+    (outcome-refused n (discretised-outcome ⊥ T e (λ x. absurd x) (λ x. absurd x) (roomOf a b) (enough a b h k) r) q)
+
+-- a chain that is drawn into the second buffer, with the first as scratch; no refusal is below 8
+pub record Redrew (X : Result (List Sample)) (first second : List Float) (answer : Counted) (first' second' : List Float) : Type 0 where
+  pub answered : answer ≡ counted X
+  pub firstHolds : first' ≡ filled (length first) []
+  pub secondHolds : second' ≡ filled (length second) (flat (chainOf X))
+  pub late : (n : ℕ) → answer ≡ counts.Refused n → 7 < n
+
+pub redrew : (T : Tables) (e d : Edge) (r : Resolved) {first second : List Float} {w : Counted} {first' second' : List Float} → 8 ≤ length first → 8 ≤ length second → e ≡ d
+    → Discretised (λ room. discretised room T e r) second first w second' first'
+    → Redrew (discretised (roomOf (length first) (length second)) T d r) first second w first' second'
+redrew T e d r {first} {second} h k s p =
+    let q : discretised (roomOf (length second) (length first)) T e r ≡ discretised (roomOf (length first) (length second)) T d r =
+    rw (s, room-swap (length second) (length first)) in
+    let a = p .drew .answered ∙ ap counted q in
+    record {
+      answered = a;
+      firstHolds = p .cleared;
+      secondHolds = p .drew .holds ∙ ap (λ (X : Result (List Sample)). filled (length second) (flat (chainOf X))) q;
+      late = λ n t. go n (discretised (roomOf (length first) (length second)) T d r) (discretised-late T d r (length first) (length second) n h k) (sym t ∙ a);
+    }
+  where
+    go : (n : ℕ) (X : Result (List Sample)) → (X ≡ refused n → 7 < n) → counts.Refused n ≡ counted X → 7 < n
+    go n (refused m) f e = f (cc)
+    go n (got l) f e = absurd (let z : _≡_ {A = ℕ} 0 1 = cc in omega arith)
+
+-- ---- a chain that was drawn
+pub record Drew (X : Result (List Sample)) (n : ℕ) (c : List Float) : Type 0 where
+  pub chain : List Sample
+  pub is : X ≡ got chain
+  pub size : n ≡ length chain
+  pub floats : c ≡ filled (length c) (flat chain)
+
+module _ {X : Result (List Sample)} {first second : List Float} {w : Counted} {first' second' : List Float} (d : Redrew X first second w first' second') where
+  pub drew : (n : ℕ) → w ≡ counts.Count n → length second' ≡ length second → Drew X n second'
+  drew n t e = go X (sym t ∙ d .answered) (d .secondHolds)
+    where
+      go : (Y : Result (List Sample)) → counts.Count n ≡ counted Y → second' ≡ filled (length second) (flat (chainOf Y)) → Drew Y n second'
+      go (refused m) a b = absurd (let z : _≡_ {A = ℕ} 0 1 = cc in omega arith)
+      go (got l) a b = record { chain = l; is = refl; size = cc; floats = b ∙ ap (λ (k : ℕ). filled k (flat l)) (sym e) }
+
+  -- a refusal is carried on
+  pub redrawn-refused : (D : ℕ → Result Got) (f : List Sample → Result Got) (n : ℕ) → w ≡ counts.Refused n
+      → D (roomOf (length first) (length second)) ≡ bind X f → Redrawn D first second (Refused n) first' second'
+  unfolding answerOf heldFirst heldSecond flat
+  redrawn-refused D f n t q = go X (sym t ∙ d .answered) (d .secondHolds) q
+    where
+      go : (Y : Result (List Sample)) → counts.Refused n ≡ counted Y → second' ≡ filled (length second) (flat (chainOf Y)) → D (roomOf (length first) (length second)) ≡ bind Y f → Redrawn D first second (Refused n) first' second'
+      go (refused m) a b q = let z : n ≡ m = cc in record {
+        answered = rw (q, z);
+        firstHolds = rw q (d .firstHolds);
+        secondHolds = rw q b;
+        late = λ k u. let v : n ≡ k = cc in rw (sym v) (d .late n t);
+      }
+      go (got l) a b q = absurd (let z : _≡_ {A = ℕ} 0 1 = cc in omega arith)
+
+module _ {X : Result (List Sample)} {n : ℕ} {c : List Float} (d : Drew X n c) where
+  pub drew-room : width * n ≤ length c
+  drew-room = omega (arith, d .size, length-flat (d .chain), filled-most (length c) (flat (d .chain)) (sym (ap length (d .floats))))
+
+  pub drew-reads : samples n c ≡ d .chain
+  drew-reads = ap (λ (k : ℕ). samples k c) (d .size) ∙ ap (samples (length (d .chain))) (d .floats) ∙ reads (d .chain) (replicate (length c - length (flat (d .chain))) (ofBits binary64 0))
+
+  pub drew-own : c ≡ filled (length c) (flat (samples n c))
+  drew-own = d .floats ∙ ap (λ (l : List Sample). filled (length c) (flat l)) (sym drew-reads)
+
+  -- a test of the records is one of the chain
+  pub drew-escapes : (r : Resolved) (box b : Aabb) (t v : Bool) → b ≡ box → t ≡ escapes b r (samples n c) → t ≡ v → escapes box r (d .chain) ≡ v
+  drew-escapes r box b t v p q h = ap (escapes box r) (sym drew-reads) ∙ ap (λ (x : Aabb). escapes x r (samples n c)) (sym p) ∙ sym q ∙ h
+
+-- ---- a chain that is in the second buffer
+pub kept-second : (way : Way) (n : ℕ) (second : List Float) → inFirst way ≡ false → second ≡ filled (length second) (flat (samples n second))
+    → InSecond (by way (samples n second)) (length second) (Chain way n) second
+unfolding answerOf
+kept-second way n second w q = record { answered = ap (Chain way) (sym (samplesFrom-length second 0 n)); holds = q; there = w }
+
+pub chord-second : (T : Tables) (e : Edge) (n : ℕ) (second : List Float) → second ≡ filled n (flat (chordOf T e (e .range .lo) (e .range .lo)))
+    → InSecond (runaway T e) n (Chain Runaway 2) second
+unfolding answerOf
+chord-second T e n second q = record { answered = refl; holds = q; there = refl }
+
+module _ {g : Got} {n : ℕ} {w : Drawn} {second' : List Float} (i : InSecond g n w second') where
+  -- another name for it
+  pub second-is : (h : Got) → g ≡ h → InSecond h n w second'
+  second-is h q = record {
+    answered = i .answered ∙ ap (λ (x : Got). answerOf (got x)) q;
+    holds = i .holds ∙ ap (λ (x : Got). filled n (flat (x .chain))) q;
+    there = ap (λ (x : Got). inFirst (x .way)) (sym q) ∙ i .there;
+  }
+
+  -- with the first buffer cleared it is a repair's answer
+  pub redrawn-second : (D : ℕ → Result Got) (first second first' : List Float) → n ≡ length second → first' ≡ filled (length first) []
+      → got g ≡ D (roomOf (length first) (length second)) → Redrawn D first second w first' second'
+  unfolding answerOf heldFirst heldSecond
+  redrawn-second D first second first' m p q = record {
+    answered = i .answered ∙ ap answerOf q;
+    firstHolds = rw (← q, i .there) p;
+    secondHolds = rw (← q, i .there) (i .holds ∙ ap (λ (k : ℕ). filled k (flat (g .chain))) m);
+    late = λ k t. absurd (let a = i .answered in let z : _≡_ {A = ℕ} 0 1 = cc in omega arith);
+  }
+
+above : (n : ℕ) → 7 < n → leb n 7 ≡ false
+above n h = go (leb n 7) refl
+  where
+    go : (b : Bool) → leb n 7 ≡ b → leb n 7 ≡ false
+    go true q = absurd (omega (arith, leb-true n 7 q))
+    go false q = q
+
+-- ---- another name for the answer, and buffers that were as long
+module _ {D : ℕ → Result Got} {first second : List Float} {w : Drawn} {first' second' : List Float} (d : Redrawn D first second w first' second') where
+  pub redrawn-is : (E : ℕ → Result Got) → D (roomOf (length first) (length second)) ≡ E (roomOf (length first) (length second)) → Redrawn E first second w first' second'
+  redrawn-is E q = record {
+    answered = d .answered ∙ ap answerOf q;
+    firstHolds = d .firstHolds ∙ ap (λ (x : Result Got). filled (length first) (heldFirst x)) q;
+    secondHolds = d .secondHolds ∙ ap (λ (x : Result Got). filled (length second) (heldSecond x)) q;
+    late = d .late;
+  }
+
+  pub redrawn-from : (a b : List Float) → length first ≡ length a → length second ≡ length b → Redrawn D a b w first' second'
+  redrawn-from a b e f =
+      let q : roomOf (length first) (length second) ≡ roomOf (length a) (length b) = rw (e, f) in
+      record {
+        answered = d .answered ∙ ap (λ (k : ℕ). answerOf (D k)) q;
+        firstHolds = d .firstHolds ∙ ap (λ (k : ℕ). filled (length first) (heldFirst (D k))) q ∙ ap (λ (n : ℕ). filled n (heldFirst (D (roomOf (length a) (length b))))) e;
+        secondHolds = d .secondHolds ∙ ap (λ (k : ℕ). filled (length second) (heldSecond (D k))) q ∙ ap (λ (n : ℕ). filled n (heldSecond (D (roomOf (length a) (length b))))) f;
+        late = d .late;
+      }
+
+  -- no refusal leaves a buffer as before
+  pub redrawn-after : Left (D (roomOf (length first) (length second))) first second w first' second'
+  unfolding answerOf heldFirst heldSecond firstAfter secondAfter
+  redrawn-after = record {
+    answered = d .answered;
+    firstHolds = go (D (roomOf (length first) (length second))) (d .answered) (d .firstHolds);
+    secondHolds = to (D (roomOf (length first) (length second))) (d .answered) (d .secondHolds);
+  }
+    where
+      go : (X : Result Got) → w ≡ answerOf X → first' ≡ filled (length first) (heldFirst X) → first' ≡ firstAfter first X
+      go (refused n) a b = let z = above n (d .late n a) in rw z b
+      go (got g) a b = b
+
+      to : (X : Result Got) → w ≡ answerOf X → second' ≡ filled (length second) (heldSecond X) → second' ≡ secondAfter second X
+      to (refused n) a b = let z = above n (d .late n a) in rw z b
+      to (got g) a b = b
+
+-- ---- a chain that stays in the first
+pub kept-after : (D : Result Got) (way : Way) (n : ℕ) (first second : List Float) → D ≡ got (by way (samples n first)) → inFirst way ≡ true
+    → first ≡ filled (length first) (flat (samples n first)) → second ≡ filled (length second) []
+    → Left D first second (Chain way n) first second
+unfolding answerOf firstAfter secondAfter
+kept-after D way n first second q w p s = rw q (record { answered = ap (Chain way) (sym (samplesFrom-length first 0 n)); firstHolds = rw w p; secondHolds = rw w s })

@@ -1,0 +1,289 @@
+// repair_runaway of edge.rs: a chain that leaves the reference box is drawn another way, into the second buffer.
+use brep::Edge;
+use curve::Repeats;
+use draw_spec::Drawn;
+use draw_spec::Way;
+use edge_range::Usable;
+use edge_record::Counted;
+use math::Aabb;
+use math::Interval;
+use options::Resolved;
+ghost use mathlib.Core.Path.{_≡_};
+ghost use mathlib.Core.Bool.{true};
+ghost use mathlib.Core.List.{[]};
+ghost use Prim.Native.Nat.{_*_, _≤_};
+ghost use lib.ListN.{length};
+ghost use Rattle.base_lists.specs.Room.{filled};
+ghost use Rattle.brep.specs.Rows.{lent};
+ghost use Rattle.brep.specs.Tree.{tree};
+ghost use Rattle.knots.specs.Knots.{curveKnots};
+ghost use Rattle.edge_record.specs.Chain.{width, flat, samples};
+ghost use Rattle.draw_spec.specs.Repair.{by, withRange, reference, runaway, arcOrChord, byShortArc, repaired};
+ghost use Rattle.draw_spec.specs.Draw.{roomOf, inFirst};
+ghost use Rattle.edge_place.specs.Place.{ofPoints};
+ghost use Rattle.edge_repair.specs.Redrawn.{InSecond, Redrawn, Left, stays, isShortArc, shortRange, shortArc, complementArc, drawnComplement};
+
+// The edge with another range.
+fn with_range(edge: Edge, range: Interval) -> Edge
+    ensures { λ d. ⌜ d ≡ withRange edge range ⌝ }
+{
+    Edge {
+        curve: edge.curve,
+        start: edge.start,
+        end: edge.end,
+        sense: edge.sense,
+        range,
+        tolerance: edge.tolerance,
+        low: edge.low,
+        high: edge.high,
+    }
+}
+
+// The box that the caller gives.
+fn reference(points: &[f64], edge: Edge) -> Aabb
+    ensures { λ b. ⌜ b ≡ reference (ofPoints (now (points .entry))) edge ⌝ }
+{
+    Aabb {
+        min: brep::point(points, edge.low),
+        max: brep::point(points, edge.high),
+    }
+}
+
+// The chord of the vertices in the second buffer. Its parameters are lo twice: it runs through nothing of the curve.
+fn runaway(points: &[f64], edge: Edge, second: &mut [f64]) -> Drawn
+    requires { ⌜ 8 ≤ length (now second) ⌝ }
+    ensures { λ w. ⌜ InSecond (runaway (ofPoints (now (points .entry))) edge) (length (now (second .entry))) w (now (second .exit)) ⌝ }
+{
+    edge_discretise::chord(points, edge, edge.range.lo, edge.range.lo, second);
+    Drawn::Chain(Way::Runaway, 2)
+}
+
+// Whether an arc stays inside and reaches both vertices.
+fn is_short_arc(points: &[f64], edge: Edge, r: Resolved, chain: &[f64], n: usize) -> bool
+    requires { ⌜ width * n ≤ length (now chain) ⌝ }
+    ensures { λ b. ⌜ b ≡ isShortArc (ofPoints (now (points .entry))) edge r (samples n (now (chain .entry))) ⌝ }
+{
+    if edge_escape::escapes(reference(points, edge), r, chain, n) {
+        return false;
+    }
+    let start = brep::point(points, edge.start);
+    let end = brep::point(points, edge.end);
+    edge_escape::reaches(edge, r, start, chain, n) && edge_escape::reaches(edge, r, end, chain, n)
+}
+
+// The arc in the second buffer where it serves, else the chord.
+fn arc_or_chord(points: &[f64], edge: Edge, r: Resolved, second: &mut [f64], n: usize) -> Drawn
+    requires { ⌜ (8 ≤ length (now second)) × (width * n ≤ length (now second)) × (now second ≡ filled (length (now second)) (flat (samples n (now second)))) ⌝ }
+    ensures { λ w. ⌜ InSecond (arcOrChord (ofPoints (now (points .entry))) edge r (samples n (now (second .entry)))) (length (now (second .entry))) w (now (second .exit)) ⌝ }
+{
+    if is_short_arc(points, edge, r, second, n) {
+        return Drawn::Chain(Way::ShortArc, n);
+    }
+    runaway(points, edge, second)
+}
+
+// From the parameter nearest to one vertex to that nearest to the other.
+fn short_range(
+    points: &[f64],
+    curves: &[u32],
+    reals: &[f64],
+    parts: &[u32],
+    ranges: &[f64],
+    edge: Edge,
+) -> Interval
+    ensures { λ i. ⌜ i ≡ shortRange (lent (points .entry) (curves .entry) (reals .entry) (parts .entry) (ranges .entry)) edge ⌝ }
+{
+    let start = brep::point(points, edge.start);
+    let end = brep::point(points, edge.end);
+    let w = edge_escape::nearest(points, curves, reals, parts, ranges, edge.curve, start, end);
+    if w.start <= w.end {
+        return Interval {
+            lo: w.start,
+            hi: w.end,
+        };
+    }
+    Interval {
+        lo: w.end,
+        hi: w.start,
+    }
+}
+
+// The range of the arc between the parameters at which the vertices sit, where there is one.
+fn short_arc(
+    points: &[f64],
+    curves: &[u32],
+    reals: &[f64],
+    parts: &[u32],
+    ranges: &[f64],
+    edge: Edge,
+) -> Usable
+    ensures { λ u. ⌜ u ≡ shortArc (lent (points .entry) (curves .entry) (reals .entry) (parts .entry) (ranges .entry)) edge ⌝ }
+{
+    let natural = curve::natural_range(points, curves, reals, parts, ranges, edge.curve);
+    let span = natural.span();
+    if arith::is_finite(span) && 0.0 < span {
+        let short = short_range(points, curves, reals, parts, ranges, edge);
+        if 0.0 < short.span() {
+            return Usable::Range(short);
+        }
+    }
+    Usable::Unusable
+}
+
+// Where the range itself ran away: the short arc, drawn and tried, else the chord.
+fn by_short_arc(
+    points: &[f64],
+    curves: &[u32],
+    reals: &[f64],
+    parts: &[u32],
+    ranges: &[f64],
+    edge: Edge,
+    r: Resolved,
+    first: &mut [f64],
+    second: &mut [f64],
+) -> Drawn
+    requires { ⌜ (8 ≤ length (now first)) × (8 ≤ length (now second)) × (length (curveKnots (tree (lent points curves reals parts ranges) (edge .curve))) ≤ 8192) ⌝ }
+    ensures { λ w. ⌜ Redrawn (λ room. byShortArc room (lent (points .entry) (curves .entry) (reals .entry) (parts .entry) (ranges .entry)) edge r) (now (first .entry)) (now (second .entry)) w (now (first .exit)) (now (second .exit)) ⌝ }
+{
+    let arc = short_arc(points, curves, reals, parts, ranges, edge);
+    let Usable::Range(short) = arc else {
+        base_lists::clear_from(first, 0);
+        return runaway(points, edge, second);
+    };
+    let d = with_range(edge, short);
+    let drawn = edge_discretise::discretise(
+        points,
+        curves,
+        reals,
+        parts,
+        ranges,
+        d,
+        r,
+        second,
+        first,
+    );
+    match drawn {
+        Counted::Refused(cause) => Drawn::Refused(cause),
+        Counted::Count(n) => arc_or_chord(points, edge, r, second, n),
+    }
+}
+
+// The complementary arc, drawn and tried; where it escapes too, the short arc.
+fn draw_complement(
+    points: &[f64],
+    curves: &[u32],
+    reals: &[f64],
+    parts: &[u32],
+    ranges: &[f64],
+    edge: Edge,
+    r: Resolved,
+    complement: Interval,
+    first: &mut [f64],
+    second: &mut [f64],
+) -> Drawn
+    requires { ⌜ (8 ≤ length (now first)) × (8 ≤ length (now second)) × (length (curveKnots (tree (lent points curves reals parts ranges) (edge .curve))) ≤ 8192) ⌝ }
+    ensures { λ w. ⌜ Redrawn (drawnComplement (lent (points .entry) (curves .entry) (reals .entry) (parts .entry) (ranges .entry)) edge r complement) (now (first .entry)) (now (second .entry)) w (now (first .exit)) (now (second .exit)) ⌝ }
+{
+    let d = with_range(edge, complement);
+    let drawn = edge_discretise::discretise(
+        points,
+        curves,
+        reals,
+        parts,
+        ranges,
+        d,
+        r,
+        second,
+        first,
+    );
+    match drawn {
+        Counted::Refused(cause) => Drawn::Refused(cause),
+        Counted::Count(n) => {
+            if edge_escape::escapes(reference(points, edge), r, second, n) {
+                return by_short_arc(points, curves, reals, parts, ranges, edge, r, first, second);
+            }
+            Drawn::Chain(Way::Complement, n)
+        }
+    }
+}
+
+// The range of the complementary arc, where there is one: it runs from where the arc ends back round to where it began, on
+// a periodic curve.
+fn complement_arc(
+    points: &[f64],
+    curves: &[u32],
+    reals: &[f64],
+    parts: &[u32],
+    ranges: &[f64],
+    edge: Edge,
+) -> Usable
+    ensures { λ u. ⌜ u ≡ complementArc (lent (points .entry) (curves .entry) (reals .entry) (parts .entry) (ranges .entry)) edge ⌝ }
+{
+    let period = curve::period(points, curves, reals, parts, ranges, edge.curve);
+    let Repeats::Every(p) = period else {
+        return Usable::Unusable;
+    };
+    let complement = Interval {
+        lo: edge.range.hi,
+        hi: edge.range.lo + p,
+    };
+    if 0.0 < complement.span() {
+        return Usable::Range(complement);
+    }
+    Usable::Unusable
+}
+
+// Whether a chain stays: a box of no extent cannot say that anything ran away from it.
+fn stays(points: &[f64], edge: Edge, r: Resolved, chain: &[f64], n: usize) -> bool
+    requires { ⌜ width * n ≤ length (now chain) ⌝ }
+    ensures { λ b. ⌜ b ≡ stays (ofPoints (now (points .entry))) edge r (samples n (now (chain .entry))) ⌝ }
+{
+    let b = reference(points, edge);
+    if b.is_empty() {
+        return true;
+    }
+    if edge_escape::escapes(b, r, chain, n) {
+        return !(0.0 < b.diagonal());
+    }
+    true
+}
+
+// Keeps the chain of n records that stands alone in the first buffer, or draws another way into the second and clears
+// the first.
+pub fn repair_runaway(
+    points: &[f64],
+    curves: &[u32],
+    reals: &[f64],
+    parts: &[u32],
+    ranges: &[f64],
+    edge: Edge,
+    r: Resolved,
+    way: Way,
+    n: usize,
+    first: &mut [f64],
+    second: &mut [f64],
+) -> Drawn
+    requires { ⌜ (8 ≤ length (now first)) × (8 ≤ length (now second)) × (length (curveKnots (tree (lent points curves reals parts ranges) (edge .curve))) ≤ 8192)
+        × (width * n ≤ length (now first)) × (now first ≡ filled (length (now first)) (flat (samples n (now first)))) × (now second ≡ filled (length (now second)) []) × (inFirst way ≡ true) ⌝ }
+    ensures { λ w. ⌜ Left (repaired (roomOf (length (now (first .entry))) (length (now (second .entry)))) (lent (points .entry) (curves .entry) (reals .entry) (parts .entry) (ranges .entry)) edge r (by way (samples n (now (first .entry))))) (now (first .entry)) (now (second .entry)) w (now (first .exit)) (now (second .exit)) ⌝ }
+{
+    if stays(points, edge, r, first, n) {
+        return Drawn::Chain(way, n);
+    }
+    let arc = complement_arc(points, curves, reals, parts, ranges, edge);
+    let Usable::Range(complement) = arc else {
+        return by_short_arc(points, curves, reals, parts, ranges, edge, r, first, second);
+    };
+    draw_complement(
+        points,
+        curves,
+        reals,
+        parts,
+        ranges,
+        edge,
+        r,
+        complement,
+        first,
+        second,
+    )
+}

@@ -1,0 +1,97 @@
+-- What callers cite of `sampled`: at least two parameters, and no more than the room has. Assumes nothing.
+use mathlib.Core.Path.{_≡_, refl}
+use mathlib.Core.Bool.{Bool, true, false}
+use mathlib.Core.List.{List}
+use Prim.Native.Nat.{ℕ, suc, max, _-_, _≤_}
+use native.Mathlib.Omega.{arith}
+use lib.Dec.{leb, ltb}
+use lib.ListN.{length}
+use lib.Ieee.{Float}
+use borrow.Author.Tests.{ltb-true}
+use Rattle.base_lists.specs.Result.{Result, refused, got, bind}
+use Rattle.math.specs.declared.Interval.{Interval}
+use Rattle.brep.specs.Tree.{CurveTree, line, circle, ellipse, parabola, polyline, trimmed, composite}
+use Rattle.options.specs.declared.Resolved.{Resolved}
+use Rattle.options.specs.Options.{segmentsForArc}
+use Rattle.edge_params.specs.declared.Closed.{Closed}
+use Rattle.edge_params.specs.declared.Closed.the-variants.{Unknown, Segments}
+use Rattle.edge_params.specs.Params.{Sampler, evenly, fitting, bisected, floored, refined, sampleParams}
+use Rattle.edge_params.proofs.Lists.{Outcome, list, eight, outcome-got, steps-length, sampled-length}
+use Rattle.edge_range.specs.Usable.{analyticSegments}
+use Rattle.edge_sample.specs.Sample.{sampler, sampled}
+use Rattle.edge_sample.proofs.Settled.{bisected-long}
+
+-- ---- a closed form has at least one segment
+at-least : (m n : ℕ) → Segments (max m 1) ≡ Segments n → 1 ≤ n
+at-least m n e = let p : max m 1 ≡ n = cc in omega arith
+
+formless : (n : ℕ) → Unknown ≡ Segments n → 1 ≤ n
+formless n e = let z : _≡_ {A = ℕ} 0 1 = cc in absurd (omega arith)
+
+form-some : (c : CurveTree) (range : Interval) (r : Resolved) (n : ℕ) → analyticSegments c range r ≡ Segments n → 1 ≤ n
+unfolding analyticSegments segmentsForArc
+form-some (line o d) range r n e = at-least _ n e
+form-some (circle f radius) range r n e = at-least _ n e
+form-some (ellipse f major minor) range r n e = at-least _ n e
+form-some (parabola f d) range r n e = formless n e
+form-some (polyline ps) range r n e = formless n e
+form-some (trimmed base own) range r n e = form-some base range r n e
+form-some (composite ss) range r n e = formless n e
+
+-- ---- two parameters or more
+abbrev Long : List Float → Type 0
+Long l = 2 ≤ length l
+
+module _ (room : ℕ) (s : Sampler) (range : Interval) where
+  fitting-long : (l : List Float) → Long l → Outcome Long (fitting room l)
+  unfolding fitting
+  fitting-long l h = go (leb (length l) room)
+    where
+      go : (t : Bool) → Outcome Long (elim t [ true ↦ got l | false ↦ refused 8 ])
+      go true = list h
+      go false = eight
+
+  even-long : (n : ℕ) → 1 ≤ n → Outcome Long (fitting room (evenly range n))
+  even-long n h = fitting-long (evenly range n) (omega (arith, steps-length range n (suc n)))
+
+  floored-long : (l : List Float) → Long l → Outcome Long (floored room s range l)
+  unfolding floored
+  floored-long l h = go (ltb (length l - 1) (s .least)) refl
+    where
+      go : (t : Bool) → ltb (length l - 1) (s .least) ≡ t → Outcome Long (elim t [ true ↦ fitting room (evenly range (s .least)) | false ↦ got l ])
+      go true p = even-long (s .least) (omega (arith, ltb-true (length l - 1) (s .least) p))
+      go false p = list h
+
+  then-long : {x : Result (List Float)} (f : List Float → Result (List Float)) → Outcome Long x
+      → ((l : List Float) → Long l → Outcome Long (f l)) → Outcome Long (bind x f)
+  then-long f (list {l = l} p) g = g l p
+  then-long f eight g = eight
+
+  refined-long : Outcome Long (refined room s range)
+  unfolding refined
+  refined-long = then-long (floored room s range) (fitting-long (bisected s range) (bisected-long s range)) floored-long
+
+  sampled-long : ((n : ℕ) → s .closed ≡ Segments n → 1 ≤ n) → Outcome Long (sampleParams room s range)
+  unfolding sampleParams
+  sampled-long some = go (s .closed) refl
+    where
+      checked : (l : List Float) → Long l → (t : Bool) → Outcome Long (elim t [ true ↦ got l | false ↦ refined room s range ])
+      checked l h true = list h
+      checked l h false = refined-long
+
+      go : (x : Closed) → s .closed ≡ x → Outcome Long (elim x [
+        | Unknown ↦ refined room s range
+        | Segments n ↦ bind (fitting room (evenly range n)) (λ l. elim (s .meets l) [ true ↦ got l | false ↦ refined room s range ])
+      ])
+      go Unknown e = refined-long
+      go (Segments n) e =
+          then-long (λ l. elim (s .meets l) [ true ↦ got l | false ↦ refined room s range ]) (even-long n (some n e)) (λ l h. checked l h (s .meets l))
+
+module _ (room : ℕ) (c : CurveTree) (range : Interval) (r : Resolved) (l : List Float) (e : sampled room c range r ≡ got l) where
+  pub sampled-two : 2 ≤ length l
+  unfolding sampled sampler
+  sampled-two = outcome-got l (sampled-long room (sampler c range r) range (form-some c range r)) e
+
+  pub sampled-room : length l ≤ room
+  unfolding sampled
+  sampled-room = sampled-length room (sampler c range r) range l e

@@ -1,0 +1,91 @@
+-- `edge_sample::refine` meets its contract. Assumes nothing.
+use mathlib.Core.Path.{refl}
+use native.Mathlib.Omega.{arith}
+use lib.ListN.{length}
+use borrow.Author.Needs.{needs}
+use Rattle.brep.specs.Rows.{tables}
+use Rattle.brep.specs.Tree.{CurveTree, tree}
+use Rattle.edge_params.specs.Params.{Sampler, refined}
+use Rattle.edge_sample.specs.Sample.{sampler}
+use Rattle.edge_sample.proofs.Settled.{settle-room, settled, some, refined-refused, refined-few, refined-enough}
+use Rattle.edge_sample.proofs.refine.Statement.{statement}
+use Rattle.edge_sample.proofs.refine.Tie as tie
+
+-- the curve that is read
+abbrev curve-of : tie.Start → CurveTree
+curve-of st =
+    let a = st .args in
+    tree (tables (a .points .now) (a .curves .now) (a .reals .now) (a .parts .now) (a .ranges .now)) (a .row)
+
+abbrev sampler-of : tie.Start → Sampler
+sampler-of st = sampler (curve-of st) (st .args .range) (st .args .r)
+
+settle-requires : tie.Need-settle-requires
+settle-requires c κs = settle-room _ _ refl (c .before .before .before .before .before .bisect-range .ensures)
+
+returns : tie.Need-returns
+returns c =
+    let st = c .before .before .before .before .before .before .before .before .before .before .before .before .before .before .before .before in
+    settled _ _ refl (c .before .before .before .before .before .before .before .before .bisect-range .ensures) (length
+    (st .args .out .now)) (refined (length (st .args .out .now)) (sampler-of st) (st .args .range)) refl (refined-refused (sampler-of st)
+    (st .args .range) _ (c .before .before .before .before .before .before .before .before .bisect-range .ensures)
+    (c .before .before .before .before .enum-told .given .1)) _ _ (c .before .before .settle .ensures .0)
+    (c .before .before .settle .ensures .1)
+
+sub-if1 : tie.Need-sub-if1
+sub-if1 c =
+    let st = c .before .before .before .before .before .before .before .before .before .before .before .before .before in
+    let h = some (sampler-of st) (st .args .range) _ (c .before .before .before .before .before .bisect-range .ensures) _
+    (c .before .listed .given .1) in
+    omega arith
+
+settle-requires-2 : tie.Need-settle-requires-2
+settle-requires-2 c κs = settle-room _ _ refl (c .before .before .before .evenly .ensures)
+
+returns-2 : tie.Need-returns-2
+unfolding sampler
+returns-2 c =
+    let st = c .before .before .before .before .before .before .before .before .before .before .before .before .before .before .before .before .before .before .before .before .before .before .before in
+    settled _ _ refl (c .before .before .before .before .before .before .evenly .ensures) (length (st .args .out .now)) (refined
+    (length (st .args .out .now)) (sampler-of st) (st .args .range))
+    (c .before .before .before .before .before .before .before .before .before .before .before .before .before .before .out .given)
+    (refined-few (sampler-of st) (st .args .range) _
+    (c .before .before .before .before .before .before .before .before .before .before .before .before .before .before .before .bisect-range .ensures)
+    _ (c .before .before .before .before .before .before .before .before .before .before .before .listed .given .1)
+    (c .before .before .before .before .before .before .before .before .if1 .taken)) _ _ (c .before .before .settle2 .ensures .0)
+    (c .before .before .settle2 .ensures .1)
+
+settle-requires-3 : tie.Need-settle-requires-3
+settle-requires-3 c κs =
+    settle-room _ _ (c .before .before .before .before .listed .given .1)
+    (c .before .before .before .before .before .before .before .before .bisect-range .ensures)
+
+returns-3 : tie.Need-returns-3
+unfolding sampler
+returns-3 c =
+    let st = c .before .before .before .before .before .before .before .before .before .before .before .before .before .before .before .before .before .before .before in
+    settled _ _ (c .before .before .before .before .before .before .before .listed .given .1)
+    (c .before .before .before .before .before .before .before .before .before .before .before .bisect-range .ensures) (length
+    (st .args .out .now)) (refined (length (st .args .out .now)) (sampler-of st) (st .args .range)) refl (refined-enough (sampler-of st)
+    (st .args .range) _ (c .before .before .before .before .before .before .before .before .before .before .before .bisect-range .ensures) _
+    (c .before .before .before .before .before .before .before .listed .given .1) (c .before .before .before .before .if1 .left)) _ _
+    (c .before .before .settle3 .ensures .0) (c .before .before .settle3 .ensures .1)
+
+pub refine-spec : {M : Type 1} → statement M
+refine-spec =
+    tie.close
+    (tie.spec
+    (λ c κs. search needs)
+    (λ c. search needs)
+    (λ c. search needs)
+    settle-requires
+    (λ c. search needs)
+    returns
+    sub-if1
+    (λ c κs. search needs)
+    settle-requires-2
+    (λ c. search needs)
+    returns-2
+    settle-requires-3
+    (λ c. search needs)
+    returns-3)

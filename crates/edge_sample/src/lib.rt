@@ -1,0 +1,346 @@
+// sample_params of edge.rs, on rows.
+use curve_prepared::Ready;
+use edge_params::Closed;
+use edge_params::Listed;
+use edge_subdivide::End;
+use edge_subdivide::Limits;
+use knots::Knots;
+use math::Interval;
+use options::Resolved;
+ghost use mathlib.Core.Path.{_≡_};
+ghost use mathlib.Core.Bool.{false};
+ghost use mathlib.Core.List.{_++_};
+ghost use Prim.Native.Nat.{_*_, _≤_};
+ghost use lib.ListN.{length, getD, take};
+ghost use lib.Seq.{sets};
+ghost use lib.Ieee.{nan};
+ghost use Rattle.base_lists.specs.Room.{filled};
+ghost use Rattle.brep.specs.Rows.{lent};
+ghost use Rattle.brep.specs.Tree.{tree};
+ghost use Rattle.curve_prepared.specs.Ready.{readyOf};
+ghost use Rattle.edge_params.specs.Params.{subdivided, unlessHi, bisected, refined};
+ghost use Rattle.edge_params.specs.Held.{Held, Behind};
+ghost use Rattle.knots.specs.Knots.{curveKnots};
+ghost use Rattle.knots_thin.specs.Thin.{keptBreaks};
+ghost use Rattle.edge_subdivide.specs.Bisect.{endAt, withinBudget, limitsOf};
+ghost use Rattle.edge_record.specs.Chain.{width, flat};
+ghost use Rattle.edge_closed_form.specs.Located.{located};
+ghost use Rattle.edge_sample.specs.Sample.{sampler, sampled};
+ghost use Rattle.edge_sample.specs.Tried.{tried, isKept};
+ghost use Rattle.edge_sample.specs.Answered.{Answered, countOf, stops};
+
+// Stop number i of the walk. The breaks are read backwards where the range runs down.
+fn stop_at(range: Interval, breaks: &[f64], i: usize) -> f64
+    requires { ⌜ i ≤ length (now breaks) ⌝ }
+    ensures { λ w. ⌜ w ≡ getD (stops range (now (breaks .entry))) i nan ⌝ }
+{
+    let n = breaks.len();
+    if i == n {
+        return range.hi;
+    }
+    if range.hi < range.lo {
+        breaks[n - 1 - i]
+    } else {
+        breaks[i]
+    }
+}
+
+// A span of the walk: what bisection puts inside it, then its end, unless that is range.hi, which stands once at the list's end.
+fn step(
+    points: &[f64],
+    curves: &[u32],
+    reals: &[f64],
+    parts: &[u32],
+    ranges: &[f64],
+    row: u32,
+    ready: Ready,
+    range: Interval,
+    r: Resolved,
+    limits: Limits,
+    left: End,
+    right: End,
+    out: &mut [f64],
+    k: usize,
+) -> Listed
+    requires { ⌜ (ready ≡ readyOf (tree (lent points curves reals parts ranges) row)) × (limits ≡ limitsOf r)
+        × (left ≡ endAt (tree (lent points curves reals parts ranges) row) (left .t)) × (right ≡ endAt (tree (lent points curves reals parts ranges) row) (right .t)) × (k ≤ length (now out)) ⌝ }
+    ensures { λ w. ⌜ Behind (now (out .entry)) k (subdivided (withinBudget (tree (lent (points .entry) (curves .entry) (reals .entry) (parts .entry) (ranges .entry)) row) r) (r .depth) (left .t) (right .t) ++ unlessHi range (right .t)) w (now (out .exit)) ⌝ }
+{
+    let inside = edge_subdivide::subdivide(
+        points,
+        curves,
+        reals,
+        parts,
+        ranges,
+        row,
+        ready,
+        r,
+        limits,
+        left,
+        right,
+        r.depth,
+        out,
+        k,
+    );
+    let Listed::Count(n) = inside else {
+        return Listed::Refused;
+    };
+    if right.t != range.hi {
+        return edge_params::push(out, n, right.t);
+    }
+    Listed::Count(n)
+}
+
+// range.lo, the spans between the stops, range.hi.
+fn walk(
+    points: &[f64],
+    curves: &[u32],
+    reals: &[f64],
+    parts: &[u32],
+    ranges: &[f64],
+    row: u32,
+    range: Interval,
+    r: Resolved,
+    breaks: &[f64],
+    out: &mut [f64],
+) -> Listed
+    requires { ⌜ now breaks ≡ keptBreaks (tree (lent points curves reals parts ranges) row) (range .lo) (range .hi) (r .sag) ⌝ }
+    ensures { λ w. ⌜ Held (now (out .entry)) (bisected (sampler (tree (lent (points .entry) (curves .entry) (reals .entry) (parts .entry) (ranges .entry)) row) range r) range) w (now (out .exit)) ⌝ }
+{
+    let ready = curve_prepared::ready_at(points, curves, reals, parts, ranges, row);
+    let limits = edge_subdivide::limits_of(r);
+    let pushed = edge_params::push(out, 0, range.lo);
+    let Listed::Count(first) = pushed else {
+        return Listed::Refused;
+    };
+    let mut k = first;
+    let mut left = edge_subdivide::end_at(
+        points,
+        curves,
+        reals,
+        parts,
+        ranges,
+        row,
+        ready,
+        range.lo,
+    );
+    let mut i = 0usize;
+    while i <= breaks.len() {
+        let b = stop_at(range, breaks, i);
+        let right = edge_subdivide::end_at(points, curves, reals, parts, ranges, row, ready, b);
+        let stepped = step(
+            points,
+            curves,
+            reals,
+            parts,
+            ranges,
+            row,
+            ready,
+            range,
+            r,
+            limits,
+            left,
+            right,
+            out,
+            k,
+        );
+        let Listed::Count(n) = stepped else {
+            return Listed::Refused;
+        };
+        k = n;
+        left = right;
+        i += 1;
+    }
+    edge_params::push(out, k, range.hi)
+}
+
+// The walk over the breaks of a curve that has knots.
+fn walk_breaks(
+    points: &[f64],
+    curves: &[u32],
+    reals: &[f64],
+    parts: &[u32],
+    ranges: &[f64],
+    row: u32,
+    range: Interval,
+    r: Resolved,
+    out: &mut [f64],
+) -> Listed
+    requires { ⌜ length (curveKnots (tree (lent points curves reals parts ranges) row)) ≤ 8192 ⌝ }
+    ensures { λ w. ⌜ Held (now (out .entry)) (bisected (sampler (tree (lent (points .entry) (curves .entry) (reals .entry) (parts .entry) (ranges .entry)) row) range r) range) w (now (out .exit)) ⌝ }
+{
+    let mut breaks = [0.0; 8192];
+    let kept = knots_thin::kept_breaks(
+        points,
+        curves,
+        reals,
+        parts,
+        ranges,
+        row,
+        range.lo,
+        range.hi,
+        r.sag,
+        &mut breaks,
+    );
+    // Never else: the knots fit.
+    let Knots::Count(m) = kept else {
+        return Listed::Refused;
+    };
+    walk(
+        points,
+        curves,
+        reals,
+        parts,
+        ranges,
+        row,
+        range,
+        r,
+        &breaks[..m],
+        out,
+    )
+}
+
+// Bisection between the breaks. Most curves have no knots, and need no room for breaks.
+fn bisect_range(
+    points: &[f64],
+    curves: &[u32],
+    reals: &[f64],
+    parts: &[u32],
+    ranges: &[f64],
+    row: u32,
+    range: Interval,
+    r: Resolved,
+    out: &mut [f64],
+) -> Listed
+    requires { ⌜ length (curveKnots (tree (lent points curves reals parts ranges) row)) ≤ 8192 ⌝ }
+    ensures { λ w. ⌜ Held (now (out .entry)) (bisected (sampler (tree (lent (points .entry) (curves .entry) (reals .entry) (parts .entry) (ranges .entry)) row) range r) range) w (now (out .exit)) ⌝ }
+{
+    if knots::knot_count(points, curves, reals, parts, ranges, row) == 0 {
+        let none = [0.0; 1];
+        return walk(
+            points,
+            curves,
+            reals,
+            parts,
+            ranges,
+            row,
+            range,
+            r,
+            &none[..0],
+            out,
+        );
+    }
+    walk_breaks(points, curves, reals, parts, ranges, row, range, r, out)
+}
+
+// +0.0 behind the list, or everywhere where it was refused.
+fn settle(listed: Listed, out: &mut [f64]) -> Listed
+    requires { ⌜ countOf listed ≤ length (now out) ⌝ }
+    ensures { λ w. ⌜ (w ≡ listed) × (now (out .exit) ≡ filled (length (now (out .entry))) (take (countOf listed) (now (out .entry)))) ⌝ }
+{
+    match listed {
+        Listed::Count(n) => {
+            base_lists::clear_from(out, n);
+            Listed::Count(n)
+        }
+        Listed::Refused => {
+            base_lists::clear_from(out, 0);
+            Listed::Refused
+        }
+    }
+}
+
+// Bisection, then the segment floor: even steps where the list has fewer segments.
+fn refine(
+    points: &[f64],
+    curves: &[u32],
+    reals: &[f64],
+    parts: &[u32],
+    ranges: &[f64],
+    row: u32,
+    range: Interval,
+    r: Resolved,
+    out: &mut [f64],
+) -> Listed
+    requires { ⌜ length (curveKnots (tree (lent points curves reals parts ranges) row)) ≤ 8192 ⌝ }
+    ensures { λ w. ⌜ Answered (length (now (out .entry))) (refined (length (now (out .entry))) (sampler (tree (lent (points .entry) (curves .entry) (reals .entry) (parts .entry) (ranges .entry)) row) range r) range) w (now (out .exit)) ⌝ }
+{
+    let listed = bisect_range(points, curves, reals, parts, ranges, row, range, r, out);
+    let Listed::Count(n) = listed else {
+        return settle(listed, out);
+    };
+    if (n as u64) - 1 < r.segments {
+        let even = edge_params::evenly(range, r.segments, out);
+        return settle(even, out);
+    }
+    settle(listed, out)
+}
+
+// What sampling answers: how many parameters there are, or that they were refused; and whether the chain's records hold the
+// curve's points at them.
+pub struct Sampled {
+    pub listed: Listed,
+    pub known: bool,
+}
+
+fn unknown(listed: Listed) -> Sampled
+    ensures { λ w. ⌜ (w .listed ≡ listed) × (w .known ≡ false) ⌝ }
+{
+    Sampled {
+        listed,
+        known: false,
+    }
+}
+
+// The parameters of the curve of a row over a range, from the start of out, and +0.0 behind them; refusal 8, and +0.0 everywhere,
+// where a list is longer than out. A closed form gives even steps, but only where it is given the right radius: it is checked
+// against the sag, and where it misses that the curve is bisected. For the check its points are worked out: the chain has them.
+pub fn sample_params(
+    points: &[f64],
+    curves: &[u32],
+    reals: &[f64],
+    parts: &[u32],
+    ranges: &[f64],
+    row: u32,
+    range: Interval,
+    r: Resolved,
+    out: &mut [f64],
+    chain: &mut [f64],
+) -> Sampled
+    requires { ⌜ (length (curveKnots (tree (lent points curves reals parts ranges) row)) ≤ 8192) × (width * length (now out) ≤ length (now chain)) ⌝ }
+    ensures { λ w. ⌜ Answered (length (now (out .entry))) (sampled (length (now (out .entry))) (tree (lent (points .entry) (curves .entry) (reals .entry) (parts .entry) (ranges .entry)) row) range r) (w .listed) (now (out .exit))
+        × (w .known ≡ isKept (length (now (out .entry))) (tree (lent (points .entry) (curves .entry) (reals .entry) (parts .entry) (ranges .entry)) row) range r)
+        × (now (chain .exit) ≡ sets (now (chain .entry)) 0 (flat (located (tree (lent (points .entry) (curves .entry) (reals .entry) (parts .entry) (ranges .entry)) row)
+        (tried (length (now (out .entry))) (tree (lent (points .entry) (curves .entry) (reals .entry) (parts .entry) (ranges .entry)) row) range r)))) ⌝ }
+{
+    let form = edge_range::analytic_segments(points, curves, reals, parts, ranges, row, range, r);
+    let Closed::Segments(n) = form else {
+        let listed = refine(points, curves, reals, parts, ranges, row, range, r, out);
+        return unknown(listed);
+    };
+    let even = edge_params::evenly(range, n, out);
+    let Listed::Count(m) = even else {
+        return unknown(settle(even, out));
+    };
+    let sag = r.sag;
+    if edge_closed_form::meets(
+        points,
+        curves,
+        reals,
+        parts,
+        ranges,
+        row,
+        out,
+        m,
+        sag,
+        chain,
+    ) {
+        let listed = settle(even, out);
+        return Sampled {
+            listed,
+            known: true,
+        };
+    }
+    let listed = refine(points, curves, reals, parts, ranges, row, range, r, out);
+    unknown(listed)
+}

@@ -1,0 +1,56 @@
+-- The budget of a span, of subdivide in edge.rs. Definitions only.
+use mathlib.Core.Bool.{Bool, true, false, _&&_}
+use lib.Ieee.{Float, le, neg}
+use Rattle.arith.specs.Notation.{nought, one}
+use Rattle.arith.specs.Pick.{clampOf}
+use Rattle.arith_trig.specs.Trig.{acosOf}
+use Rattle.math.specs.declared.Vec3.{Vec3}
+use Rattle.math.specs.declared.Direction.{Direction}
+use Rattle.math.specs.declared.Direction.the-variants.{Unit, Nothing}
+use Rattle.math.specs.Math.{vSub, vDot, vLength}
+use Rattle.brep.specs.Tree.{CurveTree}
+use Rattle.curve.specs.Eval.{pointAt}
+use Rattle.curve_tangent.specs.Derivative.{tangentAt}
+use Rattle.options.specs.declared.Resolved.{Resolved}
+use Rattle.arith_root_limit.specs.Limit.{limitOf}
+use Rattle.arith_turn_limit.specs.Turning.{turnCut, overCut}
+use Rattle.math_chord.specs.Chord.{bisectionDistance}
+use Rattle.edge_params.specs.Params.{midpoint}
+use Rattle.edge_subdivide.specs.declared.End.{End}
+use Rattle.edge_subdivide.specs.declared.Limits.{Limits}
+use Rattle.edge_subdivide.specs.declared.Split.{Split}
+use Rattle.edge_subdivide.specs.declared.Split.the-variants.{Within, At}
+
+-- an end of a span: the curve at t
+unfoldable pub endAt : CurveTree → Float → End
+endAt c t = record { t = t; point = pointAt c t; tangent = tangentAt c t }
+
+-- how far the middle's point lies from the chord
+unfoldable pub sagOf : Vec3 → Vec3 → Vec3 → Float
+sagOf pa pb pm = let chord = vSub pb pa in bisectionDistance pa chord (vLength chord) pm
+
+-- the angle between two tangents; 0 where one is missing
+unfoldable pub turnOf : Direction → Direction → Float
+turnOf (Unit a) (Unit b) = acosOf (clampOf (vDot a b) (neg one) one)
+turnOf (Unit a) Nothing = nought
+turnOf Nothing b = nought
+
+-- deviation <= options.sag && turn <= options.angle, of a span whose middle has the point pm
+unfoldable pub isWithin : Resolved → End → End → Vec3 → Bool
+isWithin r a b pm = le (sagOf (a .point) (b .point) pm) (r .sag) && le (turnOf (a .tangent) (b .tangent)) (r .angle)
+
+-- the same of a curve between two parameters
+unfoldable pub withinBudget : CurveTree → Resolved → Float → Float → Bool
+withinBudget c r a b = isWithin r (endAt c a) (endAt c b) (pointAt c (midpoint a b))
+
+-- subdivide up to its calls of itself
+unfoldable pub splitOf : CurveTree → Resolved → End → End → Split
+splitOf c r a b =
+    elim (isWithin r a b (pointAt c (midpoint (a .t) (b .t)))) [
+      | true ↦ Within
+      | false ↦ At (endAt c (midpoint (a .t) (b .t)))
+    ]
+
+-- the limits with their cuts, for the code's own use
+unfoldable pub limitsOf : Resolved → Limits
+limitsOf r = record { sag = limitOf (r .sag); turn = turnCut (r .angle); over = overCut (r .angle) }

@@ -1,0 +1,217 @@
+// Bisection of a curve's spans: subdivide of edge.rs, on rows. Each point and each tangent is evaluated once and handed down.
+use arith_root_limit::Limit;
+use curve_prepared::Ready;
+use edge_params::Listed;
+use math::Direction;
+use math::Vec3;
+use options::Resolved;
+ghost use mathlib.Core.Path.{_≡_};
+ghost use mathlib.Core.Bool.{true, false};
+ghost use Prim.Native.Nat.{_≤_};
+ghost use lib.ListN.{length};
+ghost use lib.Ieee.{le};
+ghost use Rattle.arith_turn_limit.specs.Turning.{Serves, Exceeds};
+ghost use Rattle.brep.specs.Rows.{lent};
+ghost use Rattle.brep.specs.Tree.{tree};
+ghost use Rattle.curve_prepared.specs.Ready.{readyOf};
+ghost use Rattle.edge_params.specs.Params.{subdivided};
+ghost use Rattle.edge_params.specs.Held.{Behind};
+ghost use Rattle.edge_subdivide.specs.Bisect.{endAt, turnOf, isWithin, splitOf, withinBudget, limitsOf};
+
+// An end of a span: its parameter, and the curve's point and tangent there.
+pub struct End {
+    pub t: f64,
+    pub point: Vec3,
+    pub tangent: Direction,
+}
+
+// What a span is held to, with the cuts that spare roots and arc cosines.
+pub struct Limits {
+    pub sag: Limit,
+    pub turn: f64,
+    pub over: f64,
+}
+
+// What becomes of a span: it is within budget, or split at its middle.
+pub enum Split {
+    Within,
+    At(End),
+}
+
+// The limits of the options, worked out once for many spans.
+pub fn limits_of(r: Resolved) -> Limits
+    ensures { λ l. ⌜ l ≡ limitsOf r ⌝ }
+{
+    let sag = arith_root_limit::limit_of(r.sag);
+    let turn = arith_turn_limit::turn_cut(r.angle);
+    let over = arith_turn_limit::over_cut(r.angle);
+    Limits { sag, turn, over }
+}
+
+// The curve of a row, made ready, at t.
+pub fn end_at(
+    points: &[f64],
+    curves: &[u32],
+    reals: &[f64],
+    parts: &[u32],
+    ranges: &[f64],
+    row: u32,
+    ready: Ready,
+    t: f64,
+) -> End
+    requires { ⌜ ready ≡ readyOf (tree (lent points curves reals parts ranges) row) ⌝ }
+    ensures { λ r. ⌜ r ≡ endAt (tree (lent (points .entry) (curves .entry) (reals .entry) (parts .entry) (ranges .entry)) row) t ⌝ }
+{
+    let point = curve_prepared::point_of(ready, points, curves, reals, parts, ranges, row, t);
+    let slope = curve_prepared::derivative_of(ready, points, curves, reals, parts, ranges, row, t);
+    let tangent = slope.try_normalized();
+    End { t, point, tangent }
+}
+
+// Whether the angle between two tangents is at most the limit; it is 0 where one is missing.
+fn turns_within(a: Direction, b: Direction, limit: f64, cut: f64) -> bool
+    requires { ⌜ Serves cut limit ⌝ }
+    ensures { λ w. ⌜ w ≡ le (turnOf a b) limit ⌝ }
+{
+    let Direction::Unit(ta) = a else {
+        return 0.0 <= limit;
+    };
+    let Direction::Unit(tb) = b else {
+        return 0.0 <= limit;
+    };
+    arith_turn_limit::is_turn_within(arith::clamp(ta.dot(tb), -1.0, 1.0), limit, cut)
+}
+
+// Whether the angle between two tangents is surely above the limit. `false` says nothing.
+fn turns_over(a: Direction, b: Direction, limit: f64, cut: f64) -> bool
+    requires { ⌜ Exceeds cut limit ⌝ }
+    ensures { λ w. ⌜ (w ≡ true → le (turnOf a b) limit ≡ false) ⌝ }
+{
+    let Direction::Unit(ta) = a else {
+        return false;
+    };
+    let Direction::Unit(tb) = b else {
+        return false;
+    };
+    arith_turn_limit::is_turn_over(arith::clamp(ta.dot(tb), -1.0, 1.0), limit, cut)
+}
+
+// Whether the span from a to b, whose middle has the point pm, is within budget. The sag is compared by its square.
+fn is_within(r: Resolved, l: Limits, a: End, b: End, pm: Vec3) -> bool
+    requires { ⌜ l ≡ limitsOf r ⌝ }
+    ensures { λ w. ⌜ w ≡ isWithin r a b pm ⌝ }
+{
+    let ta = a.tangent;
+    let tb = b.tangent;
+    // A sharp turn needs no sag.
+    if turns_over(ta, tb, r.angle, l.over) {
+        return false;
+    }
+    let chord = b.point.sub(a.point);
+    let len = chord.length();
+    let offset = math_chord::bisection_offset(a.point, chord, len, pm);
+    let sag = l.sag;
+    if arith_root_limit::is_at_most(offset.length_squared(), sag) {
+        return turns_within(ta, tb, r.angle, l.turn);
+    }
+    false
+}
+
+// The middle's tangent is evaluated only where the span is split.
+fn split_of(
+    points: &[f64],
+    curves: &[u32],
+    reals: &[f64],
+    parts: &[u32],
+    ranges: &[f64],
+    row: u32,
+    ready: Ready,
+    r: Resolved,
+    l: Limits,
+    a: End,
+    b: End,
+) -> Split
+    requires { ⌜ (ready ≡ readyOf (tree (lent points curves reals parts ranges) row)) × (l ≡ limitsOf r) ⌝ }
+    ensures { λ s. ⌜ s ≡ splitOf (tree (lent (points .entry) (curves .entry) (reals .entry) (parts .entry) (ranges .entry)) row) r a b ⌝ }
+{
+    let t = 0.5 * (a.t + b.t);
+    let point = curve_prepared::point_of(ready, points, curves, reals, parts, ranges, row, t);
+    if is_within(r, l, a, b, point) {
+        return Split::Within;
+    }
+    let slope = curve_prepared::derivative_of(ready, points, curves, reals, parts, ranges, row, t);
+    let tangent = slope.try_normalized();
+    Split::At(End { t, point, tangent })
+}
+
+// What bisection puts between a and b, behind the first k floats of out.
+pub fn subdivide(
+    points: &[f64],
+    curves: &[u32],
+    reals: &[f64],
+    parts: &[u32],
+    ranges: &[f64],
+    row: u32,
+    ready: Ready,
+    r: Resolved,
+    l: Limits,
+    a: End,
+    b: End,
+    depth: u32,
+    out: &mut [f64],
+    k: usize,
+) -> Listed
+    requires { ⌜ (ready ≡ readyOf (tree (lent points curves reals parts ranges) row)) × (l ≡ limitsOf r)
+        × (a ≡ endAt (tree (lent points curves reals parts ranges) row) (a .t))
+        × (b ≡ endAt (tree (lent points curves reals parts ranges) row) (b .t)) × (k ≤ length (now out)) ⌝ }
+    ensures { λ w. ⌜ Behind (now (out .entry)) k
+        (subdivided (withinBudget (tree (lent (points .entry) (curves .entry) (reals .entry) (parts .entry) (ranges .entry)) row) r) depth (a .t) (b .t))
+        w (now (out .exit)) ⌝ }
+{
+    if depth == 0 {
+        return Listed::Count(k);
+    }
+    let split = split_of(points, curves, reals, parts, ranges, row, ready, r, l, a, b);
+    let Split::At(m) = split else {
+        return Listed::Count(k);
+    };
+    let before = subdivide(
+        points,
+        curves,
+        reals,
+        parts,
+        ranges,
+        row,
+        ready,
+        r,
+        l,
+        a,
+        m,
+        depth - 1,
+        out,
+        k,
+    );
+    let Listed::Count(n) = before else {
+        return Listed::Refused;
+    };
+    let pushed = edge_params::push(out, n, m.t);
+    let Listed::Count(next) = pushed else {
+        return Listed::Refused;
+    };
+    subdivide(
+        points,
+        curves,
+        reals,
+        parts,
+        ranges,
+        row,
+        ready,
+        r,
+        l,
+        m,
+        b,
+        depth - 1,
+        out,
+        next,
+    )
+}

@@ -1,0 +1,50 @@
+-- The spans of `thin`: which points of a chain are kept, or refusal 9. Definitions only.
+use mathlib.Core.Bool.{Bool, true, false}
+use mathlib.Core.List.{List, [], _∷_, _++_}
+use mathlib.Core.Path.{_≡_}
+use Prim.Native.Nat.{ℕ, zero, suc, _-_, _≤_, _<_}
+use lib.ListN.{length, getD, set, replicate}
+use lib.Ieee.{Float}
+use Rattle.base_lists.specs.Result.{Result, refused, got, each, both}
+use Rattle.math.specs.declared.Vec3.{Vec3}
+use Rattle.edge_thin_span.specs.declared.Decision.{Decision}
+use Rattle.edge_thin_span.specs.declared.Decision.the-variants.{Leave, Split, Refuse}
+use Rattle.edge_thin_span.specs.Span.{decision}
+
+-- what a decision about a span gives: nothing, what a split at an index gives, or refusal 9
+abbrev pub bySplit : Decision → (ℕ → Result (List ℕ)) → Result (List ℕ)
+bySplit Leave f = got []
+bySplit (Split w) f = f w
+bySplit Refuse f = refused 9
+
+-- the indexes kept between a and b, a span of at most n segments: where it is split, that index, then those of its two parts
+unfoldable pub keptIn : (ℕ → ℕ → Decision) → ℕ → ℕ → ℕ → Result (List ℕ)
+keptIn decide zero a b = got []
+keptIn decide (suc n) a b =
+    bySplit (decide a b) (λ w. both (λ l r. w ∷ l ++ r) (keptIn decide n a w) (keptIn decide n w b))
+
+-- of any span
+abbrev pub kept : (ℕ → ℕ → Decision) → ℕ → ℕ → Result (List ℕ)
+kept decide a b = keptIn decide (b - a) a b
+
+-- the flags of a list of indexes set
+abbrev pub marks : List Bool → List ℕ → List Bool
+marks keep [] = keep
+marks keep (i ∷ l) = marks (set keep i true) l
+
+-- keep: a flag for each of n points, set for the first, the last and those that the spans keep
+unfoldable pub flagged : (ℕ → Vec3) → Float → Float → ℕ → Result (List Bool)
+flagged points tolerance angle n =
+    each (marks (set (set (replicate n false) 0 true) (n - 1) true)) (kept (decision points tolerance angle) 0 (n - 1))
+
+-- what a pass over flags answers: the flags, or refusal 9, after which the flags are of no use
+abbrev pub flags : Bool → List Bool → Result (List Bool)
+flags true keep = got keep
+flags false keep = refused 9
+
+-- r is the first index from `from` on whose flag is set, or the number of flags
+pub record FirstKept (keep : List Bool) (from r : ℕ) : Type 0 where
+  pub after : from ≤ r
+  pub within : r ≤ length keep
+  pub clear : (j : ℕ) → j < r → from ≤ j → getD keep j false ≡ false
+  pub here : r < length keep → getD keep r false ≡ true

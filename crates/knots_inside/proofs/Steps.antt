@@ -1,0 +1,90 @@
+-- The steps of `ascending`: retain, sort, dedup, clear, each on what the one before left. Assumes nothing.
+use mathlib.Core.Path.{_≡_, sym, ap, subst, _∙_}
+use mathlib.Core.Bool.{true, false}
+use mathlib.Core.List.{List, [], _++_}
+use Prim.Native.Nat.{ℕ, _≤_}
+use native.Mathlib.Omega.{arith}
+use lib.ListN.{length, take, drop, length-append, length-drop}
+use lib.Seq.{length-take-le, take-at, take-append-le}
+use lib.Ieee.{Float, lt, le}
+use Rattle.arith.specs.Notation.{_⊕_, _⊖_, _⊗_, nought}
+use Rattle.base_lists.specs.Sub.{All}
+use Rattle.base_lists.specs.Room.{filled}
+use Rattle.base_lists.proofs.Joined.{all-map}
+use Rattle.knots_sort.specs.Sort.{sorted, Number}
+use Rattle.knots_sort.proofs.Sorted.{sorted-length}
+use Rattle.knots_inside.specs.Breaks.{retained, deduped, billionth, between, insideOf}
+use Rattle.knots_inside.proofs.Kept.{retained-all, finite-number}
+
+-- k: the knots; r: after retain, which answered n
+pub record Retained (k r : List Float) (n : ℕ) (above below : Float) : Type 0 where
+  pub fit : n ≤ length k
+  pub same : length r ≡ length k
+  pub kept : take n r ≡ retained above below k
+
+module _ {k r : List Float} {n : ℕ} {above below : Float} (h : Retained k r n above below) where
+  pub part-length : length (take n r) ≡ n
+  part-length = length-take-le n r (omega (arith, h .same, h .fit))
+
+  pub part-numbers : All Number (take n r)
+  part-numbers = subst (λ (l : List Float). All Number l) (sym (h .kept)) (all-map (λ x p. finite-number x (p .is-finite)) (retained-all above below k))
+
+  -- b: the part after its sort
+  module _ (b : List Float) (is : b ≡ sorted (take n r)) where
+    b-length : length b ≡ n
+    b-length = ap length is ∙ sorted-length (take n r) ∙ part-length
+
+    sorted-part : take n (b ++ drop n r) ≡ b
+    sorted-part = take-at b (drop n r) n b-length
+
+    pub sorted-part-length : length (take n (b ++ drop n r)) ≡ n
+    sorted-part-length = ap length sorted-part ∙ b-length
+
+    -- c: the part after dedup, which answered m
+    module _ (c : List Float) (m : ℕ) (epsilon : Float) (same' : length c ≡ length (take n (b ++ drop n r))) (fewer : m ≤ length (take n (b ++ drop n r)))
+        (apart : take m c ≡ deduped epsilon (take n (b ++ drop n r))) where
+      whole : List Float
+      whole = c ++ drop n (b ++ drop n r)
+
+      whole-length : length whole ≡ length k
+      unfolding whole
+      whole-length =
+          length-append c (drop n (b ++ drop n r))
+          ∙ omega (arith, same', sorted-part-length, length-drop n (b ++ drop n r), length-append b (drop n r), b-length, length-drop n r, h .same, h .fit)
+
+      kept-is : take m whole ≡ deduped epsilon (sorted (retained above below k))
+      unfolding whole
+      kept-is =
+          take-append-le m c (drop n (b ++ drop n r)) (omega (arith, same')) ∙ apart
+          ∙ ap (deduped epsilon) (sorted-part ∙ is ∙ ap sorted (h .kept))
+
+      pub kept-room : m ≤ length (c ++ drop n (b ++ drop n r))
+      kept-room = omega (arith, length-append c (drop n (b ++ drop n r)), same', fewer)
+
+      -- d: all of it after the clearing
+      module _ (l : List Float) (known : deduped epsilon (sorted (retained above below k)) ≡ l) where
+        pub kept-count : m ≡ length l
+        unfolding whole
+        kept-count = sym (length-take-le m whole kept-room) ∙ ap length (kept-is ∙ known)
+
+        pub kept-floats : (d : List Float) → d ≡ filled (length (c ++ drop n (b ++ drop n r))) (take m (c ++ drop n (b ++ drop n r))) → d ≡ filled (length k) l
+        unfolding whole
+        kept-floats d e = e ∙ ap (λ (n : ℕ). filled n (take m whole)) whole-length ∙ ap (filled (length k)) (kept-is ∙ known)
+
+module _ (k : List Float) (lo hi : Float) where
+  pub some-between : lt nought (hi ⊖ lo) ≡ true
+      → deduped ((hi ⊖ lo) ⊗ billionth) (sorted (retained (lo ⊕ (hi ⊖ lo) ⊗ billionth) (hi ⊖ (hi ⊖ lo) ⊗ billionth) k)) ≡ between k lo hi
+  unfolding between
+  some-between h = rw h
+
+  pub none-between : lt nought (hi ⊖ lo) ≡ false → [] ≡ between k lo hi
+  unfolding between
+  none-between h = rw h
+
+  pub upward : le lo hi ≡ true → between k lo hi ≡ insideOf k lo hi
+  unfolding insideOf
+  upward h = rw h
+
+  pub downward : le lo hi ≡ false → between k hi lo ≡ insideOf k lo hi
+  unfolding insideOf
+  downward h = rw h

@@ -1,0 +1,20 @@
+-- `sort_by` of Rust on floats, which is stable, as an insertion sort. Definitions only.
+use mathlib.Core.Bool.{cond}
+use mathlib.Core.List.{List, [], _∷_}
+use lib.Dec.{T}
+use lib.Ieee.{Float, lt}
+use Rattle.arith_order.specs.Number.{number}
+
+-- x put before the first that is not below it
+unfoldable pub put : Float → List Float → List Float
+put x [] = x ∷ []
+put x (y ∷ l) = cond (lt y x) (y ∷ put x l) (x ∷ y ∷ l)
+
+-- sort_by(partial_cmp): each float is put before its equals of the rest, which came after it
+unfoldable pub sorted : List Float → List Float
+sorted [] = []
+sorted (x ∷ l) = put x (sorted l)
+
+-- not a NaN
+abbrev pub Number : Float → Type 0
+Number x = T (number x)

@@ -1,0 +1,29 @@
+-- thin_breaks of knots.rs, of a curve's own point. Definitions only.
+use mathlib.Core.List.{List}
+use Prim.Native.Nat.{ℕ}
+use lib.Ieee.{Float}
+use Rattle.knots_inside.specs.Thinned.{thinBreaks}
+use Rattle.brep.specs.Tree.{CurveTree}
+use Rattle.curve.specs.Eval.{pointAt}
+use Rattle.knots.specs.declared.Knots.{Knots}
+use Rattle.knots.specs.Knots.{curveBreaks, deviation}
+use Rattle.knots.specs.Gathered.{answerOf, leftOf}
+
+-- deviation(&|t| curve.point_at(t), a, b)
+abbrev pub curveDeviation : CurveTree → Float → Float → Float
+curveDeviation curve a b = deviation (pointAt curve) a b
+
+-- thin_breaks(breaks, lo, hi, sag, &|t| curve.point_at(t))
+abbrev pub curveThinned : CurveTree → List Float → Float → Float → Float → List Float
+curveThinned curve breaks lo hi sag = thinBreaks breaks lo hi sag (deviation (pointAt curve))
+
+-- the breaks that sampling starts from: thin_breaks of curve_breaks
+abbrev pub keptBreaks : CurveTree → Float → Float → Float → List Float
+keptBreaks curve lo hi sag = curveThinned curve (curveBreaks curve lo hi) lo hi sag
+
+-- how many, and what the buffer then holds, by whether the curve's knots fit it
+abbrev pub keptAnswer : ℕ → CurveTree → Float → Float → Float → Knots
+keptAnswer room curve lo hi sag = answerOf room curve (keptBreaks curve lo hi sag)
+
+abbrev pub keptLeft : List Float → CurveTree → Float → Float → Float → List Float
+keptLeft buffer curve lo hi sag = leftOf buffer curve (keptBreaks curve lo hi sag)

@@ -1,0 +1,34 @@
+-- What the readers of a sheet's last two blocks answer.
+use mathlib.Core.List.{List}
+use Prim.Native.Nat.{ℕ, _-_}
+use lib.ListN.{length}
+use Rattle.text_format.specs.Format.{Format, Parsed, bad, got, _before_}
+use Rattle.text_format.specs.Table.{line}
+use Rattle.sheet_layout.specs.Letters.{shapeOf}
+use Rattle.sheet_row.specs.Rows.{edgeOf, optionsOf}
+use Rattle.sheet_edge.specs.declared.EdgeAt.{EdgeAt}
+use Rattle.sheet_edge.specs.declared.EdgeAt.the-variants.{Edge, NoEdge}
+use Rattle.sheet_edge.specs.declared.OptionsAt.{OptionsAt}
+use Rattle.sheet_edge.specs.declared.OptionsAt.the-variants.{Options, NoOptions}
+use Rattle.sheet_edge.specs.declared.Last.{Last}
+use Rattle.sheet_edge.specs.declared.Last.the-variants.{Pair, NoPair}
+
+-- a block of one line by its names and letters
+abbrev pub singleOf : List ℕ → List ℕ → Format (List ℕ)
+singleOf names shape = names before line (shapeOf shape)
+
+-- what a line stands for, and the place behind it; or that there is none
+unfoldable pub toldAs : {X R : Type 0} → (X → ℕ → R) → R → (List ℕ → X) → List ℕ → Parsed (List ℕ) → R
+toldAs made none value s bad = none
+toldAs made none value s (got row rest) = made (value row) (length s - length rest)
+
+abbrev pub toldEdge : List ℕ → Parsed (List ℕ) → EdgeAt
+toldEdge = toldAs Edge NoEdge edgeOf
+
+abbrev pub toldOptions : List ℕ → Parsed (List ℕ) → OptionsAt
+toldOptions = toldAs Options NoOptions optionsOf
+
+-- the edge and the options, and the place behind them
+unfoldable pub toldEnds : List ℕ → Parsed (List ℕ × List ℕ) → Last
+toldEnds s bad = NoPair
+toldEnds s (got t rest) = Pair (edgeOf (t .0)) (optionsOf (t .1)) (length s - length rest)

@@ -1,0 +1,119 @@
+// The sheet's three tables: points, curves and segments. Whole numbers go into one table, floats into another.
+ghost use mathlib.Core.Path.{_≡_};
+ghost use Prim.Native.Nat.{_*_, _≤_};
+ghost use lib.ListN.{length, drop};
+ghost use lib.Ieee.{binary64, ofBits};
+ghost use Rattle.text_format.specs.Format.{lines};
+ghost use Rattle.text_format.specs.Table.{fields, line, table};
+ghost use Rattle.text_format.specs.Told.{toldList};
+ghost use Rattle.sheet_layout.specs.Layout.{size, pointColumns, curveColumns, segmentColumns};
+ghost use Rattle.sheet_layout.specs.Letters.{shapeOf, padded};
+ghost use Rattle.sheet_row.specs.Rows.{floatsOf, wholesOf};
+ghost use Rattle.sheet_tables.specs.Room.{Roomy};
+ghost use Rattle.sheet_tables.specs.Told.{tableOf, flat, numbersOf, Stored};
+use text_format::Num;
+
+// The rows of a table, up to the empty line behind them: whole numbers into one table, floats into another.
+fn rows(s: &[u8], at: usize, shape: &[u8], wholes: &mut [u32], floats: &mut [f64]) -> Num
+    requires { ⌜ (at ≤ length (now s)) × (length (now s) ≤ size) × Roomy (now shape) (length (now wholes)) (length (now floats)) ⌝ }
+    ensures { λ r. ⌜ (r ≡ toldList (now (s .entry)) (lines (line (shapeOf (now (shape .entry)))) .read (drop at (now (s .entry)))))
+        × Stored (flat (wholesOf (shapeOf (now (shape .entry))))) (lines (line (shapeOf (now (shape .entry)))) .read (drop at (now (s .entry)))) (now (wholes .entry)) (now (wholes .exit))
+        × Stored (flat (floatsOf (shapeOf (now (shape .entry))))) (lines (line (shapeOf (now (shape .entry)))) .read (drop at (now (s .entry)))) (now (floats .entry)) (now (floats .exit)) ⌝ }
+{
+    let mut p = at;
+    let mut n = 0usize;
+    let mut w = 0usize;
+    let mut f = 0usize;
+    while p < s.len() {
+        if s[p] == b'\n' {
+            return Num::Got(n as u64, p + 1);
+        }
+        let row = sheet_layout::line(s, p, shape);
+        if row.ok {
+            let numbers = row.numbers;
+            w = sheet_row::put_wholes(shape, &numbers, wholes, w);
+            f = sheet_row::put_floats(shape, &numbers, floats, f);
+            n += 1;
+            p = row.next;
+        } else {
+            return Num::Bad;
+        }
+    }
+    Num::Bad
+}
+
+// A table: its line of names, then its rows.
+fn table(
+    s: &[u8],
+    at: usize,
+    names: &[u8],
+    shape: &[u8],
+    wholes: &mut [u32],
+    floats: &mut [f64],
+) -> Num
+    requires { ⌜ (at ≤ length (now s)) × (length (now s) ≤ size) × Roomy (now shape) (length (now wholes)) (length (now floats)) ⌝ }
+    ensures { λ r. ⌜ (r ≡ toldList (now (s .entry)) (tableOf (now (names .entry)) (now (shape .entry)) .read (drop at (now (s .entry)))))
+        × Stored (flat (wholesOf (shapeOf (now (shape .entry))))) (tableOf (now (names .entry)) (now (shape .entry)) .read (drop at (now (s .entry)))) (now (wholes .entry)) (now (wholes .exit))
+        × Stored (flat (floatsOf (shapeOf (now (shape .entry))))) (tableOf (now (names .entry)) (now (shape .entry)) .read (drop at (now (s .entry)))) (now (floats .entry)) (now (floats .exit)) ⌝ }
+{
+    match text_format::word(s, at, names, 0) {
+        Num::Got(_, p) => rows(s, p, shape, wholes, floats),
+        Num::Bad => Num::Bad,
+    }
+}
+
+// A table whose two parts hold nothing else: zeros behind its numbers, and zeros alone where it cannot be read.
+fn block(
+    s: &[u8],
+    at: usize,
+    names: &[u8],
+    shape: &[u8],
+    wholes: &mut [u32],
+    floats: &mut [f64],
+) -> Num
+    requires { ⌜ (at ≤ length (now s)) × (length (now s) ≤ size) × Roomy (now shape) (length (now wholes)) (length (now floats)) ⌝ }
+    ensures { λ r. ⌜ (r ≡ toldList (now (s .entry)) (tableOf (now (names .entry)) (now (shape .entry)) .read (drop at (now (s .entry)))))
+        × (now (wholes .exit) ≡ padded (length (now (wholes .entry))) 0 (numbersOf (flat (wholesOf (shapeOf (now (shape .entry))))) (tableOf (now (names .entry)) (now (shape .entry)) .read (drop at (now (s .entry))))))
+        × (now (floats .exit) ≡ padded (length (now (floats .entry))) (ofBits binary64 0) (numbersOf (flat (floatsOf (shapeOf (now (shape .entry))))) (tableOf (now (names .entry)) (now (shape .entry)) .read (drop at (now (s .entry)))))) ⌝ }
+{
+    sheet_row::clear_wholes(wholes);
+    sheet_row::clear_floats(floats);
+    match table(s, at, names, shape, wholes, floats) {
+        Num::Got(n, p) => Num::Got(n, p),
+        Num::Bad => {
+            sheet_row::clear_wholes(wholes);
+            sheet_row::clear_floats(floats);
+            Num::Bad
+        }
+    }
+}
+
+// The points' block: x y z.
+pub fn points(s: &[u8], at: usize, floats: &mut [f64]) -> Num
+    requires { ⌜ (at ≤ length (now s)) × (length (now s) ≤ size) × (3 * 1285 ≤ length (now floats)) ⌝ }
+    ensures { λ r. ⌜ (r ≡ toldList (now (s .entry)) (table pointColumns .read (drop at (now (s .entry)))))
+        × (now (floats .exit) ≡ padded (length (now (floats .entry))) (ofBits binary64 0) (numbersOf (flat (floatsOf (fields pointColumns))) (table pointColumns .read (drop at (now (s .entry)))))) ⌝ }
+{
+    let mut wholes = [0u32; 1];
+    block(s, at, b"x y z\n", b"fff", &mut wholes, floats)
+}
+
+// The curves' block: kind first count, and p q.
+pub fn curves(s: &[u8], at: usize, wholes: &mut [u32], floats: &mut [f64]) -> Num
+    requires { ⌜ (at ≤ length (now s)) × (length (now s) ≤ size) × (3 * 1638 ≤ length (now wholes)) × (2 * 1638 ≤ length (now floats)) ⌝ }
+    ensures { λ r. ⌜ (r ≡ toldList (now (s .entry)) (table curveColumns .read (drop at (now (s .entry)))))
+        × (now (wholes .exit) ≡ padded (length (now (wholes .entry))) 0 (numbersOf (flat (wholesOf (fields curveColumns))) (table curveColumns .read (drop at (now (s .entry))))))
+        × (now (floats .exit) ≡ padded (length (now (floats .entry))) (ofBits binary64 0) (numbersOf (flat (floatsOf (fields curveColumns))) (table curveColumns .read (drop at (now (s .entry)))))) ⌝ }
+{
+    block(s, at, b"kind first count p q\n", b"kwwff", wholes, floats)
+}
+
+// The segments' block: curve sense, and lo hi.
+pub fn segments(s: &[u8], at: usize, wholes: &mut [u32], floats: &mut [f64]) -> Num
+    requires { ⌜ (at ≤ length (now s)) × (length (now s) ≤ size) × (2 * 1724 ≤ length (now wholes)) × (2 * 1724 ≤ length (now floats)) ⌝ }
+    ensures { λ r. ⌜ (r ≡ toldList (now (s .entry)) (table segmentColumns .read (drop at (now (s .entry)))))
+        × (now (wholes .exit) ≡ padded (length (now (wholes .entry))) 0 (numbersOf (flat (wholesOf (fields segmentColumns))) (table segmentColumns .read (drop at (now (s .entry))))))
+        × (now (floats .exit) ≡ padded (length (now (floats .entry))) (ofBits binary64 0) (numbersOf (flat (floatsOf (fields segmentColumns))) (table segmentColumns .read (drop at (now (s .entry)))))) ⌝ }
+{
+    block(s, at, b"curve lo hi sense\n", b"wffw", wholes, floats)
+}

@@ -1,0 +1,17 @@
+-- What a reader at a place of the text s answers of what its definition reads there.
+use mathlib.Core.List.{List}
+use Prim.Native.Nat.{ℕ, _-_}
+use lib.ListN.{length}
+use Rattle.text_format.specs.Format.{Parsed, bad, got}
+use Rattle.text_format.specs.declared.Num.{Num}
+use Rattle.text_format.specs.declared.Num.the-variants.{Got, Bad}
+
+-- the value and the place behind it, or Bad
+unfoldable pub told : List ℕ → Parsed ℕ → Num
+told s bad = Bad
+told s (got v rest) = Got v (length s - length rest)
+
+-- of a list: how many, and the place behind them; or Bad
+unfoldable pub toldList : {A : Type 0} → List ℕ → Parsed (List A) → Num
+toldList s bad = Bad
+toldList s (got l rest) = Got (length l) (length s - length rest)
