@@ -8,7 +8,7 @@ use lib.ListN.{getD}
 use lib.Ieee.{Float, nan, binary64, neg, fits}
 use lib.Ieee.Fits.{sub-fits}
 use Rattle.arith.specs.Notation.{_⊗_, one}
-use Rattle.arith_trig.specs.Trig.{stepped, sinKernel, cosKernel, sinBy, cosBy}
+use Rattle.arith_trig.specs.Trig.{hornerSteps, sinKernel, cosKernel, sinBy, cosBy}
 use Rattle.arith_trig.proofs.Factors.{times-neg, one-times}
 
 four-on : (q : ℕ) → suc (suc (suc (suc q))) < 4 → ⊥
@@ -24,14 +24,14 @@ cos-as-sin (suc (suc (suc zero))) r h = refl
 cos-as-sin (suc (suc (suc (suc q)))) r h = absurd (four-on q h)
 
 module _ (r s c : Float)
-    (S : s ≡ stepped (r ⊗ r) one (272 ∷ 210 ∷ 156 ∷ 110 ∷ 72 ∷ 42 ∷ 20 ∷ 6 ∷ []))
-    (C : c ≡ stepped (r ⊗ r) one (240 ∷ 182 ∷ 132 ∷ 90 ∷ 56 ∷ 30 ∷ 12 ∷ 2 ∷ [])) where
+    (S : s ≡ hornerSteps (r ⊗ r) one (272 ∷ 210 ∷ 156 ∷ 110 ∷ 72 ∷ 42 ∷ 20 ∷ 6 ∷ []))
+    (C : c ≡ hornerSteps (r ⊗ r) one (240 ∷ 182 ∷ 132 ∷ 90 ∷ 56 ∷ 30 ∷ 12 ∷ 2 ∷ [])) where
   sine : r ⊗ s ≡ sinKernel r
   unfolding sinKernel
   sine = ap (λ (w : Float). r ⊗ w) S
 
   cosine : one ⊗ c ≡ cosKernel r
-  unfolding cosKernel stepped
+  unfolding cosKernel hornerSteps
   cosine = one-times c (subst (λ (w : Float). T (fits binary64 w)) (sym C) (sub-fits binary64 one _)) ∙ C
 
   pub picked : (q : ℕ) → q < 4 → getD (r ∷ one ∷ neg r ∷ neg one ∷ []) q nan ⊗ getD (s ∷ c ∷ []) (q % 2) nan ≡ sinBy q r

@@ -4,7 +4,7 @@ use lib.Ieee.{add, sub, mul, div, neg, eq, lt, ofBits, ofInt}
 use Rattle.arith.specs.Floor.{floorOf}
 use Rattle.arith.specs.Notation.{bits}
 use Rattle.arith_root.specs.Root.{rootOf}
-use Rattle.arith_trig.specs.Trig.{sinOf, cosOf, quarter, stepped, sinKernel, cosKernel, sinBy, cosBy, halved, summed, arcOf, angleOf, acosBy, acosOf}
+use Rattle.arith_trig.specs.Trig.{sinOf, cosOf, quarter, hornerSteps, sinKernel, cosKernel, sinBy, cosBy, halved, summed, arcOf, angleOf, acosBy, acosOf}
 
 -- sin of 0.0, -0.0, 0.5, 2, 3.5, 5, -1, 1e9: each quarter turn, and one below zero
 sin-values :
@@ -16,7 +16,7 @@ sin-values :
     × (sinOf (bits 0x4014000000000000) ≡ bits 0xBFEEAF81F5E09933)
     × (sinOf (bits 0xBFF0000000000000) ≡ bits 0xBFEAED548F090CEE)
     × (sinOf (bits 0x41CDCD6500000000) ≡ bits 0x3FE1778CC7A6BFCE)
-unfolding sinOf cosOf quarter stepped sinKernel cosKernel sinBy cosBy floorOf add sub mul div neg ofBits ofInt
+unfolding sinOf cosOf quarter hornerSteps sinKernel cosKernel sinBy cosBy floorOf add sub mul div neg ofBits ofInt
 sin-values = (refl, refl, refl, refl, refl, refl, refl, refl)
 
 -- cos of the same
@@ -29,7 +29,7 @@ cos-values :
     × (cosOf (bits 0x4014000000000000) ≡ bits 0x3FD22785706B4ADA)
     × (cosOf (bits 0xBFF0000000000000) ≡ bits 0x3FE14A280FB5068C)
     × (cosOf (bits 0x41CDCD6500000000) ≡ bits 0x3FEACFF8B6D62E44)
-unfolding sinOf cosOf quarter stepped sinKernel cosKernel sinBy cosBy floorOf add sub mul div neg ofBits ofInt
+unfolding sinOf cosOf quarter hornerSteps sinKernel cosKernel sinBy cosBy floorOf add sub mul div neg ofBits ofInt
 cos-values = (refl, refl, refl, refl, refl, refl, refl, refl)
 
 -- acos of 1, -1, 0, 0.5, -0.5, 2

@@ -45,16 +45,16 @@ abbrev pub step : Float → Float → Float → Float
 step z d w = one ⊖ z ⊘ d ⊗ w
 
 -- such a step for each d of the list in turn
-unfoldable pub stepped : Float → Float → List ℕ → Float
-stepped z w [] = w
-stepped z w (d ∷ ds) = stepped z (step z (count d) w) ds
+unfoldable pub hornerSteps : Float → Float → List ℕ → Float
+hornerSteps z w [] = w
+hornerSteps z w (d ∷ ds) = hornerSteps z (step z (count d) w) ds
 
 -- the sine kernel S and the cosine kernel C
 unfoldable pub sinKernel : Float → Float
-sinKernel r = r ⊗ stepped (r ⊗ r) one (272 ∷ 210 ∷ 156 ∷ 110 ∷ 72 ∷ 42 ∷ 20 ∷ 6 ∷ [])
+sinKernel r = r ⊗ hornerSteps (r ⊗ r) one (272 ∷ 210 ∷ 156 ∷ 110 ∷ 72 ∷ 42 ∷ 20 ∷ 6 ∷ [])
 
 unfoldable pub cosKernel : Float → Float
-cosKernel r = stepped (r ⊗ r) one (240 ∷ 182 ∷ 132 ∷ 90 ∷ 56 ∷ 30 ∷ 12 ∷ 2 ∷ [])
+cosKernel r = hornerSteps (r ⊗ r) one (240 ∷ 182 ∷ 132 ∷ 90 ∷ 56 ∷ 30 ∷ 12 ∷ 2 ∷ [])
 
 -- by k mod 4: S, C, -S, -C for the sine
 unfoldable pub sinBy : ℕ → Float → Float

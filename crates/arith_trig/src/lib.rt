@@ -3,7 +3,7 @@ ghost use mathlib.Core.Path.{_≡_};
 ghost use Prim.Native.Nat.{_<_};
 ghost use mathlib.Core.List.{[], _∷_};
 ghost use Rattle.arith.specs.Notation.{one};
-ghost use Rattle.arith_trig.specs.Trig.{turns, reduced, quarter, step, stepped, sinBy, cosBy, sinOf, cosOf, sinCosOf, halved, arcOf, angleOf, acosBy, acosOf};
+ghost use Rattle.arith_trig.specs.Trig.{turns, reduced, quarter, step, hornerSteps, sinBy, cosBy, sinOf, cosOf, sinCosOf, halved, arcOf, angleOf, acosBy, acosOf};
 
 // The sine and the cosine of one angle.
 pub struct SinCos {
@@ -66,7 +66,7 @@ fn steps(z: f64, w: f64, a: f64, b: f64, c: f64, d: f64) -> f64
 
 // The sine of an r at most an eighth turn from 0, less its factor r; z is r * r.
 fn sin_series(z: f64) -> f64
-    ensures { λ w. ⌜ w ≡ stepped z one (272 ∷ 210 ∷ 156 ∷ 110 ∷ 72 ∷ 42 ∷ 20 ∷ 6 ∷ []) ⌝ }
+    ensures { λ w. ⌜ w ≡ hornerSteps z one (272 ∷ 210 ∷ 156 ∷ 110 ∷ 72 ∷ 42 ∷ 20 ∷ 6 ∷ []) ⌝ }
 {
     let w = steps(z, 1.0, 272.0, 210.0, 156.0, 110.0);
     steps(z, w, 72.0, 42.0, 20.0, 6.0)
@@ -74,7 +74,7 @@ fn sin_series(z: f64) -> f64
 
 // The cosine of such an r.
 fn cos_series(z: f64) -> f64
-    ensures { λ w. ⌜ w ≡ stepped z one (240 ∷ 182 ∷ 132 ∷ 90 ∷ 56 ∷ 30 ∷ 12 ∷ 2 ∷ []) ⌝ }
+    ensures { λ w. ⌜ w ≡ hornerSteps z one (240 ∷ 182 ∷ 132 ∷ 90 ∷ 56 ∷ 30 ∷ 12 ∷ 2 ∷ []) ⌝ }
 {
     let w = steps(z, 1.0, 240.0, 182.0, 132.0, 90.0);
     steps(z, w, 56.0, 30.0, 12.0, 2.0)

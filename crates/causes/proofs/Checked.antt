@@ -20,7 +20,7 @@ use Rattle.options.specs.declared.Options.{Options}
 use Rattle.causes_bounds.specs.Some.{someBelow, atIndex, some}
 use Rattle.causes_bounds.specs.Bounds.{largest, within, beyond, finiteBeyond, edgeBeyond, optionsBeyond, unbounded}
 use Rattle.causes_bounds.proofs.Laws.{some-none, neither, three, four}
-use Rattle.causes_form.specs.Forms.{pointCount, curveCount, segmentCount, broken, uneven, room, malformedRow, malformedSegment, illFormedTables, illFormedEdge, illFormed}
+use Rattle.causes_form.specs.Forms.{pointCount, curveCount, segmentCount, broken, uneven, targets, malformedRow, malformedSegment, illFormedTables, illFormedEdge, illFormed}
 use Rattle.causes_form.proofs.Laws.{row-inside}
 use Rattle.causes.specs.declared.Verdict.{Verdict}
 use Rattle.causes.specs.declared.Verdict.the-variants.{Accepted, Refused}
@@ -53,7 +53,7 @@ pub record Checked (t : Tables) (e : Edge) (o : Options) : Type 0 where
   pub angleBounded : Bounded (o .angle .0)
   pub scaleBounded : T (finite (o .scale)) → Bounded (o .scale)
   -- every run, and a trim's base, lies inside its table
-  pub runInside : (i : ℕ) → i < curveCount t → getD (t .curves) (i * 3 + 1) 0 + getD (t .curves) (i * 3 + 2) 0 ≤ room t (getD (t .curves) (i * 3) 0)
+  pub runInside : (i : ℕ) → i < curveCount t → getD (t .curves) (i * 3 + 1) 0 + getD (t .curves) (i * 3 + 2) 0 ≤ targets t (getD (t .curves) (i * 3) 0)
   pub segmentInside : (i : ℕ) → i < segmentCount t → segmentIn t i .curve < curveCount t
   -- every reference falls
   pub trimFalls : (i base : ℕ) (range : Interval) → i < curveCount t → rowIn t i ≡ Trimmed base range → base < i

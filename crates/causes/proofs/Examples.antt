@@ -16,7 +16,7 @@ use Rattle.options.specs.declared.Options.{Options}
 use Rattle.options.specs.Options.{preset, radians}
 use Rattle.causes_bounds.specs.Some.{someBelow}
 use Rattle.causes_bounds.specs.Bounds.{within, beyond, finiteBeyond, edgeBeyond, optionsBeyond, unbounded}
-use Rattle.causes_form.specs.Forms.{broken, uneven, unknownKind, wrongCount, spareP, spareQ, unusedSet, room, malformed, malformedRow, malformedSegment, illFormed}
+use Rattle.causes_form.specs.Forms.{broken, uneven, unknownKind, wrongCount, spareP, spareQ, unusedSet, targets, malformed, malformedRow, malformedSegment, illFormed}
 use Rattle.causes.specs.declared.Verdict.{Verdict}
 use Rattle.causes.specs.declared.Verdict.the-variants.{Accepted, Refused}
 use Rattle.causes.specs.Causes.{oversize, missing, verdict}
@@ -56,35 +56,35 @@ more = bits 0x41CDCD6500000001
 
 -- exactly 1e9 passes, and so does a NaN for the edge's hi
 exactly : verdict (drawing most nought 0) (edge 1 0) options ≡ Accepted
-unfolding verdict oversize unbounded edgeBeyond optionsBeyond finiteBeyond beyond within illFormed malformedSegment malformedRow malformed room unusedSet spareQ spareP wrongCount unknownKind uneven broken missing deepRow unorderedRow notLower highSegment someBelow nesting tree below grown segments run curveOf kindOf pointOf frameOf segmentOf lt le eq ne neg ofBits finite
+unfolding verdict oversize unbounded edgeBeyond optionsBeyond finiteBeyond beyond within illFormed malformedSegment malformedRow malformed targets unusedSet spareQ spareP wrongCount unknownKind uneven broken missing deepRow unorderedRow notLower highSegment someBelow nesting tree below grown segments run curveOf kindOf pointOf frameOf segmentOf lt le eq ne neg ofBits finite
 exactly = refl
 
 -- 1e9 is passed by one float
 above : verdict (drawing more nought 0) (edge 1 0) options ≡ Refused 2
-unfolding verdict oversize unbounded edgeBeyond optionsBeyond finiteBeyond beyond within illFormed malformedSegment malformedRow malformed room unusedSet spareQ spareP wrongCount unknownKind uneven broken missing deepRow unorderedRow notLower highSegment someBelow nesting tree below grown segments run curveOf kindOf pointOf frameOf segmentOf lt le eq ne neg ofBits finite
+unfolding verdict oversize unbounded edgeBeyond optionsBeyond finiteBeyond beyond within illFormed malformedSegment malformedRow malformed targets unusedSet spareQ spareP wrongCount unknownKind uneven broken missing deepRow unorderedRow notLower highSegment someBelow nesting tree below grown segments run curveOf kindOf pointOf frameOf segmentOf lt le eq ne neg ofBits finite
 above = refl
 
 -- a sense of 2
 sense-2 : verdict (drawing most nought 0) (edge 2 0) options ≡ Refused 3
-unfolding verdict oversize unbounded edgeBeyond optionsBeyond finiteBeyond beyond within illFormed malformedSegment malformedRow malformed room unusedSet spareQ spareP wrongCount unknownKind uneven broken missing deepRow unorderedRow notLower highSegment someBelow nesting tree below grown segments run curveOf kindOf pointOf frameOf segmentOf lt le eq ne neg ofBits finite
+unfolding verdict oversize unbounded edgeBeyond optionsBeyond finiteBeyond beyond within illFormed malformedSegment malformedRow malformed targets unusedSet spareQ spareP wrongCount unknownKind uneven broken missing deepRow unorderedRow notLower highSegment someBelow nesting tree below grown segments run curveOf kindOf pointOf frameOf segmentOf lt le eq ne neg ofBits finite
 sense-2 = refl
 
 -- a q that a line does not use
 unused-q : verdict (drawing most one 0) (edge 1 0) options ≡ Refused 3
-unfolding verdict oversize unbounded edgeBeyond optionsBeyond finiteBeyond beyond within illFormed malformedSegment malformedRow malformed room unusedSet spareQ spareP wrongCount unknownKind uneven broken missing deepRow unorderedRow notLower highSegment someBelow nesting tree below grown segments run curveOf kindOf pointOf frameOf segmentOf lt le eq ne neg ofBits finite
+unfolding verdict oversize unbounded edgeBeyond optionsBeyond finiteBeyond beyond within illFormed malformedSegment malformedRow malformed targets unusedSet spareQ spareP wrongCount unknownKind uneven broken missing deepRow unorderedRow notLower highSegment someBelow nesting tree below grown segments run curveOf kindOf pointOf frameOf segmentOf lt le eq ne neg ofBits finite
 unused-q = refl
 
 -- a trim of its own row
 own-row : verdict (drawing most nought 1) (edge 1 0) options ≡ Refused 4
-unfolding verdict oversize unbounded edgeBeyond optionsBeyond finiteBeyond beyond within illFormed malformedSegment malformedRow malformed room unusedSet spareQ spareP wrongCount unknownKind uneven broken missing deepRow unorderedRow notLower highSegment someBelow nesting tree below grown segments run curveOf kindOf pointOf frameOf segmentOf lt le eq ne neg ofBits finite
+unfolding verdict oversize unbounded edgeBeyond optionsBeyond finiteBeyond beyond within illFormed malformedSegment malformedRow malformed targets unusedSet spareQ spareP wrongCount unknownKind uneven broken missing deepRow unorderedRow notLower highSegment someBelow nesting tree below grown segments run curveOf kindOf pointOf frameOf segmentOf lt le eq ne neg ofBits finite
 own-row = refl
 
 -- a start past the end
 start : verdict (drawing most nought 0) (edge 1 2) options ≡ Refused 6
-unfolding verdict oversize unbounded edgeBeyond optionsBeyond finiteBeyond beyond within illFormed malformedSegment malformedRow malformed room unusedSet spareQ spareP wrongCount unknownKind uneven broken missing deepRow unorderedRow notLower highSegment someBelow nesting tree below grown segments run curveOf kindOf pointOf frameOf segmentOf lt le eq ne neg ofBits finite
+unfolding verdict oversize unbounded edgeBeyond optionsBeyond finiteBeyond beyond within illFormed malformedSegment malformedRow malformed targets unusedSet spareQ spareP wrongCount unknownKind uneven broken missing deepRow unorderedRow notLower highSegment someBelow nesting tree below grown segments run curveOf kindOf pointOf frameOf segmentOf lt le eq ne neg ofBits finite
 start = refl
 
 -- two causes: the lower
 lowest : verdict (drawing more nought 1) (edge 2 2) options ≡ Refused 2
-unfolding verdict oversize unbounded edgeBeyond optionsBeyond finiteBeyond beyond within illFormed malformedSegment malformedRow malformed room unusedSet spareQ spareP wrongCount unknownKind uneven broken missing deepRow unorderedRow notLower highSegment someBelow nesting tree below grown segments run curveOf kindOf pointOf frameOf segmentOf lt le eq ne neg ofBits finite
+unfolding verdict oversize unbounded edgeBeyond optionsBeyond finiteBeyond beyond within illFormed malformedSegment malformedRow malformed targets unusedSet spareQ spareP wrongCount unknownKind uneven broken missing deepRow unorderedRow notLower highSegment someBelow nesting tree below grown segments run curveOf kindOf pointOf frameOf segmentOf lt le eq ne neg ofBits finite
 lowest = refl

@@ -63,11 +63,11 @@ unfoldable pub unusedSet : ℕ → Float → Float → Bool
 unusedSet kind p q = (spareP kind && notZero p) || (spareQ kind && notZero q)
 
 -- how many there are of what a row refers to: points, or the rows for a trim's base, or the segments of a composite
-abbrev pub roomOf : ℕ → ℕ → ℕ → ℕ → ℕ
-roomOf points rows segments kind = cond (leb kind 5) points (cond (eqb kind 6) rows segments)
+abbrev pub targetCount : ℕ → ℕ → ℕ → ℕ → ℕ
+targetCount points rows segments kind = cond (leb kind 5) points (cond (eqb kind 6) rows segments)
 
-unfoldable pub room : Tables → ℕ → ℕ
-room T kind = roomOf (pointCount T) (curveCount T) (segmentCount T) kind
+unfoldable pub targets : Tables → ℕ → ℕ
+targets T kind = targetCount (pointCount T) (curveCount T) (segmentCount T) kind
 
 -- a row of this kind with these numbers, among so many of what it refers to; a run must end inside its table
 abbrev pub malformedIn : ℕ → ℕ → ℕ → ℕ → Float → Float → Bool
@@ -75,7 +75,7 @@ malformedIn n kind first count p q =
     (unknownKind kind || wrongCount kind count) || (unusedSet kind p q || ltb n (first + count))
 
 unfoldable pub malformed : Tables → ℕ → ℕ → ℕ → Float → Float → Bool
-malformed T kind first count p q = malformedIn (room T kind) kind first count p q
+malformed T kind first count p q = malformedIn (targets T kind) kind first count p q
 
 -- row i of the curves
 unfoldable pub malformedRow : Tables → ℕ → Bool

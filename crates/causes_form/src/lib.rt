@@ -9,7 +9,7 @@ ghost use lib.ListN.{length};
 ghost use lib.Dec.{ltb};
 ghost use Rattle.brep.specs.Rows.{lent};
 ghost use Rattle.causes_bounds.specs.Some.{someBelow};
-ghost use Rattle.causes_form.specs.Forms.{broken, uneven, unknownKind, wrongCount, spareP, spareQ, unusedSet, roomOf, malformedIn};
+ghost use Rattle.causes_form.specs.Forms.{broken, uneven, unknownKind, wrongCount, spareP, spareQ, unusedSet, targetCount, malformedIn};
 ghost use Rattle.causes_form.specs.Forms.{malformedRow, malformedPart, ragged, illFormedEdge};
 
 fn broken(points: &[f64], curves: &[u32], reals: &[f64], parts: &[u32], ranges: &[f64]) -> bool
@@ -70,7 +70,7 @@ fn unused_set(kind: u32, p: f64, q: f64) -> bool
 
 // How many there are of what a row of this kind refers to.
 fn room(points: usize, rows: usize, segments: usize, kind: u32) -> usize
-    ensures { λ r. ⌜ r ≡ roomOf points rows segments kind ⌝ }
+    ensures { λ r. ⌜ r ≡ targetCount points rows segments kind ⌝ }
 {
     if kind <= 5 {
         points

@@ -10,7 +10,7 @@ use lib.Ieee.{Float, binary64, ofBits}
 use Rattle.base_lists.specs.Result.{Result, refused, got}
 use Rattle.base_lists.specs.Room.{filled}
 use Rattle.sheet_layout.specs.Layout.{RawSheet, readSheet}
-use Rattle.sheet_row.specs.Rows.{edgeOf}
+use Rattle.sheet_row.specs.Rows.{rawEdgeOf}
 use Rattle.sheet.specs.Sheet.{leading}
 use Rattle.sheet.proofs.Laws.{SheetRead}
 use Rattle.brep.specs.Rows.{Tables}
@@ -25,8 +25,8 @@ use Rattle.draw_spec.specs.Repair.{Got}
 use Rattle.draw_spec.specs.Draw.{roomOf, drawn, answerOf, inFirst, firstAfter, secondAfter, chainIn, Outcome}
 use Rattle.draw_spec.proofs.Sound.{drawn-fits}
 use Rattle.draw_spec.proofs.Held.{held}
-use Rattle.draw_spec.specs.Draw.{floatsOf}
-use Rattle.chain_answer.specs.Printed.{lastBits, shown, printedDrawn, drawnOf, printedRead, firstLeft, secondLeft, Answered}
+use Rattle.draw_spec.specs.Draw.{chainFloats}
+use Rattle.chain_answer.specs.Printed.{lastBits, shown, printedDrawn, drawnOf, printedRead, firstLeft, secondLeft, Prints}
 
 -- bytes at the start of a buffer, and how many they are
 abbrev pub Put : ℕ → List ℕ → List ℕ → List ℕ → Type 0
@@ -54,21 +54,21 @@ module _ (t : Tables) (e : Edge) (o : Options) (first second : List Float) (d : 
   abbrev made : Result Got
   made = drawn t e o (length first) (length second)
 
-  pub floats-few : floatsOf d ≤ width * roomOf (length first) (length second)
+  pub floats-few : chainFloats d ≤ width * roomOf (length first) (length second)
   unfolding answerOf
   floats-few = go made refl
     where
-      go : (g : Result Got) → made ≡ g → floatsOf d ≤ width * roomOf (length first) (length second)
-      go (refused n) q = let z = ap floatsOf (h .answered ∙ ap answerOf q) in omega arith
-      go (got g) q = let z = ap floatsOf (h .answered ∙ ap answerOf q) in let k = drawn-fits t e o (length first) (length second) g q in omega arith
+      go : (g : Result Got) → made ≡ g → chainFloats d ≤ width * roomOf (length first) (length second)
+      go (refused n) q = let z = ap chainFloats (h .answered ∙ ap answerOf q) in omega arith
+      go (got g) q = let z = ap chainFloats (h .answered ∙ ap answerOf q) in let k = drawn-fits t e o (length first) (length second) g q in omega arith
 
   -- both buffers are as long as before, so they hold the chain
-  buffers-hold : (floatsOf d ≤ length f) × (floatsOf d ≤ length s)
+  buffers-hold : (chainFloats d ≤ length f) × (chainFloats d ≤ length s)
   unfolding answerOf roomOf firstAfter secondAfter
   buffers-hold = go made refl
     where
-      go : (g : Result Got) → made ≡ g → (floatsOf d ≤ length f) × (floatsOf d ≤ length s)
-      go (refused n) q = let z = ap floatsOf (h .answered ∙ ap answerOf q) in (omega arith, omega arith)
+      go : (g : Result Got) → made ≡ g → (chainFloats d ≤ length f) × (chainFloats d ≤ length s)
+      go (refused n) q = let z = ap chainFloats (h .answered ∙ ap answerOf q) in (omega arith, omega arith)
       go (got g) q =
           let k = floats-few in
           let x = ap length (h .firstHolds ∙ ap (firstAfter first) q) in
@@ -78,7 +78,7 @@ module _ (t : Tables) (e : Edge) (o : Options) (first second : List Float) (d : 
           (omega arith, omega arith)
 
   pub held-in-room : (bytes : ℕ) → 19 + 68 * roomOf (length first) (length second) ≤ bytes
-      → (floatsOf d ≤ length f) × (floatsOf d ≤ length s) × (19 + 17 * floatsOf d ≤ bytes)
+      → (chainFloats d ≤ length f) × (chainFloats d ≤ length s) × (19 + 17 * chainFloats d ≤ bytes)
   held-in-room bytes fits = let k = floats-few in (buffers-hold .0, buffers-hold .1, omega arith)
 
   -- what is shown of the answer and the buffers is what is printed for the drawing
@@ -94,7 +94,7 @@ module _ (t : Tables) (e : Edge) (o : Options) (first second : List Float) (d : 
 -- ---- the whole answer
 module _ (text : List ℕ) (first second : List Float) (out : List ℕ) (r : ℕ) (out' : List ℕ) where
   -- no sheet was read
-  pub no-sheet : (cause : ℕ) → readSheet text ≡ refused cause → Put r out out' (refusal cause) → Answered text first second out r first second out'
+  pub no-sheet : (cause : ℕ) → readSheet text ≡ refused cause → Put r out out' (refusal cause) → Prints text first second out r first second out'
   unfolding printedRead firstLeft secondLeft
   no-sheet cause q h = record { count = rw q (h .0); bytes = rw q (h .1); firstHolds = rw q; secondHolds = rw q }
 
@@ -108,7 +108,7 @@ module _ (text : List ℕ) (first second : List Float) (out : List ℕ) (r : ℕ
     unfolding printedRead
     bytes-are = rw (read .is) (shown-is (leading n m k t) e o first second d f s h lo hi ∙ rw (read .lo-is, read .hi-is, made-is))
 
-    pub sheet-drawn : Put r out out' (shown lo hi d (chainIn f s d)) → Answered text first second out r f s out'
+    pub sheet-drawn : Put r out out' (shown lo hi d (chainIn f s d)) → Prints text first second out r f s out'
     unfolding firstLeft secondLeft
     sheet-drawn p = record {
       count = p .0 ∙ ap length bytes-are;

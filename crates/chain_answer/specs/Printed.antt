@@ -7,7 +7,7 @@ use lib.Seq.{sets}
 use lib.Ieee.{Float}
 use Rattle.base_lists.specs.Result.{Result, refused, got}
 use Rattle.sheet_layout.specs.Layout.{RawSheet, readSheet}
-use Rattle.sheet_row.specs.Rows.{edgeOf, optionsOf}
+use Rattle.sheet_row.specs.Rows.{rawEdgeOf, rawOptionsOf}
 use Rattle.sheet.specs.Sheet.{edgeFrom, optionsFrom, tablesOf}
 use Rattle.edge_record.specs.declared.Sample.{Sample}
 use Rattle.text_listing.specs.Listing.{listing, refusal}
@@ -39,13 +39,13 @@ printedDrawn lo hi (got g) = listing lo (lastBits (g .way) lo hi) (g .chain)
 
 -- what drawing the edge of a sheet gives, in buffers of so many floats
 abbrev pub drawnOf : RawSheet → ℕ → ℕ → Result Got
-drawnOf raw first second = drawn (tablesOf raw) (edgeFrom (edgeOf (raw .edge))) (optionsFrom (optionsOf (raw .options))) first second
+drawnOf raw first second = drawn (tablesOf raw) (edgeFrom (rawEdgeOf (raw .edge))) (optionsFrom (rawOptionsOf (raw .options))) first second
 
 -- for what reading gives
 unfoldable pub printedRead : ℕ → ℕ → Result RawSheet → List ℕ
 printedRead first second (refused cause) = refusal cause
 printedRead first second (got raw) =
-    printedDrawn (edgeOf (raw .edge) .lo) (edgeOf (raw .edge) .hi) (drawnOf raw first second)
+    printedDrawn (rawEdgeOf (raw .edge) .lo) (rawEdgeOf (raw .edge) .hi) (drawnOf raw first second)
 
 -- THE BYTES for a text: the chain of the sheet that it stands for, or the refusal
 abbrev pub printed : List ℕ → ℕ → ℕ → List ℕ
@@ -61,7 +61,7 @@ secondLeft first second (refused cause) = second
 secondLeft first second (got raw) = secondAfter second (drawnOf raw first (length second))
 
 -- ---- the whole answer: how many bytes, those bytes at the start of `out`, and both buffers
-pub record Answered (text : List ℕ) (first second : List Float) (out : List ℕ) (n : ℕ) (first' second' : List Float) (out' : List ℕ) : Type 0 where
+pub record Prints (text : List ℕ) (first second : List Float) (out : List ℕ) (n : ℕ) (first' second' : List Float) (out' : List ℕ) : Type 0 where
   pub count : n ≡ length (printed text (length first) (length second))
   pub bytes : out' ≡ sets out 0 (printed text (length first) (length second))
   pub firstHolds : first' ≡ firstLeft first (length second) (readSheet text)

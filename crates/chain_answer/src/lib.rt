@@ -7,8 +7,8 @@ ghost use lib.Seq.{sets};
 ghost use Rattle.brep.specs.Rows.{lent};
 ghost use Rattle.sheet.specs.Sheet.{leading};
 ghost use Rattle.draw_spec.specs.Draw.{roomOf, chainIn, Outcome};
-ghost use Rattle.draw_spec.specs.Draw.{floatsOf};
-ghost use Rattle.chain_answer.specs.Printed.{shown, printed, Answered};
+ghost use Rattle.draw_spec.specs.Draw.{chainFloats};
+ghost use Rattle.chain_answer.specs.Printed.{shown, printed, Prints};
 ghost use Rattle.chain_answer.specs.Held.{WasRead, SomeText};
 use brep::Edge;
 use draw_spec::Drawn;
@@ -25,7 +25,7 @@ pub const BYTES: usize = 139283;
 // The listing of an answer, whose chain lies in the first buffer or in the second. `lo` and `hi` are the bits of the edge's
 // range: a NaN parameter is a copy of one of them.
 fn show(drawn: Drawn, first: &[f64], second: &[f64], lo: u64, hi: u64, out: &mut [u8]) -> usize
-    requires { ⌜ (floatsOf drawn ≤ length (now first)) × (floatsOf drawn ≤ length (now second)) × (19 + 17 * floatsOf drawn ≤ length (now out)) ⌝ }
+    requires { ⌜ (chainFloats drawn ≤ length (now first)) × (chainFloats drawn ≤ length (now second)) × (19 + 17 * chainFloats drawn ≤ length (now out)) ⌝ }
     ensures { λ r. ⌜ (r ≡ length (shown lo hi drawn (chainIn (now (first .entry)) (now (second .entry)) drawn)))
         × (now (out .exit) ≡ sets (now (out .entry)) 0 (shown lo hi drawn (chainIn (now (first .entry)) (now (second .entry)) drawn))) ⌝ }
 {
@@ -90,7 +90,7 @@ fn answer_read(
 ) -> usize
     requires { ⌜ SomeText read (lent points curves reals parts ranges) × (19 + 68 * roomOf (length (now first)) (length (now second)) ≤ length (now out)) ⌝ }
     ensures { λ r. ⌜ ((text : List ℕ) → WasRead text read (lent (points .entry) (curves .entry) (reals .entry) (parts .entry) (ranges .entry))
-        → Answered text (now (first .entry)) (now (second .entry)) (now (out .entry)) r (now (first .exit)) (now (second .exit)) (now (out .exit))) ⌝ }
+        → Prints text (now (first .entry)) (now (second .entry)) (now (out .entry)) r (now (first .exit)) (now (second .exit)) (now (out .exit))) ⌝ }
 {
     match read {
         Sheet::Refused(cause) => text_listing::write_refusal(cause, out),
@@ -125,7 +125,7 @@ fn answer_read(
 // THE ANSWER to a sheet: the bytes that the program prints, at the start of `out`, and how many they are.
 pub fn answer(text: &[u8], first: &mut [f64], second: &mut [f64], out: &mut [u8]) -> usize
     requires { ⌜ 19 + 68 * roomOf (length (now first)) (length (now second)) ≤ length (now out) ⌝ }
-    ensures { λ r. ⌜ Answered (now (text .entry)) (now (first .entry)) (now (second .entry)) (now (out .entry)) r (now (first .exit)) (now (second .exit)) (now (out .exit)) ⌝ }
+    ensures { λ r. ⌜ Prints (now (text .entry)) (now (first .entry)) (now (second .entry)) (now (out .entry)) r (now (first .exit)) (now (second .exit)) (now (out .exit)) ⌝ }
 {
     let mut points = [0.0f64; sheet::POINTS];
     let mut curves = [0u32; sheet::CURVES];

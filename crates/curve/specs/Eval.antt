@@ -13,7 +13,7 @@ use Rattle.brep.specs.Tree.{CurveTree, line, circle, ellipse, parabola, polylin
 use Rattle.curve.specs.declared.Repeats.{Repeats}
 use Rattle.curve.specs.declared.Repeats.the-variants.{Every, Never}
 pub use Rattle.curve_parameter.specs.Run.{indexIn, clampedTo, segmentIndex, segmentLocal}
-unfoldable pub use Rattle.curve_parameter.specs.Run.{countOf, closes, polylineParameter, ownParameter}
+unfoldable pub use Rattle.curve_parameter.specs.Run.{runLength, closes, polylineParameter, ownParameter}
 pub use Rattle.curve_point.specs.Point.{alongFrom, around}
 unfoldable pub use Rattle.curve_point.specs.Point.{polylinePoint, ellipsePoint, parabolaPoint, pointAt, segmentPoint}
 
@@ -29,7 +29,7 @@ naturalRange (ellipse f a b) = interval nought tau
 naturalRange (parabola f d) = interval (neg (bits 0x412E848000000000)) (bits 0x412E848000000000)
 naturalRange (polyline ps) = interval nought (count (length ps - 1))
 naturalRange (trimmed base range) = range
-naturalRange (composite ss) = interval nought (count (countOf ss))
+naturalRange (composite ss) = interval nought (count (runLength ss))
 
 -- Curve::is_closed: a trim of a closed curve is, if its span is within 1e-9 of the curve's own
 unfoldable pub isClosed : CurveTree → Bool

@@ -16,10 +16,10 @@ use Rattle.math.specs.Math.{vZero, vSub, vLengthSquared}
 use Rattle.brep.specs.Rows.{Tables, pointOf}
 use Rattle.brep.specs.Tree.{CurveTree, Segments, segment, run, segments, segmentIn}
 use Rattle.brep.proofs.Laws.{length-run, getD-run}
-use Rattle.curve_parameter.specs.Run.{countOf, clampedTo, indexIn, segmentIndex, segmentLocal, closes, polylineParameter}
+use Rattle.curve_parameter.specs.Run.{runLength, clampedTo, indexIn, segmentIndex, segmentLocal, closes, polylineParameter}
 
-pub count-segments : (T : Tables) (f : ℕ → CurveTree) (first n : ℕ) → countOf (segments T f first n) ≡ n
-unfolding countOf segments
+pub count-segments : (T : Tables) (f : ℕ → CurveTree) (first n : ℕ) → runLength (segments T f first n) ≡ n
+unfolding runLength segments
 count-segments T f first zero = refl
 count-segments T f first (suc n) = ap suc (count-segments T f (suc first) n)
 
@@ -35,7 +35,7 @@ module _ {A : Type 0} (h : Segments → ℕ → Float → A) (k : CurveTree → 
 
   -- what a row of a composite reads, and what it makes of it
   pub of-composite : (T : Tables) (f : ℕ → CurveTree) (first n : ℕ) (t : Float) → (n ≡ 0 → ⊥) → (clamped : Float) → clamped ≡ clampedTo n t → (i : ℕ) → i ≡ indexIn (n - 1) clamped → (s : Segment) → s ≡ segmentIn T (first + i) →
-      k (f (s .curve)) (s .range) (s .«same_sense») (clamped ⊖ count i) ≡ h (segments T f first n) (segmentIndex (countOf (segments T f first n)) t) (segmentLocal (countOf (segments T f first n)) t)
+      k (f (s .curve)) (s .range) (s .«same_sense») (clamped ⊖ count i) ≡ h (segments T f first n) (segmentIndex (runLength (segments T f first n)) t) (segmentLocal (runLength (segments T f first n)) t)
   of-composite T f first n t z clamped eh i ei s es = rw (count-segments T f first n, es, ei, eh) (sym (nth T f first n (segmentIndex n t) (segmentLocal n t) (omega arith)))
 
 module _ (points : List Float) (first n : ℕ) where

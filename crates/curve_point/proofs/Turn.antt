@@ -20,7 +20,7 @@ use Rattle.brep.specs.Tree.{CurveTree, polyline, circle, ellipse, trimmed, rowI
 use Rattle.brep.proofs.ByKind.{kindIn, firstIn, countIn, pIn, qIn}
 use Rattle.curve_point.specs.Point.{around, ellipsePoint, pointAt}
 use Rattle.curve_parameter.specs.Under.{under}
-use Rattle.curve_point.specs.Turn.{turnOf}
+use Rattle.curve_point.specs.Turn.{sinCosFor}
 use Rattle.curve_parameter.proofs.Under.{Left, under-rest}
 
 -- a curve's number among the kinds
@@ -74,13 +74,13 @@ module _ (T : Tables) (row : ℕ) {c : Curve} (e : c ≡ rowIn T row) where
       (λ e8. absurd (h (sym e8)))))))))
 
   -- the sine and cosine worked out before a row that is round
-  module _ (t : Float) {s : SinCos} (h : s ≡ turnOf (kindIn T row) t) where
+  module _ (t : Float) {s : SinCos} (h : s ≡ sinCosFor (kindIn T row) t) where
     pub circle-around : {f : Frame} {r : Float} → c ≡ Circle f r → around f r r s ≡ pointAt (circle f r) t
-    unfolding numberOf turnOf sinCosOf pointAt polar
+    unfolding numberOf sinCosFor sinCosOf pointAt polar
     circle-around {f} {r} k = ap (around f r r) (h ∙ rw (number 2 (λ v. omega arith) (ap numberOf k)))
 
     pub ellipse-around : {f : Frame} {a b : Float} → c ≡ Ellipse f a b → around f a b s ≡ pointAt (ellipse f a b) t
-    unfolding numberOf turnOf sinCosOf pointAt ellipsePoint
+    unfolding numberOf sinCosFor sinCosOf pointAt ellipsePoint
     ellipse-around {f} {a} {b} k = ap (around f a b) (h ∙ rw (number 3 (λ v. omega arith) (ap numberOf k)))
 
 -- a trim that stays where it is

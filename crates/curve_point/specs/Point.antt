@@ -12,7 +12,7 @@ use Rattle.math.specs.declared.Vec3.{Vec3}
 use Rattle.math.specs.declared.Frame.{Frame}
 use Rattle.math.specs.Math.{vZero, vAdd, vScale, vLerp, yDir, polar}
 use Rattle.brep.specs.Tree.{CurveTree, line, circle, ellipse, parabola, polyline, trimmed, composite, Segments, none, segment}
-use Rattle.curve_parameter.specs.Run.{countOf, indexIn, polylineParameter, segmentIndex, segmentLocal, ownParameter}
+use Rattle.curve_parameter.specs.Run.{runLength, indexIn, polylineParameter, segmentIndex, segmentLocal, ownParameter}
 
 -- from point i towards the next, by what t has above i
 abbrev pub alongFrom : List Vec3 → ℕ → Float → Vec3
@@ -47,7 +47,7 @@ unfoldable mutual
   pointAt (parabola f d) t = parabolaPoint f d t
   pointAt (polyline ps) t = polylinePoint ps t
   pointAt (trimmed base range) t = pointAt base t
-  pointAt (composite ss) t = segmentPoint ss (segmentIndex (countOf ss) t) (segmentLocal (countOf ss) t)
+  pointAt (composite ss) t = segmentPoint ss (segmentIndex (runLength ss) t) (segmentLocal (runLength ss) t)
 
   -- the point of composite_at: segment i's curve at its own parameter
   pub segmentPoint : Segments → ℕ → Float → Vec3

@@ -8,7 +8,7 @@ ghost use Prim.Native.Nat.{_*_};
 ghost use lib.ListN.{getD};
 ghost use Rattle.brep.specs.Rows.{lent};
 ghost use Rattle.brep.specs.Tree.{tree, run, runOf};
-ghost use Rattle.curve_point.specs.Turn.{turnOf};
+ghost use Rattle.curve_point.specs.Turn.{sinCosFor};
 ghost use Rattle.curve_point.specs.Point.{polylinePoint, around, parabolaPoint, pointAt};
 
 // A polyline's point, of its run of points.
@@ -47,7 +47,7 @@ fn parabola_point(frame: Frame, focal_dist: f64, t: f64) -> Vec3
 
 // The sine and cosine that a row's point is made of; a row that is neither a circle nor an ellipse needs none.
 fn turn_at(curves: &[u32], row: u32, t: f64) -> SinCos
-    ensures { λ r. ⌜ r ≡ turnOf (getD (now (curves .entry)) (row * 3) 0) t ⌝ }
+    ensures { λ r. ⌜ r ≡ sinCosFor (getD (now (curves .entry)) (row * 3) 0) t ⌝ }
 {
     match brep::int_at(curves, row as usize * 3) {
         2 => arith_trig::sin_cos(t),

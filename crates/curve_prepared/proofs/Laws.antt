@@ -7,11 +7,11 @@ use Rattle.brep.specs.Tree.{CurveTree, line, circle, ellipse, parabola, polylin
 use Rattle.curve_point.specs.Point as curves
 use Rattle.curve_tangent.specs.Derivative as derivatives
 use Rattle.curve_prepared.specs.declared.Ready.{Ready}
-use Rattle.curve_prepared.specs.Ready.{readyOf, roundPoint, parabolaPoint, readyPoint, roundDerivative, parabolaSlope, readyDerivative}
+use Rattle.curve_prepared.specs.Ready.{readyOf, roundPoint, preparedParabola, readyPoint, roundDerivative, parabolaSlope, readyDerivative}
 
 -- of a curve c that has the points of b, which is c with trims taken off
 points-of : (b c : CurveTree) (t : Float) → curves.pointAt c t ≡ curves.pointAt b t → readyPoint (readyOf b) c t ≡ curves.pointAt b t
-unfolding readyPoint readyOf roundPoint parabolaPoint curves.pointAt curves.ellipsePoint curves.parabolaPoint polar
+unfolding readyPoint readyOf roundPoint preparedParabola curves.pointAt curves.ellipsePoint curves.parabolaPoint polar
 points-of (line o d) c t e = refl
 points-of (circle f r) c t e = refl
 points-of (ellipse f a b) c t e = refl

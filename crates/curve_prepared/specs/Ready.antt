@@ -35,14 +35,14 @@ unfoldable pub roundPoint : Vec3 → Vec3 → Vec3 → Float → Float → Float
 roundPoint origin x y major minor t = vAdd (vAdd origin (vScale x (major ⊗ cosOf t))) (vScale y (minor ⊗ sinOf t))
 
 -- O + x (F t t) + y (2 F t)
-unfoldable pub parabolaPoint : Vec3 → Vec3 → Vec3 → Float → Float → Vec3
-parabolaPoint origin x y focal t = vAdd (vAdd origin (vScale x (focal ⊗ t ⊗ t))) (vScale y (two ⊗ focal ⊗ t))
+unfoldable pub preparedParabola : Vec3 → Vec3 → Vec3 → Float → Float → Vec3
+preparedParabola origin x y focal t = vAdd (vAdd origin (vScale x (focal ⊗ t ⊗ t))) (vScale y (two ⊗ focal ⊗ t))
 
 -- the point at t of a curve that was made ready
 unfoldable pub readyPoint : Ready → CurveTree → Float → Vec3
 readyPoint (Line origin direction) c t = vAdd origin (vScale direction t)
 readyPoint (Round origin x y major minor) c t = roundPoint origin x y major minor t
-readyPoint (Parabola origin x y focal) c t = parabolaPoint origin x y focal t
+readyPoint (Parabola origin x y focal) c t = preparedParabola origin x y focal t
 readyPoint Other c t = pointAt c t
 
 -- x (-a sin t) + y (b cos t)

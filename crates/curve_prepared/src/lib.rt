@@ -7,7 +7,7 @@ ghost use Rattle.brep.specs.Rows.{lent, pointOf};
 ghost use Rattle.brep.specs.Tree.{tree};
 ghost use Rattle.curve_point.specs.Point.{pointAt};
 ghost use Rattle.curve_prepared.specs.declared.Ready.the-variants.{Line};
-ghost use Rattle.curve_prepared.specs.Ready.{roundOf, parabolaOf, readyOf, roundPoint, parabolaPoint, readyPoint};
+ghost use Rattle.curve_prepared.specs.Ready.{roundOf, parabolaOf, readyOf, roundPoint, preparedParabola, readyPoint};
 ghost use Rattle.curve_prepared.specs.Ready.{roundDerivative, parabolaSlope, readyDerivative};
 
 // Axes are as they are: nothing is normalised. A circle is round with equal axes.
@@ -116,7 +116,7 @@ fn round_point(origin: Vec3, x: Vec3, y: Vec3, major: f64, minor: f64, t: f64) -
 }
 
 fn parabola_point(origin: Vec3, x: Vec3, y: Vec3, focal_dist: f64, t: f64) -> Vec3
-    ensures { λ r. ⌜ r ≡ parabolaPoint origin x y «focal_dist» t ⌝ }
+    ensures { λ r. ⌜ r ≡ preparedParabola origin x y «focal_dist» t ⌝ }
 {
     origin
         .add(x.scale(focal_dist * t * t))

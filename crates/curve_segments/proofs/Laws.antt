@@ -14,7 +14,7 @@ use Rattle.brep.specs.declared.Curve.the-variants.{Composite}
 use Rattle.brep.specs.Rows.{Tables}
 use Rattle.brep.specs.Tree.{CurveTree, polyline, composite, segment, segments, segmentIn, rowIn, grown, below, tree, runOf}
 use Rattle.brep.proofs.Laws.{lower, at-high}
-use Rattle.curve.specs.Eval.{countOf, segmentIndex, segmentLocal, ownParameter, polylinePoint, pointAt, segmentPoint}
+use Rattle.curve.specs.Eval.{runLength, segmentIndex, segmentLocal, ownParameter, polylinePoint, pointAt, segmentPoint}
 use Rattle.curve_segments.specs.declared.Place.{Place}
 use Rattle.curve_segments.specs.Run.{past, recordsIn, segmentsOf, compositeOf, placeIn, alongOf}
 
@@ -41,8 +41,8 @@ module _ (T : Tables) (row count : ℕ) (s : Segment) (local : Float) where
 
 -- ---- the point on the run
 module _ (f : ℕ → CurveTree) where
-  count-records : (run : List Segment) → countOf (segmentsOf f run) ≡ length run
-  unfolding countOf segmentsOf
+  count-records : (run : List Segment) → runLength (segmentsOf f run) ≡ length run
+  unfolding runLength segmentsOf
   count-records [] = refl
   count-records (s ∷ run) = ap suc (count-records run)
 

@@ -13,7 +13,7 @@ use Rattle.math.specs.declared.Direction.{Direction}
 use Rattle.math.specs.declared.Interval.{Interval}
 use Rattle.math.specs.Math.{vZero, vAdd, vSub, vScale, yDir, tryNormalized, spanOf}
 use Rattle.brep.specs.Tree.{CurveTree, line, circle, ellipse, parabola, polyline, trimmed, composite, Segments, none, segment}
-use Rattle.curve_parameter.specs.Run.{countOf, indexIn, polylineParameter, segmentIndex, segmentLocal, ownParameter}
+use Rattle.curve_parameter.specs.Run.{runLength, indexIn, polylineParameter, segmentIndex, segmentLocal, ownParameter}
 
 -- polyline_derivative: the segment's own vector
 unfoldable pub polylineDerivative : List Vec3 → Float → Vec3
@@ -43,7 +43,7 @@ unfoldable mutual
   derivativeAt (parabola f d) t = parabolaDerivative f d t
   derivativeAt (polyline ps) t = polylineDerivative ps t
   derivativeAt (trimmed base range) t = derivativeAt base t
-  derivativeAt (composite ss) t = segmentDerivative ss (segmentIndex (countOf ss) t) (segmentLocal (countOf ss) t)
+  derivativeAt (composite ss) t = segmentDerivative ss (segmentIndex (runLength ss) t) (segmentLocal (runLength ss) t)
 
   -- the derivative of composite_at: a reversed segment's flips
   pub segmentDerivative : Segments → ℕ → Float → Vec3

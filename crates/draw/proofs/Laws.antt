@@ -25,7 +25,7 @@ use Rattle.edge_range.specs.Usable.{usableRange}
 use Rattle.edge_record.specs.declared.Sample.{Sample}
 use Rattle.edge_record.specs.declared.Counted.{Counted}
 use Rattle.edge_record.specs.declared.Counted.the-variants as counted
-use Rattle.edge_record.specs.Chain.{width, flat, samples, answerOf}
+use Rattle.edge_record.specs.Chain.{width, flat, samples, countedOf}
 use Rattle.edge_record.proofs.Laws.{length-flat, reads}
 use Rattle.edge_merge.specs.Merge.{mergeFloor}
 use Rattle.draw_spec.specs.declared.Way.{Way}
@@ -42,9 +42,9 @@ use Rattle.draw_spec.proofs.Sound.{Binary}
 use Rattle.draw_spec.proofs.Accepted.{given, by-tables, by-buffers, refused-so}
 use Rattle.draw_spec.proofs.Table.{lowest}
 use Rattle.draw_spec.proofs.Held.{held, outcome}
-use Rattle.edge_discretise.specs.Discretised.{chainOf, Discretised}
-use Rattle.edge_repair.specs.Redrawn.{Left}
-use Rattle.draw_spec.specs.Draw.{liesInFirst, floatsOf}
+use Rattle.edge_discretise.specs.Discretised.{chainOf, DiscretisedInto}
+use Rattle.edge_repair.specs.Redrawn.{DrawnInto}
+use Rattle.draw_spec.specs.Draw.{liesInFirst, chainFloats}
 
 -- ---- the room of buffers that are long enough
 room-fine : (first second : ℕ) → 8 ≤ first → 8 ≤ second → Room (roomOf first second)
@@ -80,7 +80,7 @@ unfolding secondAfter
 same-second (refused n) a b h e = late n a (h n refl) ∙ ap (λ (m : ℕ). filled m []) e ∙ sym (late n b (h n refl))
 same-second (got g) a b h e = ap (λ (m : ℕ). filled m (cond (inFirst (g .way)) [] (flat (g .chain)))) e
 
-refused-left : (n : ℕ) (first second : List Float) → (n ≡ 8) ⊎ (n ≡ 9) → Left (refused n) first second (Refused n) (filled (length first) []) (filled (length second) [])
+refused-left : (n : ℕ) (first second : List Float) → (n ≡ 8) ⊎ (n ≡ 9) → DrawnInto (refused n) first second (Refused n) (filled (length first) []) (filled (length second) [])
 unfolding draw.answerOf firstAfter secondAfter
 refused-left n first second h = record { answered = refl; firstHolds = sym (late n first h); secondHolds = sym (late n second h) }
 
@@ -117,20 +117,20 @@ module _ (t : Tables) (e : Edge) (r : Resolved) (first second : List Float) (p :
   unfolding drawnIn
   whole-got l h = rw h
 
-  module _ {w : Counted} {f s : List Float} (d : Discretised (λ room. discretised room t e r) first second w f s) where
+  module _ {w : Counted} {f s : List Float} (d : DiscretisedInto (λ room. discretised room t e r) first second w f s) where
     -- it refused
-    pub not-drawn : (n : ℕ) → w ≡ counted.Refused n → Left whole first second (Refused n) f s
+    pub not-drawn : (n : ℕ) → w ≡ counted.Refused n → DrawnInto whole first second (Refused n) f s
     not-drawn n is = go chain refl
       where
-        go : (c : Result (List Sample)) → chain ≡ c → Left whole first second (Refused n) f s
-        go (got l) h = absurd (let a : counted.Refused n ≡ answerOf (got l) = sym is ∙ d .drew .answered ∙ ap answerOf h in let z : _≡_ {A = ℕ} 0 1 = cc in omega arith)
+        go : (c : Result (List Sample)) → chain ≡ c → DrawnInto whole first second (Refused n) f s
+        go (got l) h = absurd (let a : counted.Refused n ≡ countedOf (got l) = sym is ∙ d .drew .answered ∙ ap countedOf h in let z : _≡_ {A = ℕ} 0 1 = cc in omega arith)
         go (refused m) h =
-            let a : counted.Refused n ≡ answerOf (refused m) = sym is ∙ d .drew .answered ∙ ap answerOf h in
+            let a : counted.Refused n ≡ countedOf (refused m) = sym is ∙ d .drew .answered ∙ ap countedOf h in
             let k : m ≡ n = cc in
             let c : chain ≡ refused n = h ∙ ap refused k in
-            subst (λ (x : Result Got). Left x first second (Refused n) f s) (sym (whole-refused n c))
-            (subst (λ (x : List Float). Left (refused n) first second (Refused n) x s) (sym (d .drew .holds ∙ ap (λ (x : Result (List Sample)). filled (length first) (flat (chainOf x))) c ∙ none))
-            (subst (λ (x : List Float). Left (refused n) first second (Refused n) (filled (length first) []) x) (sym (d .cleared))
+            subst (λ (x : Result Got). DrawnInto x first second (Refused n) f s) (sym (whole-refused n c))
+            (subst (λ (x : List Float). DrawnInto (refused n) first second (Refused n) x s) (sym (d .drew .holds ∙ ap (λ (x : Result (List Sample)). filled (length first) (flat (chainOf x))) c ∙ none))
+            (subst (λ (x : List Float). DrawnInto (refused n) first second (Refused n) (filled (length first) []) x) (sym (d .cleared))
             (refused-left n first second (chain-late n c))))
           where
             none : filled (length first) (flat []) ≡ filled (length first) []
@@ -151,9 +151,9 @@ module _ (t : Tables) (e : Edge) (r : Resolved) (first second : List Float) (p :
     counts n is = go chain refl
       where
         go : (c : Result (List Sample)) → chain ≡ c → Counts n
-        go (refused m) h = absurd (let a : counted.Count n ≡ answerOf (refused m) = sym is ∙ d .drew .answered ∙ ap answerOf h in let z : _≡_ {A = ℕ} 0 1 = cc in omega arith)
+        go (refused m) h = absurd (let a : counted.Count n ≡ countedOf (refused m) = sym is ∙ d .drew .answered ∙ ap countedOf h in let z : _≡_ {A = ℕ} 0 1 = cc in omega arith)
         go (got l) h =
-            let a : counted.Count n ≡ answerOf (got l) = sym is ∙ d .drew .answered ∙ ap answerOf h in
+            let a : counted.Count n ≡ countedOf (got l) = sym is ∙ d .drew .answered ∙ ap countedOf h in
             let k : n ≡ length l = cc in
             let g : f ≡ filled (length first) (flat l) = d .drew .holds ∙ ap (λ (x : Result (List Sample)). filled (length first) (flat (chainOf x))) h in
             let m : length (flat l) ≤ length first = omega (arith, length-flat l, chain-fits l h) in
@@ -185,7 +185,7 @@ module _ (t : Tables) (e : Edge) (r : Resolved) (first second : List Float) (p :
             ∙ ap (λ (m : ℕ). repaired (roomOf m (length s)) t e r (by way (samples n f))) (c .first-long)
             ∙ ap (λ (m : ℕ). repaired (roomOf (length first) m) t e r (by way (samples n f))) (c .second-long) ∙ sym (whole-got (samples n f) (c .is))
 
-        pub drawn-on : {answer : Drawn} {f' s' : List Float} → Left mended f s answer f' s' → Left whole first second answer f' s'
+        pub drawn-on : {answer : Drawn} {f' s' : List Float} → DrawnInto mended f s answer f' s' → DrawnInto whole first second answer f' s'
         drawn-on h = record {
           answered = h .answered ∙ ap draw.answerOf all-mended;
           firstHolds = h .firstHolds ∙ ap (firstAfter f) all-mended ∙ same-first whole f first whole-late (c .first-long);
@@ -213,7 +213,7 @@ module _ (t : Tables) (e : Edge) (o : Options) (first second : List Float) where
 
   pub by-drawing : verdict t e o ≡ verdicts.Accepted → tooShort (length first) (length second) ≡ false → Binary t e
       → (r : Resolved) → r ≡ localOptions t e o
-      → (answer : Drawn) (f s : List Float) → Left (drawnIn (roomOf (length first) (length second)) t e r) first second answer f s
+      → (answer : Drawn) (f s : List Float) → DrawnInto (drawnIn (roomOf (length first) (length second)) t e r) first second answer f s
       → Outcome t e o first second answer f s
   by-drawing a b k r is answer f s h =
       let d = ap (drawnIn (roomOf (length first) (length second)) t e) is ∙ sym (given t e o (length first) (length second) verdicts.Accepted false a b) in
@@ -241,19 +241,19 @@ module _ {A : Type 0} (d : Drawn) (way : Way) (n : ℕ) (is : d ≡ Chain way n)
   pub in-the-second : b ≡ false → (x y : A) → y ≡ cond (liesInFirst d) x y
   in-the-second e x y = ap (λ (t : Bool). cond t x y) (sym e ∙ lies ∙ sym (ap liesInFirst is))
 
-pub so-many : (d : Drawn) (way : Way) (n : ℕ) → d ≡ Chain way n → (l : List Float) → take (width * n) l ≡ take (floatsOf d) l
-so-many d way n is l = ap (λ (m : ℕ). take m l) (sym (ap floatsOf is))
+pub so-many : (d : Drawn) (way : Way) (n : ℕ) → d ≡ Chain way n → (l : List Float) → take (width * n) l ≡ take (chainFloats d) l
+so-many d way n is l = ap (λ (m : ℕ). take m l) (sym (ap chainFloats is))
 
 -- the part that chain_of returns of draw's own answer holds the chain's records
 pub part-is-chain : (t : Tables) (e : Edge) (o : Options) (first second : List Float) (answer : Drawn) (f s : List Float)
-    → Outcome t e o first second answer f s → take (floatsOf answer) (cond (liesInFirst answer) f s) ≡ flat (draw.chainIn f s answer)
+    → Outcome t e o first second answer f s → take (chainFloats answer) (cond (liesInFirst answer) f s) ≡ flat (draw.chainIn f s answer)
 unfolding draw.answerOf firstAfter secondAfter draw.chainIn flat
 part-is-chain t e o first second answer f s h = go (drawn t e o (length first) (length second)) refl
   where
     lead : (n : ℕ) (l : List Sample) → take (width * length l) (filled n (flat l)) ≡ flat l
     lead n l = ap (λ (m : ℕ). take m (filled n (flat l))) (sym (length-flat l)) ∙ filled-front n (flat l)
 
-    go : (d : Result Got) → drawn t e o (length first) (length second) ≡ d → take (floatsOf answer) (cond (liesInFirst answer) f s) ≡ flat (draw.chainIn f s answer)
+    go : (d : Result Got) → drawn t e o (length first) (length second) ≡ d → take (chainFloats answer) (cond (liesInFirst answer) f s) ≡ flat (draw.chainIn f s answer)
     go (refused n) q = rw (h .answered, q)
     go (got g) q =
         rw (h .answered, h .firstHolds, h .secondHolds, q, held first second g)

@@ -23,9 +23,9 @@ ghost use Rattle.causes.specs.Causes.{verdict, tablesVerdict};
 ghost use Rattle.knots.specs.Knots.{curveKnots};
 ghost use Rattle.edge_record.specs.Chain.{width};
 ghost use Rattle.edge_range.specs.Usable.{usableRange};
-ghost use Rattle.draw_spec.specs.Draw.{firstWay, localOptions, drawnIn, roomOf, inFirst, liesInFirst, floatsOf, Outcome};
+ghost use Rattle.draw_spec.specs.Draw.{firstWay, localOptions, drawnIn, roomOf, inFirst, liesInFirst, chainFloats, Outcome};
 ghost use Rattle.draw_spec.specs.Binary.{Fitting};
-ghost use Rattle.edge_repair.specs.Redrawn.{Left};
+ghost use Rattle.edge_repair.specs.Redrawn.{DrawnInto};
 
 // The way of the first drawing: the chord where the edge has no usable range.
 fn first_way(usable: Usable) -> Way
@@ -89,7 +89,7 @@ fn drawn_in(
 ) -> Drawn
     requires { ⌜ (8 ≤ length (now first)) × (8 ≤ length (now second)) × (length (curveKnots (tree (lent points curves reals parts ranges) (edge .curve))) ≤ 8192)
         × (usable ≡ usableRange (tree (lent points curves reals parts ranges) (edge .curve)) (edge .range)) ⌝ }
-    ensures { λ w. ⌜ Left (drawnIn (roomOf (length (now (first .entry))) (length (now (second .entry)))) (lent (points .entry) (curves .entry) (reals .entry) (parts .entry) (ranges .entry)) edge r) (now (first .entry)) (now (second .entry)) w (now (first .exit)) (now (second .exit)) ⌝ }
+    ensures { λ w. ⌜ DrawnInto (drawnIn (roomOf (length (now (first .entry))) (length (now (second .entry)))) (lent (points .entry) (curves .entry) (reals .entry) (parts .entry) (ranges .entry)) edge r) (now (first .entry)) (now (second .entry)) w (now (first .exit)) (now (second .exit)) ⌝ }
 {
     let counted = edge_discretise::discretise_over(
         points,
@@ -257,7 +257,7 @@ fn leading<'a>(buffer: &'a mut [f64], n: usize) -> &'a mut [f64]
 
 // The chain of an answer: the leading part of the buffer that holds it, without copying. For a refusal it is empty.
 pub fn chain_of<'a>(drawn: Drawn, first: &'a mut [f64], second: &'a mut [f64]) -> &'a mut [f64]
-    ensures { λ r. ⌜ (now r ≡ take (floatsOf drawn) (cond (liesInFirst drawn) (now (first .entry)) (now (second .entry))))
+    ensures { λ r. ⌜ (now r ≡ take (chainFloats drawn) (cond (liesInFirst drawn) (now (first .entry)) (now (second .entry))))
         × (ptr r ≡ cond (liesInFirst drawn) (ptr (first .entry)) (ptr (second .entry))) ⌝ }
 {
     match drawn {

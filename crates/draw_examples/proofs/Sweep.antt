@@ -14,7 +14,7 @@ use Rattle.brep.specs.Tree.{CurveTree, tree, below, grown}
 use Rattle.curve.specs.Eval.{pointAt, naturalRange}
 use Rattle.options.specs.declared.Resolved.{Resolved}
 use Rattle.draw_spec.specs.Edge.{edgeCurve, edgeStart, edgeEnd}
-use Rattle.draw_spec.specs.Repair.{Got, nearestOf, sweepAt, ordered, byShortArc, runaway}
+use Rattle.draw_spec.specs.Repair.{Got, nearestOf, sweepAt, orderedInterval, byShortArc, runaway}
 use lib.Ieee.Scale.{finite}
 use Rattle.arith_root.specs.Root.{rootOf, rootUnits, nearRoot, isqrt}
 use Rattle.draw_examples.specs.Examples.{boxed, escaping}
@@ -75,9 +75,9 @@ from-end : nearestOf (edgeCurve boxed escaping) (naturalRange (edgeCurve boxed e
 from-end = quarters (edgeCurve boxed escaping) (naturalRange (edgeCurve boxed escaping)) (edgeEnd boxed escaping) (bits 0xC25D1A94A2000000) (first .1) (second .1) (third .1) (fourth .1)
 
 -- so the short arc has no length
-no-length : (a b : Float) → a ≡ nought → b ≡ nought → lt nought (spanOf (ordered a b)) ≡ false
+no-length : (a b : Float) → a ≡ nought → b ≡ nought → lt nought (spanOf (orderedInterval a b)) ≡ false
 unfolding spanOf sub lt le eq neg ofBits
-no-length a b e f = ap (λ (x : Float). lt nought (spanOf (ordered x b))) e ∙ ap (λ (x : Float). lt nought (spanOf (ordered nought x))) f
+no-length a b e f = ap (λ (x : Float). lt nought (spanOf (orderedInterval x b))) e ∙ ap (λ (x : Float). lt nought (spanOf (orderedInterval nought x))) f
 
 neither : (a b c : Bool) → c ≡ false → a && (b && c) ≡ false
 neither true true c e = e

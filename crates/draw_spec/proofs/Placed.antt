@@ -16,7 +16,7 @@ use Rattle.brep.specs.Tree.{CurveTree}
 use Rattle.curve.specs.Eval.{pointAt}
 use Rattle.edge_params.proofs.Steady.{Steady, steady-reverse}
 use Rattle.edge_record.specs.declared.Sample.{Sample}
-use Rattle.edge_record.specs.Chain.{lastOf, between}
+use Rattle.edge_record.specs.Chain.{lastOf, innerSamples}
 use Rattle.edge_closed_form.proofs.Located.{located-length}
 use Rattle.draw_spec.specs.Edge.{edgeCurve, edgeStart, edgeEnd, located, isReversed, oriented, lastPinned, pinned, placed}
 
@@ -84,7 +84,7 @@ pub record Placed (t : Tables) (e : Edge) (l : List Sample) : Type 0 where
   pub two : 2 ≤ length l
   pub begins : (d : Sample) → getD l 0 d .point ≡ edgeStart t e
   pub finishes : (d : Sample) → lastOf d l .point ≡ edgeEnd t e
-  pub own : All (Own (edgeCurve t e)) (between l)
+  pub own : All (Own (edgeCurve t e)) (innerSamples l)
   pub steady : Steady (paramsOf l)
 
 module _ (t : Tables) (e : Edge) where

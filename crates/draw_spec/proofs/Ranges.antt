@@ -21,7 +21,7 @@ use Rattle.edge_params.proofs.Runs.{Good}
 use Rattle.edge_params.proofs.Ends.{Size, size-grows, size-good, abs-size, good-either, add-size, sub-size, Unit, part-size, at-good}
 use Rattle.edge_range.specs.declared.Usable.the-variants.{Range, Unusable}
 use Rattle.edge_range.specs.Usable.{ownRange, heldTo, withinDomain, isNoRange, usableRange}
-use Rattle.draw_spec.specs.Repair.{sweepAt, nearestOf, nearest, ordered}
+use Rattle.draw_spec.specs.Repair.{sweepAt, nearestOf, nearest, orderedInterval}
 use Rattle.draw_spec.proofs.Tame.{Reach, Tame}
 
 -- an edge's range: where an end is finite, sampling can halve it
@@ -150,7 +150,7 @@ module _ (c : CurveTree) (tame : Tame c) where
       let next = sweepAt (naturalRange c) (suc n) in
       good-either (lt (distance (pointAt c next) target) (distance (pointAt c best) target)) next best (sweep-good (suc n) h) (nearest-good target n (omega arith))
 
-  pub short-goods : (a b : Vec3) → Goods (ordered (nearest c a) (nearest c b))
+  pub short-goods : (a b : Vec3) → Goods (orderedInterval (nearest c a) (nearest c b))
   short-goods a b = go (le (nearest c a) (nearest c b))
     where
       go : (t : Bool) → Goods (cond t (interval (nearest c a) (nearest c b)) (interval (nearest c b) (nearest c a)))

@@ -22,7 +22,7 @@ use Rattle.edge_merge.specs.Merge.{mergeFloor}
 use Rattle.edge_range.specs.Usable.{usableRange}
 use Rattle.draw_spec.specs.declared.Way.the-variants.{Complement, ShortArc}
 use Rattle.draw_spec.specs.Edge.{edgeCurve, edgeStart, edgeEnd, discretised}
-use Rattle.draw_spec.specs.Repair.{Got, by, withRange, reference, escapes, reaches, nearest, ordered, runaway, arcOrChord, byShortArc, byComplement, byPeriod, repaired}
+use Rattle.draw_spec.specs.Repair.{Got, by, withRange, reference, escapes, reaches, nearest, orderedInterval, runaway, arcOrChord, byShortArc, byComplement, byPeriod, repaired}
 use Rattle.draw_spec.specs.Draw.{firstWay, drawnIn}
 use Rattle.draw_spec.proofs.Tame.{Tame}
 use Rattle.draw_spec.proofs.Ranges.{Ends, goods-ends, complement-ends, short-goods}
@@ -67,15 +67,15 @@ module _ (H : Type 0) (t : Tables) (e : Edge) (tame : H → Tame (edgeCurve t e)
   unfolding byShortArc
   short-outcome =
       let natural = naturalRange (edgeCurve t e) in
-      let short = ordered (nearest (edgeCurve t e) (edgeStart t e)) (nearest (edgeCurve t e) (edgeEnd t e)) in
+      let short = orderedInterval (nearest (edgeCurve t e) (edgeStart t e)) (nearest (edgeCurve t e) (edgeEnd t e)) in
       go (finite (spanOf natural) && (lt nought (spanOf natural) && lt nought (spanOf short)))
     where
       go : (b : Bool) → Outcome Fine (elim b [
-        | true ↦ bind (discretised room t (withRange e (ordered (nearest (edgeCurve t e) (edgeStart t e)) (nearest (edgeCurve t e) (edgeEnd t e)))) r) (λ arc. got (arcOrChord t e r arc))
+        | true ↦ bind (discretised room t (withRange e (orderedInterval (nearest (edgeCurve t e) (edgeStart t e)) (nearest (edgeCurve t e) (edgeEnd t e)))) r) (λ arc. got (arcOrChord t e r arc))
         | false ↦ got (runaway t e)
       ])
       go true =
-          redrawn (ordered (nearest (edgeCurve t e) (edgeStart t e)) (nearest (edgeCurve t e) (edgeEnd t e)))
+          redrawn (orderedInterval (nearest (edgeCurve t e) (edgeStart t e)) (nearest (edgeCurve t e) (edgeEnd t e)))
           (λ x. goods-ends (short-goods (edgeCurve t e) (tame x) (edgeStart t e) (edgeEnd t e)))
           (λ arc. got (arcOrChord t e r arc)) arc-fine
       go false = runaway-fine

@@ -32,7 +32,7 @@ use Rattle.edge_sample.specs.Sample.{sampler, sampled}
 use Rattle.draw_spec.specs.declared.Way.{Way}
 use Rattle.draw_spec.specs.declared.Way.the-variants.{Complement}
 use Rattle.draw_spec.specs.Edge.{edgeCurve, edgeStart, edgeEnd, chordOf, atLeastTwo, finished, discretised}
-use Rattle.draw_spec.specs.Repair.{Got, by, withRange, reference, escapes, nearest, ordered, runaway, arcOrChord, byShortArc, byComplement, byPeriod, repaired}
+use Rattle.draw_spec.specs.Repair.{Got, by, withRange, reference, escapes, nearest, orderedInterval, runaway, arcOrChord, byShortArc, byComplement, byPeriod, repaired}
 use Rattle.draw_spec.specs.Draw.{localOptions, firstWay, drawnIn, roomOf, tooShort, drawn}
 use Rattle.draw_spec.proofs.Accepted.{accepts, accepted-so}
 
@@ -126,7 +126,7 @@ module _ (room room' : ℕ) (more : room ≤ room') where
     unfolding byShortArc
     short-kept =
         let natural = naturalRange (edgeCurve t e) in
-        let short = ordered (nearest (edgeCurve t e) (edgeStart t e)) (nearest (edgeCurve t e) (edgeEnd t e)) in
+        let short = orderedInterval (nearest (edgeCurve t e) (edgeStart t e)) (nearest (edgeCurve t e) (edgeEnd t e)) in
         let arc : List Sample → Result Got = λ l. got (arcOrChord t e r l) in
         kept-either (finite (spanOf natural) && (lt nought (spanOf natural) && lt nought (spanOf short)))
         (kept-bind arc arc (discretised-kept t (withRange e short) r) (λ l. kept-same (arc l)))

@@ -26,7 +26,7 @@ use Rattle.brep.specs.Rows.{Tables, segmentOf, kindOf, curveOf}
 use Rattle.brep.specs.Tree.{CurveTree, polyline, run, segments, rowIn, grown, below, tree}
 use Rattle.brep.proofs.Laws.{lower, length-run}
 use Rattle.causes_bounds.specs.Bounds.{largest}
-use Rattle.causes_form.specs.Forms.{pointCount, curveCount, segmentCount, room}
+use Rattle.causes_form.specs.Forms.{pointCount, curveCount, segmentCount, targets}
 use Rattle.options.specs.declared.Options.{Options}
 use Rattle.causes.proofs.Checked.{Bounded, Checked}
 use Rattle.draw_spec.specs.Binary.{Fitting}
@@ -155,8 +155,8 @@ pick true u v = u
 pick false u v = v
 
 module _ (t : Tables) (e : Edge) (o : Options) (h : Checked t e o) (reals : Fitting (t .reals)) (ranges : Fitting (t .ranges)) where
-  room-size : (kind : ℕ) → room t kind ≤ 65536
-  unfolding room
+  room-size : (kind : ℕ) → targets t kind ≤ 65536
+  unfolding targets
   room-size kind = go (leb kind 5) (eqb kind 6)
     where
       go : (a b : Bool) → cond a (pointCount t) (cond b (curveCount t) (segmentCount t)) ≤ 65536

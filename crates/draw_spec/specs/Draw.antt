@@ -22,7 +22,7 @@ use Rattle.causes_form.specs.Forms.{illFormed}
 use Rattle.causes.specs.Causes.{oversize, unordered, tooDeep, missing, verdict}
 use Rattle.edge_params.specs.OneWay.{OneWay}
 use Rattle.edge_record.specs.declared.Sample.{Sample}
-use Rattle.edge_record.specs.Chain.{width, most, flat, samples, pointOf, between}
+use Rattle.edge_record.specs.Chain.{width, most, flat, samples, samplePoint, innerSamples}
 use Rattle.edge_merge.specs.Merge.{mergeFloor, Apart}
 use Rattle.edge_range.specs.declared.Usable.{Usable}
 use Rattle.edge_range.specs.declared.Usable.the-variants.{Range, Unusable}
@@ -86,9 +86,9 @@ abbrev pub liesInFirst : Drawn → Bool
 liesInFirst (Refused n) = true
 liesInFirst (Chain way n) = inFirst way
 
-abbrev pub floatsOf : Drawn → ℕ
-floatsOf (Refused n) = 0
-floatsOf (Chain way n) = width * n
+abbrev pub chainFloats : Drawn → ℕ
+chainFloats (Refused n) = 0
+chainFloats (Chain way n) = width * n
 
 -- 1 to 7 leave a buffer as before, 8 and 9 leave it all +0.0
 abbrev pub afterRefusal : ℕ → List Float → List Float
@@ -114,9 +114,9 @@ pub record Sound (T : Tables) (e : Edge) (floor : Float) (chain : List Sample) :
   -- it has at least two points
   pub two : 2 ≤ length chain
   -- its first point is the edge's start vertex and its last the end vertex, bit for bit
-  pub ends : (pointOf chain 0 ≡ edgeStart T e) × (pointOf chain (length chain - 1) ≡ edgeEnd T e)
+  pub ends : (samplePoint chain 0 ≡ edgeStart T e) × (samplePoint chain (length chain - 1) ≡ edgeEnd T e)
   -- every point between is the curve's own point at the parameter beside it
-  pub own : All (λ (s : Sample). s .point ≡ pointAt (edgeCurve T e) (s .param)) (between chain)
+  pub own : All (λ (s : Sample). s .point ≡ pointAt (edgeCurve T e) (s .param)) (innerSamples chain)
   -- its parameters do not rise in one place and fall in another
   pub oneWay : OneWay (map (λ (s : Sample). s .param) chain)
   -- where the merge floor is above zero, each point but the last is further than it from the one before

@@ -49,13 +49,13 @@ abbrev pub reference : Tables → Edge → Aabb
 reference T e = record { min = pointOf (T .points) (e .low); max = pointOf (T .points) (e .high) }
 
 -- reference.diagonal() + options.sag * 16.0
-abbrev pub limitOf : Aabb → Resolved → Float
-limitOf box r = diagonal box ⊕ r .sag ⊗ bits 0x4030000000000000
+abbrev pub escapeLimit : Aabb → Resolved → Float
+escapeLimit box r = diagonal box ⊕ r .sag ⊗ bits 0x4030000000000000
 
 -- escapes: some point lies further than the limit from the box's centre
 unfoldable pub escapes : Aabb → Resolved → List Sample → Bool
 escapes box r [] = false
-escapes box r (s ∷ l) = lt (limitOf box r) (distance (s .point) (centre box)) || escapes box r l
+escapes box r (s ∷ l) = lt (escapeLimit box r) (distance (s .point) (centre box)) || escapes box r l
 
 -- reaches: some point lies within max(sag, tolerance * 10) of p
 unfoldable pub reaches : Edge → Resolved → Vec3 → List Sample → Bool
@@ -80,8 +80,8 @@ abbrev pub nearest : CurveTree → Vec3 → Float
 nearest c target = nearestOf c (naturalRange c) target 512
 
 -- from the lower to the higher of two parameters
-abbrev pub ordered : Float → Float → Interval
-ordered a b = cond (le a b) (interval a b) (interval b a)
+abbrev pub orderedInterval : Float → Float → Interval
+orderedInterval a b = cond (le a b) (interval a b) (interval b a)
 
 -- the chord of the vertices, its parameters lo twice
 abbrev pub runaway : Tables → Edge → Got
@@ -97,7 +97,7 @@ arcOrChord T e r arc =
 unfoldable pub byShortArc : ℕ → Tables → Edge → Resolved → Result Got
 byShortArc room T e r =
     let natural = naturalRange (edgeCurve T e) in
-    let short = ordered (nearest (edgeCurve T e) (edgeStart T e)) (nearest (edgeCurve T e) (edgeEnd T e)) in
+    let short = orderedInterval (nearest (edgeCurve T e) (edgeStart T e)) (nearest (edgeCurve T e) (edgeEnd T e)) in
     elim (finite (spanOf natural) && (lt nought (spanOf natural) && lt nought (spanOf short))) [
       | true ↦ bind (discretised room T (withRange e short) r) (λ arc. got (arcOrChord T e r arc))
       | false ↦ got (runaway T e)

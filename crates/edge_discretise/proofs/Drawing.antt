@@ -21,14 +21,14 @@ use Rattle.edge_params.specs.Held.{said}
 use Rattle.edge_record.specs.declared.Sample.{Sample}
 use Rattle.edge_record.specs.declared.Counted.{Counted}
 use Rattle.edge_record.specs.declared.Counted.the-variants.{Refused, Count}
-use Rattle.edge_record.specs.Chain.{width, most, flat, samples, pointOf, pointAt, answerOf}
+use Rattle.edge_record.specs.Chain.{width, most, flat, samples, samplePoint, pointAt, countedOf}
 use Rattle.curve.specs.Eval as eval
 use Rattle.edge_record.proofs.Laws.{pointOf-samples}
 use Rattle.edge_range.specs.declared.Usable.{Usable}
 use Rattle.edge_range.specs.declared.Usable.the-variants.{Range, Unusable}
 use Rattle.edge_range.specs.Usable.{usableRange}
 use Rattle.edge_sample.specs.Sample.{sampled, listOf}
-use Rattle.edge_sample.specs.Answered.{Answered}
+use Rattle.edge_sample.specs.Answered.{SampledInto}
 use Rattle.edge_sample.specs.Tried.{tried, isKept}
 use Rattle.edge_sample.proofs.Laws.{sampled-two, sampled-room}
 use Rattle.edge_sample.proofs.Ways.{tried-sampled}
@@ -36,18 +36,18 @@ use Rattle.edge_closed_form.specs.Located.{located}
 use Rattle.edge_closed_form.proofs.Located.{located-length, located-at}
 use Rattle.draw_spec.specs.Edge.{edgeCurve, atLeastTwo, chordOf, placed, finished, discretised}
 use Rattle.draw_spec.specs.Draw.{roomOf}
-use Rattle.edge_place.specs.Place.{Holds}
+use Rattle.edge_place.specs.Place.{PointsKnown}
 use Rattle.edge_place.proofs.Laws.{placed-length}
-use Rattle.edge_discretise.specs.Discretised.{chainOf, thinnedMerged, overRange, Drew}
+use Rattle.edge_discretise.specs.Discretised.{chainOf, thinnedMerged, overRange, ChainInto}
 use Rattle.edge_discretise.proofs.Thinning.{read-back}
 
-drew : (n m : ℕ) (D E : Result (List Sample)) {w : Counted} {g : List Float} → n ≡ m → D ≡ E → Drew n D w g → Drew m E w g
+drew : (n m : ℕ) (D E : Result (List Sample)) {w : Counted} {g : List Float} → n ≡ m → D ≡ E → ChainInto n D w g → ChainInto m E w g
 drew n m D E k e p = record {
-  answered = p .answered ∙ ap answerOf e;
+  answered = p .answered ∙ ap countedOf e;
   holds = p .holds ∙ ap (λ (i : ℕ). filled i (flat (chainOf D))) k ∙ ap (λ (x : Result (List Sample)). filled m (flat (chainOf x))) e;
 }
 
-pub drew-as : {n m : ℕ} {D : Result (List Sample)} {w : Counted} {g : List Float} → n ≡ m → Drew n D w g → Drew m D w g
+pub drew-as : {n m : ℕ} {D : Result (List Sample)} {w : Counted} {g : List Float} → n ≡ m → ChainInto n D w g → ChainInto m D w g
 drew-as {n} {m} {D} e p = drew n m D D e refl p
 
 -- ---- `draw_range`
@@ -67,11 +67,11 @@ pub record Sampling (room : ℕ) (S : Result (List Float)) (n : ℕ) (out : List
   pub floats : out ≡ filled room params
 
 pub sampling-some : (room : ℕ) (c : CurveTree) (range : Interval) (r : Resolved) (w : Listed) (n : ℕ) (out : List Float)
-    → Answered room (sampled room c range r) w out → w ≡ listed.Count n → Sampling room (sampled room c range r) n out
+    → SampledInto room (sampled room c range r) w out → w ≡ listed.Count n → Sampling room (sampled room c range r) n out
 sampling-some room c range r w n out p e = go (sampled room c range r) (λ l q. sampled-two room c range r l q) (λ l q. sampled-room room c range r l q) p
   where
     go : (S : Result (List Float)) → ((l : List Float) → S ≡ got l → 2 ≤ length l) → ((l : List Float) → S ≡ got l → length l ≤ room)
-        → Answered room S w out → Sampling room S n out
+        → SampledInto room S w out → Sampling room S n out
     go (refused x) f g a = let q : got n ≡ refused x = ap said (sym e) ∙ a .0 in let z : _≡_ {A = ℕ} 0 1 = cc in absurd (omega arith)
     go (got l) f g a =
         let q : got n ≡ got (length l) = ap said (sym e) ∙ a .0 in
@@ -112,14 +112,14 @@ module _ {room : ℕ} (T : Tables) (e : Edge) (r : Resolved) (range : Interval) 
       ∙ ap (finished T e r) (sym (two-or-more range (s .params) (omega (arith, s .two, s .size))))
       ∙ ap (λ (x : Result (List Float)). bind x (λ params. finished T e r (atLeastTwo range params))) (sym (s .is))
 
-  pub drew-some : (w : Counted) (g : List Float) → Drew (length d) (thinnedMerged T e r (samples n d)) w g → Drew (length chain) (overRange room T e r range) w g
+  pub drew-some : (w : Counted) (g : List Float) → ChainInto (length d) (thinnedMerged T e r (samples n d)) w g → ChainInto (length chain) (overRange room T e r range) w g
   drew-some w g = drew (length d) (length chain) _ _ (ap length p ∙ length-sets chain 0 (flat (placed T e (take n out)))) over-some
 
 -- what sample_params left in the chain, where it says that these are the parameters' points
 module _ {room : ℕ} (T : Tables) (e : Edge) (r : Resolved) (range : Interval) {n : ℕ} {out : List Float} (s : Sampling room (sampled room (edgeCurve T e) range r) n out)
     (known : Bool) (k : known ≡ isKept room (edgeCurve T e) range r) (chain left : List Float) (fits : width * n ≤ length chain)
     (p : left ≡ sets chain 0 (flat (located (edgeCurve T e) (tried room (edgeCurve T e) range r)))) where
-  pub held : known ≡ true → Holds (edgeCurve T e) (take n out) left
+  pub held : known ≡ true → PointsKnown (edgeCurve T e) (take n out) left
   held h = record { point = λ i l. go i (omega (arith, part-length s, l)) }
     where
       own : tried room (edgeCurve T e) range r ≡ s .params
@@ -136,12 +136,12 @@ module _ {room : ℕ} (T : Tables) (e : Edge) (r : Resolved) (range : Interval) 
 
       go : (i : ℕ) → i < n → pointAt left i ≡ eval.pointAt (edgeCurve T e) (getD (take n out) i nan)
       go i l =
-          sym (pointOf-samples left n i l) ∙ ap (λ (q : List Sample). pointOf q i) reads
+          sym (pointOf-samples left n i l) ∙ ap (λ (q : List Sample). samplePoint q i) reads
           ∙ ap (λ (q : Sample). q .point) (located-at (edgeCurve T e) (s .params) i _ (omega (arith, s .size, l)))
           ∙ ap (λ (q : List Float). eval.pointAt (edgeCurve T e) (getD q i nan)) (sym (part s))
 
 pub drew-none : (S : Result (List Float)) (f : List Float → Result (List Sample)) (w : Listed) (chain g : List Float) → said w ≡ each length S → w ≡ listed.Refused
-    → g ≡ filled (length chain) (take 0 chain) → Drew (length chain) (bind S f) (Refused 8) g
+    → g ≡ filled (length chain) (take 0 chain) → ChainInto (length chain) (bind S f) (Refused 8) g
 unfolding flat
 drew-none (refused n) f w chain g a e b = let q : refused 8 ≡ refused n = ap said (sym e) ∙ a in record { answered = cc; holds = b }
 drew-none (got l) f w chain g a e b = let q : refused 8 ≡ got (length l) = ap said (sym e) ∙ a in let z : _≡_ {A = ℕ} 0 1 = cc in absurd (omega arith)
@@ -189,12 +189,12 @@ cleared-whole n left scratch h l q =
     ∙ filled-twice (length scratch) n h
 
 module _ (room : ℕ) (T : Tables) (e : Edge) (r : Resolved) (k : ℕ) {w : Counted} {g : List Float} (u : Usable) (own : u ≡ usableRange (edgeCurve T e) (e .range)) where
-  pub drew-range : (range : Interval) (j : ℕ) → u ≡ Range range → j ≡ room → Drew k (overRange j T e r range) w g → Drew k (discretised room T e r) w g
+  pub drew-range : (range : Interval) (j : ℕ) → u ≡ Range range → j ≡ room → ChainInto k (overRange j T e r range) w g → ChainInto k (discretised room T e r) w g
   unfolding discretised
   drew-range range j q h =
       let s : overRange room T e r range ≡ discretised room T e r = rw (sym own ∙ q, discretised) in
       drew k k _ _ refl (ap (λ (i : ℕ). overRange i T e r range) h ∙ s)
 
-  pub drew-chord : u ≡ Unusable → w ≡ Count 2 → g ≡ filled k (flat (chordOf T e (e .range .lo) (e .range .hi))) → Drew k (discretised room T e r) w g
+  pub drew-chord : u ≡ Unusable → w ≡ Count 2 → g ≡ filled k (flat (chordOf T e (e .range .lo) (e .range .hi))) → ChainInto k (discretised room T e r) w g
   unfolding discretised
   drew-chord q a b = rw (sym own ∙ q, discretised) (record { answered = a; holds = b })

@@ -19,18 +19,18 @@ use Rattle.options.specs.declared.Resolved.{Resolved}
 use Rattle.edge_record.specs.declared.Sample.{Sample}
 use Rattle.edge_record.specs.declared.Counted.{Counted}
 use Rattle.edge_record.specs.declared.Counted.the-variants.{Refused, Count}
-use Rattle.edge_record.specs.Chain.{width, most, row, flat, pointOf, samples, answerOf, after, Stored}
+use Rattle.edge_record.specs.Chain.{width, most, row, flat, samplePoint, samples, countedOf, after, ChainStored}
 use Rattle.edge_record.proofs.Laws.{length-flat, flat-one, push, samplesFrom-length, samples-own, reads, rest-cleared}
 use Rattle.edge_record.proofs.Shorter.{Shorter, shorter-same, shorter-sub, shorter-two}
 use Rattle.edge_merge.specs.Merge.{merged}
 use Rattle.edge_merge.proofs.Laws.{merge-shorter}
 use Rattle.edge_thin_mark.specs.Spans.{kept, marks, flagged}
 use Rattle.edge_thin_span.specs.Span.{decision}
-use Rattle.edge_thin.specs.Thin.{floored, restored, retained, thinned}
+use Rattle.edge_thin.specs.Thin.{withFloor, restored, retainedBy, thinned}
 use Rattle.edge_thin.proofs.Loops.{length-marks}
 use Rattle.edge_thin.proofs.Laws.{thin-shorter}
 use Rattle.draw_spec.specs.Edge.{edgeStart, edgeEnd, thinnedIf, chordOf}
-use Rattle.edge_discretise.specs.Discretised.{Drew}
+use Rattle.edge_discretise.specs.Discretised.{ChainInto}
 
 -- ---- a floor above the most samples says nothing more
 flagged-length : (points : ℕ → Vec3) (tolerance angle : Float) (n : ℕ) (keep : List Bool) → flagged points tolerance angle n ≡ got keep → length keep ≡ n
@@ -48,20 +48,20 @@ pub thin-capped : (tolerance angle : Float) (segments floor : ℕ) (l : List Sam
 unfolding thinned
 thin-capped tolerance angle segments floor l h e =
     ap (λ (x : Result (List Sample)). cond (ltb (length l) 3 || not (lt nought tolerance)) (got l) x)
-    (go (flagged (pointOf l) tolerance angle (length l)) (flagged-length (pointOf l) tolerance angle (length l)))
+    (go (flagged (samplePoint l) tolerance angle (length l)) (flagged-length (samplePoint l) tolerance angle (length l)))
   where
     go : (x : Result (List Bool)) → ((keep : List Bool) → x ≡ got keep → length keep ≡ length l)
-        → each (λ keep. retained (floored (floor + 1) keep) l) x ≡ each (λ keep. retained (floored (segments + 1) keep) l) x
+        → each (λ keep. retainedBy (withFloor (floor + 1) keep) l) x ≡ each (λ keep. retainedBy (withFloor (segments + 1) keep) l) x
     go (refused n) f = refl
     go (got keep) f =
         let k : length keep ≤ most = omega (arith, f keep refl) in
         let m : min (floor + 1) (length keep) ≡ min (segments + 1) (length keep) = omega arith in
-        ap (λ (n : ℕ). got (retained (restored n keep) l)) m
+        ap (λ (n : ℕ). got (retainedBy (restored n keep) l)) m
 
 -- ---- `thin_sampled`
 -- r and d are the answer of a pass over the buffer c and what it leaves, by X
 abbrev pub Passed : List Float → Result (List Sample) → Counted → List Float → Type 0
-Passed c X w d = (w ≡ answerOf X) × (d ≡ after c X)
+Passed c X w d = (w ≡ countedOf X) × (d ≡ after c X)
 
 module _ (r : Resolved) (c : List Float) (n : ℕ) (b sampled : Bool) (own : b ≡ sampled) where
   pub passed-thinned : (floor : ℕ) (w : Counted) (d : List Float) → b ≡ true → n ≤ most → floor ≡ min (r .segments) most
@@ -72,13 +72,13 @@ module _ (r : Resolved) (c : List Float) (n : ℕ) (b sampled : Bool) (own : b �
       let q : thinned (r .sag ⊗ bits 0x3F847AE147AE147B) (r .angle) (floor + 1) (samples n c) ≡ thinnedIf sampled r (samples n c) =
       thin-capped (r .sag ⊗ bits 0x3F847AE147AE147B) (r .angle) (r .segments) floor (samples n c) (omega (arith, samplesFrom-length c 0 n)) e
       ∙ ap (λ (v : Bool). thinnedIf v r (samples n c)) (sym t ∙ own) in
-      (p .0 ∙ ap answerOf q, p .1 ∙ ap (after c) q)
+      (p .0 ∙ ap countedOf q, p .1 ∙ ap (after c) q)
 
   pub passed-over : b ≡ false → Passed c (thinnedIf sampled r (samples n c)) (Count n) c
   unfolding thinnedIf
   passed-over f =
       let q : got (samples n c) ≡ thinnedIf sampled r (samples n c) = ap (λ (v : Bool). thinnedIf v r (samples n c)) (sym f ∙ own) in
-      (ap Count (sym (samplesFrom-length c 0 n)) ∙ ap answerOf q, sym (samples-own c 0 n) ∙ ap (after c) q)
+      (ap Count (sym (samplesFrom-length c 0 n)) ∙ ap countedOf q, sym (samples-own c 0 n) ∙ ap (after c) q)
 
 -- ---- `finish`
 -- a chain read back from the buffer's start
@@ -109,7 +109,7 @@ pub thin-some : (b : Bool) (r : Resolved) (c : List Float) (n : ℕ) (w : Counte
 thin-some b r c n w m d two room p e =
     go (thinnedIf b r (samples n c)) (λ k q. thinned-shorter b r (samples n c) k (omega (arith, samplesFrom-length c 0 n)) q) (sym e ∙ p .0) (p .1)
   where
-    go : (X : Result (List Sample)) → ((k : List Sample) → X ≡ got k → Shorter k (samples n c)) → Count m ≡ answerOf X → d ≡ after c X → Thin c X m d
+    go : (X : Result (List Sample)) → ((k : List Sample) → X ≡ got k → Shorter k (samples n c)) → Count m ≡ countedOf X → d ≡ after c X → Thin c X m d
     go (refused x) f a b = let z : _≡_ {A = ℕ} 0 1 = cc in absurd (omega arith)
     go (got k) f a b =
         let s = f k refl in
@@ -134,9 +134,9 @@ module _ {c : List Float} {X : Result (List Sample)} {m : ℕ} {d : List Float} 
       sym (ap (λ (k : ℕ). samples k d) (t .size)) ∙ ap (samples (length (t .chain))) (t .floats) ∙ read-back c (t .chain) (t .fits)
 
   -- merged, with the floor that `merge_floor` answered
-  module _ (answered floor : Float) (same : answered ≡ floor) {k : ℕ} {f : List Float} (merging : Stored d f k (merged answered (samples m d))) where
-    stored : Stored d f k (merged floor (t .chain))
-    stored = subst (λ (x : Float). Stored d f k (merged x (t .chain))) same (subst (λ (l : List Sample). Stored d f k (merged answered l)) thin-reads merging)
+  module _ (answered floor : Float) (same : answered ≡ floor) {k : ℕ} {f : List Float} (merging : ChainStored d f k (merged answered (samples m d))) where
+    stored : ChainStored d f k (merged floor (t .chain))
+    stored = subst (λ (x : Float). ChainStored d f k (merged x (t .chain))) same (subst (λ (l : List Sample). ChainStored d f k (merged answered l)) thin-reads merging)
 
     merged-length : length f ≡ length d
     merged-length = ap length (stored .floats) ∙ length-sets d 0 (flat (merged floor (t .chain)))
@@ -153,7 +153,7 @@ module _ {c : List Float} {X : Result (List Sample)} {m : ℕ} {d : List Float} 
     merged-room = omega (arith, stored .count, merged-fits, merged-length)
 
     pub finished-some : (g : List Float) → g ≡ filled (length f) (take (width * k) f)
-        → Drew (length c) (each (merged floor) X) (Count k) g
+        → ChainInto (length c) (each (merged floor) X) (Count k) g
     finished-some g e =
         let M = merged floor (t .chain) in
         let w : g ≡ filled (length c) (flat M) =
@@ -164,7 +164,7 @@ module _ {c : List Float} {X : Result (List Sample)} {m : ℕ} {d : List Float} 
 
 pub finished-none : (c : List Float) (X : Result (List Sample)) (floor : Float) (w : Counted) (n : ℕ) (d g : List Float) → Passed c X w d → w ≡ Refused n
     → g ≡ filled (length d) (take 0 d)
-    → Drew (length c) (each (merged floor) X) (Refused n) g
+    → ChainInto (length c) (each (merged floor) X) (Refused n) g
 unfolding flat
 finished-none c (refused x) floor w n d g p e q = record { answered = sym e ∙ p .0; holds = q ∙ ap (λ (l : List Float). filled (length l) []) (p .1) }
 finished-none c (got l) floor w n d g p e q = let z : _≡_ {A = ℕ} 0 1 = cc in absurd (omega arith)

@@ -13,7 +13,7 @@ use Rattle.curve.specs.Eval.{isSampled}
 use Rattle.options.specs.declared.Resolved.{Resolved}
 use Rattle.edge_record.specs.declared.Sample.{Sample}
 use Rattle.edge_record.specs.declared.Counted.{Counted}
-use Rattle.edge_record.specs.Chain.{flat, answerOf}
+use Rattle.edge_record.specs.Chain.{flat, countedOf}
 use Rattle.edge_merge.specs.Merge.{mergeFloor, merged}
 use Rattle.edge_sample.specs.Sample.{sampled}
 use Rattle.draw_spec.specs.Edge.{edgeCurve, thinnedIf, atLeastTwo, finished}
@@ -33,11 +33,11 @@ abbrev pub overRange : ℕ → Tables → Edge → Resolved → Interval → Res
 overRange room T e r range = bind (sampled room (edgeCurve T e) range r) (λ params. finished T e r (atLeastTwo range params))
 
 -- what is answered of D, and what a chain buffer of n floats then holds: its chain, if any, and +0.0 behind it
-pub record Drew (n : ℕ) (D : Result (List Sample)) (answer : Counted) (chain : List Float) : Type 0 where
-  pub answered : answer ≡ answerOf D
+pub record ChainInto (n : ℕ) (D : Result (List Sample)) (answer : Counted) (chain : List Float) : Type 0 where
+  pub answered : answer ≡ countedOf D
   pub holds : chain ≡ filled n (flat (chainOf D))
 
 -- the same of a D that depends on the room of both buffers, with +0.0 in all of scratch
-pub record Discretised (D : ℕ → Result (List Sample)) (chain scratch : List Float) (answer : Counted) (chain' scratch' : List Float) : Type 0 where
-  pub drew : Drew (length chain) (D (roomOf (length chain) (length scratch))) answer chain'
+pub record DiscretisedInto (D : ℕ → Result (List Sample)) (chain scratch : List Float) (answer : Counted) (chain' scratch' : List Float) : Type 0 where
+  pub drew : ChainInto (length chain) (D (roomOf (length chain) (length scratch))) answer chain'
   pub cleared : scratch' ≡ filled (length scratch) []

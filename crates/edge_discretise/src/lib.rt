@@ -17,11 +17,11 @@ ghost use Rattle.brep.specs.Tree.{tree};
 ghost use Rattle.curve.specs.Eval.{isSampled};
 ghost use Rattle.knots.specs.Knots.{curveKnots};
 ghost use Rattle.edge_range.specs.Usable.{usableRange};
-ghost use Rattle.edge_record.specs.Chain.{width, most, flat, samples, answerOf, after};
+ghost use Rattle.edge_record.specs.Chain.{width, most, flat, samples, countedOf, after};
 ghost use Rattle.draw_spec.specs.Edge.{thinnedIf, chordOf, discretised};
 ghost use Rattle.draw_spec.specs.Draw.{roomOf};
 ghost use Rattle.edge_place.specs.Place.{ofPoints};
-ghost use Rattle.edge_discretise.specs.Discretised.{thinnedMerged, overRange, Drew, Discretised};
+ghost use Rattle.edge_discretise.specs.Discretised.{thinnedMerged, overRange, ChainInto, DiscretisedInto};
 
 // The smaller of two.
 fn least(a: usize, b: usize) -> usize
@@ -53,7 +53,7 @@ fn thin_sampled(
     n: usize,
 ) -> Counted
     requires { ⌜ (n ≤ most) × (width * n ≤ length (now chain)) ⌝ }
-    ensures { λ w. ⌜ (w ≡ answerOf (thinnedIf (isSampled (tree (lent (points .entry) (curves .entry) (reals .entry) (parts .entry) (ranges .entry)) row)) r (samples n (now (chain .entry)))))
+    ensures { λ w. ⌜ (w ≡ countedOf (thinnedIf (isSampled (tree (lent (points .entry) (curves .entry) (reals .entry) (parts .entry) (ranges .entry)) row)) r (samples n (now (chain .entry)))))
         × (now (chain .exit) ≡ after (now (chain .entry)) (thinnedIf (isSampled (tree (lent (points .entry) (curves .entry) (reals .entry) (parts .entry) (ranges .entry)) row)) r (samples n (now (chain .entry))))) ⌝ }
 {
     if curve::is_sampled(points, curves, reals, parts, ranges, row) {
@@ -77,7 +77,7 @@ fn finish(
     n: usize,
 ) -> Counted
     requires { ⌜ (2 ≤ n) × (n ≤ most) × (width * n ≤ length (now chain)) ⌝ }
-    ensures { λ w. ⌜ Drew (length (now (chain .entry))) (thinnedMerged (lent (points .entry) (curves .entry) (reals .entry) (parts .entry) (ranges .entry)) edge r (samples n (now (chain .entry)))) w (now (chain .exit)) ⌝ }
+    ensures { λ w. ⌜ ChainInto (length (now (chain .entry))) (thinnedMerged (lent (points .entry) (curves .entry) (reals .entry) (parts .entry) (ranges .entry)) edge r (samples n (now (chain .entry)))) w (now (chain .exit)) ⌝ }
 {
     let thinned = thin_sampled(
         points,
@@ -145,7 +145,7 @@ fn draw_range(
 ) -> Counted
     requires { ⌜ (length (now scratch) ≤ most) × (width * length (now scratch) ≤ length (now chain))
         × (length (curveKnots (tree (lent points curves reals parts ranges) (edge .curve))) ≤ 8192) ⌝ }
-    ensures { λ w. ⌜ Drew (length (now (chain .entry))) (overRange (length (now (scratch .entry))) (lent (points .entry) (curves .entry) (reals .entry) (parts .entry) (ranges .entry)) edge r range) w (now (chain .exit))
+    ensures { λ w. ⌜ ChainInto (length (now (chain .entry))) (overRange (length (now (scratch .entry))) (lent (points .entry) (curves .entry) (reals .entry) (parts .entry) (ranges .entry)) edge r range) w (now (chain .exit))
         × (now (scratch .exit) ≡ filled (length (now (scratch .entry))) []) ⌝ }
 {
     let row = edge.curve;
@@ -200,7 +200,7 @@ pub fn discretise_over(
 ) -> Counted
     requires { ⌜ (8 ≤ length (now chain)) × (8 ≤ length (now scratch)) × (length (curveKnots (tree (lent points curves reals parts ranges) (edge .curve))) ≤ 8192)
         × (usable ≡ usableRange (tree (lent points curves reals parts ranges) (edge .curve)) (edge .range)) ⌝ }
-    ensures { λ w. ⌜ Discretised (λ room. discretised room (lent (points .entry) (curves .entry) (reals .entry) (parts .entry) (ranges .entry)) edge r) (now (chain .entry)) (now (scratch .entry)) w (now (chain .exit)) (now (scratch .exit)) ⌝ }
+    ensures { λ w. ⌜ DiscretisedInto (λ room. discretised room (lent (points .entry) (curves .entry) (reals .entry) (parts .entry) (ranges .entry)) edge r) (now (chain .entry)) (now (scratch .entry)) w (now (chain .exit)) (now (scratch .exit)) ⌝ }
 {
     let Usable::Range(range) = usable else {
         chord(points, edge, edge.range.lo, edge.range.hi, chain);
@@ -238,7 +238,7 @@ pub fn discretise(
     scratch: &mut [f64],
 ) -> Counted
     requires { ⌜ (8 ≤ length (now chain)) × (8 ≤ length (now scratch)) × (length (curveKnots (tree (lent points curves reals parts ranges) (edge .curve))) ≤ 8192) ⌝ }
-    ensures { λ w. ⌜ Discretised (λ room. discretised room (lent (points .entry) (curves .entry) (reals .entry) (parts .entry) (ranges .entry)) edge r) (now (chain .entry)) (now (scratch .entry)) w (now (chain .exit)) (now (scratch .exit)) ⌝ }
+    ensures { λ w. ⌜ DiscretisedInto (λ room. discretised room (lent (points .entry) (curves .entry) (reals .entry) (parts .entry) (ranges .entry)) edge r) (now (chain .entry)) (now (scratch .entry)) w (now (chain .exit)) (now (scratch .exit)) ⌝ }
 {
     let usable = edge_range::usable_range(
         points,

@@ -15,7 +15,7 @@ use Rattle.brep.specs.declared.Edge.{Edge}
 use Rattle.options.specs.declared.Resolved.{Resolved}
 use Rattle.edge_record.specs.declared.Sample.{Sample}
 use Rattle.edge_record.specs.Chain.{pointAt, samplesFrom, samples}
-use Rattle.draw_spec.specs.Repair.{limitOf, escapes, reaches}
+use Rattle.draw_spec.specs.Repair.{escapeLimit, escapes, reaches}
 
 -- some point of a chain passes a test
 abbrev someOf : (Vec3 → Bool) → List Sample → Bool
@@ -52,10 +52,10 @@ module _ (P : Vec3 → Bool) (c : List Float) (n : ℕ) where
 abbrev near : Edge → Resolved → Float
 near e r = maxOf (r .sag) (e .tolerance ⊗ bits 0x4024000000000000)
 
-escapes-list : (box : Aabb) (r : Resolved) (l : List Sample) → someOf (beyond (limitOf box r) (centre box)) l ≡ escapes box r l
+escapes-list : (box : Aabb) (r : Resolved) (l : List Sample) → someOf (beyond (escapeLimit box r) (centre box)) l ≡ escapes box r l
 unfolding escapes
 escapes-list box r [] = refl
-escapes-list box r (s ∷ l) = ap (λ (b : Bool). beyond (limitOf box r) (centre box) (s .point) || b) (escapes-list box r l)
+escapes-list box r (s ∷ l) = ap (λ (b : Bool). beyond (escapeLimit box r) (centre box) (s .point) || b) (escapes-list box r l)
 
 reaches-list : (e : Edge) (r : Resolved) (p : Vec3) (l : List Sample) → someOf (close (near e r) p) l ≡ reaches e r p l
 unfolding reaches
@@ -64,7 +64,7 @@ reaches-list e r p (s ∷ l) = ap (λ (b : Bool). close (near e r) p (s .point) 
 
 -- the whole chain
 module _ (c : List Float) (n : ℕ) (r : Resolved) (limit : Float) (q : Vec3) where
-  pub escapes-whole : (box : Aabb) → limit ≡ limitOf box r → q ≡ centre box → left (beyond limit q) c n 0 ≡ escapes box r (samples n c)
+  pub escapes-whole : (box : Aabb) → limit ≡ escapeLimit box r → q ≡ centre box → left (beyond limit q) c n 0 ≡ escapes box r (samples n c)
   escapes-whole box e f = let z : n - 0 ≡ n = omega arith in rw (e, f, z) (escapes-list box r (samples n c))
 
   pub reaches-whole : (e : Edge) → limit ≡ near e r → left (close limit q) c n 0 ≡ reaches e r q (samples n c)

@@ -14,7 +14,7 @@ use Rattle.arith.specs.Notation.{nought}
 use Rattle.math.specs.declared.Vec3.{Vec3}
 use Rattle.math.specs.Math.{distance}
 use Rattle.edge_record.specs.declared.Sample.{Sample}
-use Rattle.edge_record.specs.Chain.{width, row, flat, sampleAt, samplesFrom, samples, lastOf, Stored}
+use Rattle.edge_record.specs.Chain.{width, row, flat, sampleAt, samplesFrom, samples, lastOf, ChainStored}
 use Rattle.edge_record.proofs.Laws.{push, replace, row-own, samples-own, samplesFrom-length, flat-one}
 use Rattle.edge_record.proofs.Compact.{Compacted, compact-behind, compact-skip, compact-keep, compact-all}
 use Rattle.edge_record.proofs.Shorter.{last-snoc, dropLast-last, dropLast-length}
@@ -113,7 +113,7 @@ module _ (c : List Float) (n : ℕ) (floor : Float) where
         }
 
   -- ---- the ways out
-  pub as-it-was : merged floor (samples n c) ≡ samples n c → Stored c c n (merged floor (samples n c))
+  pub as-it-was : merged floor (samples n c) ≡ samples n c → ChainStored c c n (merged floor (samples n c))
   as-it-was e = record {
     count = sym (ap length e ∙ samplesFrom-length c 0 n);
     floats = sym (ap (λ (l : List Sample). sets c 0 (flat l)) e ∙ samples-own c 0 n);
@@ -167,7 +167,7 @@ module _ (c : List Float) (n : ℕ) (floor : Float) where
 
     -- r is the number of records before the end
     module _ {d : List Float} {r : ℕ} (b : d ≡ sets chain (width * r) (row end)) where
-      popped : r ≡ k - 1 → le (distance (end .point) last) floor ≡ true → 1 < k → Stored c d (r + 1) (merged floor (samples n c))
+      popped : r ≡ k - 1 → le (distance (end .point) last) floor ≡ true → 1 < k → ChainStored c d (r + 1) (merged floor (samples n c))
       unfolding withEnd
       popped f t h =
           let q = w .number in
@@ -185,7 +185,7 @@ module _ (c : List Float) (n : ℕ) (floor : Float) where
                 ∙ ap (λ (l : List Sample). sets c 0 (flat l)) (sym m);
           }
 
-      stays : r ≡ k → merged floor (samples n c) ≡ w .kept ++ (end ∷ []) → Stored c d (r + 1) (merged floor (samples n c))
+      stays : r ≡ k → merged floor (samples n c) ≡ w .kept ++ (end ∷ []) → ChainStored c d (r + 1) (merged floor (samples n c))
       stays f m =
           let q = w .number in
           let g : r ≡ length (w .kept) = omega arith in
@@ -199,7 +199,7 @@ module _ (c : List Float) (n : ℕ) (floor : Float) where
                 ∙ ap (λ (l : List Sample). sets c 0 (flat l)) (sym m);
           }
 
-      alone : r ≡ k → k ≤ 1 → Stored c d (r + 1) (merged floor (samples n c))
+      alone : r ≡ k → k ≤ 1 → ChainStored c d (r + 1) (merged floor (samples n c))
       unfolding withEnd
       alone f h =
           let q = w .number in
@@ -209,15 +209,15 @@ module _ (c : List Float) (n : ℕ) (floor : Float) where
           either true = refl
           either false = refl
 
-      apart : r ≡ k → le (distance (end .point) last) floor ≡ false → Stored c d (r + 1) (merged floor (samples n c))
+      apart : r ≡ k → le (distance (end .point) last) floor ≡ false → ChainStored c d (r + 1) (merged floor (samples n c))
       unfolding withEnd
       apart f t = stays f (meant ∙ rw (w .top, t))
 
       -- by the tests of `before_end`
-      pub ended : r ≡ cond (ltb 1 k && le (distance (end .point) last) floor) (k - 1) k → Stored c d (r + 1) (merged floor (samples n c))
+      pub ended : r ≡ cond (ltb 1 k && le (distance (end .point) last) floor) (k - 1) k → ChainStored c d (r + 1) (merged floor (samples n c))
       ended f = go (ltb 1 k) (le (distance (end .point) last) floor) refl refl
         where
-          go : (x y : Bool) → ltb 1 k ≡ x → le (distance (end .point) last) floor ≡ y → Stored c d (r + 1) (merged floor (samples n c))
+          go : (x y : Bool) → ltb 1 k ≡ x → le (distance (end .point) last) floor ≡ y → ChainStored c d (r + 1) (merged floor (samples n c))
           go false y p q = alone (f ∙ rw p) (ltb-false 1 k p)
           go true true p q = popped (f ∙ rw (p, q)) q (ltb-true 1 k p)
           go true false p q = apart (f ∙ rw (p, q)) q

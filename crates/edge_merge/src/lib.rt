@@ -8,7 +8,7 @@ ghost use lib.Dec.{ltb};
 ghost use lib.Ieee.{lt, le};
 ghost use Rattle.arith_root.specs.Root.{rootOf};
 ghost use Rattle.math.specs.Math.{distance};
-ghost use Rattle.edge_record.specs.Chain.{width, samples, Stored};
+ghost use Rattle.edge_record.specs.Chain.{width, samples, ChainStored};
 ghost use Rattle.edge_merge.specs.Merge.{mergeFloor, merged};
 
 // How far apart two points of a chain may be and still count as one: in the edge's tolerance, and in the sag.
@@ -51,7 +51,7 @@ fn before_end(k: usize, last: Vec3, end: Vec3, floor: f64) -> usize
 // Merges the first n records in place. What is kept is moved to the buffer's start; answers how many there are.
 pub fn merge(chain: &mut [f64], n: usize, floor: f64) -> usize
     requires { ⌜ width * n ≤ length (now chain) ⌝ }
-    ensures { λ r. ⌜ Stored (now (chain .entry)) (now (chain .exit)) r (merged floor (samples n (now (chain .entry)))) ⌝ }
+    ensures { λ r. ⌜ ChainStored (now (chain .entry)) (now (chain .exit)) r (merged floor (samples n (now (chain .entry)))) ⌝ }
 {
     if n <= 2 {
         return n;

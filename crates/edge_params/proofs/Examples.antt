@@ -10,8 +10,8 @@ use Rattle.math.specs.declared.Interval.{Interval}
 use Rattle.math.specs.Math.{at, interval}
 use Rattle.edge_params.specs.declared.Closed.{Closed}
 use Rattle.edge_params.specs.declared.Closed.the-variants.{Unknown, Segments}
-use Rattle.knots_inside.specs.Thinned.{thinned, thinBreaks}
-use Rattle.edge_params.specs.Params.{subdivided, Sampler, steps, fitting, ordered, unlessHi, walked, through, floored, refined, sampleParams}
+use Rattle.knots_inside.specs.Thinned.{thinnedFrom, thinBreaks}
+use Rattle.edge_params.specs.Params.{subdivided, Sampler, steps, fitting, breaksAlong, unlessHi, walked, through, floored, refined, sampleParams}
 
 abbrev three : Float
 three = bits 0x4008000000000000
@@ -50,42 +50,42 @@ closed-refused = refl
 
 -- one that leaves the curve is bisected; a floor of four segments then asks for even steps
 closed-fails : sampleParams 5 (flat (Segments 1) false 4 []) long ≡ got quarters
-unfolding flat long quarters sampleParams refined fitting through ordered walked subdivided unlessHi floored steps at add sub mul div ofInt ofBits lt eq ne
+unfolding flat long quarters sampleParams refined fitting through breaksAlong walked subdivided unlessHi floored steps at add sub mul div ofInt ofBits lt eq ne
 closed-fails = refl
 
 -- ---- bisection: 3..3 gives 3, 3
 same : sampleParams 2 (flat Unknown true 1 []) (interval three three) ≡ got (three ∷ three ∷ [])
-unfolding flat sampleParams refined fitting through ordered walked subdivided unlessHi floored ofBits lt eq ne
+unfolding flat sampleParams refined fitting through breaksAlong walked subdivided unlessHi floored ofBits lt eq ne
 same = refl
 
 -- 0..4 split twice
 twice : sampleParams 5 (bent 2 []) (interval nought four) ≡ got (nought ∷ one ∷ two ∷ three ∷ four ∷ [])
-unfolding bent sampleParams refined fitting through ordered walked subdivided unlessHi floored add mul ofBits lt eq ne
+unfolding bent sampleParams refined fitting through breaksAlong walked subdivided unlessHi floored add mul ofBits lt eq ne
 twice = refl
 
 -- 4..0 with breaks 1 and 2, each span split once
 backwards : sampleParams 7 (bent 1 (one ∷ two ∷ [])) (interval four nought)
     ≡ got (four ∷ three ∷ two ∷ bits 0x3FF8000000000000 ∷ one ∷ half ∷ nought ∷ [])
-unfolding bent sampleParams refined fitting through ordered walked subdivided unlessHi floored add mul ofBits lt eq ne
+unfolding bent sampleParams refined fitting through breaksAlong walked subdivided unlessHi floored add mul ofBits lt eq ne
 backwards = refl
 
 bisected-refused : sampleParams 6 (bent 1 (one ∷ two ∷ [])) (interval four nought) ≡ refused 8
-unfolding bent sampleParams refined fitting through ordered walked subdivided unlessHi add mul ofBits lt eq ne
+unfolding bent sampleParams refined fitting through breaksAlong walked subdivided unlessHi add mul ofBits lt eq ne
 bisected-refused = refl
 
 -- 0..3 with a break at 1 has two segments: a floor of two is met, one of three is not
 floor-met : sampleParams 4 (flat Unknown true 2 (one ∷ [])) (interval nought three) ≡ got (nought ∷ one ∷ three ∷ [])
-unfolding flat sampleParams refined fitting through ordered walked subdivided unlessHi floored ofBits lt eq ne
+unfolding flat sampleParams refined fitting through breaksAlong walked subdivided unlessHi floored ofBits lt eq ne
 floor-met = refl
 
 floor-missed : sampleParams 4 (flat Unknown true 3 (one ∷ [])) (interval nought three) ≡ got (nought ∷ one ∷ two ∷ three ∷ [])
-unfolding flat sampleParams refined fitting through ordered walked subdivided unlessHi floored steps at add sub mul div ofInt ofBits lt eq ne
+unfolding flat sampleParams refined fitting through breaksAlong walked subdivided unlessHi floored steps at add sub mul div ofInt ofBits lt eq ne
 floor-missed = refl
 
 -- ---- breaks 1, 2, 3 of 0..4, the deviation of a span being its width, sag 2.5: from 0 the chord to 2 is within it and that to 3
 -- is not, so 2 stays; from 2 the chord to the end is within it
 kept : thinBreaks (one ∷ two ∷ three ∷ []) nought four between (λ a b. b ⊖ a) ≡ two ∷ []
-unfolding thinBreaks thinned sub ofBits lt
+unfolding thinBreaks thinnedFrom sub ofBits lt
 kept = refl
 
 -- where the sag is not above 0 all stay

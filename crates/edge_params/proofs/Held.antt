@@ -15,7 +15,7 @@ use Rattle.base_lists.specs.Result.{refused, got, each}
 use Rattle.edge_params.specs.declared.Listed.{Listed}
 use Rattle.edge_params.specs.declared.Listed.the-variants.{Count, Refused}
 use Rattle.edge_params.specs.Params.{fitting}
-use Rattle.edge_params.specs.Held.{Held, Behind}
+use Rattle.edge_params.specs.Held.{ListWritten, ListAppended}
 
 -- ---- stores in parts
 pub sets-append : (l : List Float) (n : ℕ) (a b : List Float) → sets l n (a ++ b) ≡ sets (sets l n a) (n + length a) b
@@ -77,28 +77,28 @@ overfull room l e = go (leb (length l) room) refl
     go false p = leb-false (length l) room p
 
 -- ---- a list in a buffer
-pub held-counted : {out l after : List Float} {n : ℕ} → Held out l (Count n) after → Counted (length out) l n
+pub held-counted : {out l after : List Float} {n : ℕ} → ListWritten out l (Count n) after → Counted (length out) l n
 held-counted {out} {l} {n = n} h = counted (length out) l n (h .answer)
 
-pub held-length : {out l after : List Float} {r : Listed} → Held out l r after → length after ≡ length out
+pub held-length : {out l after : List Float} {r : Listed} → ListWritten out l r after → length after ≡ length out
 held-length {out} {l} h = ap length (h .buffer) ∙ length-sets out 0 l
 
 fits-held : {out l after : List Float} {n : ℕ} → n ≡ length l → length l ≤ length out → after ≡ sets out 0 l
-    → Held out l (Count n) after
+    → ListWritten out l (Count n) after
 fits-held {out} {l} e h b = record { answer = ap got e ∙ sym (ap (each length) (fitting-fits (length out) l h)); buffer = b }
 
-over-held : {out l after : List Float} → length out < length l → after ≡ sets out 0 l → Held out l Refused after
+over-held : {out l after : List Float} → length out < length l → after ≡ sets out 0 l → ListWritten out l Refused after
 over-held {out} {l} h b = record { answer = sym (ap (each length) (fitting-over (length out) l h)); buffer = b }
 
 -- read back
-pub held-list : {out l after : List Float} {n : ℕ} → Held out l (Count n) after → take n after ≡ l
+pub held-list : {out l after : List Float} {n : ℕ} → ListWritten out l (Count n) after → take n after ≡ l
 held-list {out} {l} {after} {n} h =
     let c = held-counted h in
     let e : after ≡ l ++ drop (length l) out = h .buffer ∙ start out l (c .fits) in
     rw (e, c .same) (take-append-seam l (drop (length l) out))
 
 -- ---- put together from its parts: none, one more, one too many
-pub held-none : (out : List Float) → Held out [] (Count 0) out
+pub held-none : (out : List Float) → ListWritten out [] (Count 0) out
 held-none out = fits-held refl (omega arith) refl
 
 -- a full buffer takes nothing more
@@ -106,22 +106,22 @@ full : (out a b : List Float) → length out ≤ length a → sets out 0 (a ++ b
 full out a b h = behind out a b ∙ sets-out (sets out 0 a) (length a) b (rw (length-sets out 0 a) h)
 
 module _ {out a after : List Float} (x : Float) where
-  pub held-push : {n : ℕ} → Held out a (Count n) after → n < length out
-      → Held out (a ++ (x ∷ [])) (Count (n + 1)) (set after n x)
+  pub held-push : {n : ℕ} → ListWritten out a (Count n) after → n < length out
+      → ListWritten out (a ++ (x ∷ [])) (Count (n + 1)) (set after n x)
   held-push {n} h l =
       let c = held-counted h in
       fits-held (simp length-append (omega (arith, c .same))) (simp length-append (omega (arith, c .same)))
       (ap (λ (i : ℕ). set after i x) (c .same) ∙ ap (λ (k : List Float). set k (length a) x) (h .buffer)
       ∙ sym (behind out a (x ∷ [])))
 
-  pub held-stop : {n : ℕ} (b : List Float) → Held out a (Count n) after → length out ≤ n → Held out (a ++ x ∷ b) Refused after
+  pub held-stop : {n : ℕ} (b : List Float) → ListWritten out a (Count n) after → length out ≤ n → ListWritten out (a ++ x ∷ b) Refused after
   held-stop b h l =
       let c = held-counted h in
       over-held (simp length-append (omega (arith, c .same)))
       (h .buffer ∙ sym (full out a (x ∷ b) (omega (arith, c .same))))
 
 -- a front that is refused, and one behind which more is written
-pub held-full : {out a after : List Float} (b : List Float) → Held out a Refused after → Held out (a ++ b) Refused after
+pub held-full : {out a after : List Float} (b : List Float) → ListWritten out a Refused after → ListWritten out (a ++ b) Refused after
 held-full {out} {a} b h =
     let g = overfull (length out) a (h .answer) in
     over-held (simp length-append (omega arith)) (h .buffer ∙ sym (full out a b (omega arith)))
@@ -133,45 +133,45 @@ own l n h =
     let e = length-take-le n l h in
     sym (start l (take n l) (rw e h) ∙ ap (λ (k : ℕ). take n l ++ drop k l) e ∙ take-append-drop n l)
 
-pub behind-none : (out : List Float) (k : ℕ) → k ≤ length out → Behind out k [] (Count k) out
+pub behind-none : (out : List Float) (k : ℕ) → k ≤ length out → ListAppended out k [] (Count k) out
 behind-none out k h =
     let e = length-take-le k out h in
-    subst (λ (l : List Float). Held out l (Count k) out) (sym (append-nil (take k out))) (fits-held (sym e) (rw e h) (own out k h))
+    subst (λ (l : List Float). ListWritten out l (Count k) out) (sym (append-nil (take k out))) (fits-held (sym e) (rw e h) (own out k h))
 
 -- one more, for which there is room or not
-pub behind-one : (out : List Float) (k : ℕ) (x : Float) → k < length out → Behind out k (x ∷ []) (Count (k + 1)) (set out k x)
+pub behind-one : (out : List Float) (k : ℕ) (x : Float) → k < length out → ListAppended out k (x ∷ []) (Count (k + 1)) (set out k x)
 behind-one out k x h = rw append-assoc at (held-push x (behind-none out k (omega arith)) h)
 
-pub behind-over : (out : List Float) (k : ℕ) (x : Float) → k ≤ length out → length out ≤ k → Behind out k (x ∷ []) Refused out
+pub behind-over : (out : List Float) (k : ℕ) (x : Float) → k ≤ length out → length out ≤ k → ListAppended out k (x ∷ []) Refused out
 behind-over out k x h l = rw append-assoc at (held-stop x [] (behind-none out k h) l)
 
 -- a front that is refused, and one behind which more is written
-module _ (out : List Float) (k : ℕ) (a : List Float) {r : Listed} (mid : List Float) (h : Behind out k a r mid) where
-  counts : (n : ℕ) → r ≡ Count n → Behind out k a (Count n) mid
-  counts n e = subst (λ (q : Listed). Behind out k a q mid) e h
+module _ (out : List Float) (k : ℕ) (a : List Float) {r : Listed} (mid : List Float) (h : ListAppended out k a r mid) where
+  counts : (n : ℕ) → r ≡ Count n → ListAppended out k a (Count n) mid
+  counts n e = subst (λ (q : Listed). ListAppended out k a q mid) e h
 
-  pub behind-refused : r ≡ Refused → (b : List Float) → Behind out k (a ++ b) Refused mid
-  behind-refused e b = rw append-assoc at (held-full b (subst (λ (q : Listed). Behind out k a q mid) e h))
+  pub behind-refused : r ≡ Refused → (b : List Float) → ListAppended out k (a ++ b) Refused mid
+  behind-refused e b = rw append-assoc at (held-full b (subst (λ (q : Listed). ListAppended out k a q mid) e h))
 
   pub behind-room : (n : ℕ) → r ≡ Count n → n ≤ length mid
   behind-room n e =
       let g = counts n e in
       omega (arith, held-length g, held-counted g .same, held-counted g .fits)
 
-  pub behind-then : (n : ℕ) → r ≡ Count n → (b : List Float) {q : Listed} {after : List Float} → Behind mid n b q after
-      → Behind out k (a ++ b) q after
+  pub behind-then : (n : ℕ) → r ≡ Count n → (b : List Float) {q : Listed} {after : List Float} → ListAppended mid n b q after
+      → ListAppended out k (a ++ b) q after
   behind-then n e b {q} {after} f = rw append-assoc at go
     where
       front : List Float
       front = take k out ++ a
 
-      g : Held out front (Count n) mid
+      g : ListWritten out front (Count n) mid
       g = counts n e
 
-      f' : Held mid (front ++ b) q after
+      f' : ListWritten mid (front ++ b) q after
       f' = rw (held-list g) at f
 
-      go : Held out (front ++ b) q after
+      go : ListWritten out (front ++ b) q after
       go = record {
         answer = f' .answer ∙ ap (λ (m : ℕ). each length (fitting m (front ++ b))) (held-length g);
         buffer =
@@ -180,19 +180,19 @@ module _ (out : List Float) (k : ℕ) (a : List Float) {r : Listed} (mid : List 
 
 -- a list, one more, and another list: the ways in which code that writes the three one after the other comes out
 module _ (out : List Float) (k : ℕ) (front : List Float) (x : Float) (back whole : List Float) (e : front ++ x ∷ back ≡ whole)
-    {r₁ : Listed} (out₁ : List Float) (h : Behind out k front r₁ out₁) where
-  pub front-refused : r₁ ≡ Refused → Behind out k whole Refused out₁
+    {r₁ : Listed} (out₁ : List Float) (h : ListAppended out k front r₁ out₁) where
+  pub front-refused : r₁ ≡ Refused → ListAppended out k whole Refused out₁
   front-refused z =
-      subst (λ (l : List Float). Behind out k l Refused out₁) e (behind-refused out k front out₁ h z (x ∷ back))
+      subst (λ (l : List Float). ListAppended out k l Refused out₁) e (behind-refused out k front out₁ h z (x ∷ back))
 
-  module _ (n : ℕ) (N : r₁ ≡ Count n) {r₂ : Listed} (out₂ : List Float) (g : Behind out₁ n (x ∷ []) r₂ out₂) where
-    pub one-refused : r₂ ≡ Refused → Behind out k whole Refused out₂
+  module _ (n : ℕ) (N : r₁ ≡ Count n) {r₂ : Listed} (out₂ : List Float) (g : ListAppended out₁ n (x ∷ []) r₂ out₂) where
+    pub one-refused : r₂ ≡ Refused → ListAppended out k whole Refused out₂
     one-refused z =
-        subst (λ (l : List Float). Behind out k l Refused out₂) e
+        subst (λ (l : List Float). ListAppended out k l Refused out₂) e
         (behind-then out k front out₁ h n N (x ∷ back) (behind-refused out₁ n (x ∷ []) out₂ g z back))
 
-    pub all-three : (m : ℕ) → r₂ ≡ Count m → {r₃ : Listed} {out₃ : List Float} → Behind out₂ m back r₃ out₃
-        → Behind out k whole r₃ out₃
+    pub all-three : (m : ℕ) → r₂ ≡ Count m → {r₃ : Listed} {out₃ : List Float} → ListAppended out₂ m back r₃ out₃
+        → ListAppended out k whole r₃ out₃
     all-three m M {r₃} {out₃} f =
-        subst (λ (l : List Float). Behind out k l r₃ out₃) e
+        subst (λ (l : List Float). ListAppended out k l r₃ out₃) e
         (behind-then out k front out₁ h n N (x ∷ back) (behind-then out₁ n (x ∷ []) out₂ g m M back f))

@@ -18,8 +18,8 @@ use Rattle.base_lists.proofs.Order.{sub-all, sub-pairwise, sub-same}
 use Rattle.knots_inside.specs.Breaks.{insideOf}
 use Rattle.knots_inside.proofs.Kept.{inside-all}
 use Rattle.knots_inside.proofs.Between.{Between, inside-between}
-use Rattle.knots_inside.specs.Thinned.{nextOf, thinned, thinBreaks}
-use Rattle.edge_params.specs.Params.{Sampler, evenly, ordered, through, bisected, sampleParams}
+use Rattle.knots_inside.specs.Thinned.{nextOf, thinnedFrom, thinBreaks}
+use Rattle.edge_params.specs.Params.{Sampler, evenly, breaksAlong, through, bisected, sampleParams}
 use Rattle.edge_params.specs.OneWay.{OneWay}
 use Rattle.edge_params.proofs.Steady.{Steady, rising, falling, steady-one-way, steady-sub}
 use Rattle.edge_params.proofs.Runs.{Good, good-number, good-between, up, down, evenly-pairs, through-pairs}
@@ -52,7 +52,7 @@ module _ (s : Sampler) (range : Interval) (sound : Sound s range) where
       go false e = rising (evenly-pairs Up up range n (sound .low) (sound .high) (rising-ends e) h)
 
   bisected-steady : Steady (bisected s range)
-  unfolding ordered
+  unfolding breaksAlong
   bisected-steady = go (lt (range .hi) (range .lo)) refl (sound .between)
     where
       go : (t : Bool) → lt (range .hi) (range .lo) ≡ t
@@ -81,8 +81,8 @@ module _ (s : Sampler) (range : Interval) (sound : Sound s range) where
 
 -- ---- thin_breaks leaves breaks out
 thinned-sub : (deviation : Float → Float → Float) (sag hi start : Float) (bs : List Float)
-    → Sub (thinned deviation sag hi start bs) bs
-unfolding thinned
+    → Sub (thinnedFrom deviation sag hi start bs) bs
+unfolding thinnedFrom
 thinned-sub deviation sag hi start [] = end
 thinned-sub deviation sag hi start (b ∷ bs) =
     go (lt sag (deviation start (nextOf hi bs))) (thinned-sub deviation sag hi b bs) (thinned-sub deviation sag hi start bs)
@@ -96,7 +96,7 @@ thin-sub : (bs : List Float) (lo hi sag : Float) (deviation : Float → Float �
 unfolding thinBreaks
 thin-sub bs lo hi sag deviation = go (lt nought sag)
   where
-    go : (t : Bool) → Sub (elim t [ true ↦ thinned deviation sag hi lo bs | false ↦ bs ]) bs
+    go : (t : Bool) → Sub (elim t [ true ↦ thinnedFrom deviation sag hi lo bs | false ↦ bs ]) bs
     go true = thinned-sub deviation sag hi lo bs
     go false = sub-same bs
 

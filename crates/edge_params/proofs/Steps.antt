@@ -11,37 +11,37 @@ use lib.Ieee.{Float}
 use Rattle.math.specs.declared.Interval.{Interval}
 use Rattle.edge_params.specs.declared.Listed.the-variants.{Count, Refused}
 use Rattle.edge_params.specs.Params.{stepAt, steps, evenly}
-use Rattle.edge_params.specs.Held.{Held}
+use Rattle.edge_params.specs.Held.{ListWritten}
 use Rattle.edge_params.proofs.Held.{held-none, held-push, held-stop, held-full}
 
 module _ (range : Interval) (n : ℕ) where
-  pub steps-none : (out : List Float) → Held out (steps range n 0) (Count 0) out
+  pub steps-none : (out : List Float) → ListWritten out (steps range n 0) (Count 0) out
   unfolding steps
   steps-none out = held-none out
 
-  module _ {out after : List Float} (i : ℕ) (h : Held out (steps range n i) (Count i) after) where
+  module _ {out after : List Float} (i : ℕ) (h : ListWritten out (steps range n i) (Count i) after) where
     pub steps-push : (x : Float) → x ≡ stepAt range n i → i < length out
-        → Held out (steps range n (i + 1)) (Count (i + 1)) (set after i x)
+        → ListWritten out (steps range n (i + 1)) (Count (i + 1)) (set after i x)
     unfolding steps
     steps-push x e l =
-        subst (λ (k : ℕ). Held out (steps range n k) (Count (i + 1)) (set after i x)) (sym (add-one i))
-        (subst (λ (y : Float). Held out (steps range n i ++ (y ∷ [])) (Count (i + 1)) (set after i x)) e (held-push x h l))
+        subst (λ (k : ℕ). ListWritten out (steps range n k) (Count (i + 1)) (set after i x)) (sym (add-one i))
+        (subst (λ (y : Float). ListWritten out (steps range n i ++ (y ∷ [])) (Count (i + 1)) (set after i x)) e (held-push x h l))
 
-    pub steps-done : i ≡ n + 1 → Held out (evenly range n) (Count i) after
-    steps-done e = subst (λ (k : ℕ). Held out (steps range n k) (Count i) after) (e ∙ add-one n) h
+    pub steps-done : i ≡ n + 1 → ListWritten out (evenly range n) (Count i) after
+    steps-done e = subst (λ (k : ℕ). ListWritten out (steps range n k) (Count i) after) (e ∙ add-one n) h
 
     -- the step number i has no room, and so none of the later ones
-    steps-full : (k : ℕ) → i < k → length out ≤ i → Held out (steps range n k) Refused after
+    steps-full : (k : ℕ) → i < k → length out ≤ i → ListWritten out (steps range n k) Refused after
     unfolding steps
     steps-full zero j l = absurd (omega arith)
     steps-full (suc k) j l = go (λ m. steps-full k m l) (eq-or-lt-of-le {n = i} {m = k} (omega arith))
       where
-        go : (i < k → Held out (steps range n k) Refused after) → (i ≡ k) ⊎ (i < k)
-            → Held out (steps range n k ++ (stepAt range n k ∷ [])) Refused after
+        go : (i < k → ListWritten out (steps range n k) Refused after) → (i ≡ k) ⊎ (i < k)
+            → ListWritten out (steps range n k ++ (stepAt range n k ∷ [])) Refused after
         go f (inl e) =
-            subst (λ (m : ℕ). Held out (steps range n m ++ (stepAt range n m ∷ [])) Refused after) e
+            subst (λ (m : ℕ). ListWritten out (steps range n m ++ (stepAt range n m ∷ [])) Refused after) e
             (held-stop (stepAt range n i) [] h l)
         go f (inr m) = held-full (stepAt range n k ∷ []) (f m)
 
-    pub steps-stop : i ≤ n → length out ≤ i → Held out (evenly range n) Refused after
+    pub steps-stop : i ≤ n → length out ≤ i → ListWritten out (evenly range n) Refused after
     steps-stop k l = steps-full (suc n) (omega arith) l

@@ -17,10 +17,10 @@ said Refused = refused 8
 
 -- l written from the start of the buffer out: the answer is l's length, or 8 where l is longer than out; the buffer then holds
 -- l, or as much of it as out has room for, and the rest of it is as before
-pub record Held (out l : List Float) (r : Listed) (after : List Float) : Type 0 where
+pub record ListWritten (out l : List Float) (r : Listed) (after : List Float) : Type 0 where
   pub answer : said r ≡ each length (fitting (length out) l)
   pub buffer : after ≡ sets out 0 l
 
 -- l written behind the first k floats of out, which are kept
-abbrev pub Behind : List Float → ℕ → List Float → Listed → List Float → Type 0
-Behind out k l r after = Held out (take k out ++ l) r after
+abbrev pub ListAppended : List Float → ℕ → List Float → Listed → List Float → Type 0
+ListAppended out k l r after = ListWritten out (take k out ++ l) r after

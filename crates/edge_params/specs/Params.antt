@@ -65,8 +65,8 @@ fitting room l =
     ]
 
 -- the breaks, the range's own way round
-unfoldable pub ordered : Sampler → Interval → List Float
-ordered s range =
+unfoldable pub breaksAlong : Sampler → Interval → List Float
+breaksAlong s range =
     elim (lt (range .hi) (range .lo)) [
       | true ↦ reverse (s .breaks)
       | false ↦ s .breaks
@@ -91,7 +91,7 @@ through s range breaks = range .lo ∷ (walked s range (range .lo) (breaks ++ (r
 
 -- bisection between the breaks
 abbrev pub bisected : Sampler → Interval → List Float
-bisected s range = through s range (ordered s range)
+bisected s range = through s range (breaksAlong s range)
 
 -- the segment floor: even steps where a list has fewer segments
 unfoldable pub floored : ℕ → Sampler → Interval → List Float → Result (List Float)

@@ -4,7 +4,7 @@ ghost use mathlib.Core.List.{[], _∷_};
 ghost use Prim.Native.Nat.{_≤_};
 ghost use lib.ListN.{length};
 ghost use Rattle.edge_params.specs.Params.{evenly};
-ghost use Rattle.edge_params.specs.Held.{Held, Behind};
+ghost use Rattle.edge_params.specs.Held.{ListWritten, ListAppended};
 
 // What the closed form of a curve gives: a number of segments, or nothing where the curve has none.
 pub enum Closed {
@@ -23,7 +23,7 @@ pub enum Listed {
 // x behind the first k floats.
 pub fn push(out: &mut [f64], k: usize, x: f64) -> Listed
     requires { ⌜ k ≤ length (now out) ⌝ }
-    ensures { λ r. ⌜ Behind (now (out .entry)) k (x ∷ []) r (now (out .exit)) ⌝ }
+    ensures { λ r. ⌜ ListAppended (now (out .entry)) k (x ∷ []) r (now (out .exit)) ⌝ }
 {
     if k >= out.len() {
         return Listed::Refused;
@@ -34,7 +34,7 @@ pub fn push(out: &mut [f64], k: usize, x: f64) -> Listed
 
 // range.at(i / n) for each i from 0 to n.
 pub fn evenly(range: Interval, n: u64, out: &mut [f64]) -> Listed
-    ensures { λ r. ⌜ Held (now (out .entry)) (evenly range n) r (now (out .exit)) ⌝ }
+    ensures { λ r. ⌜ ListWritten (now (out .entry)) (evenly range n) r (now (out .exit)) ⌝ }
 {
     let total = std::num::nearest_u64_to_f64(n);
     let mut i = 0u64;

@@ -24,7 +24,7 @@ use Rattle.edge_record.specs.Chain.{width, row, flat, lastOf, pointAt as inChai
 use Rattle.edge_closed_form.proofs.Located.{on, located-length, located-at}
 use Rattle.edge_record.proofs.Laws.{push, sampleAt-behind}
 use Rattle.draw_spec.specs.Edge.{edgeCurve, edgeStart, edgeEnd, located, degenerateEnds, isReversed, oriented, movedTo, lastPinned, pinned, placed}
-use Rattle.edge_place.specs.Place.{ofPoints, lastIndex, runsBack, paramAt, recordAt, Holds}
+use Rattle.edge_place.specs.Place.{ofPoints, lastIndex, runsBack, paramAt, recordAt, PointsKnown}
 
 -- ---- a list from its end
 module _ {A : Type 0} where
@@ -187,7 +187,7 @@ module _ (T : Tables) (e : Edge) where
         ∙ ap (λ (l : List Sample). sets c₀ 0 (flat l)) (sym (take-suc P i s (omega (arith, placed-length))) ∙ ap (λ (k : ℕ). take k P) (sym (add-one i)))
 
     -- record i is read before it is written, so it still holds what it held at first
-    pub still-held : (c₀ c : List Float) (i : ℕ) {b : Bool} → i < length params → c ≡ sets c₀ 0 (flat (take i (placed T e params))) → b ≡ false → Holds (edgeCurve T e) params c₀
+    pub still-held : (c₀ c : List Float) (i : ℕ) {b : Bool} → i < length params → c ≡ sets c₀ 0 (flat (take i (placed T e params))) → b ≡ false → PointsKnown (edgeCurve T e) params c₀
         → inChain c i ≡ pointAt (edgeCurve T e) (paramAt params b i)
     unfolding paramAt
     still-held c₀ c i h q onward held =

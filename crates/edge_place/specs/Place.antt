@@ -42,5 +42,5 @@ recordAt T e params reversed i = record {
 }
 
 -- the records of a chain hold the curve's points at the parameters
-pub record Holds (c : CurveTree) (params chain : List Float) : Type 0 where
+pub record PointsKnown (c : CurveTree) (params chain : List Float) : Type 0 where
   pub point : (i : ℕ) → i < length params → inChain chain i ≡ pointAt c (getD params i nan)

@@ -14,7 +14,7 @@ ghost use Rattle.curve_prepared.specs.Ready.{readyOf};
 ghost use Rattle.curve.specs.Eval.{pointAt as onCurve};
 ghost use Rattle.edge_record.specs.Chain.{width, flat, pointAt as inChain};
 ghost use Rattle.draw_spec.specs.Edge.{edgeCurve, degenerateEnds, placed};
-ghost use Rattle.edge_place.specs.Place.{ofPoints, runsBack, paramAt, recordAt, Holds};
+ghost use Rattle.edge_place.specs.Place.{ofPoints, runsBack, paramAt, recordAt, PointsKnown};
 
 // Whether the vertices are too near each other to tell the direction.
 fn degenerate_ends(points: &[f64], edge: Edge) -> bool
@@ -42,7 +42,7 @@ fn own_point(
 ) -> Vec3
     requires { ⌜ (i < length (now params)) × (width * i + width ≤ length (now chain))
         × (ready ≡ readyOf (edgeCurve (lent points curves reals parts ranges) edge))
-        × (known ≡ true → Holds (edgeCurve (lent points curves reals parts ranges) edge) (now params) (now chain)) ⌝ }
+        × (known ≡ true → PointsKnown (edgeCurve (lent points curves reals parts ranges) edge) (now params) (now chain)) ⌝ }
     ensures { λ r. ⌜ r ≡ onCurve (edgeCurve (lent (points .entry) (curves .entry) (reals .entry) (parts .entry) (ranges .entry)) edge) (getD (now (params .entry)) i nan) ⌝ }
 {
     if known {
@@ -68,7 +68,7 @@ fn is_reversed(
 ) -> bool
     requires { ⌜ (2 ≤ length (now params)) × (width * length (now params) ≤ length (now chain))
         × (ready ≡ readyOf (edgeCurve (lent points curves reals parts ranges) edge))
-        × (known ≡ true → Holds (edgeCurve (lent points curves reals parts ranges) edge) (now params) (now chain)) ⌝ }
+        × (known ≡ true → PointsKnown (edgeCurve (lent points curves reals parts ranges) edge) (now params) (now chain)) ⌝ }
     ensures { λ r. ⌜ r ≡ runsBack (lent (points .entry) (curves .entry) (reals .entry) (parts .entry) (ranges .entry)) edge (now (params .entry)) ⌝ }
 {
     if degenerate_ends(points, edge) {
@@ -171,7 +171,7 @@ pub fn place(
     chain: &mut [f64],
 )
     requires { ⌜ (2 ≤ length (now params)) × (width * length (now params) ≤ length (now chain))
-        × (known ≡ true → Holds (edgeCurve (lent points curves reals parts ranges) edge) (now params) (now chain)) ⌝ }
+        × (known ≡ true → PointsKnown (edgeCurve (lent points curves reals parts ranges) edge) (now params) (now chain)) ⌝ }
     ensures { λ _. ⌜ now (chain .exit) ≡ sets (now (chain .entry)) 0 (flat (placed (lent (points .entry) (curves .entry) (reals .entry) (parts .entry) (ranges .entry)) edge (now (params .entry)))) ⌝ }
 {
     let ready = curve_prepared::ready_at(points, curves, reals, parts, ranges, edge.curve);

@@ -8,7 +8,7 @@ use lib.ListN.{length}
 use lib.Seq.{sets}
 use lib.Ieee.{Float}
 use Rattle.edge_record.specs.declared.Sample.{Sample}
-use Rattle.edge_record.specs.Chain.{width, row, flat, sampleAt, samplesFrom, samples, Stored}
+use Rattle.edge_record.specs.Chain.{width, row, flat, sampleAt, samplesFrom, samples, ChainStored}
 use Rattle.edge_record.proofs.Laws.{push, sampleAt-behind}
 
 -- of the first m records of c those before i are read, and `chain` holds `kept` at its start
@@ -59,7 +59,7 @@ module _ {c : List Float} {m : ℕ} {whole : List Sample} {f : List Sample → L
       let z : f (samplesFrom c i (m - i)) ≡ [] = rw q e in
       sym (append-nil kept) ∙ ap (λ (r : List Sample). kept ++ r) (sym z) ∙ w .rest
 
-  pub compact-done : (k : ℕ) → length kept ≡ k → f [] ≡ [] → m ≤ i → Stored c chain k whole
+  pub compact-done : (k : ℕ) → length kept ≡ k → f [] ≡ [] → m ≤ i → ChainStored c chain k whole
   compact-done k n e h = record {
     count = sym n ∙ ap length (compact-all e h);
     floats = w .floats ∙ ap (λ (r : List Sample). sets c 0 (flat r)) (compact-all e h);

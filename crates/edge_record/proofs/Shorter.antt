@@ -9,7 +9,7 @@ use Rattle.base_lists.specs.Sub.{All, Pairwise, Sub, keep}
 use Rattle.base_lists.proofs.Order.{sub-all, sub-pairwise, sub-same, sub-trans, sub-append}
 use Rattle.base_lists.proofs.Joined.{sub-map}
 use Rattle.edge_record.specs.declared.Sample.{Sample}
-use Rattle.edge_record.specs.Chain.{lastOf, between}
+use Rattle.edge_record.specs.Chain.{lastOf, innerSamples}
 
 -- ---- the last, and all but the last
 module _ {A : Type 0} where
@@ -84,11 +84,11 @@ module _ (m l : List Sample) (s : Shorter m l) where
   shorter-last d = rw (s .is, s .of) (last-snoc (s .begin) (s .inner) (s .end) ∙ sym (last-snoc (s .begin) (s .all) (s .end)))
 
   -- what holds of each sample between the first and the last
-  pub shorter-between : (P : Sample → Type 0) → All P (between l) → All P (between m)
+  pub shorter-between : (P : Sample → Type 0) → All P (innerSamples l) → All P (innerSamples m)
   shorter-between P h = subst (All P) (sym (inner-of m (s .begin) (s .inner) (s .end) (s .is))) (sub-all (s .some) (subst (All P) (inner-of l (s .begin) (s .all) (s .end) (s .of)) h))
     where
-      inner-of : (k : List Sample) (p : Sample) (i : List Sample) (z : Sample) → k ≡ p ∷ (i ++ (z ∷ [])) → between k ≡ i
-      inner-of k p i z e = ap between e ∙ dropLast-snoc i z
+      inner-of : (k : List Sample) (p : Sample) (i : List Sample) (z : Sample) → k ≡ p ∷ (i ++ (z ∷ [])) → innerSamples k ≡ i
+      inner-of k p i z e = ap innerSamples e ∙ dropLast-snoc i z
 
   -- what holds of the parameters, each with every later one
   pub shorter-params : (R : Float → Float → Type 0) → Pairwise R (map (λ (p : Sample). p .param) l) → Pairwise R (map (λ (p : Sample). p .param) m)

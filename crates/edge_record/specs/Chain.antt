@@ -49,8 +49,8 @@ abbrev pub samples : ℕ → List Float → List Sample
 samples n c = samplesFrom c 0 n
 
 -- a chain's points by their index, as `points[i]`; NaN past its end
-abbrev pub pointOf : List Sample → ℕ → Vec3
-pointOf l i = getD l i (record { point = vec nan nan nan; param = nan }) .point
+abbrev pub samplePoint : List Sample → ℕ → Vec3
+samplePoint l i = getD l i (record { point = vec nan nan nan; param = nan }) .point
 
 -- the last of d ∷ l
 unfoldable pub lastOf : {A : Type 0} → A → List A → A
@@ -58,19 +58,19 @@ lastOf d [] = d
 lastOf d (a ∷ l) = lastOf a l
 
 -- a chain's samples between its first and its last
-abbrev pub between : List Sample → List Sample
-between [] = []
-between (p ∷ l) = dropLast l
+abbrev pub innerSamples : List Sample → List Sample
+innerSamples [] = []
+innerSamples (p ∷ l) = dropLast l
 
 -- what a pass over a chain leaves: its samples stand at the buffer's start, what lies behind them stays, and their number is the answer
-pub record Stored (entry exit : List Float) (answer : ℕ) (l : List Sample) : Type 0 where
+pub record ChainStored (entry exit : List Float) (answer : ℕ) (l : List Sample) : Type 0 where
   pub count : answer ≡ length l
   pub floats : exit ≡ sets entry 0 (flat l)
 
 -- the same of a pass that may refuse; the buffer is then as it was
-abbrev pub answerOf : Result (List Sample) → Counted
-answerOf (refused n) = Refused n
-answerOf (got l) = Count (length l)
+abbrev pub countedOf : Result (List Sample) → Counted
+countedOf (refused n) = Refused n
+countedOf (got l) = Count (length l)
 
 abbrev pub after : List Float → Result (List Sample) → List Float
 after entry (refused n) = entry

@@ -20,7 +20,7 @@ use Rattle.edge_record.specs.declared.Sample.{Sample}
 use Rattle.edge_record.specs.declared.Counted.{Counted}
 use Rattle.edge_record.specs.declared.Counted.the-variants as counts
 use Rattle.edge_record.specs.Chain.{width, flat, samples}
-use Rattle.edge_record.specs.Chain.{answerOf as counted}
+use Rattle.edge_record.specs.Chain.{countedOf as counted}
 use Rattle.edge_record.proofs.Laws.{length-flat, reads, samplesFrom-length}
 use Rattle.draw_spec.specs.declared.Way.{Way}
 use Rattle.draw_spec.specs.declared.Drawn.{Drawn}
@@ -31,8 +31,8 @@ use Rattle.draw_spec.specs.Repair.{Got, by, escapes, runaway}
 use Rattle.draw_spec.specs.Draw.{roomOf, answerOf, inFirst, firstAfter, secondAfter}
 use Rattle.draw_spec.proofs.Outcome.{outcome-refused}
 use Rattle.draw_spec.proofs.Discretised.{Room, discretised-outcome}
-use Rattle.edge_discretise.specs.Discretised.{chainOf, Discretised}
-use Rattle.edge_repair.specs.Redrawn.{heldFirst, heldSecond, Redrawn, Left, InSecond}
+use Rattle.edge_discretise.specs.Discretised.{chainOf, DiscretisedInto}
+use Rattle.edge_repair.specs.Redrawn.{heldFirst, heldSecond, RedrawnInto, DrawnInto, InSecond}
 
 -- ---- `discretise` into the second buffer
 room-swap : (a b : ℕ) → roomOf a b ≡ roomOf b a
@@ -56,7 +56,7 @@ pub record Redrew (X : Result (List Sample)) (first second : List Float) (answer
   pub late : (n : ℕ) → answer ≡ counts.Refused n → 7 < n
 
 pub redrew : (T : Tables) (e d : Edge) (r : Resolved) {first second : List Float} {w : Counted} {first' second' : List Float} → 8 ≤ length first → 8 ≤ length second → e ≡ d
-    → Discretised (λ room. discretised room T e r) second first w second' first'
+    → DiscretisedInto (λ room. discretised room T e r) second first w second' first'
     → Redrew (discretised (roomOf (length first) (length second)) T d r) first second w first' second'
 redrew T e d r {first} {second} h k s p =
     let q : discretised (roomOf (length second) (length first)) T e r ≡ discretised (roomOf (length first) (length second)) T d r =
@@ -90,11 +90,11 @@ module _ {X : Result (List Sample)} {first second : List Float} {w : Counted} {f
 
   -- a refusal is carried on
   pub redrawn-refused : (D : ℕ → Result Got) (f : List Sample → Result Got) (n : ℕ) → w ≡ counts.Refused n
-      → D (roomOf (length first) (length second)) ≡ bind X f → Redrawn D first second (Refused n) first' second'
+      → D (roomOf (length first) (length second)) ≡ bind X f → RedrawnInto D first second (Refused n) first' second'
   unfolding answerOf heldFirst heldSecond flat
   redrawn-refused D f n t q = go X (sym t ∙ d .answered) (d .secondHolds) q
     where
-      go : (Y : Result (List Sample)) → counts.Refused n ≡ counted Y → second' ≡ filled (length second) (flat (chainOf Y)) → D (roomOf (length first) (length second)) ≡ bind Y f → Redrawn D first second (Refused n) first' second'
+      go : (Y : Result (List Sample)) → counts.Refused n ≡ counted Y → second' ≡ filled (length second) (flat (chainOf Y)) → D (roomOf (length first) (length second)) ≡ bind Y f → RedrawnInto D first second (Refused n) first' second'
       go (refused m) a b q = let z : n ≡ m = cc in record {
         answered = rw (q, z);
         firstHolds = rw q (d .firstHolds);
@@ -139,7 +139,7 @@ module _ {g : Got} {n : ℕ} {w : Drawn} {second' : List Float} (i : InSecond g 
 
   -- with the first buffer cleared it is a repair's answer
   pub redrawn-second : (D : ℕ → Result Got) (first second first' : List Float) → n ≡ length second → first' ≡ filled (length first) []
-      → got g ≡ D (roomOf (length first) (length second)) → Redrawn D first second w first' second'
+      → got g ≡ D (roomOf (length first) (length second)) → RedrawnInto D first second w first' second'
   unfolding answerOf heldFirst heldSecond
   redrawn-second D first second first' m p q = record {
     answered = i .answered ∙ ap answerOf q;
@@ -156,8 +156,8 @@ above n h = go (leb n 7) refl
     go false q = q
 
 -- ---- another name for the answer, and buffers that were as long
-module _ {D : ℕ → Result Got} {first second : List Float} {w : Drawn} {first' second' : List Float} (d : Redrawn D first second w first' second') where
-  pub redrawn-is : (E : ℕ → Result Got) → D (roomOf (length first) (length second)) ≡ E (roomOf (length first) (length second)) → Redrawn E first second w first' second'
+module _ {D : ℕ → Result Got} {first second : List Float} {w : Drawn} {first' second' : List Float} (d : RedrawnInto D first second w first' second') where
+  pub redrawn-is : (E : ℕ → Result Got) → D (roomOf (length first) (length second)) ≡ E (roomOf (length first) (length second)) → RedrawnInto E first second w first' second'
   redrawn-is E q = record {
     answered = d .answered ∙ ap answerOf q;
     firstHolds = d .firstHolds ∙ ap (λ (x : Result Got). filled (length first) (heldFirst x)) q;
@@ -165,7 +165,7 @@ module _ {D : ℕ → Result Got} {first second : List Float} {w : Drawn} {first
     late = d .late;
   }
 
-  pub redrawn-from : (a b : List Float) → length first ≡ length a → length second ≡ length b → Redrawn D a b w first' second'
+  pub redrawn-from : (a b : List Float) → length first ≡ length a → length second ≡ length b → RedrawnInto D a b w first' second'
   redrawn-from a b e f =
       let q : roomOf (length first) (length second) ≡ roomOf (length a) (length b) = rw (e, f) in
       record {
@@ -176,7 +176,7 @@ module _ {D : ℕ → Result Got} {first second : List Float} {w : Drawn} {first
       }
 
   -- no refusal leaves a buffer as before
-  pub redrawn-after : Left (D (roomOf (length first) (length second))) first second w first' second'
+  pub redrawn-after : DrawnInto (D (roomOf (length first) (length second))) first second w first' second'
   unfolding answerOf heldFirst heldSecond firstAfter secondAfter
   redrawn-after = record {
     answered = d .answered;
@@ -195,6 +195,6 @@ module _ {D : ℕ → Result Got} {first second : List Float} {w : Drawn} {first
 -- ---- a chain that stays in the first
 pub kept-after : (D : Result Got) (way : Way) (n : ℕ) (first second : List Float) → D ≡ got (by way (samples n first)) → inFirst way ≡ true
     → first ≡ filled (length first) (flat (samples n first)) → second ≡ filled (length second) []
-    → Left D first second (Chain way n) first second
+    → DrawnInto D first second (Chain way n) first second
 unfolding answerOf firstAfter secondAfter
 kept-after D way n first second q w p s = rw q (record { answered = ap (Chain way) (sym (samplesFrom-length first 0 n)); firstHolds = rw w p; secondHolds = rw w s })

@@ -22,7 +22,7 @@ use Rattle.edge_range.specs.declared.Usable.{Usable}
 use Rattle.edge_range.specs.declared.Usable.the-variants.{Range, Unusable}
 use Rattle.draw_spec.specs.declared.Way.the-variants.{Complement, ShortArc}
 use Rattle.draw_spec.specs.Edge.{edgeCurve, edgeStart, edgeEnd, discretised}
-use Rattle.draw_spec.specs.Repair.{Got, by, withRange, reference, escapes, reaches, nearest, ordered, runaway, arcOrChord, byShortArc, byComplement, byPeriod, repaired}
+use Rattle.draw_spec.specs.Repair.{Got, by, withRange, reference, escapes, reaches, nearest, orderedInterval, runaway, arcOrChord, byShortArc, byComplement, byPeriod, repaired}
 use Rattle.edge_place.specs.Place.{ofPoints}
 use Rattle.edge_repair.specs.Redrawn.{stays, isShortArc, shortRange, shortArc, complementBy, complementArc, drawnComplement}
 
@@ -30,7 +30,7 @@ use Rattle.edge_repair.specs.Redrawn.{stays, isShortArc, shortRange, sho
 module _ (T : Tables) (e : Edge) where
   module _ {start end : Vec3} {a b : Float} (s : start ≡ edgeStart T e) (t : end ≡ edgeEnd T e)
       (p : a ≡ nearest (edgeCurve T e) start) (q : b ≡ nearest (edgeCurve T e) end) where
-    from-nearest : ordered a b ≡ shortRange T e
+    from-nearest : orderedInterval a b ≡ shortRange T e
     unfolding shortRange
     from-nearest = rw (p, q, s, t)
 

@@ -25,7 +25,7 @@ use Rattle.draw_spec.specs.declared.Drawn.{Drawn}
 use Rattle.draw_spec.specs.declared.Drawn.the-variants.{Refused}
 use Rattle.draw_spec.specs.declared.Way.the-variants.{Complement}
 use Rattle.draw_spec.specs.Edge.{edgeStart, edgeEnd, edgeCurve, discretised}
-use Rattle.draw_spec.specs.Repair.{Got, by, withRange, reference, escapes, reaches, nearest, ordered, byShortArc}
+use Rattle.draw_spec.specs.Repair.{Got, by, withRange, reference, escapes, reaches, nearest, orderedInterval, byShortArc}
 use Rattle.draw_spec.specs.Draw.{roomOf, answerOf, inFirst, firstAfter, secondAfter}
 
 -- what the first buffer holds of an answer, and the second
@@ -38,14 +38,14 @@ heldSecond (refused n) = []
 heldSecond (got g) = cond (inFirst (g .way)) [] (flat (g .chain))
 
 -- an answer that depends on the room, with +0.0 behind what the buffers hold of it; no refusal is below 8
-pub record Redrawn (D : ℕ → Result Got) (first second : List Float) (answer : Drawn) (first' second' : List Float) : Type 0 where
+pub record RedrawnInto (D : ℕ → Result Got) (first second : List Float) (answer : Drawn) (first' second' : List Float) : Type 0 where
   pub answered : answer ≡ answerOf (D (roomOf (length first) (length second)))
   pub firstHolds : first' ≡ filled (length first) (heldFirst (D (roomOf (length first) (length second))))
   pub secondHolds : second' ≡ filled (length second) (heldSecond (D (roomOf (length first) (length second))))
   pub late : (n : ℕ) → answer ≡ Refused n → 7 < n
 
 -- the same of an answer that is known, where a refusal from 1 to 7 would leave the buffers as before
-pub record Left (D : Result Got) (first second : List Float) (answer : Drawn) (first' second' : List Float) : Type 0 where
+pub record DrawnInto (D : Result Got) (first second : List Float) (answer : Drawn) (first' second' : List Float) : Type 0 where
   pub answered : answer ≡ answerOf D
   pub firstHolds : first' ≡ firstAfter first D
   pub secondHolds : second' ≡ secondAfter second D
@@ -69,7 +69,7 @@ isShortArc T e r arc =
 
 -- from the parameter nearest to one vertex to that nearest to the other
 unfoldable pub shortRange : Tables → Edge → Interval
-shortRange T e = ordered (nearest (edgeCurve T e) (edgeStart T e)) (nearest (edgeCurve T e) (edgeEnd T e))
+shortRange T e = orderedInterval (nearest (edgeCurve T e) (edgeStart T e)) (nearest (edgeCurve T e) (edgeEnd T e))
 
 -- the range of the short arc, and that of the complementary one, where there is one
 unfoldable pub shortArc : Tables → Edge → Usable

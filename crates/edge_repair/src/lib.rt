@@ -21,7 +21,7 @@ ghost use Rattle.edge_record.specs.Chain.{width, flat, samples};
 ghost use Rattle.draw_spec.specs.Repair.{by, withRange, reference, runaway, arcOrChord, byShortArc, repaired};
 ghost use Rattle.draw_spec.specs.Draw.{roomOf, inFirst};
 ghost use Rattle.edge_place.specs.Place.{ofPoints};
-ghost use Rattle.edge_repair.specs.Redrawn.{InSecond, Redrawn, Left, stays, isShortArc, shortRange, shortArc, complementArc, drawnComplement};
+ghost use Rattle.edge_repair.specs.Redrawn.{InSecond, RedrawnInto, DrawnInto, stays, isShortArc, shortRange, shortArc, complementArc, drawnComplement};
 
 // The edge with another range.
 fn with_range(edge: Edge, range: Interval) -> Edge
@@ -143,7 +143,7 @@ fn by_short_arc(
     second: &mut [f64],
 ) -> Drawn
     requires { ⌜ (8 ≤ length (now first)) × (8 ≤ length (now second)) × (length (curveKnots (tree (lent points curves reals parts ranges) (edge .curve))) ≤ 8192) ⌝ }
-    ensures { λ w. ⌜ Redrawn (λ room. byShortArc room (lent (points .entry) (curves .entry) (reals .entry) (parts .entry) (ranges .entry)) edge r) (now (first .entry)) (now (second .entry)) w (now (first .exit)) (now (second .exit)) ⌝ }
+    ensures { λ w. ⌜ RedrawnInto (λ room. byShortArc room (lent (points .entry) (curves .entry) (reals .entry) (parts .entry) (ranges .entry)) edge r) (now (first .entry)) (now (second .entry)) w (now (first .exit)) (now (second .exit)) ⌝ }
 {
     let arc = short_arc(points, curves, reals, parts, ranges, edge);
     let Usable::Range(short) = arc else {
@@ -182,7 +182,7 @@ fn draw_complement(
     second: &mut [f64],
 ) -> Drawn
     requires { ⌜ (8 ≤ length (now first)) × (8 ≤ length (now second)) × (length (curveKnots (tree (lent points curves reals parts ranges) (edge .curve))) ≤ 8192) ⌝ }
-    ensures { λ w. ⌜ Redrawn (drawnComplement (lent (points .entry) (curves .entry) (reals .entry) (parts .entry) (ranges .entry)) edge r complement) (now (first .entry)) (now (second .entry)) w (now (first .exit)) (now (second .exit)) ⌝ }
+    ensures { λ w. ⌜ RedrawnInto (drawnComplement (lent (points .entry) (curves .entry) (reals .entry) (parts .entry) (ranges .entry)) edge r complement) (now (first .entry)) (now (second .entry)) w (now (first .exit)) (now (second .exit)) ⌝ }
 {
     let d = with_range(edge, complement);
     let drawn = edge_discretise::discretise(
@@ -265,7 +265,7 @@ pub fn repair_runaway(
 ) -> Drawn
     requires { ⌜ (8 ≤ length (now first)) × (8 ≤ length (now second)) × (length (curveKnots (tree (lent points curves reals parts ranges) (edge .curve))) ≤ 8192)
         × (width * n ≤ length (now first)) × (now first ≡ filled (length (now first)) (flat (samples n (now first)))) × (now second ≡ filled (length (now second)) []) × (inFirst way ≡ true) ⌝ }
-    ensures { λ w. ⌜ Left (repaired (roomOf (length (now (first .entry))) (length (now (second .entry)))) (lent (points .entry) (curves .entry) (reals .entry) (parts .entry) (ranges .entry)) edge r (by way (samples n (now (first .entry))))) (now (first .entry)) (now (second .entry)) w (now (first .exit)) (now (second .exit)) ⌝ }
+    ensures { λ w. ⌜ DrawnInto (repaired (roomOf (length (now (first .entry))) (length (now (second .entry)))) (lent (points .entry) (curves .entry) (reals .entry) (parts .entry) (ranges .entry)) edge r (by way (samples n (now (first .entry))))) (now (first .entry)) (now (second .entry)) w (now (first .exit)) (now (second .exit)) ⌝ }
 {
     if stays(points, edge, r, first, n) {
         return Drawn::Chain(way, n);

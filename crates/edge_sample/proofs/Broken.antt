@@ -11,8 +11,8 @@ use Rattle.base_lists.specs.Room.{filled}
 use Rattle.base_lists.proofs.Filled.{filled-front, filled-most}
 use Rattle.brep.specs.Tree.{CurveTree}
 use Rattle.knots_sort.specs.Sort.{sorted}
-use Rattle.knots_inside.specs.Breaks.{retained, deduped, between, insideOf}
-use Rattle.knots_inside.specs.Thinned.{thinned, thinBreaks}
+use Rattle.knots_inside.specs.Breaks.{retainedKnots, deduped, insideUpward, insideOf}
+use Rattle.knots_inside.specs.Thinned.{thinnedFrom, thinBreaks}
 use Rattle.knots.specs.declared.Knots.{Knots}
 use Rattle.knots.specs.declared.Knots.the-variants.{Count, TooMany}
 use Rattle.knots.specs.Knots.{curveKnots, curveBreaks}
@@ -24,20 +24,20 @@ either : (t : Bool) → _≡_ {A = List Float} [] (cond t [] [])
 either true = refl
 either false = refl
 
-between-none : (lo hi : Float) → [] ≡ between [] lo hi
-unfolding between retained sorted deduped
+between-none : (lo hi : Float) → [] ≡ insideUpward [] lo hi
+unfolding insideUpward retainedKnots sorted deduped
 between-none lo hi = either (lt nought (hi ⊖ lo))
 
 inside-none : (lo hi : Float) → [] ≡ insideOf [] lo hi
 unfolding insideOf
 inside-none lo hi = go (le lo hi)
   where
-    go : (t : Bool) → [] ≡ cond t (between [] lo hi) (between [] hi lo)
+    go : (t : Bool) → [] ≡ cond t (insideUpward [] lo hi) (insideUpward [] hi lo)
     go true = between-none lo hi
     go false = between-none hi lo
 
 thin-none : (lo hi sag : Float) (deviation : Float → Float → Float) → [] ≡ thinBreaks [] lo hi sag deviation
-unfolding thinBreaks thinned
+unfolding thinBreaks thinnedFrom
 thin-none lo hi sag deviation = go (lt nought sag)
   where
     go : (t : Bool) → _≡_ {A = List Float} [] (elim t [ true ↦ [] | false ↦ [] ])

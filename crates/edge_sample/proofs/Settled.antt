@@ -11,40 +11,40 @@ use borrow.Author.Tests.{lt-ltb, le-ltb}
 use Rattle.base_lists.specs.Result.{Result, refused, got, each, bind}
 use Rattle.base_lists.specs.Room.{filled}
 use Rattle.math.specs.declared.Interval.{Interval}
-use Rattle.edge_params.specs.Params.{Sampler, evenly, fitting, walked, through, bisected, ordered, floored, refined}
+use Rattle.edge_params.specs.Params.{Sampler, evenly, fitting, walked, through, bisected, breaksAlong, floored, refined}
 use Rattle.edge_params.specs.declared.Listed.{Listed}
 use Rattle.edge_params.specs.declared.Listed.the-variants.{Count, Refused}
-use Rattle.edge_params.specs.Held.{said, Held}
+use Rattle.edge_params.specs.Held.{said, ListWritten}
 use Rattle.edge_params.proofs.Held.{fitting-fits, Counted, counted, held-counted, held-length, held-list}
 use Rattle.edge_sample.specs.Sample.{listOf}
-use Rattle.edge_sample.specs.Answered.{Answered, countOf}
+use Rattle.edge_sample.specs.Answered.{SampledInto, keptFloats}
 
 refused-list : (s : Result (List Float)) → refused 8 ≡ each length s → listOf s ≡ []
 refused-list (refused n) e = refl
 refused-list (got k) e = let z : _≡_ {A = ℕ} 0 1 = cc in absurd (omega arith)
 
 -- v is the answer of the code that wrote the list l, and w what settle is handed
-module _ {out l after : List Float} (v w : Listed) (e : v ≡ w) (h : Held out l v after) where
-  now-held : Held out l w after
-  now-held = subst (λ (q : Listed). Held out l q after) e h
+module _ {out l after : List Float} (v w : Listed) (e : v ≡ w) (h : ListWritten out l v after) where
+  now-held : ListWritten out l w after
+  now-held = subst (λ (q : Listed). ListWritten out l q after) e h
 
-  pub settle-room : countOf w ≤ length after
+  pub settle-room : keptFloats w ≤ length after
   settle-room = go w now-held
     where
-      go : (w : Listed) → Held out l w after → countOf w ≤ length after
+      go : (w : Listed) → ListWritten out l w after → keptFloats w ≤ length after
       go (Count n) h = omega (arith, held-counted h .same, held-counted h .fits, held-length h)
       go Refused h = omega arith
 
   -- in a buffer of room floats, where s is what the list stands for
   module _ (room : ℕ) (s : Result (List Float)) (long : length out ≡ room) (is : fitting room l ≡ s) where
-    pub settled : (w' : Listed) (last : List Float) → w' ≡ w → last ≡ filled (length after) (take (countOf w) after) → Answered room s w' last
+    pub settled : (w' : Listed) (last : List Float) → w' ≡ w → last ≡ filled (length after) (take (keptFloats w) after) → SampledInto room s w' last
     settled w' last same b =
         (ap said (same ∙ sym e) ∙ h .answer ∙ ap (each length) to, b ∙ go w now-held ∙ ap (λ (x : Result (List Float)). filled room (listOf x)) is)
       where
         to : fitting (length out) l ≡ s
         to = ap (λ (n : ℕ). fitting n l) long ∙ is
 
-        go : (w : Listed) → Held out l w after → filled (length after) (take (countOf w) after) ≡ filled room (listOf (fitting room l))
+        go : (w : Listed) → ListWritten out l w after → filled (length after) (take (keptFloats w) after) ≡ filled room (listOf (fitting room l))
         go (Count n) h =
             ap (filled (length after)) (held-list h) ∙ ap (λ (m : ℕ). filled m l) (held-length h ∙ long)
             ∙ ap (λ (x : Result (List Float)). filled room (listOf x)) (sym (fitting-fits room l (omega (arith, held-counted h .fits))))
@@ -58,10 +58,10 @@ unfolding through
 through-long s range bs = omega (arith, length-append (walked s range (range .lo) (bs ++ (range .hi ∷ []))) (range .hi ∷ []))
 
 pub bisected-long : (s : Sampler) (range : Interval) → 2 ≤ length (bisected s range)
-bisected-long s range = through-long s range (ordered s range)
+bisected-long s range = through-long s range (breaksAlong s range)
 
 -- mid is the buffer after bisection, which answered w
-module _ (s : Sampler) (range : Interval) (w : Listed) {out mid : List Float} (h : Held out (bisected s range) w mid) where
+module _ (s : Sampler) (range : Interval) (w : Listed) {out mid : List Float} (h : ListWritten out (bisected s range) w mid) where
   pub refined-refused : w ≡ Refused → fitting (length out) (bisected s range) ≡ refined (length out) s range
   unfolding refined
   refined-refused z = go (fitting (length out) (bisected s range)) (ap said (sym z) ∙ h .answer)

@@ -11,10 +11,10 @@ use lib.Ieee.{Float, nan, ne}
 use Rattle.math.specs.declared.Interval.{Interval}
 use Rattle.brep.specs.Tree.{CurveTree}
 use Rattle.options.specs.declared.Resolved.{Resolved}
-use Rattle.edge_params.specs.Params.{subdivided, ordered, unlessHi, walked, through, bisected}
+use Rattle.edge_params.specs.Params.{subdivided, breaksAlong, unlessHi, walked, through, bisected}
 use Rattle.edge_params.specs.declared.Listed.{Listed}
 use Rattle.edge_params.specs.declared.Listed.the-variants.{Count, Refused}
-use Rattle.edge_params.specs.Held.{Held, Behind}
+use Rattle.edge_params.specs.Held.{ListWritten, ListAppended}
 use Rattle.edge_params.proofs.Held.{held-length, behind-none, behind-room, behind-refused, behind-then}
 use Rattle.knots_thin.specs.Thin.{keptBreaks}
 use Rattle.edge_subdivide.specs.declared.End.{End}
@@ -65,26 +65,26 @@ module _ (c : CurveTree) (range : Interval) (r : Resolved) where
     pub own : left ≡ endAt c (left .t)
     pub same-length : length out ≡ length out₁
     pub front : List Float
-    pub held : Behind out₁ k₁ front (Count k) out
+    pub held : ListAppended out₁ k₁ front (Count k) out
     pub all : front ++ onwards (left .t) (drop i (stops range breaks)) ≡ onwards (range .lo) (stops range breaks)
 
   module _ (breaks : List Float) where
     -- range.lo, and what is written behind it
     module _ (B : breaks ≡ keptBreaks c (range .lo) (range .hi) (r .sag)) (out₀ : List Float) {w₁ : Listed} (out₁ : List Float)
-        (h : Behind out₀ 0 (range .lo ∷ []) w₁ out₁) where
+        (h : ListAppended out₀ 0 (range .lo ∷ []) w₁ out₁) where
       whole : range .lo ∷ onwards (range .lo) (stops range breaks) ≡ bisected (sampler c range r) range
-      unfolding onwards through ordered stops sampler
+      unfolding onwards through breaksAlong stops sampler
       whole = ap (λ (bs : List Float). range .lo ∷ onwards (range .lo) (stops range bs)) B
 
-      pub low-refused : w₁ ≡ Refused → Held out₀ (bisected (sampler c range r) range) Refused out₁
+      pub low-refused : w₁ ≡ Refused → ListWritten out₀ (bisected (sampler c range r) range) Refused out₁
       low-refused e =
-          subst (λ (l : List Float). Held out₀ l Refused out₁) whole
+          subst (λ (l : List Float). ListWritten out₀ l Refused out₁) whole
           (behind-refused out₀ 0 (range .lo ∷ []) out₁ h e (onwards (range .lo) (stops range breaks)))
 
-      pub low-then : (k₁ : ℕ) → w₁ ≡ Count k₁ → {w : Listed} {out : List Float} → Behind out₁ k₁ (onwards (range .lo) (stops range breaks)) w out
-          → Held out₀ (bisected (sampler c range r) range) w out
+      pub low-then : (k₁ : ℕ) → w₁ ≡ Count k₁ → {w : Listed} {out : List Float} → ListAppended out₁ k₁ (onwards (range .lo) (stops range breaks)) w out
+          → ListWritten out₀ (bisected (sampler c range r) range) w out
       low-then k₁ e {w} {out} g =
-          subst (λ (l : List Float). Held out₀ l w out) whole
+          subst (λ (l : List Float). ListWritten out₀ l w out) whole
           (behind-then out₀ 0 (range .lo ∷ []) out₁ h k₁ e (onwards (range .lo) (stops range breaks)) g)
 
     pub walking-start : (out₁ : List Float) (k₁ : ℕ) → k₁ ≤ length out₁ → (left : End) → left ≡ endAt c (range .lo)
@@ -103,7 +103,7 @@ module _ (c : CurveTree) (range : Interval) (r : Resolved) where
 
       -- one stop more
       module _ (h : i ≤ length breaks) (b : Float) (is : b ≡ getD (stops range breaks) i nan) (right : End) (own : right ≡ endAt c b)
-          {w : Listed} (out' : List Float) (g : Behind out k (span (left .t) (right .t)) w out') where
+          {w : Listed} (out' : List Float) (g : ListAppended out k (span (left .t) (right .t)) w out') where
         rest : List Float
         rest = onwards (right .t) (drop (i + 1) (stops range breaks))
 
@@ -121,12 +121,12 @@ module _ (c : CurveTree) (range : Interval) (r : Resolved) where
             (onwards-more (left .t) (right .t) (drop (i + 1) (stops range breaks)) ∙ ap (onwards (left .t)) here)
             ∙ s .all
 
-        joined : Behind out₁ k₁ (s .front ++ span (left .t) (right .t)) w out'
+        joined : ListAppended out₁ k₁ (s .front ++ span (left .t) (right .t)) w out'
         joined = behind-then out₁ k₁ (s .front) out (s .held) k refl (span (left .t) (right .t)) g
 
-        pub walking-refused : w ≡ Refused → Behind out₁ k₁ (onwards (range .lo) (stops range breaks)) Refused out'
+        pub walking-refused : w ≡ Refused → ListAppended out₁ k₁ (onwards (range .lo) (stops range breaks)) Refused out'
         walking-refused e =
-            subst (λ (l : List Float). Behind out₁ k₁ l Refused out') more
+            subst (λ (l : List Float). ListAppended out₁ k₁ l Refused out') more
             (behind-refused out₁ k₁ (s .front ++ span (left .t) (right .t)) out' joined e rest)
 
         pub walking-next : (n : ℕ) → w ≡ Count n → Walking breaks out₁ k₁ out' right n (i + 1)
@@ -135,15 +135,15 @@ module _ (c : CurveTree) (range : Interval) (r : Resolved) where
           own = end-own c b right own;
           same-length = held-length joined;
           front = s .front ++ span (left .t) (right .t);
-          held = subst (λ (q : Listed). Behind out₁ k₁ (s .front ++ span (left .t) (right .t)) q out') e joined;
+          held = subst (λ (q : Listed). ListAppended out₁ k₁ (s .front ++ span (left .t) (right .t)) q out') e joined;
           all = more;
         }
 
       -- range.hi
-      pub walking-done : length breaks < i → {w : Listed} (out' : List Float) → Behind out k (range .hi ∷ []) w out'
-          → Behind out₁ k₁ (onwards (range .lo) (stops range breaks)) w out'
+      pub walking-done : length breaks < i → {w : Listed} (out' : List Float) → ListAppended out k (range .hi ∷ []) w out'
+          → ListAppended out₁ k₁ (onwards (range .lo) (stops range breaks)) w out'
       walking-done h {w} out' g =
-          subst (λ (l : List Float). Behind out₁ k₁ l w out') last
+          subst (λ (l : List Float). ListAppended out₁ k₁ l w out') last
           (behind-then out₁ k₁ (s .front) out (s .held) k refl (range .hi ∷ []) g)
         where
           last : s .front ++ (range .hi ∷ []) ≡ onwards (range .lo) (stops range breaks)

@@ -16,22 +16,22 @@ use Rattle.edge_params.specs.declared.Closed.the-variants.{Unknown, Segments}
 use Rattle.edge_params.specs.Params.{evenly, fitting, refined, sampleParams}
 use Rattle.edge_params.specs.declared.Listed.{Listed}
 use Rattle.edge_params.specs.declared.Listed.the-variants.{Count, Refused}
-use Rattle.edge_params.specs.Held.{said, Held}
+use Rattle.edge_params.specs.Held.{said, ListWritten}
 use Rattle.edge_params.proofs.Held.{fitting-fits, held-counted, held-list}
 use Rattle.edge_range.specs.Usable.{analyticSegments}
 use Rattle.edge_sample.specs.Sample.{worstMiss, sampler, sampled, listOf}
-use Rattle.edge_sample.specs.Tried.{isWithin, stepsOf, tried, isKept}
-use Rattle.edge_sample.specs.Answered.{Answered}
+use Rattle.edge_sample.specs.Tried.{isFormWithin, stepsOf, tried, isKept}
+use Rattle.edge_sample.specs.Answered.{SampledInto}
 
 -- an answer of refine, whose buffer came from another call
 pub answered-as : (w : Listed) (last : List Float) (n room : ℕ) → n ≡ room → (f : ℕ → Result (List Float)) (s : Result (List Float)) → f room ≡ s
-    → Answered n (f n) w last → Answered room s w last
+    → SampledInto n (f n) w last → SampledInto room s w last
 answered-as w last n room e f s is a =
-    subst (λ (x : Result (List Float)). Answered room x w last) is (subst (λ (m : ℕ). Answered m (f m) w last) e a)
+    subst (λ (x : Result (List Float)). SampledInto room x w last) is (subst (λ (m : ℕ). SampledInto m (f m) w last) e a)
 
 -- an answer handed on
-pub told-as : (v w : Listed) → w ≡ v → (room : ℕ) (s : Result (List Float)) (last : List Float) → Answered room s v last → Answered room s w last
-told-as v w e room s last a = subst (λ (x : Listed). Answered room s x last) (sym e) a
+pub told-as : (v w : Listed) → w ≡ v → (room : ℕ) (s : Result (List Float)) (last : List Float) → SampledInto room s v last → SampledInto room s w last
+told-as v w e room s last a = subst (λ (x : Listed). SampledInto room s x last) (sym e) a
 
 module _ (room : ℕ) (c : CurveTree) (range : Interval) (r : Resolved) where
   -- a closed form's list, by whether it meets the sag
@@ -50,8 +50,8 @@ module _ (room : ℕ) (c : CurveTree) (range : Interval) (r : Resolved) where
 
   -- no parameters were checked
   steps-none : stepsOf room range (analyticSegments c range r) ≡ refused 8 → (tried room c range r ≡ []) × (false ≡ isKept room c range r)
-  unfolding isWithin
-  steps-none e = (ap listOf e, sym (ap (isWithin c r) e))
+  unfolding isFormWithin
+  steps-none e = (ap listOf e, sym (ap (isFormWithin c r) e))
 
   pub no-form-tried : (x : Closed) → x ≡ analyticSegments c range r → x ≡ Unknown → (tried room c range r ≡ []) × (false ≡ isKept room c range r)
   unfolding stepsOf
@@ -66,7 +66,7 @@ module _ (room : ℕ) (c : CurveTree) (range : Interval) (r : Resolved) where
     unfolding by-form
     form = form-of (Segments n) (sym e ∙ is)
 
-    module _ {out mid : List Float} (long : length out ≡ room) (v : Listed) (h : Held out (evenly range n) v mid) where
+    module _ {out mid : List Float} (long : length out ≡ room) (v : Listed) (h : ListWritten out (evenly range n) v mid) where
       answer : said v ≡ each length (fitting room (evenly range n))
       answer = h .answer ∙ ap (λ (m : ℕ). each length (fitting m (evenly range n))) long
 
@@ -83,16 +83,16 @@ module _ (room : ℕ) (c : CurveTree) (range : Interval) (r : Resolved) where
       steps = ap (stepsOf room range) (sym is ∙ e)
 
       pub refused-tried : v ≡ Refused → (tried room c range r ≡ []) × (false ≡ isKept room c range r)
-      unfolding isWithin
+      unfolding isFormWithin
       refused-tried z = go (fitting room (evenly range n)) steps (ap said (sym z) ∙ answer)
         where
           go : (y : Result (List Float)) → stepsOf room range (analyticSegments c range r) ≡ y → refused 8 ≡ each length y → (tried room c range r ≡ []) × (false ≡ isKept room c range r)
-          go (refused k) q p = (ap listOf q, sym (ap (isWithin c r) q))
+          go (refused k) q p = (ap listOf q, sym (ap (isFormWithin c r) q))
           go (got l) q p = let o : _≡_ {A = ℕ} 0 1 = cc in absurd (omega arith)
 
       module _ (m : ℕ) (z : v ≡ Count m) where
-        held : Held out (evenly range n) (Count m) mid
-        held = subst (λ (q : Listed). Held out (evenly range n) q mid) z h
+        held : ListWritten out (evenly range n) (Count m) mid
+        held = subst (λ (q : Listed). ListWritten out (evenly range n) q mid) z h
 
         fits : fitting room (evenly range n) ≡ got (evenly range n)
         fits = fitting-fits room (evenly range n) (omega (arith, held-counted held .fits))
@@ -117,18 +117,18 @@ module _ (room : ℕ) (c : CurveTree) (range : Interval) (r : Resolved) where
         form-tried = held-list held ∙ sym (ap listOf (steps ∙ fits))
 
         pub form-within : (t : Bool) → t ≡ le (worstMiss c nought (take m mid)) (r .sag) → t ≡ isKept room c range r
-        unfolding isWithin
-        form-within t of = of ∙ ap (λ (l : List Float). le (worstMiss c nought l) (r .sag)) (held-list held) ∙ sym (ap (isWithin c r) (steps ∙ fits))
+        unfolding isFormWithin
+        form-within t of = of ∙ ap (λ (l : List Float). le (worstMiss c nought l) (r .sag)) (held-list held) ∙ sym (ap (isFormWithin c r) (steps ∙ fits))
 
 -- what was checked and found within the sag is the answer
 module _ (room : ℕ) (c : CurveTree) (range : Interval) (r : Resolved) where
-  within-got : (y : Result (List Float)) → isWithin c r y ≡ true → bind y (λ l. checked room c range r l (le (worstMiss c nought l) (r .sag))) ≡ got (listOf y)
-  unfolding isWithin checked
+  within-got : (y : Result (List Float)) → isFormWithin c r y ≡ true → bind y (λ l. checked room c range r l (le (worstMiss c nought l) (r .sag))) ≡ got (listOf y)
+  unfolding isFormWithin checked
   within-got (refused k) e = absurd (let o : _≡_ {A = ℕ} 0 1 = cc in omega arith)
   within-got (got l) e = ap (checked room c range r l) e
 
-  by-steps : (x : Closed) → isWithin c r (stepsOf room range x) ≡ true → by-form room c range r x ≡ got (listOf (stepsOf room range x))
-  unfolding by-form stepsOf isWithin
+  by-steps : (x : Closed) → isFormWithin c r (stepsOf room range x) ≡ true → by-form room c range r x ≡ got (listOf (stepsOf room range x))
+  unfolding by-form stepsOf isFormWithin
   by-steps Unknown e = absurd (let o : _≡_ {A = ℕ} 0 1 = cc in omega arith)
   by-steps (Segments n) e = within-got (fitting room (evenly range n)) e
 

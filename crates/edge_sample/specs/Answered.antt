@@ -14,13 +14,13 @@ use Rattle.edge_params.specs.Held.{said}
 use Rattle.edge_sample.specs.Sample.{listOf}
 
 -- the length of the list, or the refusal; in a buffer of so many floats the list, and +0.0 behind it
-abbrev pub Answered : ℕ → Result (List Float) → Listed → List Float → Type 0
-Answered room s w after = (said w ≡ each length s) × (after ≡ filled room (listOf s))
+abbrev pub SampledInto : ℕ → Result (List Float) → Listed → List Float → Type 0
+SampledInto room s w after = (said w ≡ each length s) × (after ≡ filled room (listOf s))
 
 -- how many floats of the buffer an answer keeps
-abbrev pub countOf : Listed → ℕ
-countOf (Count n) = n
-countOf Refused = 0
+abbrev pub keptFloats : Listed → ℕ
+keptFloats (Count n) = n
+keptFloats Refused = 0
 
 -- where the walk stops: the breaks, the range's own way round, and range.hi
 unfoldable pub stops : Interval → List Float → List Float

@@ -15,9 +15,9 @@ use Rattle.edge_range.specs.Usable.{analyticSegments}
 use Rattle.edge_sample.specs.Sample.{worstMiss, listOf}
 
 -- of a list that fits: whether it stays within the sag
-unfoldable pub isWithin : CurveTree → Resolved → Result (List Float) → Bool
-isWithin c r (refused n) = false
-isWithin c r (got l) = le (worstMiss c nought l) (r .sag)
+unfoldable pub isFormWithin : CurveTree → Resolved → Result (List Float) → Bool
+isFormWithin c r (refused n) = false
+isFormWithin c r (got l) = le (worstMiss c nought l) (r .sag)
 
 -- the even steps of a form, or refusal 8 where they pass the room; of no form too, since then there are none to check
 unfoldable pub stepsOf : ℕ → Interval → Closed → Result (List Float)
@@ -30,4 +30,4 @@ tried room c range r = listOf (stepsOf room range (analyticSegments c range r))
 
 -- whether those are the answer
 abbrev pub isKept : ℕ → CurveTree → Interval → Resolved → Bool
-isKept room c range r = isWithin c r (stepsOf room range (analyticSegments c range r))
+isKept room c range r = isFormWithin c r (stepsOf room range (analyticSegments c range r))

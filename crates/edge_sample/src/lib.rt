@@ -19,7 +19,7 @@ ghost use Rattle.brep.specs.Rows.{lent};
 ghost use Rattle.brep.specs.Tree.{tree};
 ghost use Rattle.curve_prepared.specs.Ready.{readyOf};
 ghost use Rattle.edge_params.specs.Params.{subdivided, unlessHi, bisected, refined};
-ghost use Rattle.edge_params.specs.Held.{Held, Behind};
+ghost use Rattle.edge_params.specs.Held.{ListWritten, ListAppended};
 ghost use Rattle.knots.specs.Knots.{curveKnots};
 ghost use Rattle.knots_thin.specs.Thin.{keptBreaks};
 ghost use Rattle.edge_subdivide.specs.Bisect.{endAt, withinBudget, limitsOf};
@@ -27,7 +27,7 @@ ghost use Rattle.edge_record.specs.Chain.{width, flat};
 ghost use Rattle.edge_closed_form.specs.Located.{located};
 ghost use Rattle.edge_sample.specs.Sample.{sampler, sampled};
 ghost use Rattle.edge_sample.specs.Tried.{tried, isKept};
-ghost use Rattle.edge_sample.specs.Answered.{Answered, countOf, stops};
+ghost use Rattle.edge_sample.specs.Answered.{SampledInto, keptFloats, stops};
 
 // Stop number i of the walk. The breaks are read backwards where the range runs down.
 fn stop_at(range: Interval, breaks: &[f64], i: usize) -> f64
@@ -64,7 +64,7 @@ fn step(
 ) -> Listed
     requires { ⌜ (ready ≡ readyOf (tree (lent points curves reals parts ranges) row)) × (limits ≡ limitsOf r)
         × (left ≡ endAt (tree (lent points curves reals parts ranges) row) (left .t)) × (right ≡ endAt (tree (lent points curves reals parts ranges) row) (right .t)) × (k ≤ length (now out)) ⌝ }
-    ensures { λ w. ⌜ Behind (now (out .entry)) k (subdivided (withinBudget (tree (lent (points .entry) (curves .entry) (reals .entry) (parts .entry) (ranges .entry)) row) r) (r .depth) (left .t) (right .t) ++ unlessHi range (right .t)) w (now (out .exit)) ⌝ }
+    ensures { λ w. ⌜ ListAppended (now (out .entry)) k (subdivided (withinBudget (tree (lent (points .entry) (curves .entry) (reals .entry) (parts .entry) (ranges .entry)) row) r) (r .depth) (left .t) (right .t) ++ unlessHi range (right .t)) w (now (out .exit)) ⌝ }
 {
     let inside = edge_subdivide::subdivide(
         points,
@@ -105,7 +105,7 @@ fn walk(
     out: &mut [f64],
 ) -> Listed
     requires { ⌜ now breaks ≡ keptBreaks (tree (lent points curves reals parts ranges) row) (range .lo) (range .hi) (r .sag) ⌝ }
-    ensures { λ w. ⌜ Held (now (out .entry)) (bisected (sampler (tree (lent (points .entry) (curves .entry) (reals .entry) (parts .entry) (ranges .entry)) row) range r) range) w (now (out .exit)) ⌝ }
+    ensures { λ w. ⌜ ListWritten (now (out .entry)) (bisected (sampler (tree (lent (points .entry) (curves .entry) (reals .entry) (parts .entry) (ranges .entry)) row) range r) range) w (now (out .exit)) ⌝ }
 {
     let ready = curve_prepared::ready_at(points, curves, reals, parts, ranges, row);
     let limits = edge_subdivide::limits_of(r);
@@ -167,7 +167,7 @@ fn walk_breaks(
     out: &mut [f64],
 ) -> Listed
     requires { ⌜ length (curveKnots (tree (lent points curves reals parts ranges) row)) ≤ 8192 ⌝ }
-    ensures { λ w. ⌜ Held (now (out .entry)) (bisected (sampler (tree (lent (points .entry) (curves .entry) (reals .entry) (parts .entry) (ranges .entry)) row) range r) range) w (now (out .exit)) ⌝ }
+    ensures { λ w. ⌜ ListWritten (now (out .entry)) (bisected (sampler (tree (lent (points .entry) (curves .entry) (reals .entry) (parts .entry) (ranges .entry)) row) range r) range) w (now (out .exit)) ⌝ }
 {
     let mut breaks = [0.0; 8192];
     let kept = knots_thin::kept_breaks(
@@ -213,7 +213,7 @@ fn bisect_range(
     out: &mut [f64],
 ) -> Listed
     requires { ⌜ length (curveKnots (tree (lent points curves reals parts ranges) row)) ≤ 8192 ⌝ }
-    ensures { λ w. ⌜ Held (now (out .entry)) (bisected (sampler (tree (lent (points .entry) (curves .entry) (reals .entry) (parts .entry) (ranges .entry)) row) range r) range) w (now (out .exit)) ⌝ }
+    ensures { λ w. ⌜ ListWritten (now (out .entry)) (bisected (sampler (tree (lent (points .entry) (curves .entry) (reals .entry) (parts .entry) (ranges .entry)) row) range r) range) w (now (out .exit)) ⌝ }
 {
     if knots::knot_count(points, curves, reals, parts, ranges, row) == 0 {
         let none = [0.0; 1];
@@ -235,8 +235,8 @@ fn bisect_range(
 
 // +0.0 behind the list, or everywhere where it was refused.
 fn settle(listed: Listed, out: &mut [f64]) -> Listed
-    requires { ⌜ countOf listed ≤ length (now out) ⌝ }
-    ensures { λ w. ⌜ (w ≡ listed) × (now (out .exit) ≡ filled (length (now (out .entry))) (take (countOf listed) (now (out .entry)))) ⌝ }
+    requires { ⌜ keptFloats listed ≤ length (now out) ⌝ }
+    ensures { λ w. ⌜ (w ≡ listed) × (now (out .exit) ≡ filled (length (now (out .entry))) (take (keptFloats listed) (now (out .entry)))) ⌝ }
 {
     match listed {
         Listed::Count(n) => {
@@ -263,7 +263,7 @@ fn refine(
     out: &mut [f64],
 ) -> Listed
     requires { ⌜ length (curveKnots (tree (lent points curves reals parts ranges) row)) ≤ 8192 ⌝ }
-    ensures { λ w. ⌜ Answered (length (now (out .entry))) (refined (length (now (out .entry))) (sampler (tree (lent (points .entry) (curves .entry) (reals .entry) (parts .entry) (ranges .entry)) row) range r) range) w (now (out .exit)) ⌝ }
+    ensures { λ w. ⌜ SampledInto (length (now (out .entry))) (refined (length (now (out .entry))) (sampler (tree (lent (points .entry) (curves .entry) (reals .entry) (parts .entry) (ranges .entry)) row) range r) range) w (now (out .exit)) ⌝ }
 {
     let listed = bisect_range(points, curves, reals, parts, ranges, row, range, r, out);
     let Listed::Count(n) = listed else {
@@ -308,7 +308,7 @@ pub fn sample_params(
     chain: &mut [f64],
 ) -> Sampled
     requires { ⌜ (length (curveKnots (tree (lent points curves reals parts ranges) row)) ≤ 8192) × (width * length (now out) ≤ length (now chain)) ⌝ }
-    ensures { λ w. ⌜ Answered (length (now (out .entry))) (sampled (length (now (out .entry))) (tree (lent (points .entry) (curves .entry) (reals .entry) (parts .entry) (ranges .entry)) row) range r) (w .listed) (now (out .exit))
+    ensures { λ w. ⌜ SampledInto (length (now (out .entry))) (sampled (length (now (out .entry))) (tree (lent (points .entry) (curves .entry) (reals .entry) (parts .entry) (ranges .entry)) row) range r) (w .listed) (now (out .exit))
         × (w .known ≡ isKept (length (now (out .entry))) (tree (lent (points .entry) (curves .entry) (reals .entry) (parts .entry) (ranges .entry)) row) range r)
         × (now (chain .exit) ≡ sets (now (chain .entry)) 0 (flat (located (tree (lent (points .entry) (curves .entry) (reals .entry) (parts .entry) (ranges .entry)) row)
         (tried (length (now (out .entry))) (tree (lent (points .entry) (curves .entry) (reals .entry) (parts .entry) (ranges .entry)) row) range r)))) ⌝ }

@@ -28,7 +28,7 @@ use Rattle.edge_params.specs.Params.{midpoint, subdivided}
 use Rattle.edge_params.proofs.Lists.{subdivided-zero, subdivided-within, subdivided-split}
 use Rattle.edge_params.specs.declared.Listed.{Listed}
 use Rattle.edge_params.specs.declared.Listed.the-variants.{Count}
-use Rattle.edge_params.specs.Held.{Behind}
+use Rattle.edge_params.specs.Held.{ListAppended}
 use Rattle.edge_params.proofs.Held.{behind-none}
 use Rattle.edge_subdivide.specs.declared.End.{End}
 use Rattle.edge_subdivide.specs.declared.Split.{Split}
@@ -37,7 +37,7 @@ use Rattle.edge_subdivide.specs.declared.Limits.{Limits}
 use Rattle.arith_turn_limit.specs.Turning.{Serves, Exceeds}
 use Rattle.arith_turn_limit.proofs.Bound.{serves}
 use Rattle.arith_turn_limit.proofs.Above.{exceeds}
-use Rattle.edge_subdivide.specs.Bisect.{limitsOf, endAt, sagOf, turnOf, isWithin, withinBudget, splitOf}
+use Rattle.edge_subdivide.specs.Bisect.{limitsOf, endAt, sagOf, tangentTurn, isWithin, withinBudget, splitOf}
 
 -- ---- the curve's own tangents, where it was made ready
 module _ (c : CurveTree) (t : Float) {ready : Ready} (R : ready ≡ readyOf c) where
@@ -66,24 +66,24 @@ module _ (r : Resolved) (l : Limits) (e : l ≡ limitsOf r) where
 
 -- ---- the test, by the branches that the code takes
 module _ (a b : Direction) (limit : Float) where
-  pub turn-no-first : a ≡ Nothing → le nought limit ≡ le (turnOf a b) limit
-  unfolding turnOf
+  pub turn-no-first : a ≡ Nothing → le nought limit ≡ le (tangentTurn a b) limit
+  unfolding tangentTurn
   turn-no-first e = rw e
 
-  pub turn-no-second : (ta : Vec3) → a ≡ Unit ta → b ≡ Nothing → le nought limit ≡ le (turnOf a b) limit
-  unfolding turnOf
+  pub turn-no-second : (ta : Vec3) → a ≡ Unit ta → b ≡ Nothing → le nought limit ≡ le (tangentTurn a b) limit
+  unfolding tangentTurn
   turn-no-second ta e f = rw (e, f)
 
-  pub turn-both : (ta tb : Vec3) → a ≡ Unit ta → b ≡ Unit tb → le (acosOf (clampOf (vDot ta tb) (neg one) one)) limit ≡ le (turnOf a b) limit
-  unfolding turnOf
+  pub turn-both : (ta tb : Vec3) → a ≡ Unit ta → b ≡ Unit tb → le (acosOf (clampOf (vDot ta tb) (neg one) one)) limit ≡ le (tangentTurn a b) limit
+  unfolding tangentTurn
   turn-both ta tb e f = rw (e, f)
 
 module _ (r : Resolved) (a b : End) (pm : Vec3) where
-  pub near-enough : le (sagOf (a .point) (b .point) pm) (r .sag) ≡ true → le (turnOf (a .tangent) (b .tangent)) (r .angle) ≡ isWithin r a b pm
+  pub near-enough : le (sagOf (a .point) (b .point) pm) (r .sag) ≡ true → le (tangentTurn (a .tangent) (b .tangent)) (r .angle) ≡ isWithin r a b pm
   unfolding isWithin
   near-enough e = rw e
 
-  pub too-sharp : le (turnOf (a .tangent) (b .tangent)) (r .angle) ≡ false → false ≡ isWithin r a b pm
+  pub too-sharp : le (tangentTurn (a .tangent) (b .tangent)) (r .angle) ≡ false → false ≡ isWithin r a b pm
   unfolding isWithin
   too-sharp e = rw e (go (le (sagOf (a .point) (b .point) pm) (r .sag)))
     where
@@ -140,16 +140,16 @@ end-t c x m e = ap (λ (n : End). n .t) e
 -- ---- the ways out of subdivide
 module _ (c : CurveTree) (r : Resolved) (depth : ℕ) (a b : End) (A : a ≡ endAt c (a .t)) (B : b ≡ endAt c (b .t)) where
   pub none-deep : (out : List Float) (k : ℕ) → k ≤ length out → depth ≡ 0
-      → Behind out k (subdivided (withinBudget c r) depth (a .t) (b .t)) (Count k) out
+      → ListAppended out k (subdivided (withinBudget c r) depth (a .t) (b .t)) (Count k) out
   none-deep out k K e =
-      subst (λ (l : List Float). Behind out k l (Count k) out) (sym (subdivided-zero (withinBudget c r) depth (a .t) (b .t) e))
+      subst (λ (l : List Float). ListAppended out k l (Count k) out) (sym (subdivided-zero (withinBudget c r) depth (a .t) (b .t) e))
       (behind-none out k K)
 
   module _ (deep : depth ≡ 0 → ⊥) (s : Split) (S : s ≡ splitOf c r a b) where
     pub none-within : (out : List Float) (k : ℕ) → k ≤ length out → s ≡ Within
-        → Behind out k (subdivided (withinBudget c r) depth (a .t) (b .t)) (Count k) out
+        → ListAppended out k (subdivided (withinBudget c r) depth (a .t) (b .t)) (Count k) out
     none-within out k K e =
-        subst (λ (l : List Float). Behind out k l (Count k) out)
+        subst (λ (l : List Float). ListAppended out k l (Count k) out)
         (sym (subdivided-within (withinBudget c r) depth (a .t) (b .t) deep (was-within c r a b A B (sym e ∙ S))))
         (behind-none out k K)
 

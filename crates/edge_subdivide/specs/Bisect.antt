@@ -30,14 +30,14 @@ unfoldable pub sagOf : Vec3 → Vec3 → Vec3 → Float
 sagOf pa pb pm = let chord = vSub pb pa in bisectionDistance pa chord (vLength chord) pm
 
 -- the angle between two tangents; 0 where one is missing
-unfoldable pub turnOf : Direction → Direction → Float
-turnOf (Unit a) (Unit b) = acosOf (clampOf (vDot a b) (neg one) one)
-turnOf (Unit a) Nothing = nought
-turnOf Nothing b = nought
+unfoldable pub tangentTurn : Direction → Direction → Float
+tangentTurn (Unit a) (Unit b) = acosOf (clampOf (vDot a b) (neg one) one)
+tangentTurn (Unit a) Nothing = nought
+tangentTurn Nothing b = nought
 
 -- deviation <= options.sag && turn <= options.angle, of a span whose middle has the point pm
 unfoldable pub isWithin : Resolved → End → End → Vec3 → Bool
-isWithin r a b pm = le (sagOf (a .point) (b .point) pm) (r .sag) && le (turnOf (a .tangent) (b .tangent)) (r .angle)
+isWithin r a b pm = le (sagOf (a .point) (b .point) pm) (r .sag) && le (tangentTurn (a .tangent) (b .tangent)) (r .angle)
 
 -- the same of a curve between two parameters
 unfoldable pub withinBudget : CurveTree → Resolved → Float → Float → Bool

@@ -15,8 +15,8 @@ ghost use Rattle.brep.specs.Rows.{lent};
 ghost use Rattle.brep.specs.Tree.{tree};
 ghost use Rattle.curve_prepared.specs.Ready.{readyOf};
 ghost use Rattle.edge_params.specs.Params.{subdivided};
-ghost use Rattle.edge_params.specs.Held.{Behind};
-ghost use Rattle.edge_subdivide.specs.Bisect.{endAt, turnOf, isWithin, splitOf, withinBudget, limitsOf};
+ghost use Rattle.edge_params.specs.Held.{ListAppended};
+ghost use Rattle.edge_subdivide.specs.Bisect.{endAt, tangentTurn, isWithin, splitOf, withinBudget, limitsOf};
 
 // An end of a span: its parameter, and the curve's point and tangent there.
 pub struct End {
@@ -71,7 +71,7 @@ pub fn end_at(
 // Whether the angle between two tangents is at most the limit; it is 0 where one is missing.
 fn turns_within(a: Direction, b: Direction, limit: f64, cut: f64) -> bool
     requires { ⌜ Serves cut limit ⌝ }
-    ensures { λ w. ⌜ w ≡ le (turnOf a b) limit ⌝ }
+    ensures { λ w. ⌜ w ≡ le (tangentTurn a b) limit ⌝ }
 {
     let Direction::Unit(ta) = a else {
         return 0.0 <= limit;
@@ -85,7 +85,7 @@ fn turns_within(a: Direction, b: Direction, limit: f64, cut: f64) -> bool
 // Whether the angle between two tangents is surely above the limit. `false` says nothing.
 fn turns_over(a: Direction, b: Direction, limit: f64, cut: f64) -> bool
     requires { ⌜ Exceeds cut limit ⌝ }
-    ensures { λ w. ⌜ (w ≡ true → le (turnOf a b) limit ≡ false) ⌝ }
+    ensures { λ w. ⌜ (w ≡ true → le (tangentTurn a b) limit ≡ false) ⌝ }
 {
     let Direction::Unit(ta) = a else {
         return false;
@@ -164,7 +164,7 @@ pub fn subdivide(
     requires { ⌜ (ready ≡ readyOf (tree (lent points curves reals parts ranges) row)) × (l ≡ limitsOf r)
         × (a ≡ endAt (tree (lent points curves reals parts ranges) row) (a .t))
         × (b ≡ endAt (tree (lent points curves reals parts ranges) row) (b .t)) × (k ≤ length (now out)) ⌝ }
-    ensures { λ w. ⌜ Behind (now (out .entry)) k
+    ensures { λ w. ⌜ ListAppended (now (out .entry)) k
         (subdivided (withinBudget (tree (lent (points .entry) (curves .entry) (reals .entry) (parts .entry) (ranges .entry)) row) r) depth (a .t) (b .t))
         w (now (out .exit)) ⌝ }
 {

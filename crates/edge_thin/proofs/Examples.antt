@@ -10,9 +10,9 @@ use Rattle.math_chord.specs.Chord.{footOf, chordOffset, chordDistance, spanDist
 use Rattle.base_lists.specs.Result.{refused, got}
 use Rattle.edge_record.specs.declared.Sample.{Sample}
 use Rattle.edge_record.specs.Chain.{lastOf}
-use Rattle.edge_thin_span.specs.Span.{worstFrom, worstOf, directions, angleBetween, turnOf, decision}
+use Rattle.edge_thin_span.specs.Span.{worstFrom, worstOf, directions, angleBetween, spanTurn, decision}
 use Rattle.edge_thin_mark.specs.Spans.{keptIn, flagged}
-use Rattle.edge_thin.specs.Thin.{count, evens, restored, retained, thinned}
+use Rattle.edge_thin.specs.Thin.{flagCount, evens, restored, retainedBy, thinned}
 
 abbrev at : Float → Float → Float → Sample
 at x y t = record { point = vec x y nought; param = t }
@@ -42,5 +42,5 @@ far =
 -- the corner stays; the middle one of a row goes, unless the segment floor asks for it; the last is refused
 pub examples : thinned hundredth angle 2 corner ∷ thinned hundredth angle 2 row ∷ thinned hundredth angle 3 row ∷ thinned hundredth angle 2 far ∷ []
     ≡ got corner ∷ got (at nought nought nought ∷ at two nought two ∷ []) ∷ got row ∷ refused 9 ∷ []
-unfolding thinned retained restored count evens flagged keptIn decision turnOf worstOf worstFrom directions angleBetween spanDistance chordDistance chordOffset footOf tryNormalized vAdd vSub vScale vDot vLength lastOf acosOf acosBy angleOf arcOf summed halved rootOf add sub mul div neg lt le eq isNan ofBits ofInt
+unfolding thinned retainedBy restored flagCount evens flagged keptIn decision spanTurn worstOf worstFrom directions angleBetween spanDistance chordDistance chordOffset footOf tryNormalized vAdd vSub vScale vDot vLength lastOf acosOf acosBy angleOf arcOf summed halved rootOf add sub mul div neg lt le eq isNan ofBits ofInt
 examples = refl

@@ -13,13 +13,13 @@ use Rattle.base_lists.specs.Result.{Result, refused, got, each, both}
 use Rattle.base_lists.specs.Sub.{Sub, end, keep, skip}
 use Rattle.math.specs.declared.Vec3.{Vec3}
 use Rattle.edge_record.specs.declared.Sample.{Sample}
-use Rattle.edge_record.specs.Chain.{lastOf, pointOf}
+use Rattle.edge_record.specs.Chain.{lastOf, samplePoint}
 use Rattle.edge_record.proofs.Shorter.{Shorter, shorter-same, dropLast-last}
 use Rattle.edge_thin_span.specs.declared.Decision.{Decision}
 use Rattle.edge_thin_span.specs.declared.Decision.the-variants.{Leave, Split, Refuse}
 use Rattle.edge_thin_span.specs.Span.{decision}
 use Rattle.edge_thin_mark.specs.Spans.{bySplit, keptIn, kept, marks, flagged}
-use Rattle.edge_thin.specs.Thin.{count, evens, restored, floored, retained, thinned}
+use Rattle.edge_thin.specs.Thin.{flagCount, evens, restored, withFloor, retainedBy, thinned}
 use Rattle.edge_thin.proofs.Loops.{length-marks}
 
 -- ---- a flag that is set stays set
@@ -39,7 +39,7 @@ marks-keeps k (i ∷ l) j h = marks-keeps (set k i true) l j (set-keeps k i j h)
 
 restored-keeps : (want : ℕ) (k : List Bool) (j : ℕ) → getD k j false ≡ true → getD (restored want k) j false ≡ true
 unfolding restored
-restored-keeps want k j h = go (ltb (count k) want)
+restored-keeps want k j h = go (ltb (flagCount k) want)
   where
     go : (b : Bool) → getD (cond b (marks k (evens (length k) want want)) k) j false ≡ true
     go true = marks-keeps k (evens (length k) want want) j h
@@ -72,11 +72,11 @@ flagged-ends points tolerance angle n k h e = go (kept (decision points toleranc
 -- from a second sample on, with the flag of the last set: some of those before it, and the last
 record Tail (k : List Bool) (q : Sample) (l : List Sample) : Type 0 where
   pub inner : List Sample
-  pub is : retained k (q ∷ l) ≡ inner ++ (lastOf q l ∷ [])
+  pub is : retainedBy k (q ∷ l) ≡ inner ++ (lastOf q l ∷ [])
   pub some : Sub inner (dropLast (q ∷ l))
 
 tail : (k : List Bool) (q : Sample) (l : List Sample) → getD k (length l) false ≡ true → Tail k q l
-unfolding retained lastOf
+unfolding retainedBy lastOf
 tail [] q l h = absurd (unset (getD [] (length l) false) refl h)
 tail (true ∷ []) q [] h = record { inner = []; is = refl; some = end }
 tail (true ∷ b ∷ k) q [] h = record { inner = []; is = refl; some = end }
@@ -84,8 +84,8 @@ tail (false ∷ k) q [] h = absurd (unset false refl h)
 tail (true ∷ k) q (r ∷ l) h = let t = tail k r l h in record { inner = q ∷ t .inner; is = ap (λ (x : List Sample). q ∷ x) (t .is); some = keep (t .some) }
 tail (false ∷ k) q (r ∷ l) h = let t = tail k r l h in record { inner = t .inner; is = t .is; some = skip (t .some) }
 
-retained-shorter : (k : List Bool) (p q : Sample) (l : List Sample) → Ends (length (p ∷ q ∷ l)) k → Shorter (retained k (p ∷ q ∷ l)) (p ∷ q ∷ l)
-unfolding retained
+retained-shorter : (k : List Bool) (p q : Sample) (l : List Sample) → Ends (length (p ∷ q ∷ l)) k → Shorter (retainedBy k (p ∷ q ∷ l)) (p ∷ q ∷ l)
+unfolding retainedBy
 retained-shorter [] p q l e = absurd (unset false refl (e .first))
 retained-shorter (false ∷ k) p q l e = absurd (unset false refl (e .first))
 retained-shorter (true ∷ k) p q l e =
@@ -106,21 +106,21 @@ module _ (tolerance angle : Float) (floor : ℕ) (p q : Sample) (l m : List Samp
   abbrev all : List Sample
   all = p ∷ q ∷ l
 
-  by-flags : (r : Result (List Bool)) → flagged (pointOf all) tolerance angle (length all) ≡ r → each (λ k. retained (floored floor k) all) r ≡ got m → Shorter m all
+  by-flags : (r : Result (List Bool)) → flagged (samplePoint all) tolerance angle (length all) ≡ r → each (λ k. retainedBy (withFloor floor k) all) r ≡ got m → Shorter m all
   by-flags (refused x) f w = absurd (let z : _≡_ {A = ℕ} 0 1 = cc in omega arith)
   by-flags (got k) f w =
-      let s : retained (floored floor k) all ≡ m = cc in
-      let x = flagged-ends (pointOf all) tolerance angle (length all) k (omega arith) f in
+      let s : retainedBy (withFloor floor k) all ≡ m = cc in
+      let x = flagged-ends (samplePoint all) tolerance angle (length all) k (omega arith) f in
       subst (λ (v : List Sample). Shorter v all) s
-      (retained-shorter (floored floor k) p q l
+      (retained-shorter (withFloor floor k) p q l
       (record {
         first = restored-keeps (min floor (length k)) k 0 (x .first);
         last = restored-keeps (min floor (length k)) k (length all - 1) (x .last);
       }))
 
-  some-left : (b : Bool) → cond b (got all) (each (λ k. retained (floored floor k) all) (flagged (pointOf all) tolerance angle (length all))) ≡ got m → Shorter m all
+  some-left : (b : Bool) → cond b (got all) (each (λ k. retainedBy (withFloor floor k) all) (flagged (samplePoint all) tolerance angle (length all))) ≡ got m → Shorter m all
   some-left true w = let x : all ≡ m = cc in subst (λ (v : List Sample). Shorter v all) x (shorter-same p q l)
-  some-left false w = by-flags (flagged (pointOf all) tolerance angle (length all)) refl w
+  some-left false w = by-flags (flagged (samplePoint all) tolerance angle (length all)) refl w
 
 -- what callers cite, of a chain of two and more
 pub thin-shorter : (tolerance angle : Float) (floor : ℕ) (l m : List Sample) → 2 ≤ length l → thinned tolerance angle floor l ≡ got m → Shorter m l
@@ -158,13 +158,13 @@ unfolding thinned flagged
 thin-refused tolerance angle floor l k = go (ltb (length l) 3 || not (lt nought tolerance))
   where
     decide : ℕ → ℕ → Decision
-    decide = decision (pointOf l) tolerance angle
+    decide = decision (samplePoint l) tolerance angle
 
-    go : (b : Bool) → cond b (got l) (each (λ keep. retained (floored floor keep) l) (flagged (pointOf l) tolerance angle (length l))) ≡ refused k → k ≡ 9
+    go : (b : Bool) → cond b (got l) (each (λ keep. retainedBy (withFloor floor keep) l) (flagged (samplePoint l) tolerance angle (length l))) ≡ refused k → k ≡ 9
     go true e = absurd (let z : _≡_ {A = ℕ} 0 1 = cc in omega arith)
     go false e =
         let n = length l in
-        let flags = flagged (pointOf l) tolerance angle n in
+        let flags = flagged (samplePoint l) tolerance angle n in
         kept-refused decide (n - 1 - 0) 0 (n - 1) k
         (each-refused (marks (set (set (replicate n false) 0 true) (n - 1) true)) (kept decide 0 (n - 1)) k
-        (each-refused (λ keep. retained (floored floor keep) l) flags k e))
+        (each-refused (λ keep. retainedBy (withFloor floor keep) l) flags k e))

@@ -10,29 +10,29 @@ use lib.ListN.{length, getD, set, take, drop, length-append, length-set}
 use lib.Seq.{sets, take-suc, drop-cons}
 use lib.Ieee.{Float}
 use Rattle.edge_record.specs.declared.Sample.{Sample}
-use Rattle.edge_record.specs.Chain.{width, most, row, sampleAt, samples, Stored}
+use Rattle.edge_record.specs.Chain.{width, most, row, sampleAt, samples, ChainStored}
 use Rattle.edge_record.proofs.Compact.{Compacted, compact-start, compact-skip, compact-keep, compact-done}
 use Rattle.edge_thin_mark.specs.Spans.{marks}
-use Rattle.edge_thin.specs.Thin.{count, evenAt, evens, retained}
+use Rattle.edge_thin.specs.Thin.{flagCount, evenAt, evens, retainedBy}
 
 -- ---- `count_kept`
-count-append : (a b : List Bool) → count (a ++ b) ≡ count a + count b
-unfolding count
+count-append : (a b : List Bool) → flagCount (a ++ b) ≡ flagCount a + flagCount b
+unfolding flagCount
 count-append [] b = omega arith
 count-append (true ∷ a) b = let h = count-append a b in omega arith
 count-append (false ∷ a) b = count-append a b
 
-module _ (keep : List Bool) (i k : ℕ) (h : i < length keep) (e : k ≡ count (take i keep)) where
-  count-one : count (take (i + 1) keep) ≡ count (take i keep) + count (getD keep i false ∷ [])
+module _ (keep : List Bool) (i k : ℕ) (h : i < length keep) (e : k ≡ flagCount (take i keep)) where
+  count-one : flagCount (take (i + 1) keep) ≡ flagCount (take i keep) + flagCount (getD keep i false ∷ [])
   count-one = rw (add-one i, take-suc keep i false h) (count-append (take i keep) (getD keep i false ∷ []))
 
-  pub count-set : getD keep i false ≡ true → k + 1 ≡ count (take (i + 1) keep)
-  unfolding count
-  count-set t = let s = count-one in let o : count (getD keep i false ∷ []) ≡ 1 = rw t in omega arith
+  pub count-set : getD keep i false ≡ true → k + 1 ≡ flagCount (take (i + 1) keep)
+  unfolding flagCount
+  count-set t = let s = count-one in let o : flagCount (getD keep i false ∷ []) ≡ 1 = rw t in omega arith
 
-  pub count-unset : getD keep i false ≡ false → k ≡ count (take (i + 1) keep)
-  unfolding count
-  count-unset t = let s = count-one in let o : count (getD keep i false ∷ []) ≡ 0 = rw t in omega arith
+  pub count-unset : getD keep i false ≡ false → k ≡ flagCount (take (i + 1) keep)
+  unfolding flagCount
+  count-unset t = let s = count-one in let o : flagCount (getD keep i false ∷ []) ≡ 0 = rw t in omega arith
 
 -- ---- `mark_evenly`
 marks-append : (keep : List Bool) (a b : List ℕ) → marks keep (a ++ b) ≡ marks (marks keep a) b
@@ -67,8 +67,8 @@ pub steps-one : (want : ℕ) → want ≤ 1 → 1 ≡ max (want - 1) 1
 steps-one want h = sym (max-eq-right (omega arith))
 
 -- ---- `retain`
-pub retained-none : (keep : List Bool) → retained keep [] ≡ []
-unfolding retained
+pub retained-none : (keep : List Bool) → retainedBy keep [] ≡ []
+unfolding retainedBy
 retained-none [] = refl
 retained-none (b ∷ keep) = refl
 
@@ -77,16 +77,16 @@ module _ (c : List Float) (keep : List Bool) where
   pub record Moved (chain : List Float) (k i : ℕ) : Type 0 where
     pub kept : List Sample
     pub number : length kept ≡ k
-    pub moved : Compacted c (length keep) (retained keep (samples (length keep) c)) (retained (drop i keep)) chain kept i
+    pub moved : Compacted c (length keep) (retainedBy keep (samples (length keep) c)) (retainedBy (drop i keep)) chain kept i
 
   pub moved-none : Moved c 0 0
-  moved-none = record { kept = []; number = refl; moved = compact-start c (length keep) (retained keep) }
+  moved-none = record { kept = []; number = refl; moved = compact-start c (length keep) (retainedBy keep) }
 
-  next : (i : ℕ) (s : Sample) (l : List Sample) → i < length keep → retained (drop i keep) (s ∷ l) ≡ cond (getD keep i false) (s ∷ retained (drop (i + 1) keep) l) (retained (drop (i + 1) keep) l)
-  unfolding retained
+  next : (i : ℕ) (s : Sample) (l : List Sample) → i < length keep → retainedBy (drop i keep) (s ∷ l) ≡ cond (getD keep i false) (s ∷ retainedBy (drop (i + 1) keep) l) (retainedBy (drop (i + 1) keep) l)
+  unfolding retainedBy
   next i s l h = rw (drop-cons keep i false h, add-one i) (go (getD keep i false))
     where
-      go : (b : Bool) → retained (b ∷ drop (suc i) keep) (s ∷ l) ≡ cond b (s ∷ retained (drop (suc i) keep) l) (retained (drop (suc i) keep) l)
+      go : (b : Bool) → retainedBy (b ∷ drop (suc i) keep) (s ∷ l) ≡ cond b (s ∷ retainedBy (drop (suc i) keep) l) (retainedBy (drop (suc i) keep) l)
       go true = refl
       go false = refl
 
@@ -95,7 +95,7 @@ module _ (c : List Float) (keep : List Bool) where
     moved-pass t = record {
       kept = w .kept;
       number = w .number;
-      moved = compact-skip (w .moved) (retained (drop (i + 1) keep)) inside (next i (sampleAt c i) _ inside ∙ rw t);
+      moved = compact-skip (w .moved) (retainedBy (drop (i + 1) keep)) inside (next i (sampleAt c i) _ inside ∙ rw t);
     }
 
     pub moved-push : (s : Sample) (d : List Float) → k ≤ i → getD keep i false ≡ true → s ≡ sampleAt chain i → d ≡ sets chain (width * k) (row s) → Moved d (k + 1) (i + 1)
@@ -105,9 +105,9 @@ module _ (c : List Float) (keep : List Bool) where
           kept = w .kept ++ (s ∷ []);
           number = simp length-append (omega arith);
           moved =
-              compact-keep (w .moved) (retained (drop (i + 1) keep)) inside s d e (omega arith) (next i s _ inside ∙ rw t)
+              compact-keep (w .moved) (retainedBy (drop (i + 1) keep)) inside s d e (omega arith) (next i s _ inside ∙ rw t)
               (b ∙ ap (λ (j : ℕ). sets chain (width * j) (row s)) (sym q));
         }
 
-  pub moved-all : (chain : List Float) (k i : ℕ) → length keep ≤ i → Moved chain k i → Stored c chain k (retained keep (samples (length keep) c))
+  pub moved-all : (chain : List Float) (k i : ℕ) → length keep ≤ i → Moved chain k i → ChainStored c chain k (retainedBy keep (samples (length keep) c))
   moved-all chain k i h w = compact-done (w .moved) k (w .number) (retained-none (drop i keep)) h

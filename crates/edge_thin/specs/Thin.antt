@@ -8,14 +8,14 @@ use lib.Ieee.{Float, lt}
 use Rattle.arith.specs.Notation.{nought}
 use Rattle.base_lists.specs.Result.{Result, got, each}
 use Rattle.edge_record.specs.declared.Sample.{Sample}
-use Rattle.edge_record.specs.Chain.{pointOf}
+use Rattle.edge_record.specs.Chain.{samplePoint}
 use Rattle.edge_thin_mark.specs.Spans.{marks, flagged}
 
 -- how many flags are set
-unfoldable pub count : List Bool → ℕ
-count [] = 0
-count (true ∷ keep) = suc (count keep)
-count (false ∷ keep) = count keep
+unfoldable pub flagCount : List Bool → ℕ
+flagCount [] = 0
+flagCount (true ∷ keep) = suc (flagCount keep)
+flagCount (false ∷ keep) = flagCount keep
 
 -- the i-th of `want` indexes at even steps over n points
 abbrev pub evenAt : ℕ → ℕ → ℕ → ℕ
@@ -28,20 +28,20 @@ evens n want (suc i) = evens n want i ++ (evenAt n want i ∷ [])
 
 -- the segment floor: where fewer flags than `want` are set, those at even steps are set too
 unfoldable pub restored : ℕ → List Bool → List Bool
-restored want keep = cond (ltb (count keep) want) (marks keep (evens (length keep) want want)) keep
+restored want keep = cond (ltb (flagCount keep) want) (marks keep (evens (length keep) want want)) keep
 
-abbrev pub floored : ℕ → List Bool → List Bool
-floored floor keep = restored (min floor (length keep)) keep
+abbrev pub withFloor : ℕ → List Bool → List Bool
+withFloor floor keep = restored (min floor (length keep)) keep
 
 -- retain: the samples whose flags are set
-unfoldable pub retained : List Bool → List Sample → List Sample
-retained [] l = []
-retained (b ∷ keep) [] = []
-retained (true ∷ keep) (s ∷ l) = s ∷ retained keep l
-retained (false ∷ keep) (s ∷ l) = retained keep l
+unfoldable pub retainedBy : List Bool → List Sample → List Sample
+retainedBy [] l = []
+retainedBy (b ∷ keep) [] = []
+retainedBy (true ∷ keep) (s ∷ l) = s ∷ retainedBy keep l
+retainedBy (false ∷ keep) (s ∷ l) = retainedBy keep l
 
 -- thin
 unfoldable pub thinned : Float → Float → ℕ → List Sample → Result (List Sample)
 thinned tolerance angle floor l =
     cond (ltb (length l) 3 || not (lt nought tolerance)) (got l)
-    (each (λ keep. retained (floored floor keep) l) (flagged (pointOf l) tolerance angle (length l)))
+    (each (λ keep. retainedBy (withFloor floor keep) l) (flagged (samplePoint l) tolerance angle (length l)))

@@ -7,13 +7,13 @@ ghost use lib.ListN.{length, replicate};
 ghost use lib.Ieee.{lt};
 ghost use Rattle.arith.specs.Notation.{nought};
 ghost use Rattle.base_lists.specs.Result.{each};
-ghost use Rattle.edge_record.specs.Chain.{width, most, pointAt, samples, answerOf, after, Stored};
+ghost use Rattle.edge_record.specs.Chain.{width, most, pointAt, samples, countedOf, after, ChainStored};
 ghost use Rattle.edge_thin_mark.specs.Spans.{marks, flagged, flags};
-ghost use Rattle.edge_thin.specs.Thin.{count, evens, floored, retained, thinned};
+ghost use Rattle.edge_thin.specs.Thin.{flagCount, evens, withFloor, retainedBy, thinned};
 
 // How many flags are set.
 fn count_kept(keep: &[bool]) -> usize
-    ensures { λ r. ⌜ r ≡ count (now (keep .entry)) ⌝ }
+    ensures { λ r. ⌜ r ≡ flagCount (now (keep .entry)) ⌝ }
 {
     let mut kept = 0usize;
     for i in 0..keep.len() {
@@ -52,7 +52,7 @@ fn wanted(floor: usize, n: usize) -> usize
 // Sets the flags of the points that stay; there is a flag for each point. False means refused with 9.
 fn flag(chain: &[f64], tolerance: f64, angle: f64, floor: usize, keep: &mut [bool]) -> bool
     requires { ⌜ (1 < length (now keep)) × (length (now keep) ≤ most) × (width * length (now keep) ≤ length (now chain)) × (now keep ≡ replicate (length (now keep)) false) ⌝ }
-    ensures { λ r. ⌜ flags r (now (keep .exit)) ≡ each (floored floor) (flagged (pointAt (now (chain .entry))) tolerance angle (length (now (keep .entry)))) ⌝ }
+    ensures { λ r. ⌜ flags r (now (keep .exit)) ≡ each (withFloor floor) (flagged (pointAt (now (chain .entry))) tolerance angle (length (now (keep .entry)))) ⌝ }
 {
     if !edge_thin_mark::mark(chain, tolerance, angle, keep) {
         return false;
@@ -68,7 +68,7 @@ fn flag(chain: &[f64], tolerance: f64, angle: f64, floor: usize, keep: &mut [boo
 // The records whose flags are set, moved to the buffer's start; there is a flag for each record. Answers how many there are.
 fn retain(chain: &mut [f64], keep: &[bool]) -> usize
     requires { ⌜ width * length (now keep) ≤ length (now chain) ⌝ }
-    ensures { λ r. ⌜ Stored (now (chain .entry)) (now (chain .exit)) r (retained (now (keep .entry)) (samples (length (now (keep .entry))) (now (chain .entry)))) ⌝ }
+    ensures { λ r. ⌜ ChainStored (now (chain .entry)) (now (chain .exit)) r (retainedBy (now (keep .entry)) (samples (length (now (keep .entry))) (now (chain .entry)))) ⌝ }
 {
     let mut k = 0usize;
     for i in 0..keep.len() {
@@ -90,7 +90,7 @@ fn thin_with(
     keep: &mut [bool],
 ) -> Counted
     requires { ⌜ (2 < length (now keep)) × (length (now keep) ≤ most) × (width * length (now keep) ≤ length (now chain)) × (now keep ≡ replicate (length (now keep)) false) × (lt nought tolerance ≡ true) ⌝ }
-    ensures { λ r. ⌜ (r ≡ answerOf (thinned tolerance angle floor (samples (length (now (keep .entry))) (now (chain .entry)))))
+    ensures { λ r. ⌜ (r ≡ countedOf (thinned tolerance angle floor (samples (length (now (keep .entry))) (now (chain .entry)))))
         × (now (chain .exit) ≡ after (now (chain .entry)) (thinned tolerance angle floor (samples (length (now (keep .entry))) (now (chain .entry))))) ⌝ }
 {
     if flag(chain, tolerance, angle, floor, keep) {
@@ -102,7 +102,7 @@ fn thin_with(
 // Thins the first n records in place. A short chain needs few flags, which are cleared at each call.
 pub fn thin(chain: &mut [f64], n: usize, tolerance: f64, angle: f64, floor: usize) -> Counted
     requires { ⌜ (n ≤ most) × (width * n ≤ length (now chain)) ⌝ }
-    ensures { λ r. ⌜ (r ≡ answerOf (thinned tolerance angle floor (samples n (now (chain .entry)))))
+    ensures { λ r. ⌜ (r ≡ countedOf (thinned tolerance angle floor (samples n (now (chain .entry)))))
         × (now (chain .exit) ≡ after (now (chain .entry)) (thinned tolerance angle floor (samples n (now (chain .entry))))) ⌝ }
 {
     if n < 3 {

@@ -16,7 +16,7 @@ use Rattle.math_chord.specs.Chord.{spanDistance}
 use Rattle.edge_thin_span.specs.declared.Worst.{Worst}
 use Rattle.edge_thin_span.specs.declared.Decision.{Decision}
 use Rattle.edge_thin_span.specs.declared.Decision.the-variants.{Leave, Split, Refuse}
-use Rattle.edge_thin_span.specs.Span.{worse, worstFrom, worstOf, joined, directions, firstIn, lastIn, angleBetween, turnBy, turnOf, decision}
+use Rattle.edge_thin_span.specs.Span.{worse, worstFrom, worstOf, joined, directions, firstIn, lastIn, angleBetween, turnBy, spanTurn, decision}
 use Rattle.edge_thin_span.proofs.Loops.{worstIs}
 
 -- ---- the worst index is the span's start, or inside
@@ -42,8 +42,8 @@ module _ (points : ℕ → Vec3) (a b : ℕ) (d : Direction) where
   abbrev chordDirection : Direction
   chordDirection = tryNormalized (vSub (points b) (points a))
 
-  pub no-chord : d ≡ chordDirection → d ≡ Nothing → nought ≡ turnOf points a b
-  unfolding turnOf
+  pub no-chord : d ≡ chordDirection → d ≡ Nothing → nought ≡ spanTurn points a b
+  unfolding spanTurn
   no-chord e t = sym (rw (sym e ∙ t) (go (firstIn (directions points (b - a) a)) (lastIn (directions points (b - a) a))))
     where
       go : (f l : Direction) → turnBy f l Nothing ≡ nought
@@ -51,12 +51,12 @@ module _ (points : ℕ → Vec3) (a b : ℕ) (d : Direction) where
       go (Unit f) Nothing = refl
       go Nothing l = refl
 
-  pub no-first : d ≡ firstIn (directions points (b - a) a) → d ≡ Nothing → nought ≡ turnOf points a b
-  unfolding turnOf
+  pub no-first : d ≡ firstIn (directions points (b - a) a) → d ≡ Nothing → nought ≡ spanTurn points a b
+  unfolding spanTurn
   no-first e t = sym (ap (λ (x : Direction). turnBy x (lastIn (directions points (b - a) a)) chordDirection) (sym e ∙ t))
 
-  pub no-last : d ≡ lastIn (directions points (b - a) a) → d ≡ Nothing → nought ≡ turnOf points a b
-  unfolding turnOf
+  pub no-last : d ≡ lastIn (directions points (b - a) a) → d ≡ Nothing → nought ≡ spanTurn points a b
+  unfolding spanTurn
   no-last e t = sym (ap (λ (x : Direction). turnBy (firstIn (directions points (b - a) a)) x chordDirection) (sym e ∙ t) ∙ go (firstIn (directions points (b - a) a)))
     where
       go : (f : Direction) → turnBy f Nothing chordDirection ≡ nought
@@ -64,8 +64,8 @@ module _ (points : ℕ → Vec3) (a b : ℕ) (d : Direction) where
       go Nothing = refl
 
 pub turn-is : (points : ℕ → Vec3) (a b : ℕ) (f l chord : Vec3) → Unit f ≡ firstIn (directions points (b - a) a) → Unit l ≡ lastIn (directions points (b - a) a)
-    → Unit chord ≡ tryNormalized (vSub (points b) (points a)) → angleBetween f chord ⊕ angleBetween chord l ≡ turnOf points a b
-unfolding turnOf
+    → Unit chord ≡ tryNormalized (vSub (points b) (points a)) → angleBetween f chord ⊕ angleBetween chord l ≡ spanTurn points a b
+unfolding spanTurn
 turn-is points a b f l chord x y z =
     ap (λ (d : Direction). turnBy d (Unit l) (Unit chord)) x
     ∙ ap (λ (d : Direction). turnBy (firstIn (directions points (b - a) a)) d (Unit chord)) y
@@ -80,7 +80,7 @@ module _ (points : ℕ → Vec3) (tolerance angle : Float) where
   pub inside : (a b w : ℕ) → decision points tolerance angle a b ≡ Split w → (a < w) × (w < b)
   unfolding decision worstOf
   inside a b w e =
-      go (leb b (a + 1)) (lt tolerance (worstOf points a b .distance) || lt angle (turnOf points a b)) (eqb (worstOf points a b .index) a) refl refl e
+      go (leb b (a + 1)) (lt tolerance (worstOf points a b .distance) || lt angle (spanTurn points a b)) (eqb (worstOf points a b .index) a) refl refl e
     where
       go : (x y z : Bool) → leb b (a + 1) ≡ x → eqb (worstOf points a b .index) a ≡ z → cond x Leave (cond y (cond z Refuse (Split (worstOf points a b .index))) Leave) ≡ Split w → (a < w) × (w < b)
       go true y z p r q = absurd (let o : _≡_ {A = ℕ} 0 1 = cc in omega arith)
@@ -93,7 +93,7 @@ module _ (points : ℕ → Vec3) (tolerance angle : Float) where
           (worst-in points (points a) (vSub (points b) (points a)) (b - (a + 1)) (a + 1) a (worstIs nought a) (omega arith) (inl refl))
 
   -- by the code's tests
-  module _ (a b : ℕ) (wide : a + 1 < b) {w : Worst} {x : Bool} (e : w ≡ worstOf points a b) (s : x ≡ lt tolerance (w .distance) || lt angle (turnOf points a b)) where
+  module _ (a b : ℕ) (wide : a + 1 < b) {w : Worst} {x : Bool} (e : w ≡ worstOf points a b) (s : x ≡ lt tolerance (w .distance) || lt angle (spanTurn points a b)) where
     by-test : cond x (cond (eqb (w .index) a) Refuse (Split (w .index))) Leave ≡ decision points tolerance angle a b
     unfolding decision
     by-test = rw (s, lt-leb b (a + 1) wide, e)
@@ -120,7 +120,7 @@ module _ (p q : ℕ → Vec3) (n : ℕ) (same : (j : ℕ) → j < n → p j ≡ 
   directions-same (suc m) a h = rw (same (suc a) (omega arith), same a (omega arith), directions-same m (suc a) (omega arith))
 
   pub decision-same : (tolerance angle : Float) (a b : ℕ) → a < n → b < n → decision p tolerance angle a b ≡ decision q tolerance angle a b
-  unfolding decision worstOf turnOf
+  unfolding decision worstOf spanTurn
   decision-same tolerance angle a b g h = rw (
     same a g,
     same b h,

@@ -62,14 +62,14 @@ turnBy (Unit f) (Unit l) Nothing = nought
 turnBy (Unit f) Nothing chord = nought
 turnBy Nothing last chord = nought
 
-unfoldable pub turnOf : (ℕ → Vec3) → ℕ → ℕ → Float
-turnOf points a b =
+unfoldable pub spanTurn : (ℕ → Vec3) → ℕ → ℕ → Float
+spanTurn points a b =
     turnBy (firstIn (directions points (b - a) a)) (lastIn (directions points (b - a) a)) (tryNormalized (vSub (points b) (points a)))
 
 -- a span is split at its worst point where that lies too far off or the span turns too much; refused where no point in it has a distance above zero
 unfoldable pub decision : (ℕ → Vec3) → Float → Float → ℕ → ℕ → Decision
 decision points tolerance angle a b =
     cond (leb b (a + 1)) Leave
-    (cond (lt tolerance (worstOf points a b .distance) || lt angle (turnOf points a b))
+    (cond (lt tolerance (worstOf points a b .distance) || lt angle (spanTurn points a b))
     (cond (eqb (worstOf points a b .index) a) Refuse (Split (worstOf points a b .index)))
     Leave)

@@ -8,7 +8,7 @@ ghost use lib.ListN.{length};
 ghost use lib.Ieee.{lt};
 ghost use Rattle.math.specs.Math.{vSub, tryNormalized};
 ghost use Rattle.edge_record.specs.Chain.{width, pointAt};
-ghost use Rattle.edge_thin_span.specs.Span.{worstOf, directions, firstIn, lastIn, angleBetween, turnOf, decision};
+ghost use Rattle.edge_thin_span.specs.Span.{worstOf, directions, firstIn, lastIn, angleBetween, spanTurn, decision};
 
 // The largest distance of a span's points to its chord, and the index of its point.
 pub struct Worst {
@@ -103,7 +103,7 @@ fn angle_between(u: Vec3, v: Vec3) -> f64
 // How far the chain turns across a span: from its first segment round to its last, taken through the chord.
 fn turn(chain: &[f64], a: usize, b: usize) -> f64
     requires { ⌜ (a < b) × (width * b + width ≤ length (now chain)) ⌝ }
-    ensures { λ r. ⌜ r ≡ turnOf (pointAt (now (chain .entry))) a b ⌝ }
+    ensures { λ r. ⌜ r ≡ spanTurn (pointAt (now (chain .entry))) a b ⌝ }
 {
     let end = edge_record::point_at(chain, b);
     let axis = end.sub(edge_record::point_at(chain, a)).try_normalized();
@@ -124,7 +124,7 @@ fn turn(chain: &[f64], a: usize, b: usize) -> f64
 // Whether a span whose points lie so far off at most is split. The turn is worked out only where the distance alone does not tell.
 fn is_split(chain: &[f64], distance: f64, tolerance: f64, angle: f64, a: usize, b: usize) -> bool
     requires { ⌜ (a < b) × (width * b + width ≤ length (now chain)) ⌝ }
-    ensures { λ r. ⌜ r ≡ lt tolerance distance || lt angle (turnOf (pointAt (now (chain .entry))) a b) ⌝ }
+    ensures { λ r. ⌜ r ≡ lt tolerance distance || lt angle (spanTurn (pointAt (now (chain .entry))) a b) ⌝ }
 {
     if distance > tolerance {
         return true;

@@ -18,9 +18,9 @@ abbrev pub wholeOf : List Float → ℕ
 wholeOf c = length c / width
 
 -- THE MEANING: Chain::oriented, the points in the order of the chain, or in reverse
-unfoldable pub oriented : List Float → Bool → List Sample
-oriented c true = samples (wholeOf c) c
-oriented c false = reverse (samples (wholeOf c) c)
+unfoldable pub orientedChain : List Float → Bool → List Sample
+orientedChain c true = samples (wholeOf c) c
+orientedChain c false = reverse (samples (wholeOf c) c)
 
 -- where a walk begins: before the first point, or behind the last
 unfoldable pub startOf : List Float → Bool → ℕ
@@ -32,29 +32,29 @@ abbrev pub passes : List Float → ℕ → ℕ → Stepped
 passes c i place = record { step = Point (sampleAt c i); at = place }
 
 -- no point is left, and the walker keeps its place
-abbrev pub stays : ℕ → Stepped
-stays place = record { step = Done; at = place }
+abbrev pub keepsPlace : ℕ → Stepped
+keepsPlace place = record { step = Done; at = place }
 
 -- one step from a place, which counts the points before it; behind the last point backwards is the same as from there
 unfoldable pub stepped : List Float → ℕ → Bool → Stepped
-stepped c place true = cond (ltb place (wholeOf c)) (passes c place (place + 1)) (stays place)
+stepped c place true = cond (ltb place (wholeOf c)) (passes c place (place + 1)) (keepsPlace place)
 stepped c place false =
     let before = min place (wholeOf c) in
-    cond (eqb before 0) (stays place) (passes c (before - 1) (before - 1))
+    cond (eqb before 0) (keepsPlace place) (passes c (before - 1) (before - 1))
 
 -- a walker at a place, and one of the whole chain
-abbrev pub placed : RefT (List Float) → ℕ → Bool → Walker
-placed chain place forward = record { chain = chain; at = place; forward = forward }
+abbrev pub walkerAt : RefT (List Float) → ℕ → Bool → Walker
+walkerAt chain place forward = record { chain = chain; at = place; forward = forward }
 
 abbrev pub started : RefT (List Float) → Bool → Walker
-started chain forward = placed chain (startOf (now chain) forward) forward
+started chain forward = walkerAt chain (startOf (now chain) forward) forward
 
 -- a walker's step, and the walker after it
 abbrev pub next : Walker → Stepped
 next w = stepped (now (w .chain)) (w .at) (w .forward)
 
 abbrev pub moved : Walker → Walker
-moved w = placed (w .chain) (next w .at) (w .forward)
+moved w = walkerAt (w .chain) (next w .at) (w .forward)
 
 -- the point that a step passes, if any, before the points of the later steps
 unfoldable pub passing : Step → List Sample → List Sample

@@ -25,7 +25,7 @@ use Rattle.draw_spec.proofs.Sound.{drawn-numbers}
 use Rattle.draw_spec.proofs.Held.{fits-first, fits-second}
 use Rattle.ffi_numbers.specs.declared.Codes.{Codes}
 use Rattle.ffi_numbers.specs.Numbers.{causeOf, numberOf, codesOf}
-use Rattle.ffi.specs.Told.{answerTo, Numbered, Told}
+use Rattle.ffi.specs.Told.{answerTo, Numbered, NumberedOutcome}
 
 -- ways are numbered from 1 to 5
 way-numbers : (w : Way) → (1 ≤ numberOf w) × (numberOf w ≤ 5)
@@ -55,7 +55,7 @@ module _ (T : Tables) (e : Edge) (o : Options) (first second : List Float) where
 module _ (T : Tables) (first second : List Float) (x : Codes) (f s : List Float) where
   -- the answer's numbers are told of the answer that the definition gives
   by-answer : (e : Edge) (o : Options) (a : Drawn) → Outcome T e o first second a f s → x ≡ codesOf a
-      → Told T e o first second (x .refusal) (x .way) (x .count) f s
+      → NumberedOutcome T e o first second (x .refusal) (x .way) (x .count) f s
   by-answer e o a h p =
       let w = p ∙ ap codesOf (h .answered) in
       record {
@@ -68,10 +68,10 @@ module _ (T : Tables) (first second : List Float) (x : Codes) (f s : List Float)
 
   -- and of the edge and the options that the numbers stand for
   pub by-numbers : (e e' : Edge) (o o' : Options) (a : Drawn) → e ≡ e' → o ≡ o' → Outcome T e o first second a f s → x ≡ codesOf a
-      → Told T e' o' first second (x .refusal) (x .way) (x .count) f s
+      → NumberedOutcome T e' o' first second (x .refusal) (x .way) (x .count) f s
   by-numbers e e' o o' a p q h w =
-      subst (λ (z : Edge). Told T z o' first second (x .refusal) (x .way) (x .count) f s) p
-      (subst (λ (z : Options). Told T e z first second (x .refusal) (x .way) (x .count) f s) q (by-answer e o a h w))
+      subst (λ (z : Edge). NumberedOutcome T z o' first second (x .refusal) (x .way) (x .count) f s) p
+      (subst (λ (z : Options). NumberedOutcome T e z first second (x .refusal) (x .way) (x .count) f s) q (by-answer e o a h w))
 
 -- no cause of the tables has the number 0
 by-causes : (a b c d e : Bool) (v : Verdict)

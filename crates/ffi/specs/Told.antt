@@ -24,7 +24,7 @@ Numbered first second refusal way count =
     ⊎ ((refusal ≡ 0) × (1 ≤ way) × (way ≤ 5) × (width * count ≤ first) × (width * count ≤ second))
 
 -- what drawing returns and stores: the answer's three numbers, and buffers with all that `Outcome` says of them
-pub record Told (T : Tables) (e : Edge) (o : Options) (first second : List Float) (refusal way count : ℕ) (first' second' : List Float) : Type 0 where
+pub record NumberedOutcome (T : Tables) (e : Edge) (o : Options) (first second : List Float) (refusal way count : ℕ) (first' second' : List Float) : Type 0 where
   pub itsRefusal : refusal ≡ codesOf (answerTo T e o first second) .refusal
   pub itsWay : way ≡ codesOf (answerTo T e o first second) .way
   pub itsCount : count ≡ codesOf (answerTo T e o first second) .count

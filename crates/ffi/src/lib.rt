@@ -10,7 +10,7 @@ ghost use Rattle.causes.specs.Causes.{verdict, tablesVerdict};
 ghost use Rattle.options.specs.Options.{radians, degrees, isClamped, defaultOptions, draftOptions, fineOptions};
 ghost use Rattle.edge_walker.specs.Walk.{startOf, stepped};
 ghost use Rattle.ffi_numbers.specs.Numbers.{edgeOf, optionsOf, causeOf, passed, pointAfter};
-ghost use Rattle.ffi.specs.Told.{Told};
+ghost use Rattle.ffi.specs.Told.{NumberedOutcome};
 
 // Draws an edge: 0, or the refusal's number.
 #[no_mangle]
@@ -40,7 +40,7 @@ pub extern "C" fn cs_draw(
     way: &mut u32,
     count: &mut usize,
 ) -> u32
-    ensures { λ r. ⌜ Told (lent (points .entry) (curves .entry) (reals .entry) (parts .entry) (ranges .entry)) (edgeOf curve start end sense lo hi tolerance low high) (optionsOf deflection angle relative segments depth scale) (now (first .entry)) (now (second .entry)) r (now (way .exit)) (now (count .exit)) (now (first .exit)) (now (second .exit)) ⌝ }
+    ensures { λ r. ⌜ NumberedOutcome (lent (points .entry) (curves .entry) (reals .entry) (parts .entry) (ranges .entry)) (edgeOf curve start end sense lo hi tolerance low high) (optionsOf deflection angle relative segments depth scale) (now (first .entry)) (now (second .entry)) r (now (way .exit)) (now (count .exit)) (now (first .exit)) (now (second .exit)) ⌝ }
 {
     let edge = ffi_numbers::edge_of(curve, start, end, sense, lo, hi, tolerance, low, high);
     let options = ffi_numbers::options_of(deflection, angle, relative, segments, depth, scale);
@@ -91,7 +91,7 @@ pub extern "C" fn cs_draw_over(
     count: &mut usize,
 ) -> u32
     requires { ⌜ tablesVerdict (lent points curves reals parts ranges) ≡ Accepted ⌝ }
-    ensures { λ r. ⌜ Told (lent (points .entry) (curves .entry) (reals .entry) (parts .entry) (ranges .entry)) (edgeOf curve start end sense lo hi tolerance low high) (optionsOf deflection angle relative segments depth scale) (now (first .entry)) (now (second .entry)) r (now (way .exit)) (now (count .exit)) (now (first .exit)) (now (second .exit)) ⌝ }
+    ensures { λ r. ⌜ NumberedOutcome (lent (points .entry) (curves .entry) (reals .entry) (parts .entry) (ranges .entry)) (edgeOf curve start end sense lo hi tolerance low high) (optionsOf deflection angle relative segments depth scale) (now (first .entry)) (now (second .entry)) r (now (way .exit)) (now (count .exit)) (now (first .exit)) (now (second .exit)) ⌝ }
 {
     let drawn = draw::draw_edge(
         points,

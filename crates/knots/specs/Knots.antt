@@ -34,8 +34,8 @@ abbrev pub innerAt : (Float → Vec3) → Float → Float → ℕ → Vec3
 innerAt at a b k = at (a ⊕ (b ⊖ a) ⊗ (count k ⊘ bits 0x4010000000000000))
 
 -- the largest distance of three points to the chord from pa to pb
-unfoldable pub worstOf : Vec3 → Vec3 → Vec3 → Vec3 → Vec3 → Float
-worstOf pa pb p1 p2 p3 =
+unfoldable pub worstOfThree : Vec3 → Vec3 → Vec3 → Vec3 → Vec3 → Float
+worstOfThree pa pb p1 p2 p3 =
     let axis = vSub pb pa in
     let len2 = vLengthSquared axis in
     let d = spanDistance pa axis len2 in
@@ -43,4 +43,4 @@ worstOf pa pb p1 p2 p3 =
 
 -- deviation: how far a curve, whose point at a parameter is `at`, leaves the chord from a to b, by three inner points
 unfoldable pub deviation : (Float → Vec3) → Float → Float → Float
-deviation at a b = worstOf (at a) (at b) (innerAt at a b 1) (innerAt at a b 2) (innerAt at a b 3)
+deviation at a b = worstOfThree (at a) (at b) (innerAt at a b 1) (innerAt at a b 2) (innerAt at a b 3)

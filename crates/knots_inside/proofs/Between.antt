@@ -24,7 +24,7 @@ use Rattle.base_lists.proofs.Joined.{all-map, Within, within-none}
 use Rattle.knots_sort.specs.Sort.{sorted, Number}
 use Rattle.knots_sort.proofs.Merged.{sorted-all}
 use Rattle.knots_sort.proofs.Sorted.{sorted-pairs}
-use Rattle.knots_inside.specs.Breaks.{retained, deduped, billionth, between, insideOf}
+use Rattle.knots_inside.specs.Breaks.{retainedKnots, deduped, billionth, insideUpward, insideOf}
 use Rattle.knots_inside.proofs.Kept.{Strict, retained-all, finite-number, deduped-sub}
 
 -- ---- a + e is not below a, b - e not above b, for an e that is not negative
@@ -72,8 +72,8 @@ abbrev pub Between : Float → Float → List Float → Type 0
 Between lo hi l = cond (lt hi lo) (Within Up hi l lo) (Within Up lo l hi)
 
 module _ (knots : List Float) where
-  ascends : (a b : Float) → T (fits binary64 a) → T (fits binary64 b) → Modest a → Modest b → T (le a b) → Within Up a (between knots a b) b
-  unfolding between
+  ascends : (a b : Float) → T (fits binary64 a) → T (fits binary64 b) → Modest a → Modest b → T (le a b) → Within Up a (insideUpward knots a b) b
+  unfolding insideUpward
   ascends a b F G A B h = go (lt nought w)
     where
       w : Float
@@ -92,7 +92,7 @@ module _ (knots : List Float) where
       Z = epsilon-up w W (sub-up b a (modest-finite b B) (modest-finite a A) h)
 
       kept : List Float
-      kept = retained (a ⊕ e) (b ⊖ e) knots
+      kept = retainedKnots (a ⊕ e) (b ⊖ e) knots
 
       strict : All (Strict (a ⊕ e) (b ⊖ e)) kept
       strict = retained-all (a ⊕ e) (b ⊖ e) knots
@@ -123,7 +123,7 @@ module _ (knots : List Float) where
       num x X = number-left x (big 60 false) (X .1)
 
       go : (t u : Bool) → (T t → T (lt hi lo)) → (T u → T (le lo hi)) → (T t → T u → ⊥) → (T (not t) → T u)
-          → cond t (Within Up hi (cond u (between knots lo hi) (between knots hi lo)) lo) (Within Up lo (cond u (between knots lo hi) (between knots hi lo)) hi)
+          → cond t (Within Up hi (cond u (insideUpward knots lo hi) (insideUpward knots hi lo)) lo) (Within Up lo (cond u (insideUpward knots lo hi) (insideUpward knots hi lo)) hi)
       go true true p q r s = absurd (r tt tt)
       go true false p q r s = ascends hi lo G F H L (lt→le hi lo (p tt))
       go false true p q r s = ascends lo hi F G L H (q tt)

@@ -10,30 +10,30 @@ use lib.Dec.{T}
 use lib.Ieee.{Float, nan, inf, fin, lt}
 use lib.Ieee.Scale.{finite}
 use Rattle.base_lists.proofs.Filtering.{Filtering, filtering-start, filtering-skip, filtering-keep, filtering-done}
-use Rattle.knots_inside.specs.Breaks.{isStrict, retained, isNear, apart, deduped}
+use Rattle.knots_inside.specs.Breaks.{isStrict, retainedKnots, isNear, apart, deduped}
 
 -- ---- retain
 abbrev pub Retaining : Float → Float → List Float → List Float → ℕ → ℕ → Type 0
-Retaining above below a₀ a k i = Filtering (retained above below a₀) a₀ a (retained above below) k i
+Retaining above below a₀ a k i = Filtering (retainedKnots above below a₀) a₀ a (retainedKnots above below) k i
 
 module _ (above below : Float) where
   pub retain-start : (a : List Float) → Retaining above below a a 0 0
-  retain-start a = filtering-start a (retained above below)
+  retain-start a = filtering-start a (retainedKnots above below)
 
   retained-is : (x : Float) (l : List Float) (b : Bool) → isStrict above below x ≡ b
-      → retained above below (x ∷ l) ≡ elim b [ true ↦ x ∷ retained above below l | false ↦ retained above below l ]
-  unfolding retained
-  retained-is x l b h = ap (λ (b : Bool). elim b [ true ↦ x ∷ retained above below l | false ↦ retained above below l ]) h
+      → retainedKnots above below (x ∷ l) ≡ elim b [ true ↦ x ∷ retainedKnots above below l | false ↦ retainedKnots above below l ]
+  unfolding retainedKnots
+  retained-is x l b h = ap (λ (b : Bool). elim b [ true ↦ x ∷ retainedKnots above below l | false ↦ retainedKnots above below l ]) h
 
   module _ {a₀ a : List Float} {k i : ℕ} (s : Retaining above below a₀ a k i) (p : i < length a₀) where
     pub retain-skip : isStrict above below (getD a i nan) ≡ false → Retaining above below a₀ a k (i + 1)
     retain-skip h = filtering-skip nan s p (retained-is (getD a i nan) (drop (i + 1) a₀) false h)
 
     pub retain-keep : isStrict above below (getD a i nan) ≡ true → Retaining above below a₀ (set a k (getD a i nan)) (k + 1) (i + 1)
-    retain-keep h = filtering-keep nan s p (retained above below) (retained-is (getD a i nan) (drop (i + 1) a₀) true h)
+    retain-keep h = filtering-keep nan s p (retainedKnots above below) (retained-is (getD a i nan) (drop (i + 1) a₀) true h)
 
-  pub retain-done : {a₀ a : List Float} {k i : ℕ} → Retaining above below a₀ a k i → length a₀ ≤ i → (k ≤ length a₀) × (take k a ≡ retained above below a₀)
-  unfolding retained
+  pub retain-done : {a₀ a : List Float} {k i : ℕ} → Retaining above below a₀ a k i → length a₀ ≤ i → (k ≤ length a₀) × (take k a ≡ retainedKnots above below a₀)
+  unfolding retainedKnots
   retain-done s h = filtering-done s refl h
 
 -- what lies strictly between two floats is finite

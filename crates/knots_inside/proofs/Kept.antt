@@ -1,4 +1,4 @@
--- What `retained`, `deduped` and so `insideOf` leave of a list: what holds of each knot holds of each break. Assumes nothing.
+-- What `retainedKnots`, `deduped` and so `insideOf` leave of a list: what holds of each knot holds of each break. Assumes nothing.
 use mathlib.Core.Bool.{Bool, true, false, cond, _&&_}
 use mathlib.Core.List.{List, [], _∷_}
 use lib.Dec.{T}
@@ -10,7 +10,7 @@ use Rattle.base_lists.specs.Sub.{All, none, more, Sub, end, keep, skip}
 use Rattle.base_lists.proofs.Order.{sub-all}
 use Rattle.knots_sort.specs.Sort.{sorted, Number}
 use Rattle.knots_sort.proofs.Merged.{sorted-all}
-use Rattle.knots_inside.specs.Breaks.{isStrict, retained, isNear, apart, deduped, billionth, between, insideOf}
+use Rattle.knots_inside.specs.Breaks.{isStrict, retainedKnots, isNear, apart, deduped, billionth, insideUpward, insideOf}
 
 -- ---- retain
 pub record Strict (above below k : Float) : Type 0 where
@@ -18,24 +18,24 @@ pub record Strict (above below k : Float) : Type 0 where
   pub over : T (lt above k)
   pub under : T (lt k below)
 
-pub retained-all : (above below : Float) (l : List Float) → All (Strict above below) (retained above below l)
-unfolding retained
+pub retained-all : (above below : Float) (l : List Float) → All (Strict above below) (retainedKnots above below l)
+unfolding retainedKnots
 retained-all above below [] = none
 retained-all above below (k ∷ l) = go (isStrict above below k) (λ h. h) (retained-all above below l)
   where
-    go : (b : Bool) → (T b → T (isStrict above below k)) → All (Strict above below) (retained above below l)
-        → All (Strict above below) (elim b [ true ↦ k ∷ retained above below l | false ↦ retained above below l ])
+    go : (b : Bool) → (T b → T (isStrict above below k)) → All (Strict above below) (retainedKnots above below l)
+        → All (Strict above below) (elim b [ true ↦ k ∷ retainedKnots above below l | false ↦ retainedKnots above below l ])
     go true f h =
         let r = and-r (finite k) (lt above k && lt k below) (f tt) in
         more (record { is-finite = and-l (finite k) (lt above k && lt k below) (f tt); over = and-l (lt above k) (lt k below) r; under = and-r (lt above k) (lt k below) r }) h
     go false f h = h
 
-pub retained-sub : (above below : Float) (l : List Float) → Sub (retained above below l) l
-unfolding retained
+pub retained-sub : (above below : Float) (l : List Float) → Sub (retainedKnots above below l) l
+unfolding retainedKnots
 retained-sub above below [] = end
 retained-sub above below (k ∷ l) = go (isStrict above below k) (retained-sub above below l)
   where
-    go : (b : Bool) → Sub (retained above below l) l → Sub (elim b [ true ↦ k ∷ retained above below l | false ↦ retained above below l ]) (k ∷ l)
+    go : (b : Bool) → Sub (retainedKnots above below l) l → Sub (elim b [ true ↦ k ∷ retainedKnots above below l | false ↦ retainedKnots above below l ]) (k ∷ l)
     go true h = keep h
     go false h = skip h
 
@@ -59,15 +59,15 @@ deduped-sub epsilon (k ∷ l) = keep (apart-sub epsilon k l)
 
 -- ---- inside
 module _ {P : Float → Type 0} (knots : List Float) (h : All P knots) where
-  between-all : (lo hi : Float) → All P (between knots lo hi)
-  unfolding between
+  between-all : (lo hi : Float) → All P (insideUpward knots lo hi)
+  unfolding insideUpward
   between-all lo hi = go (lt nought (hi ⊖ lo))
     where
       epsilon : Float
       epsilon = (hi ⊖ lo) ⊗ billionth
 
       kept : List Float
-      kept = retained (lo ⊕ epsilon) (hi ⊖ epsilon) knots
+      kept = retainedKnots (lo ⊕ epsilon) (hi ⊖ epsilon) knots
 
       go : (b : Bool) → All P (cond b (deduped epsilon (sorted kept)) [])
       go true = sub-all (deduped-sub epsilon (sorted kept)) (sorted-all kept (sub-all (retained-sub (lo ⊕ epsilon) (hi ⊖ epsilon) knots) h))
@@ -77,6 +77,6 @@ module _ {P : Float → Type 0} (knots : List Float) (h : All P knots) where
   unfolding insideOf
   inside-all lo hi = go (le lo hi)
     where
-      go : (b : Bool) → All P (cond b (between knots lo hi) (between knots hi lo))
+      go : (b : Bool) → All P (cond b (insideUpward knots lo hi) (insideUpward knots hi lo))
       go true = between-all lo hi
       go false = between-all hi lo

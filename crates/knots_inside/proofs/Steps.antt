@@ -13,14 +13,14 @@ use Rattle.base_lists.specs.Room.{filled}
 use Rattle.base_lists.proofs.Joined.{all-map}
 use Rattle.knots_sort.specs.Sort.{sorted, Number}
 use Rattle.knots_sort.proofs.Sorted.{sorted-length}
-use Rattle.knots_inside.specs.Breaks.{retained, deduped, billionth, between, insideOf}
+use Rattle.knots_inside.specs.Breaks.{retainedKnots, deduped, billionth, insideUpward, insideOf}
 use Rattle.knots_inside.proofs.Kept.{retained-all, finite-number}
 
 -- k: the knots; r: after retain, which answered n
 pub record Retained (k r : List Float) (n : ℕ) (above below : Float) : Type 0 where
   pub fit : n ≤ length k
   pub same : length r ≡ length k
-  pub kept : take n r ≡ retained above below k
+  pub kept : take n r ≡ retainedKnots above below k
 
 module _ {k r : List Float} {n : ℕ} {above below : Float} (h : Retained k r n above below) where
   pub part-length : length (take n r) ≡ n
@@ -52,7 +52,7 @@ module _ {k r : List Float} {n : ℕ} {above below : Float} (h : Retained k r n 
           length-append c (drop n (b ++ drop n r))
           ∙ omega (arith, same', sorted-part-length, length-drop n (b ++ drop n r), length-append b (drop n r), b-length, length-drop n r, h .same, h .fit)
 
-      kept-is : take m whole ≡ deduped epsilon (sorted (retained above below k))
+      kept-is : take m whole ≡ deduped epsilon (sorted (retainedKnots above below k))
       unfolding whole
       kept-is =
           take-append-le m c (drop n (b ++ drop n r)) (omega (arith, same')) ∙ apart
@@ -62,7 +62,7 @@ module _ {k r : List Float} {n : ℕ} {above below : Float} (h : Retained k r n 
       kept-room = omega (arith, length-append c (drop n (b ++ drop n r)), same', fewer)
 
       -- d: all of it after the clearing
-      module _ (l : List Float) (known : deduped epsilon (sorted (retained above below k)) ≡ l) where
+      module _ (l : List Float) (known : deduped epsilon (sorted (retainedKnots above below k)) ≡ l) where
         pub kept-count : m ≡ length l
         unfolding whole
         kept-count = sym (length-take-le m whole kept-room) ∙ ap length (kept-is ∙ known)
@@ -73,18 +73,18 @@ module _ {k r : List Float} {n : ℕ} {above below : Float} (h : Retained k r n 
 
 module _ (k : List Float) (lo hi : Float) where
   pub some-between : lt nought (hi ⊖ lo) ≡ true
-      → deduped ((hi ⊖ lo) ⊗ billionth) (sorted (retained (lo ⊕ (hi ⊖ lo) ⊗ billionth) (hi ⊖ (hi ⊖ lo) ⊗ billionth) k)) ≡ between k lo hi
-  unfolding between
+      → deduped ((hi ⊖ lo) ⊗ billionth) (sorted (retainedKnots (lo ⊕ (hi ⊖ lo) ⊗ billionth) (hi ⊖ (hi ⊖ lo) ⊗ billionth) k)) ≡ insideUpward k lo hi
+  unfolding insideUpward
   some-between h = rw h
 
-  pub none-between : lt nought (hi ⊖ lo) ≡ false → [] ≡ between k lo hi
-  unfolding between
+  pub none-between : lt nought (hi ⊖ lo) ≡ false → [] ≡ insideUpward k lo hi
+  unfolding insideUpward
   none-between h = rw h
 
-  pub upward : le lo hi ≡ true → between k lo hi ≡ insideOf k lo hi
+  pub upward : le lo hi ≡ true → insideUpward k lo hi ≡ insideOf k lo hi
   unfolding insideOf
   upward h = rw h
 
-  pub downward : le lo hi ≡ false → between k hi lo ≡ insideOf k lo hi
+  pub downward : le lo hi ≡ false → insideUpward k hi lo ≡ insideOf k lo hi
   unfolding insideOf
   downward h = rw h

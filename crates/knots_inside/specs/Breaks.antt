@@ -12,10 +12,10 @@ abbrev pub isStrict : Float → Float → Float → Bool
 isStrict above below k = finite k && (lt above k && lt k below)
 
 -- retain: the knots strictly between two bounds
-unfoldable pub retained : Float → Float → List Float → List Float
-retained above below [] = []
-retained above below (k ∷ l) =
-    elim (isStrict above below k) [ true ↦ k ∷ retained above below l | false ↦ retained above below l ]
+unfoldable pub retainedKnots : Float → Float → List Float → List Float
+retainedKnots above below [] = []
+retainedKnots above below (k ∷ l) =
+    elim (isStrict above below k) [ true ↦ k ∷ retainedKnots above below l | false ↦ retainedKnots above below l ]
 
 -- (a - b).abs() <= epsilon
 abbrev pub isNear : Float → Float → Float → Bool
@@ -37,12 +37,12 @@ abbrev pub billionth : Float
 billionth = bits 0x3E112E0BE826D695
 
 -- inside, where lo is at most hi
-unfoldable pub between : List Float → Float → Float → List Float
-between knots lo hi =
+unfoldable pub insideUpward : List Float → Float → Float → List Float
+insideUpward knots lo hi =
     let width = hi ⊖ lo in
     let epsilon = width ⊗ billionth in
-    cond (lt nought width) (deduped epsilon (sorted (retained (lo ⊕ epsilon) (hi ⊖ epsilon) knots))) []
+    cond (lt nought width) (deduped epsilon (sorted (retainedKnots (lo ⊕ epsilon) (hi ⊖ epsilon) knots))) []
 
 -- inside: the distinct knots strictly between lo and hi, in order
 unfoldable pub insideOf : List Float → Float → Float → List Float
-insideOf knots lo hi = cond (le lo hi) (between knots lo hi) (between knots hi lo)
+insideOf knots lo hi = cond (le lo hi) (insideUpward knots lo hi) (insideUpward knots hi lo)

@@ -10,18 +10,18 @@ nextOf hi [] = hi
 nextOf hi (b ∷ bs) = b
 
 -- its loop, from start on: a break stays where the chord from start to the break after it leaves the curve by more than sag
-unfoldable pub thinned : (Float → Float → Float) → Float → Float → Float → List Float → List Float
-thinned deviation sag hi start [] = []
-thinned deviation sag hi start (b ∷ bs) =
+unfoldable pub thinnedFrom : (Float → Float → Float) → Float → Float → Float → List Float → List Float
+thinnedFrom deviation sag hi start [] = []
+thinnedFrom deviation sag hi start (b ∷ bs) =
     elim (lt sag (deviation start (nextOf hi bs))) [
-      | true ↦ b ∷ thinned deviation sag hi b bs
-      | false ↦ thinned deviation sag hi start bs
+      | true ↦ b ∷ thinnedFrom deviation sag hi b bs
+      | false ↦ thinnedFrom deviation sag hi start bs
     ]
 
 -- thin_breaks: all of them where !(sag > 0.0)
 unfoldable pub thinBreaks : List Float → Float → Float → Float → (Float → Float → Float) → List Float
 thinBreaks breaks lo hi sag deviation =
     elim (lt nought sag) [
-      | true ↦ thinned deviation sag hi lo breaks
+      | true ↦ thinnedFrom deviation sag hi lo breaks
       | false ↦ breaks
     ]

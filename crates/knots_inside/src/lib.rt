@@ -3,7 +3,7 @@ ghost use mathlib.Core.Path.{_≡_};
 ghost use Prim.Native.Nat.{_≤_};
 ghost use lib.ListN.{length, take};
 ghost use Rattle.base_lists.specs.Room.{filled};
-ghost use Rattle.knots_inside.specs.Breaks.{isStrict, retained, isNear, deduped, between, insideOf};
+ghost use Rattle.knots_inside.specs.Breaks.{isStrict, retainedKnots, isNear, deduped, insideUpward, insideOf};
 
 // Whether x lies strictly between two bounds; such an x is finite.
 fn strict(x: f64, above: f64, below: f64) -> bool
@@ -14,7 +14,7 @@ fn strict(x: f64, above: f64, below: f64) -> bool
 
 // Keeps those strictly between two bounds, from the start; answers how many.
 fn retain(a: &mut [f64], above: f64, below: f64) -> usize
-    ensures { λ r. ⌜ (r ≤ length (now (a .entry))) × (take r (now (a .exit)) ≡ retained above below (now (a .entry))) ⌝ }
+    ensures { λ r. ⌜ (r ≤ length (now (a .entry))) × (take r (now (a .exit)) ≡ retainedKnots above below (now (a .entry))) ⌝ }
 {
     let n = a.len();
     let mut k = 0usize;
@@ -63,7 +63,7 @@ fn dedup(a: &mut [f64], epsilon: f64) -> usize
 // The breaks between lo and hi, lo being the smaller; +0.0 after them.
 fn ascending(knots: &mut [f64], lo: f64, hi: f64) -> usize
     requires { ⌜ length (now knots) ≤ 8192 ⌝ }
-    ensures { λ r. ⌜ (r ≡ length (between (now (knots .entry)) lo hi)) × (now (knots .exit) ≡ filled (length (now (knots .entry))) (between (now (knots .entry)) lo hi)) ⌝ }
+    ensures { λ r. ⌜ (r ≡ length (insideUpward (now (knots .entry)) lo hi)) × (now (knots .exit) ≡ filled (length (now (knots .entry))) (insideUpward (now (knots .entry)) lo hi)) ⌝ }
 {
     let width = hi - lo;
     if 0.0 < width {

@@ -14,8 +14,8 @@ use Rattle.base_lists.specs.Sub.{All, none, more, Pairwise, first}
 use Rattle.base_lists.proofs.Parts.{all-take, all-drop, all-at}
 use Rattle.base_lists.proofs.Joined.{all-map, all-join, pair-join, pair-last}
 use Rattle.base_lists.specs.Way.{Up}
-use Rattle.knots_sort.specs.Sort.{put, sorted, Number}
-use Rattle.knots_sort.specs.Merge.{Halves, merged}
+use Rattle.knots_sort.specs.Sort.{inserted, sorted, Number}
+use Rattle.knots_sort.specs.Merge.{Halves, mergedRuns}
 use Rattle.knots_sort.proofs.Merged.{sorted-append, sorted-all}
 use Rattle.knots_sort.proofs.Sorted.{sorted-pairs, sorted-same, sorted-length}
 
@@ -35,19 +35,19 @@ module _ (a s : List Float) (m : ℕ) (h : Halves a s m) where
     pub copied-room : length (take m s') ≤ length a
     copied-room = omega (arith, copied-length, h .others)
 
-    pub joined : take (length (take m a)) s' ≡ take m a → merged (take m s') (drop (length (take m s')) a) ≡ merged (take m a) (drop m a)
+    pub joined : take (length (take m a)) s' ≡ take m a → mergedRuns (take m s') (drop (length (take m s')) a) ≡ mergedRuns (take m a) (drop m a)
     joined e =
-        ap (λ (n : ℕ). merged (take m s') (drop n a)) copied-length
-        ∙ ap (λ (l : List Float). merged l (drop m a)) (ap (λ (n : ℕ). take n s') (sym first-length) ∙ e)
+        ap (λ (n : ℕ). mergedRuns (take m s') (drop n a)) copied-length
+        ∙ ap (λ (l : List Float). mergedRuns l (drop m a)) (ap (λ (n : ℕ). take n s') (sym first-length) ∙ e)
 
   -- the halves stand in order
-  pub unmoved : lt (getD a m nan) (getD a (m - 1) nan) ≡ false → a ≡ merged (take m a) (drop m a)
+  pub unmoved : lt (getD a m nan) (getD a (m - 1) nan) ≡ false → a ≡ mergedRuns (take m a) (drop m a)
   unmoved e =
       sym (take-append-drop m a)
       ∙ sym (sorted-same (take m a ++ drop m a) (pair-join Up le-trans y (h .first) below (h .second) above))
       ∙ sorted-append (take m a) (drop m a) (all-take m a (h .numbers)) (all-drop m a (h .numbers))
-      ∙ ap (λ (l : List Float). merged l (sorted (drop m a))) (sorted-same (take m a) (h .first))
-      ∙ ap (merged (take m a)) (sorted-same (drop m a) (h .second))
+      ∙ ap (λ (l : List Float). mergedRuns l (sorted (drop m a))) (sorted-same (take m a) (h .first))
+      ∙ ap (mergedRuns (take m a)) (sorted-same (drop m a) (h .second))
     where
       x : Float
       x = getD a (m - 1) nan
@@ -85,7 +85,7 @@ module _ (a s : List Float) (m : ℕ) (h : Halves a s m) where
 
 -- ---- sort: b stands for the first half after its sort, c for the second's
 pub sorted-few : (a : List Float) → length a < 2 → a ≡ sorted a
-unfolding sorted put
+unfolding sorted inserted
 sorted-few [] h = refl
 sorted-few (x ∷ []) h = refl
 sorted-few (x ∷ y ∷ a) h = absurd (omega arith)
@@ -125,10 +125,10 @@ module _ (a b : List Float) (m : ℕ) (le-m : m ≤ length a) (is : b ≡ sorted
       second = subst (λ (l : List Float). Pairwise Up l) (sym (drop-at b c m b-length ∙ c-is)) (sorted-pairs (drop m a) (all-drop m a N));
     }
 
-    pub sorted-whole : (N : All Number a) → merged (take m (b ++ c)) (drop m (b ++ c)) ≡ sorted a
+    pub sorted-whole : (N : All Number a) → mergedRuns (take m (b ++ c)) (drop m (b ++ c)) ≡ sorted a
     sorted-whole N =
-        ap (λ (l : List Float). merged l (drop m (b ++ c))) (take-at b c m b-length ∙ is)
-        ∙ ap (merged (sorted (take m a))) (drop-at b c m b-length ∙ c-is)
+        ap (λ (l : List Float). mergedRuns l (drop m (b ++ c))) (take-at b c m b-length ∙ is)
+        ∙ ap (mergedRuns (sorted (take m a))) (drop-at b c m b-length ∙ c-is)
         ∙ sym (sorted-append (take m a) (drop m a) (all-take m a N) (all-drop m a N)) ∙ ap sorted (take-append-drop m a)
 
     -- the same of the slice as the borrow checker has it after both parts came back
@@ -138,8 +138,8 @@ module _ (a b : List Float) (m : ℕ) (le-m : m ≤ length a) (is : b ≡ sorted
     pub after-halves : (N : All Number a) (s : List Float) → 0 < m → m < length a → m ≤ length s → Halves After s m
     after-halves N s p q r = subst (λ (l : List Float). Halves l s m) (sym both-halves) (sorted-halves N s p q r)
 
-    pub after-whole : (N : All Number a) → merged (take m After) (drop m After) ≡ sorted a
-    after-whole N = ap (λ (l : List Float). merged (take m l) (drop m l)) both-halves ∙ sorted-whole N
+    pub after-whole : (N : All Number a) → mergedRuns (take m After) (drop m After) ≡ sorted a
+    after-whole N = ap (λ (l : List Float). mergedRuns (take m l) (drop m l)) both-halves ∙ sorted-whole N
 
 -- half of two and more
 pub half-some : (n : ℕ) → 2 ≤ n → 0 < n / 2

@@ -6,16 +6,16 @@ use lib.Dec.{T}
 use lib.Ieee.{Float, lt, le}
 use Rattle.arith_order.proofs.Signed.{le-trans, lt→le, lt→nle, nlt→le, lt-le-trans}
 use Rattle.base_lists.specs.Sub.{All, none, more}
-use Rattle.knots_sort.specs.Sort.{put, sorted, Number}
-use Rattle.knots_sort.specs.Merge.{before, merged}
+use Rattle.knots_sort.specs.Sort.{inserted, sorted, Number}
+use Rattle.knots_sort.specs.Merge.{before, mergedRuns}
 
-pub merged-nil : (l : List Float) → merged l [] ≡ l
-unfolding merged before
+pub merged-nil : (l : List Float) → mergedRuns l [] ≡ l
+unfolding mergedRuns before
 merged-nil [] = refl
 merged-nil (x ∷ l) = ap (λ (r : List Float). x ∷ r) (merged-nil l)
 
-pub merged-cons : (x : Float) (l : List Float) (y : Float) (k : List Float) → merged (x ∷ l) (y ∷ k) ≡ cond (lt y x) (y ∷ merged (x ∷ l) k) (x ∷ merged l (y ∷ k))
-unfolding merged before
+pub merged-cons : (x : Float) (l : List Float) (y : Float) (k : List Float) → mergedRuns (x ∷ l) (y ∷ k) ≡ cond (lt y x) (y ∷ mergedRuns (x ∷ l) k) (x ∷ mergedRuns l (y ∷ k))
+unfolding mergedRuns before
 merged-cons x l y k = refl
 
 -- ---- the order's laws, as tests
@@ -34,59 +34,59 @@ nlt-trans-test : (x y z : Float) → Number x → Number y → Number z → lt y
 nlt-trans-test x y z X Y Z p q = is-false (lt z x) (λ h. lt→nle z x h (le-trans x y z (nlt→le y x Y X (rw p tt)) (nlt→le z y Z Y (rw q tt))))
 
 -- ---- one step of each
-pub put-below : (x y : Float) (l : List Float) → lt y x ≡ true → put x (y ∷ l) ≡ y ∷ put x l
-unfolding put
+pub put-below : (x y : Float) (l : List Float) → lt y x ≡ true → inserted x (y ∷ l) ≡ y ∷ inserted x l
+unfolding inserted
 put-below x y l h = rw h
 
-pub put-here : (x y : Float) (l : List Float) → lt y x ≡ false → put x (y ∷ l) ≡ x ∷ y ∷ l
-unfolding put
+pub put-here : (x y : Float) (l : List Float) → lt y x ≡ false → inserted x (y ∷ l) ≡ x ∷ y ∷ l
+unfolding inserted
 put-here x y l h = rw h
 
-pub merged-right : (x : Float) (l : List Float) (y : Float) (k : List Float) → lt y x ≡ true → merged (x ∷ l) (y ∷ k) ≡ y ∷ merged (x ∷ l) k
-merged-right x l y k h = merged-cons x l y k ∙ ap (λ (b : Bool). cond b (y ∷ merged (x ∷ l) k) (x ∷ merged l (y ∷ k))) h
+pub merged-right : (x : Float) (l : List Float) (y : Float) (k : List Float) → lt y x ≡ true → mergedRuns (x ∷ l) (y ∷ k) ≡ y ∷ mergedRuns (x ∷ l) k
+merged-right x l y k h = merged-cons x l y k ∙ ap (λ (b : Bool). cond b (y ∷ mergedRuns (x ∷ l) k) (x ∷ mergedRuns l (y ∷ k))) h
 
-pub merged-left : (x : Float) (l : List Float) (y : Float) (k : List Float) → lt y x ≡ false → merged (x ∷ l) (y ∷ k) ≡ x ∷ merged l (y ∷ k)
-merged-left x l y k h = merged-cons x l y k ∙ ap (λ (b : Bool). cond b (y ∷ merged (x ∷ l) k) (x ∷ merged l (y ∷ k))) h
+pub merged-left : (x : Float) (l : List Float) (y : Float) (k : List Float) → lt y x ≡ false → mergedRuns (x ∷ l) (y ∷ k) ≡ x ∷ mergedRuns l (y ∷ k)
+merged-left x l y k h = merged-cons x l y k ∙ ap (λ (b : Bool). cond b (y ∷ mergedRuns (x ∷ l) k) (x ∷ mergedRuns l (y ∷ k))) h
 
 -- ---- what is put into a merged list may be put into the first
 step : (x y : Float) (a : List Float) (z : Float) (b : List Float) → Number x → Number y → Number z → (u v w : Bool) → lt y x ≡ u → lt z y ≡ v → lt z x ≡ w
-    → put x (merged (y ∷ a) b) ≡ merged (put x (y ∷ a)) b → put x (merged a (z ∷ b)) ≡ merged (put x a) (z ∷ b)
-    → put x (merged (y ∷ a) (z ∷ b)) ≡ merged (put x (y ∷ a)) (z ∷ b)
+    → inserted x (mergedRuns (y ∷ a) b) ≡ mergedRuns (inserted x (y ∷ a)) b → inserted x (mergedRuns a (z ∷ b)) ≡ mergedRuns (inserted x a) (z ∷ b)
+    → inserted x (mergedRuns (y ∷ a) (z ∷ b)) ≡ mergedRuns (inserted x (y ∷ a)) (z ∷ b)
 step x y a z b X Y Z true true true p q r i j =
-    cc (merged-right y a z b q, put-below x z (merged (y ∷ a) b) r, put-below x y a p, merged-right y (put x a) z b q)
+    cc (merged-right y a z b q, put-below x z (mergedRuns (y ∷ a) b) r, put-below x y a p, merged-right y (inserted x a) z b q)
 step x y a z b X Y Z true true false p q r i j = let h = lt-trans-test z y x q p in let e : true ≡ false = cc in absurd (subst T e tt)
 step x y a z b X Y Z true false w p q r i j =
-    cc (merged-left y a z b q, put-below x y (merged a (z ∷ b)) p, put-below x y a p, merged-left y (put x a) z b q)
+    cc (merged-left y a z b q, put-below x y (mergedRuns a (z ∷ b)) p, put-below x y a p, merged-left y (inserted x a) z b q)
 step x y a z b X Y Z false true true p q r i j =
-    cc (merged-right y a z b q, put-below x z (merged (y ∷ a) b) r, put-here x y a p, merged-right x (y ∷ a) z b r)
+    cc (merged-right y a z b q, put-below x z (mergedRuns (y ∷ a) b) r, put-here x y a p, merged-right x (y ∷ a) z b r)
 step x y a z b X Y Z false true false p q r i j =
-    cc (merged-right y a z b q, put-here x z (merged (y ∷ a) b) r, put-here x y a p, merged-left x (y ∷ a) z b r)
+    cc (merged-right y a z b q, put-here x z (mergedRuns (y ∷ a) b) r, put-here x y a p, merged-left x (y ∷ a) z b r)
 step x y a z b X Y Z false false w p q r i j =
     let h = nlt-trans-test x y z X Y Z p q in
-    cc (merged-left y a z b q, put-here x y (merged a (z ∷ b)) p, put-here x y a p, merged-left x (y ∷ a) z b h)
+    cc (merged-left y a z b q, put-here x y (mergedRuns a (z ∷ b)) p, put-here x y a p, merged-left x (y ∷ a) z b h)
 
-put-alone : (x : Float) (b : List Float) → put x b ≡ merged (x ∷ []) b
-unfolding put merged before
+put-alone : (x : Float) (b : List Float) → inserted x b ≡ mergedRuns (x ∷ []) b
+unfolding inserted mergedRuns before
 put-alone x [] = refl
 put-alone x (y ∷ b) = ap (λ (r : List Float). cond (lt y x) (y ∷ r) (x ∷ y ∷ b)) (put-alone x b)
 
-put-first : (x : Float) (b : List Float) → put x (merged [] b) ≡ merged (put x []) b
-unfolding put merged
+put-first : (x : Float) (b : List Float) → inserted x (mergedRuns [] b) ≡ mergedRuns (inserted x []) b
+unfolding inserted mergedRuns
 put-first x b = put-alone x b
 
-pub put-merged : (x : Float) (a b : List Float) → Number x → All Number a → All Number b → put x (merged a b) ≡ merged (put x a) b
+pub put-merged : (x : Float) (a b : List Float) → Number x → All Number a → All Number b → inserted x (mergedRuns a b) ≡ mergedRuns (inserted x a) b
 put-merged x [] b X none B = put-first x b
-put-merged x (y ∷ a) [] X A none = ap (put x) (merged-nil (y ∷ a)) ∙ sym (merged-nil (put x (y ∷ a)))
+put-merged x (y ∷ a) [] X A none = ap (inserted x) (merged-nil (y ∷ a)) ∙ sym (merged-nil (inserted x (y ∷ a)))
 put-merged x (y ∷ a) (z ∷ b) X (more Y A) (more Z B) =
     step x y a z b X Y Z (lt y x) (lt z y) (lt z x) refl refl refl (put-merged x (y ∷ a) b X (more Y A) B) (put-merged x a (z ∷ b) X A (more Z B))
 
 -- ---- all of a sorted list
-pub put-all : {P : Float → Type 0} (x : Float) (l : List Float) → P x → All P l → All P (put x l)
-unfolding put
+pub put-all : {P : Float → Type 0} (x : Float) (l : List Float) → P x → All P l → All P (inserted x l)
+unfolding inserted
 put-all x [] p none = more p none
 put-all {P} x (y ∷ l) p (more q h) = go (lt y x) (put-all x l p h)
   where
-    go : (b : Bool) → All P (put x l) → All P (cond b (y ∷ put x l) (x ∷ y ∷ l))
+    go : (b : Bool) → All P (inserted x l) → All P (cond b (y ∷ inserted x l) (x ∷ y ∷ l))
     go true g = more q g
     go false g = more p (more q h)
 
@@ -96,7 +96,7 @@ sorted-all [] none = none
 sorted-all (x ∷ l) (more p h) = put-all x (sorted l) p (sorted-all l h)
 
 -- ---- THE LAW of a merge sort, wherever the list is cut
-pub sorted-append : (l k : List Float) → All Number l → All Number k → sorted (l ++ k) ≡ merged (sorted l) (sorted k)
-unfolding sorted merged
+pub sorted-append : (l k : List Float) → All Number l → All Number k → sorted (l ++ k) ≡ mergedRuns (sorted l) (sorted k)
+unfolding sorted mergedRuns
 sorted-append [] k none K = refl
-sorted-append (x ∷ l) k (more X L) K = ap (put x) (sorted-append l k L K) ∙ put-merged x (sorted l) (sorted k) X (sorted-all l L) (sorted-all k K)
+sorted-append (x ∷ l) k (more X L) K = ap (inserted x) (sorted-append l k L K) ∙ put-merged x (sorted l) (sorted k) X (sorted-all l L) (sorted-all k K)

@@ -11,16 +11,16 @@ use Rattle.arith_order.proofs.Signed.{le-trans, lt→le, lt→nle, nlt→le}
 use Rattle.base_lists.specs.Sub.{All, none, more, Pairwise, empty, first}
 use Rattle.base_lists.proofs.Joined.{all-map}
 use Rattle.base_lists.specs.Way.{Up}
-use Rattle.knots_sort.specs.Sort.{put, sorted, Number}
+use Rattle.knots_sort.specs.Sort.{inserted, sorted, Number}
 use Rattle.knots_sort.specs.Merge.{inOrder}
 use Rattle.knots_sort.proofs.Merged.{is-false, put-all, sorted-all}
 
-put-pairs : (x : Float) (l : List Float) → Number x → All Number l → Pairwise Up l → Pairwise Up (put x l)
-unfolding put
+put-pairs : (x : Float) (l : List Float) → Number x → All Number l → Pairwise Up l → Pairwise Up (inserted x l)
+unfolding inserted
 put-pairs x [] X none empty = first none empty
 put-pairs x (y ∷ l) X (more Y L) (first p h) = go (lt y x) refl (put-pairs x l X L h)
   where
-    go : (b : Bool) → lt y x ≡ b → Pairwise Up (put x l) → Pairwise Up (cond b (y ∷ put x l) (x ∷ y ∷ l))
+    go : (b : Bool) → lt y x ≡ b → Pairwise Up (inserted x l) → Pairwise Up (cond b (y ∷ inserted x l) (x ∷ y ∷ l))
     go true e g = first (put-all x l (lt→le y x (rw e tt)) p) g
     go false e g = let q = nlt→le y x Y X (rw e tt) in first (more q (all-map (λ z r. le-trans x y z q r) p)) (first p h)
 
@@ -30,22 +30,22 @@ sorted-pairs [] none = empty
 sorted-pairs (x ∷ l) (more X L) = put-pairs x (sorted l) X (sorted-all l L) (sorted-pairs l L)
 
 -- x before what is not below it
-put-first : (x : Float) (l : List Float) → All (Up x) l → put x l ≡ x ∷ l
-unfolding put
+put-first : (x : Float) (l : List Float) → All (Up x) l → inserted x l ≡ x ∷ l
+unfolding inserted
 put-first x [] none = refl
 put-first x (y ∷ l) (more p h) = rw (is-false (lt y x) (λ q. lt→nle y x q p))
 
 pub sorted-same : (l : List Float) → Pairwise Up l → sorted l ≡ l
 unfolding sorted
 sorted-same [] empty = refl
-sorted-same (x ∷ l) (first p h) = ap (put x) (sorted-same l h) ∙ put-first x l p
+sorted-same (x ∷ l) (first p h) = ap (inserted x) (sorted-same l h) ∙ put-first x l p
 
-pub put-length : (x : Float) (l : List Float) → length (put x l) ≡ suc (length l)
-unfolding put
+pub put-length : (x : Float) (l : List Float) → length (inserted x l) ≡ suc (length l)
+unfolding inserted
 put-length x [] = refl
 put-length x (y ∷ l) = go (lt y x) (put-length x l)
   where
-    go : (b : Bool) → length (put x l) ≡ suc (length l) → length (cond b (y ∷ put x l) (x ∷ y ∷ l)) ≡ suc (suc (length l))
+    go : (b : Bool) → length (inserted x l) ≡ suc (length l) → length (cond b (y ∷ inserted x l) (x ∷ y ∷ l)) ≡ suc (suc (length l))
     go true h = ap suc h
     go false h = refl
 

@@ -8,7 +8,7 @@ use native.Mathlib.Omega.{arith}
 use lib.ListN.{length, getD, take, drop, set, length-set, take-append-drop, drop-of-length-le}
 use lib.Seq.{take-suc-set, take-suc, take-length, drop-set-lt, drop-cons, append-snoc}
 use lib.Ieee.{Float, nan, lt}
-use Rattle.knots_sort.specs.Merge.{inOrder, merged}
+use Rattle.knots_sort.specs.Merge.{inOrder, mergedRuns}
 use Rattle.knots_sort.proofs.Merged.{merged-right, merged-left, merged-nil}
 use Rattle.knots_sort.proofs.Sorted.{order-below, order-next, order-one}
 
@@ -18,18 +18,18 @@ pub record Merging (l a₀ a : List Float) (i j k : ℕ) : Type 0 where
   pub second-read : j ≤ length a₀
   pub stored : i + j ≡ length l + k
   pub same-length : length a ≡ length a₀
-  pub whole : take k a ++ merged (drop i l) (drop j a) ≡ merged l (drop (length l) a₀)
+  pub whole : take k a ++ mergedRuns (drop i l) (drop j a) ≡ mergedRuns l (drop (length l) a₀)
 
 pub merging-start : (l a : List Float) → length l ≤ length a → Merging l a a 0 (length l) 0
 merging-start l a h = record { first-read = omega arith; second-read = h; stored = omega arith; same-length = refl; whole = refl }
 
 -- v stored at k, below what is left
-moved : (a m : List Float) (j k : ℕ) (v : Float) → k < length a → k < j → take (k + 1) (set a k v) ++ merged m (drop j (set a k v)) ≡ take k a ++ v ∷ merged m (drop j a)
+moved : (a m : List Float) (j k : ℕ) (v : Float) → k < length a → k < j → take (k + 1) (set a k v) ++ mergedRuns m (drop j (set a k v)) ≡ take k a ++ v ∷ mergedRuns m (drop j a)
 moved a m j k v h g =
-    ap (λ (n : ℕ). take n (set a k v) ++ merged m (drop j (set a k v))) (add-one k)
-    ∙ ap (λ (t : List Float). t ++ merged m (drop j (set a k v))) (take-suc-set a k v h)
-    ∙ ap (λ (t : List Float). (take k a ++ (v ∷ [])) ++ merged m t) (drop-set-lt j a k v g)
-    ∙ append-snoc (take k a) v (merged m (drop j a))
+    ap (λ (n : ℕ). take n (set a k v) ++ mergedRuns m (drop j (set a k v))) (add-one k)
+    ∙ ap (λ (t : List Float). t ++ mergedRuns m (drop j (set a k v))) (take-suc-set a k v h)
+    ∙ ap (λ (t : List Float). (take k a ++ (v ∷ [])) ++ mergedRuns m t) (drop-set-lt j a k v g)
+    ∙ append-snoc (take k a) v (mergedRuns m (drop j a))
 
 module _ (l a₀ a : List Float) (i j k : ℕ) (s : Merging l a₀ a i j k) (p : i < length l) where
   front : drop i l ≡ getD l i nan ∷ drop (i + 1) l
@@ -47,14 +47,14 @@ module _ (l a₀ a : List Float) (i j k : ℕ) (s : Merging l a₀ a i j k) (p :
       same-length = length-set a k (getD a j nan) ∙ s .same-length;
       whole =
           moved a (drop i l) (j + 1) k (getD a j nan) (omega (arith, s .stored, s .same-length)) (omega (arith, s .stored))
-          ∙ ap (λ (t : List Float). take k a ++ t) (step ∙ sym (ap (merged (drop i l)) back)) ∙ s .whole;
+          ∙ ap (λ (t : List Float). take k a ++ t) (step ∙ sym (ap (mergedRuns (drop i l)) back)) ∙ s .whole;
     }
       where
-        step : getD a j nan ∷ merged (drop i l) (drop (j + 1) a) ≡ merged (drop i l) (getD a j nan ∷ drop (j + 1) a)
+        step : getD a j nan ∷ mergedRuns (drop i l) (drop (j + 1) a) ≡ mergedRuns (drop i l) (getD a j nan ∷ drop (j + 1) a)
         step =
-            ap (λ (t : List Float). getD a j nan ∷ merged t (drop (j + 1) a)) front
+            ap (λ (t : List Float). getD a j nan ∷ mergedRuns t (drop (j + 1) a)) front
             ∙ sym (merged-right (getD l i nan) (drop (i + 1) l) (getD a j nan) (drop (j + 1) a) h)
-            ∙ sym (ap (λ (t : List Float). merged t (getD a j nan ∷ drop (j + 1) a)) front)
+            ∙ sym (ap (λ (t : List Float). mergedRuns t (getD a j nan ∷ drop (j + 1) a)) front)
 
     pub merging-left : lt (getD a j nan) (getD l i nan) ≡ false → Merging l a₀ (set a k (getD l i nan)) (i + 1) j (k + 1)
     merging-left h = record {
@@ -64,14 +64,14 @@ module _ (l a₀ a : List Float) (i j k : ℕ) (s : Merging l a₀ a i j k) (p :
       same-length = length-set a k (getD l i nan) ∙ s .same-length;
       whole =
           moved a (drop (i + 1) l) j k (getD l i nan) (omega (arith, s .stored, s .same-length)) (omega (arith, s .stored))
-          ∙ ap (λ (t : List Float). take k a ++ t) (step ∙ sym (ap (λ (t : List Float). merged t (drop j a)) front)) ∙ s .whole;
+          ∙ ap (λ (t : List Float). take k a ++ t) (step ∙ sym (ap (λ (t : List Float). mergedRuns t (drop j a)) front)) ∙ s .whole;
     }
       where
-        step : getD l i nan ∷ merged (drop (i + 1) l) (drop j a) ≡ merged (getD l i nan ∷ drop (i + 1) l) (drop j a)
+        step : getD l i nan ∷ mergedRuns (drop (i + 1) l) (drop j a) ≡ mergedRuns (getD l i nan ∷ drop (i + 1) l) (drop j a)
         step =
-            ap (λ (t : List Float). getD l i nan ∷ merged (drop (i + 1) l) t) back
+            ap (λ (t : List Float). getD l i nan ∷ mergedRuns (drop (i + 1) l) t) back
             ∙ sym (merged-left (getD l i nan) (drop (i + 1) l) (getD a j nan) (drop (j + 1) a) h)
-            ∙ sym (ap (merged (getD l i nan ∷ drop (i + 1) l)) back)
+            ∙ sym (ap (mergedRuns (getD l i nan ∷ drop (i + 1) l)) back)
 
   pub merging-rest : length a₀ ≤ j → Merging l a₀ (set a k (getD l i nan)) (i + 1) j (k + 1)
   merging-rest q = record {
@@ -81,30 +81,30 @@ module _ (l a₀ a : List Float) (i j k : ℕ) (s : Merging l a₀ a i j k) (p :
     same-length = length-set a k (getD l i nan) ∙ s .same-length;
     whole =
         moved a (drop (i + 1) l) j k (getD l i nan) (omega (arith, s .stored, s .same-length, s .second-read)) (omega (arith, s .stored))
-        ∙ ap (λ (t : List Float). take k a ++ t) (step ∙ sym (ap (λ (t : List Float). merged t (drop j a)) front)) ∙ s .whole;
+        ∙ ap (λ (t : List Float). take k a ++ t) (step ∙ sym (ap (λ (t : List Float). mergedRuns t (drop j a)) front)) ∙ s .whole;
   }
     where
       none-left : drop j a ≡ []
       none-left = drop-of-length-le a {i = j} (omega (arith, s .same-length))
 
-      step : getD l i nan ∷ merged (drop (i + 1) l) (drop j a) ≡ merged (getD l i nan ∷ drop (i + 1) l) (drop j a)
+      step : getD l i nan ∷ mergedRuns (drop (i + 1) l) (drop j a) ≡ mergedRuns (getD l i nan ∷ drop (i + 1) l) (drop j a)
       step =
-          ap (λ (t : List Float). getD l i nan ∷ merged (drop (i + 1) l) t) none-left
+          ap (λ (t : List Float). getD l i nan ∷ mergedRuns (drop (i + 1) l) t) none-left
           ∙ ap (λ (t : List Float). getD l i nan ∷ t) (merged-nil (drop (i + 1) l))
           ∙ sym (merged-nil (getD l i nan ∷ drop (i + 1) l))
-          ∙ sym (ap (merged (getD l i nan ∷ drop (i + 1) l)) none-left)
+          ∙ sym (ap (mergedRuns (getD l i nan ∷ drop (i + 1) l)) none-left)
 
-merged-none : (k : List Float) → merged [] k ≡ k
-unfolding merged
+merged-none : (k : List Float) → mergedRuns [] k ≡ k
+unfolding mergedRuns
 merged-none k = refl
 
-pub merging-done : (l a₀ a : List Float) (i j k : ℕ) → Merging l a₀ a i j k → length l ≤ i → a ≡ merged l (drop (length l) a₀)
+pub merging-done : (l a₀ a : List Float) (i j k : ℕ) → Merging l a₀ a i j k → length l ≤ i → a ≡ mergedRuns l (drop (length l) a₀)
 merging-done l a₀ a i j k s h =
     let e : j ≡ k = omega (arith, s .first-read, s .stored) in
     let n : drop i l ≡ [] = drop-of-length-le l {i = i} h in
     sym (take-append-drop k a)
     ∙ ap (λ (m : ℕ). take k a ++ drop m a) (sym e)
-    ∙ ap (λ (t : List Float). take k a ++ t) (sym (merged-none (drop j a)) ∙ ap (λ (t : List Float). merged t (drop j a)) (sym n))
+    ∙ ap (λ (t : List Float). take k a ++ t) (sym (merged-none (drop j a)) ∙ ap (λ (t : List Float). mergedRuns t (drop j a)) (sym n))
     ∙ s .whole
 
 -- ---- the loop of `copy`

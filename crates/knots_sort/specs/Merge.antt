@@ -20,10 +20,10 @@ before x f [] = x ∷ f []
 before x f (y ∷ k) = cond (lt y x) (y ∷ before x f k) (x ∷ f (y ∷ k))
 
 -- two lists merged: of equals the first list's comes first
-unfoldable pub merged : List Float → List Float → List Float
+unfoldable pub mergedRuns : List Float → List Float → List Float
 unfolding before
-merged [] k = k
-merged (x ∷ l) k = before x (merged l) k
+mergedRuns [] k = k
+mergedRuns (x ∷ l) k = before x (mergedRuns l) k
 
 -- the first m of a and the others are in order, neither is empty, and the first m fit the scratch
 pub record Halves (a scratch : List Float) (m : ℕ) : Type 0 where

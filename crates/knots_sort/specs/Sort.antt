@@ -6,14 +6,14 @@ use lib.Ieee.{Float, lt}
 use Rattle.arith_order.specs.Number.{number}
 
 -- x put before the first that is not below it
-unfoldable pub put : Float → List Float → List Float
-put x [] = x ∷ []
-put x (y ∷ l) = cond (lt y x) (y ∷ put x l) (x ∷ y ∷ l)
+unfoldable pub inserted : Float → List Float → List Float
+inserted x [] = x ∷ []
+inserted x (y ∷ l) = cond (lt y x) (y ∷ inserted x l) (x ∷ y ∷ l)
 
 -- sort_by(partial_cmp): each float is put before its equals of the rest, which came after it
 unfoldable pub sorted : List Float → List Float
 sorted [] = []
-sorted (x ∷ l) = put x (sorted l)
+sorted (x ∷ l) = inserted x (sorted l)
 
 -- not a NaN
 abbrev pub Number : Float → Type 0

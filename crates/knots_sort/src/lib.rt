@@ -4,12 +4,12 @@ ghost use Prim.Native.Nat.{_/_, _≤_};
 ghost use lib.ListN.{length, drop, take};
 ghost use Rattle.base_lists.specs.Sub.{All};
 ghost use Rattle.knots_sort.specs.Sort.{sorted, Number};
-ghost use Rattle.knots_sort.specs.Merge.{inOrder, merged, Halves};
+ghost use Rattle.knots_sort.specs.Merge.{inOrder, mergedRuns, Halves};
 
 // The list left merged with what stands behind its length in a, into a from its start.
 fn merge(left: &[f64], a: &mut [f64])
     requires { ⌜ length (now left) ≤ length (now a) ⌝ }
-    ensures { λ _. ⌜ now (a .exit) ≡ merged (now (left .entry)) (drop (length (now (left .entry))) (now (a .entry))) ⌝ }
+    ensures { λ _. ⌜ now (a .exit) ≡ mergedRuns (now (left .entry)) (drop (length (now (left .entry))) (now (a .entry))) ⌝ }
 {
     let m = left.len();
     let n = a.len();
@@ -52,7 +52,7 @@ fn copy(from: &[f64], to: &mut [f64])
 // Merges the first m of a, and the others, both in order. Halves that stand in order are not moved.
 fn join(a: &mut [f64], scratch: &mut [f64], m: usize)
     requires { ⌜ Halves (now a) (now scratch) m ⌝ }
-    ensures { λ _. ⌜ now (a .exit) ≡ merged (take m (now (a .entry))) (drop m (now (a .entry))) ⌝ }
+    ensures { λ _. ⌜ now (a .exit) ≡ mergedRuns (take m (now (a .entry))) (drop m (now (a .entry))) ⌝ }
 {
     let last = a[m - 1];
     let next = a[m];

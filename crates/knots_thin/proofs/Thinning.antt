@@ -10,7 +10,7 @@ use lib.Ieee.{Float, nan, lt, binary64, ofBits}
 use Rattle.arith.specs.Notation.{nought}
 use Rattle.base_lists.specs.Room.{filled}
 use Rattle.base_lists.proofs.Filtering.{Filtering, filtering-start, filtering-rest, filtering-skip, filtering-keep, filtering-done}
-use Rattle.knots_inside.specs.Thinned.{nextOf, thinned, thinBreaks}
+use Rattle.knots_inside.specs.Thinned.{nextOf, thinnedFrom, thinBreaks}
 
 -- ---- next_of
 pub next-some : (hi : Float) (l : List Float) (i : ℕ) → i + 1 < length l → getD l (i + 1) nan ≡ nextOf hi (drop (i + 1) l)
@@ -23,15 +23,15 @@ next-none hi l i h = sym (ap (nextOf hi) (drop-of-length-le l {i = i + 1} h))
 module _ (deviation : Float → Float → Float) (sag hi lo : Float) where
   pub record Thinning (a₀ a : List Float) (start : Float) (k i : ℕ) : Type 0 where
     pub small : length a₀ * 8 < 2 ^ 63
-    pub filtering : Filtering (thinned deviation sag hi lo a₀) a₀ a (thinned deviation sag hi start) k i
+    pub filtering : Filtering (thinnedFrom deviation sag hi lo a₀) a₀ a (thinnedFrom deviation sag hi start) k i
 
   pub thinning-start : (a : List Float) → length a * 8 < 2 ^ 63 → Thinning a a lo 0 0
-  thinning-start a h = record { small = h; filtering = filtering-start a (thinned deviation sag hi lo) }
+  thinning-start a h = record { small = h; filtering = filtering-start a (thinnedFrom deviation sag hi lo) }
 
   thinned-is : (start b : Float) (bs : List Float) (v : Bool) → lt sag (deviation start (nextOf hi bs)) ≡ v
-      → thinned deviation sag hi start (b ∷ bs) ≡ elim v [ true ↦ b ∷ thinned deviation sag hi b bs | false ↦ thinned deviation sag hi start bs ]
-  unfolding thinned
-  thinned-is start b bs v h = ap (λ (v : Bool). elim v [ true ↦ b ∷ thinned deviation sag hi b bs | false ↦ thinned deviation sag hi start bs ]) h
+      → thinnedFrom deviation sag hi start (b ∷ bs) ≡ elim v [ true ↦ b ∷ thinnedFrom deviation sag hi b bs | false ↦ thinnedFrom deviation sag hi start bs ]
+  unfolding thinnedFrom
+  thinned-is start b bs v h = ap (λ (v : Bool). elim v [ true ↦ b ∷ thinnedFrom deviation sag hi b bs | false ↦ thinnedFrom deviation sag hi start bs ]) h
 
   module _ {a₀ a : List Float} {start : Float} {k i : ℕ} (s : Thinning a₀ a start k i) (p : i < length a₀) (next d : Float)
       (is : next ≡ nextOf hi (drop (i + 1) a)) (of : d ≡ deviation start next) where
@@ -41,15 +41,15 @@ module _ (deviation : Float → Float → Float) (sag hi lo : Float) where
     pub thinning-keep : lt sag d ≡ true → Thinning a₀ (set a k (getD a i nan)) (getD a i nan) (k + 1) (i + 1)
     thinning-keep h = record {
       small = s .small;
-      filtering = filtering-keep nan (s .filtering) p (thinned deviation sag hi (getD a i nan)) (thinned-is start (getD a i nan) (drop (i + 1) a₀) true (tested true h));
+      filtering = filtering-keep nan (s .filtering) p (thinnedFrom deviation sag hi (getD a i nan)) (thinned-is start (getD a i nan) (drop (i + 1) a₀) true (tested true h));
     }
 
     pub thinning-skip : lt sag d ≡ false → Thinning a₀ a start k (i + 1)
     thinning-skip h = record { small = s .small; filtering = filtering-skip nan (s .filtering) p (thinned-is start (getD a i nan) (drop (i + 1) a₀) false (tested false h)) }
 
   module _ {a₀ a : List Float} {start : Float} {k i : ℕ} (s : Thinning a₀ a start k i) (h : length a₀ ≤ i) where
-    done : (k ≤ length a₀) × (take k a ≡ thinned deviation sag hi lo a₀)
-    unfolding thinned
+    done : (k ≤ length a₀) × (take k a ≡ thinnedFrom deviation sag hi lo a₀)
+    unfolding thinnedFrom
     done = filtering-done (s .filtering) refl h
 
     pub thinning-room : k ≤ length a
@@ -60,13 +60,13 @@ module _ (deviation : Float → Float → Float) (sag hi lo : Float) where
         → (k ≡ length (thinBreaks a₀ lo hi sag deviation)) × (cleared ≡ filled (length a₀) (thinBreaks a₀ lo hi sag deviation))
     unfolding thinBreaks
     thinning-done t cleared e =
-        let w : thinBreaks a₀ lo hi sag deviation ≡ thinned deviation sag hi lo a₀ = ap (λ (v : Bool). elim v [ true ↦ thinned deviation sag hi lo a₀ | false ↦ a₀ ]) t in
+        let w : thinBreaks a₀ lo hi sag deviation ≡ thinnedFrom deviation sag hi lo a₀ = ap (λ (v : Bool). elim v [ true ↦ thinnedFrom deviation sag hi lo a₀ | false ↦ a₀ ]) t in
         let g = done .1 ∙ sym w in
         (sym (length-take-le k a thinning-room) ∙ ap length g, e ∙ ap (λ (n : ℕ). filled n (take k a)) (s .filtering .same-length) ∙ ap (filled (length a₀)) g)
 
   pub all-kept : (a : List Float) → lt nought sag ≡ false → (length a ≡ length (thinBreaks a lo hi sag deviation)) × (a ≡ filled (length a) (thinBreaks a lo hi sag deviation))
   unfolding thinBreaks
   all-kept a t =
-      let w : a ≡ thinBreaks a lo hi sag deviation = sym (ap (λ (v : Bool). elim v [ true ↦ thinned deviation sag hi lo a | false ↦ a ]) t) in
+      let w : a ≡ thinBreaks a lo hi sag deviation = sym (ap (λ (v : Bool). elim v [ true ↦ thinnedFrom deviation sag hi lo a | false ↦ a ]) t) in
       let z : 0 ≡ length a - length a = omega arith in
       (ap length w, sym (append-nil a) ∙ ap (λ (n : ℕ). a ++ replicate n (ofBits binary64 0)) z ∙ ap (filled (length a)) w)

@@ -7,7 +7,7 @@ use Rattle.brep.specs.Tree.{CurveTree}
 use Rattle.curve.specs.Eval.{pointAt}
 use Rattle.knots.specs.declared.Knots.{Knots}
 use Rattle.knots.specs.Knots.{curveBreaks, deviation}
-use Rattle.knots.specs.Gathered.{answerOf, leftOf}
+use Rattle.knots.specs.Gathered.{knotsCounted, leftOf}
 
 -- deviation(&|t| curve.point_at(t), a, b)
 abbrev pub curveDeviation : CurveTree → Float → Float → Float
@@ -23,7 +23,7 @@ keptBreaks curve lo hi sag = curveThinned curve (curveBreaks curve lo hi) lo hi 
 
 -- how many, and what the buffer then holds, by whether the curve's knots fit it
 abbrev pub keptAnswer : ℕ → CurveTree → Float → Float → Float → Knots
-keptAnswer room curve lo hi sag = answerOf room curve (keptBreaks curve lo hi sag)
+keptAnswer room curve lo hi sag = knotsCounted room curve (keptBreaks curve lo hi sag)
 
 abbrev pub keptLeft : List Float → CurveTree → Float → Float → Float → List Float
 keptLeft buffer curve lo hi sag = leftOf buffer curve (keptBreaks curve lo hi sag)

@@ -60,12 +60,12 @@ abbrev pub leastPositive : Float
 leastPositive = bits 0x0010000000000000
 
 -- the deflection, or that times the scale where it is relative and there is a scale
-abbrev pub distance : Options → Float
-distance o = cond (isRelative o && hasScale o) (o .deflection ⊗ o .scale) (o .deflection)
+abbrev pub absoluteDeflection : Options → Float
+absoluteDeflection o = cond (isRelative o && hasScale o) (o .deflection ⊗ o .scale) (o .deflection)
 
 -- the sag of the whole model
 unfoldable pub resolvedSag : Options → Float
-resolvedSag o = maxOf (distance o) leastPositive
+resolvedSag o = maxOf (absoluteDeflection o) leastPositive
 
 -- the scale, or 0 for none
 unfoldable pub resolvedModel : Options → Float

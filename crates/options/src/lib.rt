@@ -2,7 +2,7 @@
 ghost use mathlib.Core.Path.{_≡_};
 ghost use Prim.Native.Nat.{min, max};
 ghost use Rattle.options.specs.Options.{radians, degrees, isClamped, preset, defaultOptions, draftOptions, fineOptions};
-ghost use Rattle.options.specs.Options.{hasScale, distance, resolvedModel, resolvedRelative, resolve};
+ghost use Rattle.options.specs.Options.{hasScale, absoluteDeflection, resolvedModel, resolvedRelative, resolve};
 ghost use Rattle.options.specs.Options.{isRelativeTo, sagFor, forExtent, stepBySag, angleStep, segmentsForArc};
 
 const MIN_POSITIVE: f64 = 2.2250738585072014e-308;
@@ -110,7 +110,7 @@ impl Options {
 
     // Without a scale the deflection stands as it is.
     fn distance(self) -> f64
-        ensures { λ r. ⌜ r ≡ distance self ⌝ }
+        ensures { λ r. ⌜ r ≡ absoluteDeflection self ⌝ }
     {
         if self.relative != 0 && self.has_scale() {
             self.deflection * self.scale

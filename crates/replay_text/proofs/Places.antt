@@ -13,7 +13,7 @@ use lib.Seq.{drop-cons}
 use native.Mathlib.Numerals.{add-one, unary-clauses}
 use Rattle.text_format.specs.Format.{charOf, digits, widthUpTo}
 use Rattle.text_format.proofs.Digits.{first-small, width, width-is}
-use Rattle.replay_text.specs.Waiting.{Waiting, put, puts}
+use Rattle.replay_text.specs.Waiting.{Waiting, putOne, puts}
 
 module _ (base : ℕ) (some : 1 < base) where
   -- the first of i digits, where u is what it counts
@@ -47,10 +47,10 @@ module _ (base : ℕ) (some : 1 < base) where
 pub puts-both : (l m : List ℕ) (w : Waiting) → puts (l ++ m) w ≡ puts m (puts l w)
 unfolding puts
 puts-both [] m w = refl
-puts-both (b ∷ l) m w = puts-both l m (put b w)
+puts-both (b ∷ l) m w = puts-both l m (putOne b w)
 
 -- the byte at i, then those behind it
-pub puts-from : (l : List ℕ) (i : ℕ) (w : Waiting) → i < length l → puts (drop i l) w ≡ puts (drop (i + 1) l) (put (getD l i 0) w)
+pub puts-from : (l : List ℕ) (i : ℕ) (w : Waiting) → i < length l → puts (drop i l) w ≡ puts (drop (i + 1) l) (putOne (getD l i 0) w)
 unfolding puts
 puts-from l i w h = rw (add-one, drop-cons l i 0)
 
@@ -91,6 +91,6 @@ fits-width n d h e =
     (omega arith, rw q (w .below))
 
 -- ---- a byte behind others
-pub puts-then : (l : List ℕ) (b : ℕ) (v w x : Waiting) → w ≡ puts l v → x ≡ put b w → x ≡ puts (l ++ (b ∷ [])) v
+pub puts-then : (l : List ℕ) (b : ℕ) (v w x : Waiting) → w ≡ puts l v → x ≡ putOne b w → x ≡ puts (l ++ (b ∷ [])) v
 unfolding puts
-puts-then l b v w x e f = f ∙ ap (put b) e ∙ sym (puts-both l (b ∷ []) v)
+puts-then l b v w x e f = f ∙ ap (putOne b) e ∙ sym (puts-both l (b ∷ []) v)

@@ -5,12 +5,12 @@ ghost use mathlib.Core.List.{[], _∷_, _++_};
 ghost use Prim.Native.Nat.{_-_, _^_, _≤_, _<_};
 ghost use lib.Ieee.{binary64, toBits};
 ghost use Rattle.text_format.specs.Format.{digits, decimal, widthUpTo, hex16};
-ghost use Rattle.replay_text.specs.Waiting.{waits, put, puts};
+ghost use Rattle.replay_text.specs.Waiting.{waits, putOne, puts};
 use libc::STDOUT_FILENO;
 
 // One byte.
 pub fn put(out: &mut [u8; 4096], at: usize, b: u8) -> usize
-    ensures { λ r. ⌜ waits (now (out .exit)) r ≡ put b (waits (now (out .entry)) at) ⌝ }
+    ensures { λ r. ⌜ waits (now (out .exit)) r ≡ putOne b (waits (now (out .entry)) at) ⌝ }
 {
     if at < 4096 {
         out[at] = b;

@@ -14,8 +14,8 @@ use Rattle.text_format.proofs.Tables.{Good}
 use Rattle.sheet_layout.specs.Layout.{RawSheet, pointColumns, curveColumns, segmentColumns, sheet, size, readSheet, Follows}
 use Rattle.sheet_layout.specs.Letters.{padded}
 use Rattle.sheet_layout.proofs.Laws.{points-good, curves-good, segments-good, layout-read}
-use Rattle.sheet_row.specs.Rows.{isFloat, edgeOf, optionsOf}
-use Rattle.sheet_tables.specs.Room.{least, countOf}
+use Rattle.sheet_row.specs.Rows.{isFloat, rawEdgeOf, rawOptionsOf}
+use Rattle.sheet_tables.specs.Room.{least, columnCount}
 use Rattle.sheet_tables.proofs.Valid.{line-long}
 use Rattle.sheet_tables.proofs.Fits.{wholes-length, floats-length}
 use Rattle.brep.specs.Rows.{Tables, tables}
@@ -60,7 +60,7 @@ first-part n k z l e = take-at l (replicate (n - length l) z) k e
 
 pub leading-is : (text : List ℕ) (raw : RawSheet) → Follows text raw
     → leading (length (raw .points)) (length (raw .curves)) (length (raw .segments)) (stored (tablesOf raw)) ≡ tablesOf raw
-unfolding leading stored tablesOf sheet as-of _then_ _before_ lines fields isFloat countOf
+unfolding leading stored tablesOf sheet as-of _then_ _before_ lines fields isFloat columnCount
 leading-is text raw f =
     let p = floats-length (fields pointColumns) (raw .points) (f .valid .0 .0) in
     let c = wholes-length (fields curveColumns) (raw .curves) (f .valid .0 .1 .0) in
@@ -79,10 +79,10 @@ pub record SheetRead (text : List ℕ) (n m k : ℕ) (e : Edge) (o : Options) (l
   pub curves-few : m ≤ 1638
   pub segments-few : k ≤ 1724
   pub tables-are : leading n m k t ≡ tablesOf raw
-  pub edge-is : e ≡ edgeFrom (edgeOf (raw .edge))
-  pub options-is : o ≡ optionsFrom (optionsOf (raw .options))
-  pub lo-is : lo ≡ edgeOf (raw .edge) .lo
-  pub hi-is : hi ≡ edgeOf (raw .edge) .hi
+  pub edge-is : e ≡ edgeFrom (rawEdgeOf (raw .edge))
+  pub options-is : o ≡ optionsFrom (rawOptionsOf (raw .options))
+  pub lo-is : lo ≡ rawEdgeOf (raw .edge) .lo
+  pub hi-is : hi ≡ rawEdgeOf (raw .edge) .hi
 
 module _ (text : List ℕ) where
   pub sheet-read : (n m k : ℕ) (e : Edge) (o : Options) (lo hi : ℕ) (t : Tables) → Read n m k e o lo hi ≡ answer (readSheet text)

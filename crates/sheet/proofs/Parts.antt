@@ -11,14 +11,14 @@ use borrow.Author.Tests.{le-leb, lt-leb}
 use Rattle.base_lists.specs.Result.{Result, refused, got as accepted}
 use Rattle.text_format.specs.Format.{Parsed, bad, got, _then_, all, whole}
 use Rattle.text_format.specs.Table.{fields, table}
-use Rattle.sheet_layout.specs.Layout.{RawSheet, pointColumns, curveColumns, segmentColumns, tables, ends, sheet, size, readSheet}
+use Rattle.sheet_layout.specs.Layout.{RawSheet, pointColumns, curveColumns, segmentColumns, tablesFormat, ends, sheet, size, readSheet}
 use Rattle.sheet_layout.specs.Letters.{padded}
 use Rattle.sheet_layout.proofs.Laws.{tables-law, ends-law}
-use Rattle.sheet_row.specs.Rows.{floatsOf, wholesOf, edgeOf, optionsOf}
+use Rattle.sheet_row.specs.Rows.{floatsOf, wholesOf, rawEdgeOf, rawOptionsOf}
 use Rattle.sheet_row.specs.declared.RawEdge.{RawEdge}
 use Rattle.sheet_row.specs.declared.RawOptions.{RawOptions}
 use Rattle.text_format.proofs.Place.{Read, placed, then-bad, then-bad-on, then-read, as-bad, as-read}
-use Rattle.sheet_tables.specs.Told.{flat, numbersOf}
+use Rattle.sheet_tables.specs.Told.{flattened, numbersOf}
 use Rattle.sheet_tables.proofs.Stores.{numbers-got}
 use Rattle.sheet_tables.proofs.Fits.{zeros-padded}
 use Rattle.sheet_edge.specs.Told.{toldEnds}
@@ -26,8 +26,8 @@ use Rattle.sheet_edge.specs.declared.Last.the-variants.{Pair, NoPair}
 use Rattle.brep.specs.Rows.{Tables, tables as tables-of}
 use Rattle.brep.specs.declared.Edge.{Edge}
 use Rattle.options.specs.declared.Options.{Options}
-use Rattle.sheet.specs.Sheet.{floatOf, edgeFrom, optionsFrom, answer, tablesOf, none, stored, left}
-use Rattle.sheet.specs.Told.{Three, toldTables, onlyTables, Held, Kept}
+use Rattle.sheet.specs.Sheet.{floatOf, edgeFrom, optionsFrom, answer, tablesOf, noTables, stored, left}
+use Rattle.sheet.specs.Told.{Three, toldTables, onlyTables, TablesStored, Kept}
 use Rattle.sheet.specs.declared.Sheet.the-variants.{Read as ReadSheet, Refused}
 use Rattle.sheet.specs.declared.Counted.the-variants.{Counts, NoTables}
 
@@ -51,31 +51,31 @@ module _ (s : List ℕ) (q : Parsed Three) where
       let same : Counts n m k p ≡ Counts (length a) (length b) (length c) (length s - length (drop p s)) = cc in
       same ∙ ap (toldTables s) (sym (r .is))
 
-  pub held-bad : (new : Tables) → q ≡ bad → Held q new
-  unfolding Held
-  held-bad new e = rw (e, Held) tt
+  pub held-bad : (new : Tables) → q ≡ bad → TablesStored q new
+  unfolding TablesStored
+  held-bad new e = rw (e, TablesStored) tt
 
-  pub held-got : (t : Three) (rest : List ℕ) (new : Tables) → q ≡ got t rest → new ≡ stored (tablesOf (onlyTables t)) → Held q new
-  unfolding Held
-  held-got t rest new e f = rw (e, Held) f
+  pub held-got : (t : Three) (rest : List ℕ) (new : Tables) → q ≡ got t rest → new ≡ stored (tablesOf (onlyTables t)) → TablesStored q new
+  unfolding TablesStored
+  held-got t rest new e f = rw (e, TablesStored) f
 
-  pub held-is : (t : Three) (rest : List ℕ) (new : Tables) → q ≡ got t rest → Held q new → new ≡ stored (tablesOf (onlyTables t))
-  unfolding Held
-  held-is t rest new e h = subst (λ z. Held z new) e h
+  pub held-is : (t : Three) (rest : List ℕ) (new : Tables) → q ≡ got t rest → TablesStored q new → new ≡ stored (tablesOf (onlyTables t))
+  unfolding TablesStored
+  held-is t rest new e h = subst (λ z. TablesStored z new) e h
 
 pub stored-is : (a b c : List (List ℕ)) (points : List Float) (curves : List ℕ) (reals : List Float) (parts : List ℕ) (ranges : List Float)
-    → points ≡ padded 3855 (floatOf 0) (flat (floatsOf (fields pointColumns)) a)
-    → curves ≡ padded 4914 0 (flat (wholesOf (fields curveColumns)) b)
-    → reals ≡ padded 3276 (floatOf 0) (flat (floatsOf (fields curveColumns)) b)
-    → parts ≡ padded 3448 0 (flat (wholesOf (fields segmentColumns)) c)
-    → ranges ≡ padded 3448 (floatOf 0) (flat (floatsOf (fields segmentColumns)) c)
+    → points ≡ padded 3855 (floatOf 0) (flattened (floatsOf (fields pointColumns)) a)
+    → curves ≡ padded 4914 0 (flattened (wholesOf (fields curveColumns)) b)
+    → reals ≡ padded 3276 (floatOf 0) (flattened (floatsOf (fields curveColumns)) b)
+    → parts ≡ padded 3448 0 (flattened (wholesOf (fields segmentColumns)) c)
+    → ranges ≡ padded 3448 (floatOf 0) (flattened (floatsOf (fields segmentColumns)) c)
     → tables-of points curves reals parts ranges ≡ stored (tablesOf (onlyTables (a, (b, c))))
 unfolding stored tablesOf
 stored-is a b c points curves reals parts ranges d e f g h = rw (d, e, f, g, h)
 
 pub cleared : (points : List Float) (curves : List ℕ) (reals : List Float) (parts : List ℕ) (ranges : List Float)
     → points ≡ replicate 3855 (floatOf 0) → curves ≡ replicate 4914 0 → reals ≡ replicate 3276 (floatOf 0) → parts ≡ replicate 3448 0
-    → ranges ≡ replicate 3448 (floatOf 0) → tables-of points curves reals parts ranges ≡ stored none
+    → ranges ≡ replicate 3448 (floatOf 0) → tables-of points curves reals parts ranges ≡ stored noTables
 unfolding stored
 cleared points curves reals parts ranges d e f g h =
     rw (d ∙ zeros-padded (floatOf 0) 3855, e ∙ zeros-padded 0 4914, f ∙ zeros-padded (floatOf 0) 3276, g ∙ zeros-padded 0 3448, h ∙ zeros-padded (floatOf 0) 3448)
@@ -88,14 +88,14 @@ pub record TablesRead (s : List ℕ) (n m k p : ℕ) : Type 0 where
   pub point-count : n ≡ length points
   pub curve-count : m ≡ length curves
   pub segment-count : k ≡ length segments
-  pub is : Read s (tables .read s) (points, (curves, segments)) p
+  pub is : Read s (tablesFormat .read s) (points, (curves, segments)) p
 
 module _ (s : List ℕ) where
-  pub read-tables : (n m k p : ℕ) → Counts n m k p ≡ toldTables s (tables .read s) → TablesRead s n m k p
+  pub read-tables : (n m k p : ℕ) → Counts n m k p ≡ toldTables s (tablesFormat .read s) → TablesRead s n m k p
   unfolding toldTables
-  read-tables n m k p e = go (tables .read s) refl e
+  read-tables n m k p e = go (tablesFormat .read s) refl e
     where
-      go : (q : Parsed Three) → tables .read s ≡ q → Counts n m k p ≡ toldTables s q → TablesRead s n m k p
+      go : (q : Parsed Three) → tablesFormat .read s ≡ q → Counts n m k p ≡ toldTables s q → TablesRead s n m k p
       go bad f e = absurd (let z : _≡_ {A = ℕ} 0 1 = cc in omega arith)
       go (got t rest) f e =
           let j : p ≡ length s - length rest = cc in
@@ -106,12 +106,12 @@ module _ (s : List ℕ) where
             point-count = cc;
             curve-count = cc;
             segment-count = cc;
-            is = rw j (placed s tables tables-law 0 t rest (omega arith) f);
+            is = rw j (placed s tablesFormat tables-law 0 t rest (omega arith) f);
           }
 
-  pub read-no-tables : NoTables ≡ toldTables s (tables .read s) → tables .read s ≡ bad
+  pub read-no-tables : NoTables ≡ toldTables s (tablesFormat .read s) → tablesFormat .read s ≡ bad
   unfolding toldTables
-  read-no-tables e = go (tables .read s) e
+  read-no-tables e = go (tablesFormat .read s) e
     where
       go : (q : Parsed Three) → NoTables ≡ toldTables s q → q ≡ bad
       go bad e = refl
@@ -121,8 +121,8 @@ module _ (s : List ℕ) where
 pub record EndsRead (s : List ℕ) (at : ℕ) (e : RawEdge) (o : RawOptions) (p : ℕ) : Type 0 where
   pub edge : List ℕ
   pub options : List ℕ
-  pub edge-is : e ≡ edgeOf edge
-  pub options-is : o ≡ optionsOf options
+  pub edge-is : e ≡ rawEdgeOf edge
+  pub options-is : o ≡ rawOptionsOf options
   pub is : Read s (ends .read (drop at s)) (edge, options) p
 
 module _ (s : List ℕ) (at : ℕ) where
@@ -159,26 +159,26 @@ module _ (s : List ℕ) where
     unfolding readSheet whole all
     no-sheet e = rw (le-leb (length s) size fits, e)
 
-    pub no-tables : tables .read s ≡ bad → readSheet s ≡ refused 10
+    pub no-tables : tablesFormat .read s ≡ bad → readSheet s ≡ refused 10
     unfolding sheet
-    no-tables e = no-sheet (as-bad s (tables then ends) _ _ 0 (then-bad s tables ends 0 e))
+    no-tables e = no-sheet (as-bad s (tablesFormat then ends) _ _ 0 (then-bad s tablesFormat ends 0 e))
 
-    module _ (t : Three) (p : ℕ) (r : Read s (tables .read s) t p) where
+    module _ (t : Three) (p : ℕ) (r : Read s (tablesFormat .read s) t p) where
       pub no-ends : ends .read (drop p s) ≡ bad → readSheet s ≡ refused 10
       unfolding sheet
-      no-ends e = no-sheet (as-bad s (tables then ends) _ _ 0 (then-bad-on s tables ends 0 t p r e))
+      no-ends e = no-sheet (as-bad s (tablesFormat then ends) _ _ 0 (then-bad-on s tablesFormat ends 0 t p r e))
 
       module _ (edge options : List ℕ) (j : ℕ) (e : Read s (ends .read (drop p s)) (edge, options) j) where
         sheet-read : Read s (sheet .read s) (sheetOf t edge options) j
         unfolding sheet
-        sheet-read = as-read s (tables then ends) _ _ 0 (t, (edge, options)) j (then-read s tables ends 0 t p r (edge, options) j e)
+        sheet-read = as-read s (tablesFormat then ends) _ _ 0 (t, (edge, options)) j (then-read s tablesFormat ends 0 t p r (edge, options) j e)
 
         -- nothing is left of the text
         pub is-sheet : j ≡ length s → readSheet s ≡ accepted (sheetOf t edge options)
         unfolding readSheet whole all
         is-sheet l =
-            let none = drop-of-length-le s {i = j} (omega arith) in
-            rw (le-leb (length s) size fits, sheet-read .is, none)
+            let noTables = drop-of-length-le s {i = j} (omega arith) in
+            rw (le-leb (length s) size fits, sheet-read .is, noTables)
 
         -- something is left
         pub not-all : (j ≡ length s → ⊥) → readSheet s ≡ refused 10
@@ -195,8 +195,8 @@ module _ (r : Result RawSheet) where
   answer-no cause e = rw e
 
   pub answer-is : (t : Three) (edge options : List ℕ) (n m k : ℕ) (e : RawEdge) (o : RawOptions) (x : Edge) (y : Options)
-      → r ≡ accepted (sheetOf t edge options) → n ≡ length (t .0) → m ≡ length (t .1 .0) → k ≡ length (t .1 .1) → e ≡ edgeOf edge
-      → o ≡ optionsOf options → x ≡ edgeFrom e → y ≡ optionsFrom o → ReadSheet n m k x y (e .lo) (e .hi) ≡ answer r
+      → r ≡ accepted (sheetOf t edge options) → n ≡ length (t .0) → m ≡ length (t .1 .0) → k ≡ length (t .1 .1) → e ≡ rawEdgeOf edge
+      → o ≡ rawOptionsOf options → x ≡ edgeFrom e → y ≡ optionsFrom o → ReadSheet n m k x y (e .lo) (e .hi) ≡ answer r
   unfolding answer
   answer-is t edge options n m k e o x y f a b c d g h i = rw (f, h, i, a, b, c, d, g)
 
@@ -209,7 +209,7 @@ module _ (r : Result RawSheet) where
   kept-is t edge options new e f = rw (e, Kept) f
 
   -- ---- at the end
-  pub left-no : (cause : ℕ) (new : Tables) → Refused cause ≡ answer r → new ≡ stored none → new ≡ left r
+  pub left-no : (cause : ℕ) (new : Tables) → Refused cause ≡ answer r → new ≡ stored noTables → new ≡ left r
   unfolding answer left
   left-no cause new a e = go r a
     where

@@ -7,10 +7,10 @@ use Rattle.base_lists.specs.Result.{Result, refused, got}
 use Rattle.text_format.specs.Table.{fields}
 use Rattle.sheet_layout.specs.Layout.{RawSheet, pointColumns, curveColumns, segmentColumns}
 use Rattle.sheet_layout.specs.Letters.{padded}
-use Rattle.sheet_row.specs.Rows.{floatsOf, wholesOf, edgeOf, optionsOf}
+use Rattle.sheet_row.specs.Rows.{floatsOf, wholesOf, rawEdgeOf, rawOptionsOf}
 use Rattle.sheet_row.specs.declared.RawEdge.{RawEdge}
 use Rattle.sheet_row.specs.declared.RawOptions.{RawOptions}
-use Rattle.sheet_tables.specs.Told.{flat}
+use Rattle.sheet_tables.specs.Told.{flattened}
 use Rattle.math.specs.Math.{interval}
 use Rattle.brep.specs.Rows.{Tables, tables}
 use Rattle.brep.specs.declared.Edge.{Edge}
@@ -50,18 +50,18 @@ optionsFrom raw = record {
 unfoldable pub answer : Result RawSheet → Sheet
 answer (refused cause) = Refused cause
 answer (got raw) =
-    Read (length (raw .points)) (length (raw .curves)) (length (raw .segments)) (edgeFrom (edgeOf (raw .edge)))
-    (optionsFrom (optionsOf (raw .options))) (edgeOf (raw .edge) .lo) (edgeOf (raw .edge) .hi)
+    Read (length (raw .points)) (length (raw .curves)) (length (raw .segments)) (edgeFrom (rawEdgeOf (raw .edge)))
+    (optionsFrom (rawOptionsOf (raw .options))) (rawEdgeOf (raw .edge) .lo) (rawEdgeOf (raw .edge) .hi)
 
 -- ---- the tables
 -- the sheet's tables: points (x y z), curves (kind first count, and p q), segments (curve sense, and lo hi), row behind row
 unfoldable pub tablesOf : RawSheet → Tables
 tablesOf raw =
-    tables (flat (floatsOf (fields pointColumns)) (raw .points))
-    (flat (wholesOf (fields curveColumns)) (raw .curves))
-    (flat (floatsOf (fields curveColumns)) (raw .curves))
-    (flat (wholesOf (fields segmentColumns)) (raw .segments))
-    (flat (floatsOf (fields segmentColumns)) (raw .segments))
+    tables (flattened (floatsOf (fields pointColumns)) (raw .points))
+    (flattened (wholesOf (fields curveColumns)) (raw .curves))
+    (flattened (floatsOf (fields curveColumns)) (raw .curves))
+    (flattened (wholesOf (fields segmentColumns)) (raw .segments))
+    (flattened (floatsOf (fields segmentColumns)) (raw .segments))
 
 -- the numbers, then zeros, in the tables as they are lent
 unfoldable pub stored : Tables → Tables
@@ -69,12 +69,12 @@ stored t =
     tables (padded 3855 (floatOf 0) (t .points)) (padded 4914 0 (t .curves)) (padded 3276 (floatOf 0) (t .reals)) (padded 3448 0 (t .parts))
     (padded 3448 (floatOf 0) (t .ranges))
 
-abbrev pub none : Tables
-none = tables [] [] [] [] []
+abbrev pub noTables : Tables
+noTables = tables [] [] [] [] []
 
 -- WHAT IS LEFT in the tables: those of the sheet that was read; zeros alone after a refusal
 unfoldable pub left : Result RawSheet → Tables
-left (refused cause) = stored none
+left (refused cause) = stored noTables
 left (got raw) = stored (tablesOf raw)
 
 -- the leading rows of tables: so many points, curves and segments

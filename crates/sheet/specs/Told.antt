@@ -25,9 +25,9 @@ abbrev pub onlyTables : Three → RawSheet
 onlyTables t = record { points = t .0; curves = t .1 .0; segments = t .1 .1; edge = []; options = [] }
 
 -- they are stored
-unfoldable pub Held : Parsed Three → Tables → Type 0
-Held bad new = Unit
-Held (got t rest) new = new ≡ stored (tablesOf (onlyTables t))
+unfoldable pub TablesStored : Parsed Three → Tables → Type 0
+TablesStored bad new = Unit
+TablesStored (got t rest) new = new ≡ stored (tablesOf (onlyTables t))
 
 -- the sheet's tables are stored
 unfoldable pub Kept : Result RawSheet → Tables → Type 0

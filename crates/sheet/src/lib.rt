@@ -2,10 +2,10 @@
 ghost use mathlib.Core.Path.{_≡_};
 ghost use Prim.Native.Nat.{_≤_};
 ghost use lib.ListN.{length};
-ghost use Rattle.sheet_layout.specs.Layout.{size, tables, readSheet, Means};
+ghost use Rattle.sheet_layout.specs.Layout.{size, tablesFormat, readSheet, Means};
 ghost use Rattle.brep.specs.Rows.{lent};
-ghost use Rattle.sheet.specs.Sheet.{edgeFrom, optionsFrom, answer, none, stored, left};
-ghost use Rattle.sheet.specs.Told.{toldTables, Held, Kept};
+ghost use Rattle.sheet.specs.Sheet.{edgeFrom, optionsFrom, answer, noTables, stored, left};
+ghost use Rattle.sheet.specs.Told.{toldTables, TablesStored, Kept};
 use brep::Edge;
 use math::Interval;
 use options::Options;
@@ -91,8 +91,8 @@ fn three(
     ranges: &mut [f64; RANGES],
 ) -> Counted
     requires { ⌜ length (now text) ≤ size ⌝ }
-    ensures { λ r. ⌜ (r ≡ toldTables (now (text .entry)) (tables .read (now (text .entry))))
-        × Held (tables .read (now (text .entry))) (lent (points .exit) (curves .exit) (reals .exit) (parts .exit) (ranges .exit)) ⌝ }
+    ensures { λ r. ⌜ (r ≡ toldTables (now (text .entry)) (tablesFormat .read (now (text .entry))))
+        × TablesStored (tablesFormat .read (now (text .entry))) (lent (points .exit) (curves .exit) (reals .exit) (parts .exit) (ranges .exit)) ⌝ }
 {
     let Num::Got(n, p) = sheet_tables::points(text, 0, points) else {
         return Counted::NoTables;
@@ -150,7 +150,7 @@ fn clear(
     parts: &mut [u32; PARTS],
     ranges: &mut [f64; RANGES],
 )
-    ensures { λ _. ⌜ lent (points .exit) (curves .exit) (reals .exit) (parts .exit) (ranges .exit) ≡ stored none ⌝ }
+    ensures { λ _. ⌜ lent (points .exit) (curves .exit) (reals .exit) (parts .exit) (ranges .exit) ≡ stored noTables ⌝ }
 {
     sheet_row::clear_floats(points);
     sheet_row::clear_wholes(curves);

@@ -6,13 +6,13 @@ use Prim.Native.Nat.{ℕ, zero, suc, _+_, _-_, _^_, _<_, _≤_}
 use native.Mathlib.Omega.{arith}
 use lib.ListN.{length, getD, drop, replicate, length-drop}
 use Rattle.text_format.specs.Bytes.{bytes}
-use Rattle.text_format.specs.Format.{Format, Parsed, bad, got, plain, _and_, none as no-cells, ValidCons, _before_}
+use Rattle.text_format.specs.Format.{Format, Parsed, bad, got, plain, _and_, noItems as no-cells, ValidCons, _before_}
 use Rattle.text_format.specs.Table.{Field, float, whole, word, fields, behind, names, cell, line, single}
 use Rattle.text_format.proofs.Laws.{Lawful}
 use Rattle.sheet_layout.specs.Layout.{edgeColumns, optionColumns}
 use Rattle.sheet_layout.specs.Letters.{fieldOf, padded}
 use Rattle.sheet_layout.proofs.Laws.{edge-law, options-law}
-use Rattle.sheet_row.specs.Rows.{Narrow, edgeOf, optionsOf}
+use Rattle.sheet_row.specs.Rows.{Narrow, rawEdgeOf, rawOptionsOf}
 use Rattle.sheet_row.specs.declared.RawEdge.{RawEdge}
 use Rattle.sheet_row.specs.declared.RawOptions.{RawOptions}
 use Rattle.text_format.proofs.Place.{Read, placed}
@@ -76,11 +76,11 @@ unfolding _before_ fields
 options-narrow l v = (narrow-at (fields optionColumns) l 2 v refl, (narrow-at (fields optionColumns) l 4 v refl, tt))
 
 -- ---- by name
-pub edge-padded : (l : List ℕ) → edgeOf (padded 9 0 l) ≡ edgeOf l
+pub edge-padded : (l : List ℕ) → rawEdgeOf (padded 9 0 l) ≡ rawEdgeOf l
 edge-padded l =
     simp (padded-at 9 l 0, padded-at 9 l 1, padded-at 9 l 2, padded-at 9 l 3, padded-at 9 l 4, padded-at 9 l 5, padded-at 9 l 6, padded-at 9 l 7, padded-at 9 l 8)
 
-pub options-padded : (l : List ℕ) → optionsOf (padded 9 0 l) ≡ optionsOf l
+pub options-padded : (l : List ℕ) → rawOptionsOf (padded 9 0 l) ≡ rawOptionsOf l
 options-padded l = simp (padded-at 9 l 0, padded-at 9 l 1, padded-at 9 l 2, padded-at 9 l 3, padded-at 9 l 4, padded-at 9 l 5)
 
 pub left : (s : List ℕ) (p : ℕ) → p ≤ length s → p ≡ length s - length (drop p s)
@@ -133,45 +133,45 @@ pub no-options : (x : RawOptions) (p : ℕ) → Options x p ≡ NoOptions → �
 no-options x p e = let z : _≡_ {A = ℕ} 0 1 = cc in omega arith
 
 module _ (s : List ℕ) where
-  pub told-edge : (q : Parsed (List ℕ)) (l : List ℕ) (p : ℕ) (row : List ℕ) → row ≡ padded 9 0 l → Read s q l p → Edge (edgeOf row) p ≡ toldEdge s q
-  told-edge = told-value Edge NoEdge edgeOf edge-padded same-edge no-edge s
+  pub told-edge : (q : Parsed (List ℕ)) (l : List ℕ) (p : ℕ) (row : List ℕ) → row ≡ padded 9 0 l → Read s q l p → Edge (rawEdgeOf row) p ≡ toldEdge s q
+  told-edge = told-value Edge NoEdge rawEdgeOf edge-padded same-edge no-edge s
 
   pub told-no-edge : (q : Parsed (List ℕ)) → q ≡ bad → NoEdge ≡ toldEdge s q
-  told-no-edge = told-none Edge NoEdge edgeOf edge-padded same-edge no-edge s
+  told-no-edge = told-none Edge NoEdge rawEdgeOf edge-padded same-edge no-edge s
 
   abbrev pub EdgeRead : Parsed (List ℕ) → RawEdge → ℕ → Type 0
-  EdgeRead = ValueRead Edge NoEdge edgeOf edge-padded same-edge no-edge s
+  EdgeRead = ValueRead Edge NoEdge rawEdgeOf edge-padded same-edge no-edge s
 
   pub read-edge : (F : Format (List ℕ)) → Lawful F → (at : ℕ) (e : RawEdge) (p : ℕ) → at ≤ length s
       → Edge e p ≡ toldEdge s (F .read (drop at s)) → EdgeRead (F .read (drop at s)) e p
-  read-edge = read-value Edge NoEdge edgeOf edge-padded same-edge no-edge s
+  read-edge = read-value Edge NoEdge rawEdgeOf edge-padded same-edge no-edge s
 
   pub read-no-edge : (q : Parsed (List ℕ)) → NoEdge ≡ toldEdge s q → q ≡ bad
-  read-no-edge = read-none Edge NoEdge edgeOf edge-padded same-edge no-edge s
+  read-no-edge = read-none Edge NoEdge rawEdgeOf edge-padded same-edge no-edge s
 
-  pub told-options : (q : Parsed (List ℕ)) (l : List ℕ) (p : ℕ) (row : List ℕ) → row ≡ padded 9 0 l → Read s q l p → Options (optionsOf row) p ≡ toldOptions s q
-  told-options = told-value Options NoOptions optionsOf options-padded same-options no-options s
+  pub told-options : (q : Parsed (List ℕ)) (l : List ℕ) (p : ℕ) (row : List ℕ) → row ≡ padded 9 0 l → Read s q l p → Options (rawOptionsOf row) p ≡ toldOptions s q
+  told-options = told-value Options NoOptions rawOptionsOf options-padded same-options no-options s
 
   pub told-no-options : (q : Parsed (List ℕ)) → q ≡ bad → NoOptions ≡ toldOptions s q
-  told-no-options = told-none Options NoOptions optionsOf options-padded same-options no-options s
+  told-no-options = told-none Options NoOptions rawOptionsOf options-padded same-options no-options s
 
   abbrev pub OptionsRead : Parsed (List ℕ) → RawOptions → ℕ → Type 0
-  OptionsRead = ValueRead Options NoOptions optionsOf options-padded same-options no-options s
+  OptionsRead = ValueRead Options NoOptions rawOptionsOf options-padded same-options no-options s
 
   pub read-options : (F : Format (List ℕ)) → Lawful F → (at : ℕ) (o : RawOptions) (p : ℕ) → at ≤ length s
       → Options o p ≡ toldOptions s (F .read (drop at s)) → OptionsRead (F .read (drop at s)) o p
-  read-options = read-value Options NoOptions optionsOf options-padded same-options no-options s
+  read-options = read-value Options NoOptions rawOptionsOf options-padded same-options no-options s
 
   pub read-no-options : (q : Parsed (List ℕ)) → NoOptions ≡ toldOptions s q → q ≡ bad
-  read-no-options = read-none Options NoOptions optionsOf options-padded same-options no-options s
+  read-no-options = read-none Options NoOptions rawOptionsOf options-padded same-options no-options s
 
   -- ---- both
-  pub told-ends : (q : Parsed (List ℕ × List ℕ)) (e : RawEdge) (o : RawOptions) (l m : List ℕ) (p : ℕ) → e ≡ edgeOf l → o ≡ optionsOf m → Read s q (l, m) p
+  pub told-ends : (q : Parsed (List ℕ × List ℕ)) (e : RawEdge) (o : RawOptions) (l m : List ℕ) (p : ℕ) → e ≡ rawEdgeOf l → o ≡ rawOptionsOf m → Read s q (l, m) p
       → Pair e o p ≡ toldEnds s q
   unfolding toldEnds
   told-ends q e o l m p d f r =
       let j = left s p (r .within) in
-      let same : Pair e o p ≡ Pair (edgeOf l) (optionsOf m) (length s - length (drop p s)) = cc in
+      let same : Pair e o p ≡ Pair (rawEdgeOf l) (rawOptionsOf m) (length s - length (drop p s)) = cc in
       same ∙ ap (toldEnds s) (sym (r .is))
 
   pub told-no-ends : (q : Parsed (List ℕ × List ℕ)) → q ≡ bad → NoPair ≡ toldEnds s q

@@ -5,7 +5,7 @@ use lib.ListN.{length}
 use Rattle.text_format.specs.Format.{Format, Parsed, bad, got, _before_}
 use Rattle.text_format.specs.Table.{line}
 use Rattle.sheet_layout.specs.Letters.{shapeOf}
-use Rattle.sheet_row.specs.Rows.{edgeOf, optionsOf}
+use Rattle.sheet_row.specs.Rows.{rawEdgeOf, rawOptionsOf}
 use Rattle.sheet_edge.specs.declared.EdgeAt.{EdgeAt}
 use Rattle.sheet_edge.specs.declared.EdgeAt.the-variants.{Edge, NoEdge}
 use Rattle.sheet_edge.specs.declared.OptionsAt.{OptionsAt}
@@ -23,12 +23,12 @@ toldAs made none value s bad = none
 toldAs made none value s (got row rest) = made (value row) (length s - length rest)
 
 abbrev pub toldEdge : List ℕ → Parsed (List ℕ) → EdgeAt
-toldEdge = toldAs Edge NoEdge edgeOf
+toldEdge = toldAs Edge NoEdge rawEdgeOf
 
 abbrev pub toldOptions : List ℕ → Parsed (List ℕ) → OptionsAt
-toldOptions = toldAs Options NoOptions optionsOf
+toldOptions = toldAs Options NoOptions rawOptionsOf
 
 -- the edge and the options, and the place behind them
 unfoldable pub toldEnds : List ℕ → Parsed (List ℕ × List ℕ) → Last
 toldEnds s bad = NoPair
-toldEnds s (got t rest) = Pair (edgeOf (t .0)) (optionsOf (t .1)) (length s - length rest)
+toldEnds s (got t rest) = Pair (rawEdgeOf (t .0)) (rawOptionsOf (t .1)) (length s - length rest)

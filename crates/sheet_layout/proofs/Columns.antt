@@ -9,7 +9,7 @@ use lib.ListN.{length, getD, drop, length-append, drop-of-length-le}
 use lib.Seq.{drop-cons}
 use lib.Dec.{eqb}
 use Rattle.base_lists.specs.Sub.{All, none as all-none, more}
-use Rattle.text_format.specs.Format.{Parsed, bad, got, Format, andThen, _and_, none}
+use Rattle.text_format.specs.Format.{Parsed, bad, got, Format, andThen, _and_, noItems}
 use Rattle.text_format.specs.Table.{Field, float, whole, word, behind, cell, line}
 use Rattle.text_format.proofs.Laws.{Lawful}
 use Rattle.text_format.proofs.Tables.{Good, behind-no-digit, cell-law, line-law}
@@ -102,7 +102,7 @@ module _ (s shape : List ℕ) where
       one-cell = record { taken = b .taken ++ (v ∷ []); count = one-more; whole = one-whole }
 
     pub all-cells : length shape ≤ i → line (shapeOf shape) .read (drop at s) ≡ got (b .taken) (drop p s)
-    unfolding onto line none
+    unfolding onto line noItems
     all-cells h =
         sym (b .whole) ∙ ap (λ l. onto (b .taken) (line (shapeOf l) .read (drop p s))) (drop-of-length-le shape h)
         ∙ ap (λ l. got l (drop p s)) (append-nil (b .taken))

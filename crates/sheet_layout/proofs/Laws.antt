@@ -16,7 +16,7 @@ use Rattle.text_format.proofs.Laws.{Lawful, Is, ending-law, then-law, as-law, w
 use Rattle.text_format.proofs.Words.{oneOf-law}
 use Rattle.text_format.proofs.Lines.{NoLine}
 use Rattle.text_format.proofs.Tables.{Good, line-law, no-line, table-law, single-law}
-use Rattle.sheet_layout.specs.Layout.{kinds, u32, u64, kind, pointColumns, curveColumns, segmentColumns, edgeColumns, optionColumns, RawSheet, tables, ends, sheet, layout, Valid, size, readSheet, Follows, Means}
+use Rattle.sheet_layout.specs.Layout.{kinds, u32, u64, kind, pointColumns, curveColumns, segmentColumns, edgeColumns, optionColumns, RawSheet, tablesFormat, ends, sheet, layout, Valid, size, readSheet, Follows, Means}
 
 -- ---- what the columns hold
 pub u32-good : Good u32
@@ -82,7 +82,7 @@ edge-law = single-law edgeColumns edge-good
 pub options-law : Lawful (single optionColumns)
 options-law = single-law optionColumns options-good
 
-pub tables-law : Lawful tables
+pub tables-law : Lawful tablesFormat
 tables-law = then-law (table pointColumns) _ points-law (then-law (table curveColumns) (table segmentColumns) curves-law segments-law)
 
 pub ends-law : Lawful ends
@@ -90,7 +90,7 @@ ends-law = then-law (single edgeColumns ending (10 ∷ [])) (single optionColumn
 
 pub sheet-law : Lawful sheet
 unfolding sheet
-sheet-law = as-law _ _ _ (λ r. refl) (λ t. refl) (then-law tables ends tables-law ends-law)
+sheet-law = as-law _ _ _ (λ r. refl) (λ t. refl) (then-law tablesFormat ends tables-law ends-law)
 
 -- ---- THE theorems
 pub read-layout : (raw : RawSheet) → Valid raw → length (layout raw) ≤ size → readSheet (layout raw) ≡ got raw

@@ -52,8 +52,8 @@ pub record RawSheet : Type 0 where
   pub options : List ℕ
 
 -- the three tables, each with the empty line behind it
-abbrev pub tables : Format (List (List ℕ) × (List (List ℕ) × List (List ℕ)))
-tables = table pointColumns then table curveColumns then table segmentColumns
+abbrev pub tablesFormat : Format (List (List ℕ) × (List (List ℕ) × List (List ℕ)))
+tablesFormat = table pointColumns then table curveColumns then table segmentColumns
 
 -- the edge and the empty line behind it, then the options
 abbrev pub ends : Format (List ℕ × List ℕ)
@@ -61,7 +61,7 @@ ends = single edgeColumns ending (10 ∷ []) then single optionColumns
 
 unfoldable pub sheet : Format RawSheet
 sheet =
-    as-of (tables then ends)
+    as-of (tablesFormat then ends)
     (λ t. record { points = t .0 .0; curves = t .0 .1 .0; segments = t .0 .1 .1; edge = t .1 .0; options = t .1 .1 })
     (λ s. ((s .points, (s .curves, s .segments)), (s .edge, s .options)))
 

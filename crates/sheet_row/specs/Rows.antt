@@ -33,8 +33,8 @@ Narrow row [] = Unit
 Narrow row (i ∷ is) = (getD row i 0 < 2 ^ 32) × Narrow row is
 
 -- the edge's numbers by their names
-abbrev pub edgeOf : List ℕ → RawEdge
-edgeOf row = record {
+abbrev pub rawEdgeOf : List ℕ → RawEdge
+rawEdgeOf row = record {
   curve = getD row 0 0;
   start = getD row 1 0;
   end = getD row 2 0;
@@ -47,8 +47,8 @@ edgeOf row = record {
 }
 
 -- the options' numbers by their names
-abbrev pub optionsOf : List ℕ → RawOptions
-optionsOf row = record {
+abbrev pub rawOptionsOf : List ℕ → RawOptions
+rawOptionsOf row = record {
   deflection = getD row 0 0;
   angle = getD row 1 0;
   relative = getD row 2 0;

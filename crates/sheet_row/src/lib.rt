@@ -7,7 +7,7 @@ ghost use lib.Seq.{sets};
 ghost use lib.Ieee.{binary64, ofBits};
 ghost use Rattle.base_lists.specs.Sub.{All};
 ghost use Rattle.sheet_layout.specs.Letters.{shapeOf};
-ghost use Rattle.sheet_row.specs.Rows.{floatsOf, wholesOf, Narrow, edgeOf, optionsOf};
+ghost use Rattle.sheet_row.specs.Rows.{floatsOf, wholesOf, Narrow, rawEdgeOf, rawOptionsOf};
 
 // The edge of a sheet; lo, hi and tolerance by their 64 bits.
 pub struct RawEdge {
@@ -108,7 +108,7 @@ pub fn clear_wholes(out: &mut [u32])
 // The edge of its line's numbers.
 pub fn edge_of(row: &[u64; 9]) -> RawEdge
     requires { ⌜ Narrow (now row) (0 ∷ 1 ∷ 2 ∷ 3 ∷ 7 ∷ 8 ∷ []) ⌝ }
-    ensures { λ r. ⌜ r ≡ edgeOf (now (row .entry)) ⌝ }
+    ensures { λ r. ⌜ r ≡ rawEdgeOf (now (row .entry)) ⌝ }
 {
     RawEdge {
         curve: row[0] as u32,
@@ -126,7 +126,7 @@ pub fn edge_of(row: &[u64; 9]) -> RawEdge
 // The options of their line's numbers.
 pub fn options_of(row: &[u64; 9]) -> RawOptions
     requires { ⌜ Narrow (now row) (2 ∷ 4 ∷ []) ⌝ }
-    ensures { λ r. ⌜ r ≡ optionsOf (now (row .entry)) ⌝ }
+    ensures { λ r. ⌜ r ≡ rawOptionsOf (now (row .entry)) ⌝ }
 {
     RawOptions {
         deflection: row[0],

@@ -17,8 +17,8 @@ use Rattle.sheet_layout.specs.Layout.{size}
 use Rattle.sheet_layout.specs.Letters.{shapeOf, padded}
 use Rattle.sheet_layout.proofs.Columns.{shape-good, shape-law}
 use Rattle.sheet_row.specs.Rows.{isFloat, chosen, floatsOf, wholesOf}
-use Rattle.sheet_tables.specs.Room.{least, countOf, Roomy}
-use Rattle.sheet_tables.specs.Told.{tableOf, flat, numbersOf, Stored}
+use Rattle.sheet_tables.specs.Room.{least, columnCount, Roomy}
+use Rattle.sheet_tables.specs.Told.{tableOf, flattened, numbersOf, TableStored}
 use Rattle.sheet_tables.proofs.Stores.{numbers-bad, numbers-got, stored-is}
 use Rattle.sheet_tables.proofs.Valid.{row-length, chosen-length, line-long}
 use Rattle.sheet_tables.proofs.Turns.{isWhole, shape-no-line}
@@ -45,8 +45,8 @@ module _ {E : Type 0} (z : E) where
 
 -- ---- the numbers of valid rows
 module _ {E : Type 0} (row : List ℕ → List E) (fs : List Field) (k : ℕ) (each : (l : List ℕ) → line fs .valid l → length (row l) ≡ k) where
-  pub flat-length : (rows : List (List ℕ)) → All (line fs .valid) rows → length (flat row rows) ≡ k * length rows
-  unfolding flat
+  pub flat-length : (rows : List (List ℕ)) → All (line fs .valid) rows → length (flattened row rows) ≡ k * length rows
+  unfolding flattened
   flat-length [] none = sym (mul-zero k)
   flat-length (l ∷ rows) (more v vs) =
       let a = each l v in
@@ -55,12 +55,12 @@ module _ {E : Type 0} (row : List ℕ → List E) (fs : List Field) (k : ℕ) (e
       simp length-append (omega arith)
 
 module _ (fs : List Field) where
-  pub wholes-length : (rows : List (List ℕ)) → All (line fs .valid) rows → length (flat (wholesOf fs) rows) ≡ countOf isWhole fs * length rows
-  wholes-length = flat-length (wholesOf fs) fs (countOf isWhole fs) (λ l v. chosen-length isWhole fs l (row-length fs l v))
+  pub wholes-length : (rows : List (List ℕ)) → All (line fs .valid) rows → length (flattened (wholesOf fs) rows) ≡ columnCount isWhole fs * length rows
+  wholes-length = flat-length (wholesOf fs) fs (columnCount isWhole fs) (λ l v. chosen-length isWhole fs l (row-length fs l v))
 
-  pub floats-length : (rows : List (List ℕ)) → All (line fs .valid) rows → length (flat (floatsOf fs) rows) ≡ countOf isFloat fs * length rows
+  pub floats-length : (rows : List (List ℕ)) → All (line fs .valid) rows → length (flattened (floatsOf fs) rows) ≡ columnCount isFloat fs * length rows
   floats-length =
-      flat-length (floatsOf fs) fs (countOf isFloat fs)
+      flat-length (floatsOf fs) fs (columnCount isFloat fs)
       (λ l v. length-map (chosen isFloat fs l) (ofBits binary64) ∙ chosen-length isFloat fs l (row-length fs l v))
 
 -- tables of the same sizes
@@ -85,19 +85,19 @@ module _ (s names shape : List ℕ) (at w f : ℕ) (room : Roomy shape w f) (fit
         let m = lines-long (line (shapeOf shape)) (least (shapeOf shape)) (line-long (shapeOf shape) (shape-good shape)) rows each-valid in
         omega arith
 
-    pub wholes-fit : length (flat (wholesOf (shapeOf shape)) rows) ≤ w
+    pub wholes-fit : length (flattened (wholesOf (shapeOf shape)) rows) ≤ w
     wholes-fit = let a = room .wholes (length rows) rows-fit in let b = wholes-length (shapeOf shape) rows each-valid in omega arith
 
-    pub floats-fit : length (flat (floatsOf (shapeOf shape)) rows) ≤ f
+    pub floats-fit : length (flattened (floatsOf (shapeOf shape)) rows) ≤ f
     floats-fit = let a = room .floats (length rows) rows-fit in let b = floats-length (shapeOf shape) rows each-valid in omega arith
 
 -- ---- a table that was zeros
 module _ {E : Type 0} (row : List ℕ → List E) (zero : E) (n : ℕ) (q : Parsed (List (List ℕ))) where
-  pub table-none : (after : List E) → q ≡ bad → after ≡ replicate n zero → after ≡ padded n zero (numbersOf (flat row) q)
-  table-none after e f = f ∙ zeros-padded zero n ∙ ap (padded n zero) (sym (numbers-bad (flat row) q e))
+  pub table-none : (after : List E) → q ≡ bad → after ≡ replicate n zero → after ≡ padded n zero (numbersOf (flattened row) q)
+  table-none after e f = f ∙ zeros-padded zero n ∙ ap (padded n zero) (sym (numbers-bad (flattened row) q e))
 
-  pub table-is : (rows : List (List ℕ)) (rest : List ℕ) (before′ after : List E) → q ≡ got rows rest → length (flat row rows) ≤ n
-      → before′ ≡ replicate n zero → Stored (flat row) q before′ after → after ≡ padded n zero (numbersOf (flat row) q)
+  pub table-is : (rows : List (List ℕ)) (rest : List ℕ) (before′ after : List E) → q ≡ got rows rest → length (flattened row rows) ≤ n
+      → before′ ≡ replicate n zero → TableStored (flattened row) q before′ after → after ≡ padded n zero (numbersOf (flattened row) q)
   table-is rows rest before′ after e h z t =
-      stored-is (flat row) q rows rest before′ after e t ∙ ap (λ o. sets o 0 (flat row rows)) z ∙ sets-padded zero n (flat row rows) h
-      ∙ ap (padded n zero) (sym (numbers-got (flat row) q rows rest e))
+      stored-is (flattened row) q rows rest before′ after e t ∙ ap (λ o. sets o 0 (flattened row rows)) z ∙ sets-padded zero n (flattened row rows) h
+      ∙ ap (padded n zero) (sym (numbers-got (flattened row) q rows rest e))

@@ -8,7 +8,7 @@ use lib.Seq.{sets, sets-eq}
 use Rattle.text_format.specs.Format.{Parsed, bad, got}
 use Rattle.text_format.proofs.Buffer.{sets-append}
 use Rattle.sheet_layout.specs.Letters.{padded}
-use Rattle.sheet_tables.specs.Told.{flat, numbersOf, Stored}
+use Rattle.sheet_tables.specs.Told.{flattened, numbersOf, TableStored}
 
 -- ---- more numbers behind those that are there
 pub more-stored : {E : Type 0} (before out next xs ys : List E) (k : ℕ) → k ≡ length xs → out ≡ sets before 0 xs → next ≡ sets out k ys
@@ -19,26 +19,26 @@ more-stored before out next xs ys k e f g =
 
 -- ---- rows
 module _ {A E : Type 0} (row : A → List E) where
-  pub flat-snoc : (l : List A) (a : A) → flat row (l ++ (a ∷ [])) ≡ flat row l ++ row a
-  unfolding flat
+  pub flat-snoc : (l : List A) (a : A) → flattened row (l ++ (a ∷ [])) ≡ flattened row l ++ row a
+  unfolding flattened
   flat-snoc [] a = append-nil (row a)
-  flat-snoc (b ∷ l) a = ap (λ z. row b ++ z) (flat-snoc l a) ∙ sym (append-assoc (row b) (flat row l) (row a))
+  flat-snoc (b ∷ l) a = ap (λ z. row b ++ z) (flat-snoc l a) ∙ sym (append-assoc (row b) (flattened row l) (row a))
 
   -- ---- what was read
-  pub stored-bad : (q : Parsed A) (before after : List E) → q ≡ bad → Stored row q before after
-  unfolding Stored
-  stored-bad q before after e = rw (e, Stored) tt
+  pub stored-bad : (q : Parsed A) (before after : List E) → q ≡ bad → TableStored row q before after
+  unfolding TableStored
+  stored-bad q before after e = rw (e, TableStored) tt
 
-  pub stored-got : (q : Parsed A) (a : A) (rest : List ℕ) (before after : List E) → q ≡ got a rest → after ≡ sets before 0 (row a) → Stored row q before after
-  unfolding Stored
-  stored-got q a rest before after e f = rw (e, Stored) f
+  pub stored-got : (q : Parsed A) (a : A) (rest : List ℕ) (before after : List E) → q ≡ got a rest → after ≡ sets before 0 (row a) → TableStored row q before after
+  unfolding TableStored
+  stored-got q a rest before after e f = rw (e, TableStored) f
 
-  pub stored-is : (q : Parsed A) (a : A) (rest : List ℕ) (before after : List E) → q ≡ got a rest → Stored row q before after → after ≡ sets before 0 (row a)
-  unfolding Stored
-  stored-is q a rest before after e t = subst (λ z. Stored row z before after) e t
+  pub stored-is : (q : Parsed A) (a : A) (rest : List ℕ) (before after : List E) → q ≡ got a rest → TableStored row q before after → after ≡ sets before 0 (row a)
+  unfolding TableStored
+  stored-is q a rest before after e t = subst (λ z. TableStored row z before after) e t
 
-  pub stored-same : (q r : Parsed A) (before after : List E) → q ≡ r → Stored row q before after → Stored row r before after
-  stored-same q r before after e t = subst (λ z. Stored row z before after) e t
+  pub stored-same : (q r : Parsed A) (before after : List E) → q ≡ r → TableStored row q before after → TableStored row r before after
+  stored-same q r before after e t = subst (λ z. TableStored row z before after) e t
 
   -- ---- in a table that was zeros
   pub numbers-bad : (q : Parsed A) → q ≡ bad → numbersOf row q ≡ []

@@ -21,8 +21,8 @@ use Rattle.sheet_layout.specs.Letters.{fieldOf, shapeOf, padded}
 use Rattle.sheet_row.specs.Rows.{isFloat, chosen, floatsOf, wholesOf}
 use Rattle.sheet_layout.proofs.Padded.{padded-length}
 use Rattle.text_format.proofs.Place.{Read}
-use Rattle.sheet_tables.specs.Told.{flat}
-use Rattle.sheet_tables.specs.Room.{least, countOf, Roomy}
+use Rattle.sheet_tables.specs.Told.{flattened}
+use Rattle.sheet_tables.specs.Room.{least, columnCount, Roomy}
 use Rattle.sheet_layout.proofs.Onto.{onto, onto-onto, onto-nothing, onto-one}
 use Rattle.sheet_tables.proofs.Stores.{flat-snoc, more-stored}
 use Rattle.sheet_layout.proofs.Columns.{letter-good, shape-good, shape-law}
@@ -88,15 +88,15 @@ module _ (s shape : List ℕ) (at : ℕ) (wholes₀ : List ℕ) (floats₀ : Lis
     pub few : n ≤ p
     pub wholes-same : length wholes ≡ length wholes₀
     pub floats-same : length floats ≡ length floats₀
-    pub w-count : w ≡ countOf isWhole fs * n
-    pub f-count : f ≡ countOf isFloat fs * n
+    pub w-count : w ≡ columnCount isWhole fs * n
+    pub f-count : f ≡ columnCount isFloat fs * n
     pub taken : List (List ℕ)
     pub count : length taken ≡ n
     pub whole : onto taken (lines (line fs) .read (drop p s)) ≡ lines (line fs) .read (drop at s)
-    pub w-place : w ≡ length (flat (wholesOf fs) taken)
-    pub f-place : f ≡ length (flat (floatsOf fs) taken)
-    pub wholes-are : wholes ≡ sets wholes₀ 0 (flat (wholesOf fs) taken)
-    pub floats-are : floats ≡ sets floats₀ 0 (flat (floatsOf fs) taken)
+    pub w-place : w ≡ length (flattened (wholesOf fs) taken)
+    pub f-place : f ≡ length (flattened (floatsOf fs) taken)
+    pub wholes-are : wholes ≡ sets wholes₀ 0 (flattened (wholesOf fs) taken)
+    pub floats-are : floats ≡ sets floats₀ 0 (flattened (floatsOf fs) taken)
 
   -- one more row is read, into the array `row`: what the calls that store it ask, and where the loop stands behind them
   pub record Next (wholes : List ℕ) (floats : List Float) (row : List ℕ) (p q n w f : ℕ) : Type 0 where
@@ -111,15 +111,15 @@ module _ (s shape : List ℕ) (at : ℕ) (wholes₀ : List ℕ) (floats₀ : Lis
         → f′ ≡ f + length (floatsOf fs row) → floats′ ≡ sets floats f (floatsOf fs row) → Rows wholes′ floats′ q (n + 1) w′ f′
 
   pub no-rows : at ≤ length s → Rows wholes₀ floats₀ at 0 0 0
-  unfolding flat
+  unfolding flattened
   no-rows h = record {
     within = h;
     bytes = omega (arith, mul-zero (least fs));
     few = omega arith;
     wholes-same = refl;
     floats-same = refl;
-    w-count = sym (mul-zero (countOf isWhole fs));
-    f-count = sym (mul-zero (countOf isFloat fs));
+    w-count = sym (mul-zero (columnCount isWhole fs));
+    f-count = sym (mul-zero (columnCount isFloat fs));
     taken = [];
     count = refl;
     whole = onto-nothing (lines (line fs) .read (drop at s));
@@ -184,23 +184,23 @@ module _ (s shape : List ℕ) (at : ℕ) (wholes₀ : List ℕ) (floats₀ : Lis
         same-row : (t : Field → Bool) → chosen t fs row ≡ chosen t fs l
         same-row t = ap (chosen t fs) held ∙ chosen-padded t fs 9 l as-many
 
-        w-more : length (wholesOf fs row) ≡ countOf isWhole fs
+        w-more : length (wholesOf fs row) ≡ columnCount isWhole fs
         w-more = ap length (same-row isWhole) ∙ chosen-length isWhole fs l as-many
 
-        f-more : length (floatsOf fs row) ≡ countOf isFloat fs
+        f-more : length (floatsOf fs row) ≡ columnCount isFloat fs
         f-more = length-map (chosen isFloat fs row) (ofBits binary64) ∙ ap length (same-row isFloat) ∙ chosen-length isFloat fs l as-many
 
-        w-next : w + length (wholesOf fs row) ≡ countOf isWhole fs * (n + 1)
+        w-next : w + length (wholesOf fs row) ≡ columnCount isWhole fs * (n + 1)
         w-next =
             let a = r .w-count in
             let b = w-more in
-            omega (arith, ap (λ z. countOf isWhole fs * z) (add-one n) ∙ mul-suc (countOf isWhole fs) n)
+            omega (arith, ap (λ z. columnCount isWhole fs * z) (add-one n) ∙ mul-suc (columnCount isWhole fs) n)
 
-        f-next : f + length (floatsOf fs row) ≡ countOf isFloat fs * (n + 1)
+        f-next : f + length (floatsOf fs row) ≡ columnCount isFloat fs * (n + 1)
         f-next =
             let a = r .f-count in
             let b = f-more in
-            omega (arith, ap (λ z. countOf isFloat fs * z) (add-one n) ∙ mul-suc (countOf isFloat fs) n)
+            omega (arith, ap (λ z. columnCount isFloat fs * z) (add-one n) ∙ mul-suc (columnCount isFloat fs) n)
 
         -- what the calls that store it ask
         nine : length row ≡ 9
@@ -225,11 +225,11 @@ module _ (s shape : List ℕ) (at : ℕ) (wholes₀ : List ℕ) (floats₀ : Lis
         module _ (wholes′ : List ℕ) (w′ : ℕ) (floats′ : List Float) (f′ : ℕ)
             (wp : w′ ≡ w + length (wholesOf fs row)) (ws : wholes′ ≡ sets wholes w (wholesOf fs row))
             (fp : f′ ≡ f + length (floatsOf fs row)) (ff : floats′ ≡ sets floats f (floatsOf fs row)) where
-          w-flat : flat (wholesOf fs) (r .taken ++ (l ∷ [])) ≡ flat (wholesOf fs) (r .taken) ++ wholesOf fs row
-          w-flat = flat-snoc (wholesOf fs) (r .taken) l ∙ ap (λ z. flat (wholesOf fs) (r .taken) ++ z) (sym (same-row isWhole))
+          w-flat : flattened (wholesOf fs) (r .taken ++ (l ∷ [])) ≡ flattened (wholesOf fs) (r .taken) ++ wholesOf fs row
+          w-flat = flat-snoc (wholesOf fs) (r .taken) l ∙ ap (λ z. flattened (wholesOf fs) (r .taken) ++ z) (sym (same-row isWhole))
 
-          f-flat : flat (floatsOf fs) (r .taken ++ (l ∷ [])) ≡ flat (floatsOf fs) (r .taken) ++ floatsOf fs row
-          f-flat = flat-snoc (floatsOf fs) (r .taken) l ∙ ap (λ z. flat (floatsOf fs) (r .taken) ++ map (ofBits binary64) z) (sym (same-row isFloat))
+          f-flat : flattened (floatsOf fs) (r .taken ++ (l ∷ [])) ≡ flattened (floatsOf fs) (r .taken) ++ floatsOf fs row
+          f-flat = flat-snoc (floatsOf fs) (r .taken) l ∙ ap (λ z. flattened (floatsOf fs) (r .taken) ++ map (ofBits binary64) z) (sym (same-row isFloat))
 
           one-row : Rows wholes′ floats′ q (n + 1) w′ f′
           one-row = record {
@@ -245,10 +245,10 @@ module _ (s shape : List ℕ) (at : ℕ) (wholes₀ : List ℕ) (floats₀ : Lis
             whole =
                 onto-onto (r .taken) (l ∷ []) (lines F .read (drop q s))
                 ∙ ap (onto (r .taken)) (sym (lines-turn F (shape-law shape) no-row s p h e l q (was .is))) ∙ r .whole;
-            w-place = let c = r .w-place in omega (arith, wp, ap length w-flat ∙ length-append (flat (wholesOf fs) (r .taken)) (wholesOf fs row));
-            f-place = let c = r .f-place in omega (arith, fp, ap length f-flat ∙ length-append (flat (floatsOf fs) (r .taken)) (floatsOf fs row));
-            wholes-are = more-stored wholes₀ wholes wholes′ (flat (wholesOf fs) (r .taken)) (wholesOf fs row) w (r .w-place) (r .wholes-are) ws ∙ ap (sets wholes₀ 0) (sym w-flat);
-            floats-are = more-stored floats₀ floats floats′ (flat (floatsOf fs) (r .taken)) (floatsOf fs row) f (r .f-place) (r .floats-are) ff ∙ ap (sets floats₀ 0) (sym f-flat);
+            w-place = let c = r .w-place in omega (arith, wp, ap length w-flat ∙ length-append (flattened (wholesOf fs) (r .taken)) (wholesOf fs row));
+            f-place = let c = r .f-place in omega (arith, fp, ap length f-flat ∙ length-append (flattened (floatsOf fs) (r .taken)) (floatsOf fs row));
+            wholes-are = more-stored wholes₀ wholes wholes′ (flattened (wholesOf fs) (r .taken)) (wholesOf fs row) w (r .w-place) (r .wholes-are) ws ∙ ap (sets wholes₀ 0) (sym w-flat);
+            floats-are = more-stored floats₀ floats floats′ (flattened (floatsOf fs) (r .taken)) (floatsOf fs row) f (r .f-place) (r .floats-are) ff ∙ ap (sets floats₀ 0) (sym f-flat);
           }
 
         pub next-row : Next wholes floats row p q n w f

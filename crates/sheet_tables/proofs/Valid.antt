@@ -8,7 +8,7 @@ use lib.ListN.{length, getD, replicate, length-append}
 use lib.Dec.{eqb}
 use borrow.Author.Tests.{eq-eqb, ne-eqb}
 use Rattle.base_lists.specs.Sub.{All, none as all-none, more}
-use Rattle.text_format.specs.Format.{Format, hex16, plain, oneOf, decimal, digits, _ending_, _and_, none, ValidCons, writeCons}
+use Rattle.text_format.specs.Format.{Format, hex16, plain, oneOf, decimal, digits, _ending_, _and_, noItems, ValidCons, writeCons}
 use Rattle.text_format.specs.Table.{Field, float, whole, word, behind, cell, line}
 use Rattle.text_format.proofs.Digits.{digits-length, decimal-some}
 use Rattle.text_format.proofs.Words.{differ, differAll, differ-at, apart, and-left, no-truth}
@@ -16,23 +16,23 @@ use Rattle.text_format.proofs.Tables.{Good}
 use Rattle.sheet_layout.specs.Layout.{kinds, u32, u64, kind}
 use Rattle.sheet_layout.specs.Letters.{fieldOf, shapeOf, padded}
 use Rattle.sheet_row.specs.Rows.{isFloat, chosen, wholesOf}
-use Rattle.sheet_tables.specs.Room.{least, countOf, short}
+use Rattle.sheet_tables.specs.Room.{least, columnCount, short}
 
 pub row-length : (fs : List Field) (row : List ℕ) → line fs .valid row → length row ≡ length fs
-unfolding line _and_ none ValidCons
+unfolding line _and_ noItems ValidCons
 row-length [] row v = ap length v
 row-length (f ∷ fs) [] v = absurd v
 row-length (f ∷ fs) (n ∷ row) v = ap suc (row-length fs row (v .1))
 
 -- ---- the chosen ones
 module _ (t : Field → Bool) where
-  pub chosen-length : (fs : List Field) (row : List ℕ) → length row ≡ length fs → length (chosen t fs row) ≡ countOf t fs
-  unfolding chosen countOf
+  pub chosen-length : (fs : List Field) (row : List ℕ) → length row ≡ length fs → length (chosen t fs row) ≡ columnCount t fs
+  unfolding chosen columnCount
   chosen-length [] row h = refl
   chosen-length (f ∷ fs) [] h = absurd (omega arith)
   chosen-length (f ∷ fs) (n ∷ row) h = go (t f) (chosen-length fs row (omega arith))
     where
-      go : (b : Bool) → length (chosen t fs row) ≡ countOf t fs → length (cond b (n ∷ chosen t fs row) (chosen t fs row)) ≡ cond b 1 0 + countOf t fs
+      go : (b : Bool) → length (chosen t fs row) ≡ columnCount t fs → length (cond b (n ∷ chosen t fs row) (chosen t fs row)) ≡ cond b 1 0 + columnCount t fs
       go true e = omega arith
       go false e = omega arith
 
@@ -65,7 +65,7 @@ short-first c cs e = go (eqb c 108) e
     go false e = (refl, e)
 
 pub narrow : (shape row : List ℕ) → short shape ≡ true → line (shapeOf shape) .valid row → All (λ n. n < 2 ^ 32) (wholesOf (shapeOf shape) row)
-unfolding line _and_ none ValidCons chosen fieldOf
+unfolding line _and_ noItems ValidCons chosen fieldOf
 narrow [] row s v = all-none
 narrow (c ∷ shape) [] s v = all-none
 narrow (c ∷ shape) (n ∷ row) s v =
@@ -87,7 +87,7 @@ cell-long (word ws) g end n v =
     simp length-append (omega arith)
 
 pub line-long : (fs : List Field) → All Good fs → (row : List ℕ) → line fs .valid row → least fs ≤ length (line fs .write row)
-unfolding line _and_ none ValidCons writeCons least
+unfolding line _and_ noItems ValidCons writeCons least
 line-long [] all-none row v = omega arith
 line-long (f ∷ fs) (more g gs) [] v = absurd v
 line-long (f ∷ fs) (more g gs) (n ∷ row) v =

@@ -16,9 +16,9 @@ least [] = 0
 least (f ∷ fs) = cond (isFloat f) 17 2 + least fs
 
 -- how many columns pass the test
-unfoldable pub countOf : (Field → Bool) → List Field → ℕ
-countOf t [] = 0
-countOf t (f ∷ fs) = cond (t f) 1 0 + countOf t fs
+unfoldable pub columnCount : (Field → Bool) → List Field → ℕ
+columnCount t [] = 0
+columnCount t (f ∷ fs) = cond (t f) 1 0 + columnCount t fs
 
 -- no column of 64 bits
 unfoldable pub short : List ℕ → Bool
@@ -30,5 +30,5 @@ pub record Roomy (shape : List ℕ) (w f : ℕ) : Type 0 where
   pub some : 0 < length shape
   pub few : length shape ≤ 9
   pub slim : short shape ≡ true
-  pub wholes : (n : ℕ) → least (shapeOf shape) * n ≤ size → countOf (λ c. not (isFloat c)) (shapeOf shape) * n ≤ w
-  pub floats : (n : ℕ) → least (shapeOf shape) * n ≤ size → countOf isFloat (shapeOf shape) * n ≤ f
+  pub wholes : (n : ℕ) → least (shapeOf shape) * n ≤ size → columnCount (λ c. not (isFloat c)) (shapeOf shape) * n ≤ w
+  pub floats : (n : ℕ) → least (shapeOf shape) * n ≤ size → columnCount isFloat (shapeOf shape) * n ≤ f

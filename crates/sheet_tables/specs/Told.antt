@@ -1,4 +1,4 @@
--- For the code's own use, but for `flat` and `numbersOf`: tables by their names and letters, and what their readers leave in the tables that they were lent.
+-- For the code's own use, but for `flattened` and `numbersOf`: tables by their names and letters, and what their readers leave in the tables that they were lent.
 use mathlib.Core.Path.{_≡_}
 use mathlib.Core.List.{List, [], _∷_, _++_}
 use Prim.Native.Nat.{ℕ}
@@ -12,9 +12,9 @@ abbrev pub tableOf : List ℕ → List ℕ → Format (List (List ℕ))
 tableOf names shape = names before lines (line (shapeOf shape))
 
 -- the rows' numbers, one row behind the other
-unfoldable pub flat : {A E : Type 0} → (A → List E) → List A → List E
-flat row [] = []
-flat row (a ∷ l) = row a ++ flat row l
+unfoldable pub flattened : {A E : Type 0} → (A → List E) → List A → List E
+flattened row [] = []
+flattened row (a ∷ l) = row a ++ flattened row l
 
 -- the numbers of what was read; none where nothing was
 unfoldable pub numbersOf : {A E : Type 0} → (A → List E) → Parsed A → List E
@@ -22,6 +22,6 @@ numbersOf numbers bad = []
 numbersOf numbers (got a rest) = numbers a
 
 -- those numbers are stored from the table's start on. Where nothing was read, nothing is said
-unfoldable pub Stored : {A E : Type 0} → (A → List E) → Parsed A → List E → List E → Type 0
-Stored numbers bad old new = Unit
-Stored numbers (got a rest) old new = new ≡ sets old 0 (numbers a)
+unfoldable pub TableStored : {A E : Type 0} → (A → List E) → Parsed A → List E → List E → Type 0
+TableStored numbers bad old new = Unit
+TableStored numbers (got a rest) old new = new ≡ sets old 0 (numbers a)

@@ -10,15 +10,15 @@ ghost use Rattle.sheet_layout.specs.Layout.{size, pointColumns, curveColumns, s
 ghost use Rattle.sheet_layout.specs.Letters.{shapeOf, padded};
 ghost use Rattle.sheet_row.specs.Rows.{floatsOf, wholesOf};
 ghost use Rattle.sheet_tables.specs.Room.{Roomy};
-ghost use Rattle.sheet_tables.specs.Told.{tableOf, flat, numbersOf, Stored};
+ghost use Rattle.sheet_tables.specs.Told.{tableOf, flattened, numbersOf, TableStored};
 use text_format::Num;
 
 // The rows of a table, up to the empty line behind them: whole numbers into one table, floats into another.
 fn rows(s: &[u8], at: usize, shape: &[u8], wholes: &mut [u32], floats: &mut [f64]) -> Num
     requires { ⌜ (at ≤ length (now s)) × (length (now s) ≤ size) × Roomy (now shape) (length (now wholes)) (length (now floats)) ⌝ }
     ensures { λ r. ⌜ (r ≡ toldList (now (s .entry)) (lines (line (shapeOf (now (shape .entry)))) .read (drop at (now (s .entry)))))
-        × Stored (flat (wholesOf (shapeOf (now (shape .entry))))) (lines (line (shapeOf (now (shape .entry)))) .read (drop at (now (s .entry)))) (now (wholes .entry)) (now (wholes .exit))
-        × Stored (flat (floatsOf (shapeOf (now (shape .entry))))) (lines (line (shapeOf (now (shape .entry)))) .read (drop at (now (s .entry)))) (now (floats .entry)) (now (floats .exit)) ⌝ }
+        × TableStored (flattened (wholesOf (shapeOf (now (shape .entry))))) (lines (line (shapeOf (now (shape .entry)))) .read (drop at (now (s .entry)))) (now (wholes .entry)) (now (wholes .exit))
+        × TableStored (flattened (floatsOf (shapeOf (now (shape .entry))))) (lines (line (shapeOf (now (shape .entry)))) .read (drop at (now (s .entry)))) (now (floats .entry)) (now (floats .exit)) ⌝ }
 {
     let mut p = at;
     let mut n = 0usize;
@@ -53,8 +53,8 @@ fn table(
 ) -> Num
     requires { ⌜ (at ≤ length (now s)) × (length (now s) ≤ size) × Roomy (now shape) (length (now wholes)) (length (now floats)) ⌝ }
     ensures { λ r. ⌜ (r ≡ toldList (now (s .entry)) (tableOf (now (names .entry)) (now (shape .entry)) .read (drop at (now (s .entry)))))
-        × Stored (flat (wholesOf (shapeOf (now (shape .entry))))) (tableOf (now (names .entry)) (now (shape .entry)) .read (drop at (now (s .entry)))) (now (wholes .entry)) (now (wholes .exit))
-        × Stored (flat (floatsOf (shapeOf (now (shape .entry))))) (tableOf (now (names .entry)) (now (shape .entry)) .read (drop at (now (s .entry)))) (now (floats .entry)) (now (floats .exit)) ⌝ }
+        × TableStored (flattened (wholesOf (shapeOf (now (shape .entry))))) (tableOf (now (names .entry)) (now (shape .entry)) .read (drop at (now (s .entry)))) (now (wholes .entry)) (now (wholes .exit))
+        × TableStored (flattened (floatsOf (shapeOf (now (shape .entry))))) (tableOf (now (names .entry)) (now (shape .entry)) .read (drop at (now (s .entry)))) (now (floats .entry)) (now (floats .exit)) ⌝ }
 {
     match text_format::word(s, at, names, 0) {
         Num::Got(_, p) => rows(s, p, shape, wholes, floats),
@@ -73,8 +73,8 @@ fn block(
 ) -> Num
     requires { ⌜ (at ≤ length (now s)) × (length (now s) ≤ size) × Roomy (now shape) (length (now wholes)) (length (now floats)) ⌝ }
     ensures { λ r. ⌜ (r ≡ toldList (now (s .entry)) (tableOf (now (names .entry)) (now (shape .entry)) .read (drop at (now (s .entry)))))
-        × (now (wholes .exit) ≡ padded (length (now (wholes .entry))) 0 (numbersOf (flat (wholesOf (shapeOf (now (shape .entry))))) (tableOf (now (names .entry)) (now (shape .entry)) .read (drop at (now (s .entry))))))
-        × (now (floats .exit) ≡ padded (length (now (floats .entry))) (ofBits binary64 0) (numbersOf (flat (floatsOf (shapeOf (now (shape .entry))))) (tableOf (now (names .entry)) (now (shape .entry)) .read (drop at (now (s .entry)))))) ⌝ }
+        × (now (wholes .exit) ≡ padded (length (now (wholes .entry))) 0 (numbersOf (flattened (wholesOf (shapeOf (now (shape .entry))))) (tableOf (now (names .entry)) (now (shape .entry)) .read (drop at (now (s .entry))))))
+        × (now (floats .exit) ≡ padded (length (now (floats .entry))) (ofBits binary64 0) (numbersOf (flattened (floatsOf (shapeOf (now (shape .entry))))) (tableOf (now (names .entry)) (now (shape .entry)) .read (drop at (now (s .entry)))))) ⌝ }
 {
     sheet_row::clear_wholes(wholes);
     sheet_row::clear_floats(floats);
@@ -92,7 +92,7 @@ fn block(
 pub fn points(s: &[u8], at: usize, floats: &mut [f64]) -> Num
     requires { ⌜ (at ≤ length (now s)) × (length (now s) ≤ size) × (3 * 1285 ≤ length (now floats)) ⌝ }
     ensures { λ r. ⌜ (r ≡ toldList (now (s .entry)) (table pointColumns .read (drop at (now (s .entry)))))
-        × (now (floats .exit) ≡ padded (length (now (floats .entry))) (ofBits binary64 0) (numbersOf (flat (floatsOf (fields pointColumns))) (table pointColumns .read (drop at (now (s .entry)))))) ⌝ }
+        × (now (floats .exit) ≡ padded (length (now (floats .entry))) (ofBits binary64 0) (numbersOf (flattened (floatsOf (fields pointColumns))) (table pointColumns .read (drop at (now (s .entry)))))) ⌝ }
 {
     let mut wholes = [0u32; 1];
     block(s, at, b"x y z\n", b"fff", &mut wholes, floats)
@@ -102,8 +102,8 @@ pub fn points(s: &[u8], at: usize, floats: &mut [f64]) -> Num
 pub fn curves(s: &[u8], at: usize, wholes: &mut [u32], floats: &mut [f64]) -> Num
     requires { ⌜ (at ≤ length (now s)) × (length (now s) ≤ size) × (3 * 1638 ≤ length (now wholes)) × (2 * 1638 ≤ length (now floats)) ⌝ }
     ensures { λ r. ⌜ (r ≡ toldList (now (s .entry)) (table curveColumns .read (drop at (now (s .entry)))))
-        × (now (wholes .exit) ≡ padded (length (now (wholes .entry))) 0 (numbersOf (flat (wholesOf (fields curveColumns))) (table curveColumns .read (drop at (now (s .entry))))))
-        × (now (floats .exit) ≡ padded (length (now (floats .entry))) (ofBits binary64 0) (numbersOf (flat (floatsOf (fields curveColumns))) (table curveColumns .read (drop at (now (s .entry)))))) ⌝ }
+        × (now (wholes .exit) ≡ padded (length (now (wholes .entry))) 0 (numbersOf (flattened (wholesOf (fields curveColumns))) (table curveColumns .read (drop at (now (s .entry))))))
+        × (now (floats .exit) ≡ padded (length (now (floats .entry))) (ofBits binary64 0) (numbersOf (flattened (floatsOf (fields curveColumns))) (table curveColumns .read (drop at (now (s .entry)))))) ⌝ }
 {
     block(s, at, b"kind first count p q\n", b"kwwff", wholes, floats)
 }
@@ -112,8 +112,8 @@ pub fn curves(s: &[u8], at: usize, wholes: &mut [u32], floats: &mut [f64]) -> Nu
 pub fn segments(s: &[u8], at: usize, wholes: &mut [u32], floats: &mut [f64]) -> Num
     requires { ⌜ (at ≤ length (now s)) × (length (now s) ≤ size) × (2 * 1724 ≤ length (now wholes)) × (2 * 1724 ≤ length (now floats)) ⌝ }
     ensures { λ r. ⌜ (r ≡ toldList (now (s .entry)) (table segmentColumns .read (drop at (now (s .entry)))))
-        × (now (wholes .exit) ≡ padded (length (now (wholes .entry))) 0 (numbersOf (flat (wholesOf (fields segmentColumns))) (table segmentColumns .read (drop at (now (s .entry))))))
-        × (now (floats .exit) ≡ padded (length (now (floats .entry))) (ofBits binary64 0) (numbersOf (flat (floatsOf (fields segmentColumns))) (table segmentColumns .read (drop at (now (s .entry)))))) ⌝ }
+        × (now (wholes .exit) ≡ padded (length (now (wholes .entry))) 0 (numbersOf (flattened (wholesOf (fields segmentColumns))) (table segmentColumns .read (drop at (now (s .entry))))))
+        × (now (floats .exit) ≡ padded (length (now (floats .entry))) (ofBits binary64 0) (numbersOf (flattened (floatsOf (fields segmentColumns))) (table segmentColumns .read (drop at (now (s .entry)))))) ⌝ }
 {
     block(s, at, b"curve lo hi sense\n", b"wffw", wholes, floats)
 }

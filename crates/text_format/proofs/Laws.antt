@@ -8,7 +8,7 @@ use native.Mathlib.Omega.{arith}
 use lib.Dec.{eqb}
 use borrow.Author.Tests.{eqb-true, eq-eqb}
 use Rattle.base_lists.specs.Result.{Result, refused, got as accepted}
-use Rattle.text_format.specs.Format.{Parsed, bad, got, Format, when, andThen, orElse, expect, _ending_, _before_, _then_, none, ValidCons, writeCons, _and_, as-of, whole, all}
+use Rattle.text_format.specs.Format.{Parsed, bad, got, Format, when, andThen, orElse, expect, _ending_, _before_, _then_, noItems, ValidCons, writeCons, _and_, as-of, whole, all}
 
 -- what is read: a valid value, and its text in front of what is left
 pub record Was {A : Type 0} (F : Format A) (bs : List ℕ) (a : A) (rest : List ℕ) : Type 0 where
@@ -128,8 +128,8 @@ then-law F G L M = record {
       subst (λ z. Was (F then G) bs z rest) (t .is) (record { right = (t .first, t .second); text = t .text });
 }
 
-pub none-law : {A : Type 0} → Lawful (none {A = A})
-unfolding none
+pub none-law : {A : Type 0} → Lawful (noItems {A = A})
+unfolding noItems
 none-law = record {
   back = λ a rest v. ap (λ z. got z rest) (sym v);
   was = λ bs a rest e. let s = same-got [] a bs rest e in record { right = sym (s .0); text = sym (s .1) };

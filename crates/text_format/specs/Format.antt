@@ -130,8 +130,8 @@ _then_ F G = record {
 }
 
 -- the empty list, as the empty text
-unfoldable pub none : {A : Type 0} → Format (List A)
-none = record { valid = λ l. l ≡ []; write = λ _. []; read = λ bs. got [] bs }
+unfoldable pub noItems : {A : Type 0} → Format (List A)
+noItems = record { valid = λ l. l ≡ []; write = λ _. []; read = λ bs. got [] bs }
 
 -- the valid lists and the text of `F and G`
 unfoldable pub ValidCons : {A : Type 0} → (A → Type 0) → (List A → Type 0) → List A → Type 0

@@ -4,7 +4,7 @@ use Prim.Native.String.{String}
 use mathlib.Core.List.{List, [], _∷_, _++_}
 use lib.Ieee.{Float, binary64, ofBits}
 use Rattle.text_format.specs.Bytes.{bytes}
-use Rattle.text_format.specs.Format.{Format, hex16, plain, oneOf, _ending_, _before_, _and_, none, lines}
+use Rattle.text_format.specs.Format.{Format, hex16, plain, oneOf, _ending_, _before_, _and_, noItems, lines}
 
 -- what a column holds: the 64 bits of a float; whole numbers up to some number; words, numbered from 1
 pub data Field : Type 0 where
@@ -39,7 +39,7 @@ cell (word ws) end = oneOf ws ending (end ∷ [])
 
 -- a line: its cells
 unfoldable pub line : List Field → Format (List ℕ)
-line [] = none
+line [] = noItems
 line (f ∷ fs) = cell f (behind fs) and line fs
 
 -- the names, and any number of lines up to an empty one

@@ -8,7 +8,7 @@ use lib.ListN.{length, set, length-append}
 use lib.Seq.{sets}
 use lib.Ieee.{Float}
 use Rattle.text_format.specs.Bytes.{bytes}
-use Rattle.text_format.specs.Format.{hex16, digits, decimal, widthUpTo, _ending_, _and_, none, writeCons}
+use Rattle.text_format.specs.Format.{hex16, digits, decimal, widthUpTo, _ending_, _and_, noItems, writeCons}
 use Rattle.text_format.specs.Table.{fields, behind, names, cell, line}
 use Rattle.text_format.proofs.Digits.{digits-length}
 use Rattle.text_format.proofs.Buffer.{none-written, some-written, all-written, sets-append}
@@ -35,7 +35,7 @@ put-field o at v end = put-last o (digits 16 16 v) at (at + 16) end (ap (λ k. a
 
 -- ---- a line: four fields
 line-is : (x y z t : ℕ) → lineOf (x ∷ y ∷ z ∷ t ∷ []) ≡ field 32 x ++ (field 32 y ++ (field 32 z ++ field 10 t))
-unfolding fields behind cell line _and_ none writeCons
+unfolding fields behind cell line _and_ noItems writeCons
 line-is x y z t = ap (λ l. field 32 x ++ (field 32 y ++ (field 32 z ++ l))) (append-nil (field 10 t))
 
 line-length : (x y z t : ℕ) → length (lineOf (x ∷ y ∷ z ∷ t ∷ [])) ≡ 68

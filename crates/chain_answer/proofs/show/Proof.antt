@@ -6,26 +6,26 @@ use Rattle.edge_record.specs.Chain.{width}
 use Rattle.draw_spec.specs.declared.Way.{Way}
 use Rattle.draw_spec.specs.declared.Way.the-variants.{AsDrawn, Chord, Complement, ShortArc, Runaway}
 use Rattle.draw_spec.specs.declared.Drawn.the-variants.{Chain}
-use Rattle.draw_spec.specs.Draw.{floatsOf}
+use Rattle.draw_spec.specs.Draw.{chainFloats}
 use Rattle.chain_answer.proofs.Laws.{show-refusal, show-chain}
 use borrow.Author.Needs.{needs}
 use Rattle.chain_answer.proofs.show.Statement.{statement}
 use Rattle.chain_answer.proofs.show.Tie as tie
 
 write-chain-requires : tie.Need-write-chain-requires
-write-chain-requires c κs = let z = ap floatsOf (c .before .before .before .before .drawn2 .given .1) in (omega arith, omega arith)
+write-chain-requires c κs = let z = ap chainFloats (c .before .before .before .before .drawn2 .given .1) in (omega arith, omega arith)
 
 write-chain-requires-2 : tie.Need-write-chain-requires-2
-write-chain-requires-2 c κs = let z = ap floatsOf (c .before .before .before .before .drawn2 .given .1) in (omega arith, omega arith)
+write-chain-requires-2 c κs = let z = ap chainFloats (c .before .before .before .before .drawn2 .given .1) in (omega arith, omega arith)
 
 write-chain-requires-3 : tie.Need-write-chain-requires-3
-write-chain-requires-3 c κs = let z = ap floatsOf (c .before .before .before .before .drawn2 .given .1) in (omega arith, omega arith)
+write-chain-requires-3 c κs = let z = ap chainFloats (c .before .before .before .before .drawn2 .given .1) in (omega arith, omega arith)
 
 write-chain-requires-4 : tie.Need-write-chain-requires-4
-write-chain-requires-4 c κs = let z = ap floatsOf (c .before .before .before .before .drawn2 .given .1) in (omega arith, omega arith)
+write-chain-requires-4 c κs = let z = ap chainFloats (c .before .before .before .before .drawn2 .given .1) in (omega arith, omega arith)
 
 write-chain-requires-5 : tie.Need-write-chain-requires-5
-write-chain-requires-5 c κs = let z = ap floatsOf (c .before .before .before .before .drawn2 .given .1) in (omega arith, omega arith)
+write-chain-requires-5 c κs = let z = ap chainFloats (c .before .before .before .before .drawn2 .given .1) in (omega arith, omega arith)
 
 returns : tie.Need-returns
 returns c = let a = c .before .before .before .before .before .before .before .before .before .before .args in show-refusal (a .lo) (a .hi) (a .drawn) (a .first .now) (a .second .now) _ _ _ _ (c .before .before .before .before .before .drawn .given .1) (c .before .before .write-refusal .ensures)

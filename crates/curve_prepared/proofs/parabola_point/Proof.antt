@@ -1,4 +1,4 @@
-use Rattle.curve_prepared.specs.Ready.{parabolaPoint}
+use Rattle.curve_prepared.specs.Ready.{preparedParabola}
 use mathlib.Core.Path.{_≡_, refl, sym, ap, _∙_}
 use borrow.Author.Needs.{needs}
 use Rattle.curve_prepared.proofs.parabola_point.Statement.{statement}
@@ -9,7 +9,7 @@ use Rattle.math.proofs.Vec3.add.Reads as add-reads
 use Rattle.math.proofs.Vec3.scale.Reads as scale-reads
 
 returns : tie.Need-returns
-unfolding parabolaPoint
+unfolding preparedParabola
 returns c = rw (c .add2 .ensures, c .before .scale2 .ensures, c .before .before .add .ensures, c .before .before .before .scale .ensures)
 
 pub parabola-point-spec : {M : Type 1} → statement M

@@ -8,7 +8,7 @@ use Rattle.arith.proofs.Cmp.{holds}
 use Rattle.math.specs.Math.{vLength, diagonal}
 use Rattle.edge_escape.proofs.Search.{beyond, left, passed, none, escapes-whole}
 use Rattle.edge_escape.proofs.Near.{Inside, not-beyond}
-use Rattle.draw_spec.specs.Repair.{limitOf}
+use Rattle.draw_spec.specs.Repair.{escapeLimit}
 use borrow.Author.Needs.{needs}
 use Rattle.edge_escape.proofs.all_near.Statement.{statement}
 use Rattle.edge_escape.proofs.all_near.Tie as tie
@@ -45,7 +45,7 @@ returns-2 c = λ e.
     let a = c .before .before .before .before .args in
     let q = c .before .before .before .before .pre in
     let l = c .before .loop in
-    let limit = limitOf (a .reference) (a .r) in
+    let limit = escapeLimit (a .reference) (a .r) in
     let z = c .before .before .centre .result in
     let h : Inside limit (a .square) = λ (s : Float) F low high.
     rw (sym (q .5)) (not-beyond (a .square) (a .r .sag) s (search needs) F (q .1) (q .2) (q .3) (q .4) low high) in

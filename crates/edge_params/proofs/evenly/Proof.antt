@@ -6,14 +6,14 @@ use native.Mathlib.Omega.{arith}
 use borrow.Author.Needs.{needs}
 use Rattle.edge_params.specs.declared.Listed.the-variants.{Count}
 use Rattle.edge_params.specs.Params.{steps}
-use Rattle.edge_params.specs.Held.{Held}
+use Rattle.edge_params.specs.Held.{ListWritten}
 use Rattle.edge_params.proofs.Held.{held-length}
 use Rattle.edge_params.proofs.Steps.{steps-none, steps-push, steps-stop, steps-done}
 use Rattle.edge_params.proofs.evenly.Statement.{statement}
 use Rattle.edge_params.proofs.evenly.Tie as tie
 
 abbrev Inv-loop : tie.InvT-loop
-Inv-loop range n out₀ total i₀ out i = (i ≤ n + 1) × (length out ≡ length out₀) × Held out₀ (steps range n i) (Count i) out
+Inv-loop range n out₀ total i₀ out i = (i ≤ n + 1) × (length out ≡ length out₀) × ListWritten out₀ (steps range n i) (Count i) out
 
 abbrev μ-loop : tie.MeasureT-loop
 μ-loop range n out₀ total i₀ out i = n + 1 - i

@@ -5,19 +5,19 @@ use lib.ListN.{length, take}
 use borrow.Author.Needs.{needs}
 use Rattle.base_lists.specs.Room.{filled}
 use Rattle.edge_params.specs.declared.Listed.{Listed}
-use Rattle.edge_sample.specs.Answered.{countOf}
+use Rattle.edge_sample.specs.Answered.{keptFloats}
 use Rattle.edge_sample.proofs.settle.Statement.{statement}
 use Rattle.edge_sample.proofs.settle.Tie as tie
 
 clear-from-requires : tie.Need-clear-from-requires
-clear-from-requires c κs = omega (arith, ap countOf (c .before .before .listed .given .1), c .before .before .before .before .before .pre)
+clear-from-requires c κs = omega (arith, ap keptFloats (c .before .before .listed .given .1), c .before .before .before .before .before .pre)
 
 returns : tie.Need-returns
 returns c =
     let st = c .before .before .before .before .before .before .before .before in (
       sym (c .before .before .before .before .before .listed .given .1),
       c .before .before .clear-from .ensures ∙ ap
-          (λ (w : Listed). filled (length (st .args .out .now)) (take (countOf w) (st .args .out .now)))
+          (λ (w : Listed). filled (length (st .args .out .now)) (take (keptFloats w) (st .args .out .now)))
           (sym (c .before .before .before .before .before .listed .given .1)),
     )
 
@@ -26,7 +26,7 @@ returns-2 c =
     let st = c .before .before .before .before .before .before .before in (
       sym (c .before .before .before .before .enum-told .given .1),
       c .before .before .clear-from2 .ensures ∙ ap
-          (λ (w : Listed). filled (length (st .args .out .now)) (take (countOf w) (st .args .out .now)))
+          (λ (w : Listed). filled (length (st .args .out .now)) (take (keptFloats w) (st .args .out .now)))
           (sym (c .before .before .before .before .enum-told .given .1)),
     )
 

@@ -6,19 +6,19 @@ use mathlib.Core.Logic.{⊎-elim}
 use Prim.Native.Nat.{_≤_, _-_}
 use lib.ListN.{length, take}
 use lib.Seq.{take-all}
-use Rattle.edge_thin.specs.Thin.{count}
+use Rattle.edge_thin.specs.Thin.{flagCount}
 use Rattle.edge_thin.proofs.Loops.{count-set, count-unset}
 use Rattle.edge_thin.proofs.count_kept.Statement.{statement}
 use Rattle.edge_thin.proofs.count_kept.Tie as tie
 
 abbrev Inv-loop : tie.InvT-loop
-Inv-loop keep kept₀ i₀ i-end kept i = (kept ≤ i) × (i ≤ length keep) × (i-end ≡ length keep) × (kept ≡ count (take i keep))
+Inv-loop keep kept₀ i₀ i-end kept i = (kept ≤ i) × (i ≤ length keep) × (i-end ≡ length keep) × (kept ≡ flagCount (take i keep))
 
 abbrev μ-loop : tie.MeasureT-loop
 μ-loop keep kept₀ i₀ i-end kept i = length keep - i
 
 loop-holds : tie.Need-loop-holds Inv-loop μ-loop
-unfolding count
+unfolding flagCount
 loop-holds c = (search needs, search needs, refl, refl)
 
 loop-again : tie.Need-loop-again Inv-loop μ-loop
@@ -35,7 +35,7 @@ returns : tie.Need-returns Inv-loop μ-loop
 returns c =
     let k = c .before .before .args .keep .now in
     let l = c .before .loop in
-    l .inv .3 ∙ ap count (take-all (l .i) k (omega arith))
+    l .inv .3 ∙ ap flagCount (take-all (l .i) k (omega arith))
 
 pub count-kept-spec : {M : Type 1} → statement M
 count-kept-spec =

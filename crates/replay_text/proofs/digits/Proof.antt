@@ -4,7 +4,7 @@ use Prim.Native.Nat.{_-_, _%_, _^_, _≤_, _<_}
 use native.Mathlib.Omega.{arith}
 use borrow.Author.Needs.{needs}
 use Rattle.text_format.specs.Format.{digits}
-use Rattle.replay_text.specs.Waiting.{waits, put, puts}
+use Rattle.replay_text.specs.Waiting.{waits, putOne, puts}
 use Rattle.replay_text.proofs.Places.{First, first}
 use Rattle.replay_text.proofs.digits.Statement.{statement}
 use Rattle.replay_text.proofs.digits.Tie as tie
@@ -45,7 +45,7 @@ loop-again c =
     let a = c .before .before .before .before .before .args in (
       t .next,
       t .left,
-      ap (puts (digits (a .base) (l .i - 1) (l .rest % l .u))) (c .put .ensures ∙ ap (λ b. put b (waits (l .out) (l .n))) (c .before .char-of .ensures))
+      ap (puts (digits (a .base) (l .i - 1) (l .rest % l .u))) (c .put .ensures ∙ ap (λ b. putOne b (waits (l .out) (l .n))) (c .before .char-of .ensures))
           ∙ sym (ap (λ s. puts s (waits (l .out) (l .n))) (t .is)) ∙ l .inv .2,
     )
 

@@ -1,16 +1,16 @@
--- `replay_text::put` meets its contract. Assumes nothing.
+-- `replay_text::putOne` meets its contract. Assumes nothing.
 use borrow.Author.Needs.{needs}
 use borrow.Author.Tests.{lt-ltb, le-ltb}
-use Rattle.replay_text.specs.Waiting.{put}
+use Rattle.replay_text.specs.Waiting.{putOne}
 use Rattle.replay_text.proofs.put.Statement.{statement}
 use Rattle.replay_text.proofs.put.Tie as tie
 
 returns : tie.Need-returns
-unfolding put
+unfolding putOne
 returns c = rw (lt-ltb _ 4096 (c .if1 .taken))
 
 returns-2 : tie.Need-returns-2
-unfolding put
+unfolding putOne
 returns-2 c = rw (le-ltb _ 4096 (c .before .before .before .if1 .left))
 
 pub put-spec : {M : Type 1} → statement M

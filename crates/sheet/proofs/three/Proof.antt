@@ -4,11 +4,11 @@ use native.Mathlib.Omega.{arith}
 use lib.ListN.{length, drop}
 use Rattle.text_format.specs.Format.{_then_}
 use Rattle.text_format.specs.Table.{fields, table}
-use Rattle.sheet_layout.specs.Layout.{pointColumns, curveColumns, segmentColumns, tables}
+use Rattle.sheet_layout.specs.Layout.{pointColumns, curveColumns, segmentColumns, tablesFormat}
 use Rattle.sheet_layout.proofs.Laws.{points-law, curves-law, segments-law}
 use Rattle.sheet_row.specs.Rows.{floatsOf, wholesOf}
 use Rattle.text_format.proofs.Place.{ReadList, read-list, read-no-list, then-bad, then-bad-on, then-read}
-use Rattle.sheet_tables.specs.Told.{flat}
+use Rattle.sheet_tables.specs.Told.{flattened}
 use Rattle.sheet.specs.Sheet.{floatOf}
 use Rattle.sheet.proofs.Parts.{held-part, told-no-tables, told-tables, held-bad, held-got, stored-is}
 use borrow.Author.Needs.{needs}
@@ -88,11 +88,11 @@ returns-4 c =
       told-tables s _ (l .list) (m .list) (k .list) _ _ _ _ (l .count) (m .count) (k .count) r,
       held-got s _ (l .list, (m .list, k .list)) _ _ (r .is)
           (stored-is (l .list) (m .list) (k .list) _ _ _ _ _
-          (held-part (flat (floatsOf (fields pointColumns))) (floatOf 0) 3855 _ (l .list) _ (a .points .now) _ (points-length (c .before .before .before .before .before .before .before .before .before .before .before .before .before .before .before .before)) (l .is .is) (c .before .before .before .before .before .before .before .before .before .before .before .before .before .before .before .points .ensures .1))
-          (held-part (flat (wholesOf (fields curveColumns))) 0 4914 _ (m .list) _ (a .curves .now) _ (curves-length (c .before .before .before .before .before .before .before .before .before .before .before)) (m .is .is) (c .before .before .before .before .before .before .before .before .before .curves .ensures .1))
-          (held-part (flat (floatsOf (fields curveColumns))) (floatOf 0) 3276 _ (m .list) _ (a .reals .now) _ (reals-length (c .before .before .before .before .before .before .before .before .before .before)) (m .is .is) (c .before .before .before .before .before .before .before .before .before .curves .ensures .2))
-          (held-part (flat (wholesOf (fields segmentColumns))) 0 3448 _ (k .list) _ (a .parts .now) _ (parts-length (c .before .before .before .before .before)) (k .is .is) (c .before .before .before .segments .ensures .1))
-          (held-part (flat (floatsOf (fields segmentColumns))) (floatOf 0) 3448 _ (k .list) _ (a .ranges .now) _ (ranges-length (c .before .before .before .before)) (k .is .is) (c .before .before .before .segments .ensures .2))),
+          (held-part (flattened (floatsOf (fields pointColumns))) (floatOf 0) 3855 _ (l .list) _ (a .points .now) _ (points-length (c .before .before .before .before .before .before .before .before .before .before .before .before .before .before .before .before)) (l .is .is) (c .before .before .before .before .before .before .before .before .before .before .before .before .before .before .before .points .ensures .1))
+          (held-part (flattened (wholesOf (fields curveColumns))) 0 4914 _ (m .list) _ (a .curves .now) _ (curves-length (c .before .before .before .before .before .before .before .before .before .before .before)) (m .is .is) (c .before .before .before .before .before .before .before .before .before .curves .ensures .1))
+          (held-part (flattened (floatsOf (fields curveColumns))) (floatOf 0) 3276 _ (m .list) _ (a .reals .now) _ (reals-length (c .before .before .before .before .before .before .before .before .before .before)) (m .is .is) (c .before .before .before .before .before .before .before .before .before .curves .ensures .2))
+          (held-part (flattened (wholesOf (fields segmentColumns))) 0 3448 _ (k .list) _ (a .parts .now) _ (parts-length (c .before .before .before .before .before)) (k .is .is) (c .before .before .before .segments .ensures .1))
+          (held-part (flattened (floatsOf (fields segmentColumns))) (floatOf 0) 3448 _ (k .list) _ (a .ranges .now) _ (ranges-length (c .before .before .before .before)) (k .is .is) (c .before .before .before .segments .ensures .2))),
     )
 
 pub three-spec : {M : Type 1} → statement M

@@ -9,7 +9,7 @@ use Rattle.text_format.specs.Told.{toldList}
 use Rattle.sheet_layout.specs.Layout.{pointColumns}
 use Rattle.sheet_layout.specs.Letters.{fieldOf, padded}
 use Rattle.sheet_row.specs.Rows.{floatsOf}
-use Rattle.sheet_tables.specs.Told.{flat, numbersOf}
+use Rattle.sheet_tables.specs.Told.{flattened, numbersOf}
 use Rattle.sheet_tables.proofs.Tables.{points-same, points-room}
 use borrow.Author.Needs.{needs}
 use Rattle.sheet_tables.proofs.points.Statement.{statement}
@@ -25,7 +25,7 @@ unfolding bytes fields fieldOf
 returns c =
     let a = c .before .before .before .before .before .before .before .before .before .before .args in (
       c .before .before .before .block .ensures .0 ∙ ap (λ F. toldList (a .s .now) (F .read (drop (a .at) (a .s .now)))) points-same,
-      c .before .before .before .block .ensures .2 ∙ ap (λ F. padded (length (a .floats .now)) (ofBits binary64 0) (numbersOf (flat (floatsOf (fields pointColumns))) (F .read (drop (a .at) (a .s .now))))) points-same,
+      c .before .before .before .block .ensures .2 ∙ ap (λ F. padded (length (a .floats .now)) (ofBits binary64 0) (numbersOf (flattened (floatsOf (fields pointColumns))) (F .read (drop (a .at) (a .s .now))))) points-same,
     )
 
 pub points-spec : {M : Type 1} → statement M
