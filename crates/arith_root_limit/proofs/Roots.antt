@@ -7,7 +7,7 @@ use lib.Ieee.Bits.{is-true, is-false}
 use Rattle.arith_order.proofs.Signed.{zeroF}
 use Rattle.arith_order.proofs.Laws.{number-left, number-right, lt→nle, le-lt-trans}
 use Rattle.arith.proofs.Cmp.{holds}
-use Rattle.arith.specs.Notation.{_⊗_, nought}
+use Rattle.arith.specs.Notation.{_⊗_, plusZero}
 use Rattle.arith_root.specs.Root.{rootOf}
 use Rattle.arith_root.proofs.Laws.{root-over, root-under, root-reflects}
 use Rattle.arith_root.proofs.Apart.{little, apart}
@@ -46,7 +46,7 @@ pub root-not-below : (s b : Float) → T (fits binary64 s) → T (fits binary64 
 root-not-below s b F G h = sym (refuted (lt (rootOf s) (rootOf b)) (λ (t : T (lt (rootOf s) (rootOf b))). subst T h (root-reflects s b F G t)))
 
 -- where s is above zero, and a millionth more is below b, so is its root
-pub surely-below : (s b : Float) → T (fits binary64 s) → T (fits binary64 b) → lt s b ≡ true → lt nought s ≡ true → lt (s ⊗ little) b ≡ true → true ≡ lt (rootOf s) (rootOf b)
+pub surely-below : (s b : Float) → T (fits binary64 s) → T (fits binary64 b) → lt s b ≡ true → lt plusZero s ≡ true → lt (s ⊗ little) b ≡ true → true ≡ lt (rootOf s) (rootOf b)
 unfolding ofBits
 surely-below s b F G h p k = sym (is-true (lt (rootOf s) (rootOf b)) (apart s b F G (holds p) (holds h) (holds k)))
 

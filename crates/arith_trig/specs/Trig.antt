@@ -7,7 +7,7 @@ use mathlib.Core.List.{List, [], _∷_}
 use Prim.Native.Nat.{ℕ, zero, suc, _-_, _*_, _/_, _%_}
 use lib.Ieee.{Float, nan, inf, fin, up, down, eq, lt, neg}
 use Rattle.arith.specs.Floor.{floorOf}
-use Rattle.arith.specs.Notation.{_⊕_, _⊖_, _⊗_, _⊘_, bits, count, nought, half, one}
+use Rattle.arith.specs.Notation.{_⊕_, _⊖_, _⊗_, _⊘_, bits, count, plusZero, half, one}
 use Rattle.arith_root.specs.Root.{rootOf}
 use Rattle.arith_trig.specs.declared.SinCos.{SinCos}
 
@@ -103,4 +103,4 @@ acosBy y = cond (lt one y) (pi ⊖ angleOf (one ⊘ y)) (angleOf y)
 
 -- f64::acos: 1 gives 0, -1 gives π; NaN for a NaN and for what is no cosine
 unfoldable pub acosOf : Float → Float
-acosOf a = cond (eq a one) nought (cond (eq a (neg one)) pi (acosBy (rootOf ((one ⊖ a) ⊘ (one ⊕ a)))))
+acosOf a = cond (eq a one) plusZero (cond (eq a (neg one)) pi (acosBy (rootOf ((one ⊖ a) ⊘ (one ⊕ a)))))

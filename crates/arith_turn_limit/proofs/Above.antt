@@ -13,7 +13,7 @@ use Rattle.arith_order.proofs.Middle.{between}
 use Rattle.arith_order.proofs.Lerp.{mul-swap}
 use Rattle.arith_order.proofs.Laws.{le-trans, le-total, lt-le-trans, le-lt-trans, lt→le, lt→nle, nlt→le, number-left, number-right}
 use Rattle.arith.proofs.Cmp.{holds}
-use Rattle.arith.specs.Notation.{_⊕_, _⊖_, _⊗_, _⊘_, bits, nought, one, two, count}
+use Rattle.arith.specs.Notation.{_⊕_, _⊖_, _⊗_, _⊘_, bits, plusZero, one, two, count}
 use Rattle.arith_root.specs.Root.{rootOf}
 use Rattle.arith_root.proofs.Laws.{root-monotone}
 use Rattle.arith_trig.specs.Trig.{halved, summed, arcOf, angleOf, acosBy, acosOf, pi}
@@ -343,12 +343,12 @@ module _ (a limit cut : Float) (F : T (fits binary64 cut)) (low : T (le zeroF cu
 -- ---- the cut for a limit serves
 pub exceeds : (limit : Float) → Exceeds (overCut limit) limit
 unfolding overCut ofBits
-exceeds limit = go (lt limit (bits 0x3FD78D4FDF3B645A)) (le nought (overFor limit)) (lt limit (leastTurn (rootOf (overFor limit)))) refl refl refl
+exceeds limit = go (lt limit (bits 0x3FD78D4FDF3B645A)) (le plusZero (overFor limit)) (lt limit (leastTurn (rootOf (overFor limit)))) refl refl refl
   where
     none : Exceeds nan limit
     none = record { above = λ (a : Float) (e : eq a one ≡ false) (f : eq a (neg one) ≡ false) (h : le nan (tangentSquare a) ≡ true). absurd (number-left nan (tangentSquare a) (holds h)) }
 
-    go : (b c d : Bool) → lt limit (bits 0x3FD78D4FDF3B645A) ≡ b → le nought (overFor limit) ≡ c → lt limit (leastTurn (rootOf (overFor limit))) ≡ d
+    go : (b c d : Bool) → lt limit (bits 0x3FD78D4FDF3B645A) ≡ b → le plusZero (overFor limit) ≡ c → lt limit (leastTurn (rootOf (overFor limit))) ≡ d
         → Exceeds (cutIf b (cutIf c (cutIf d (overFor limit)))) limit
     go true true true s l m = record {
       above = λ (a : Float) (e : eq a one ≡ false) (f : eq a (neg one) ≡ false) (h : le (overFor limit) (tangentSquare a) ≡ true).

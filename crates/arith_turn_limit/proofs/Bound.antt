@@ -20,7 +20,7 @@ use Rattle.arith_order.proofs.Lerp.{no-minus, zero-fits, mul-swap}
 use Rattle.arith_order.proofs.Modest.{sub-up}
 use Rattle.arith_order.proofs.Laws.{le-trans, lt-le-trans, lt→nle, number-right}
 use Rattle.arith.proofs.Cmp.{holds}
-use Rattle.arith.specs.Notation.{_⊕_, _⊖_, _⊗_, _⊘_, nought, one, two, count}
+use Rattle.arith.specs.Notation.{_⊕_, _⊖_, _⊗_, _⊘_, plusZero, one, two, count}
 use Rattle.arith_root.specs.Root.{rootOf}
 use Rattle.arith_root.proofs.Laws.{root-monotone}
 use Rattle.arith_trig.specs.Trig.{halved, summed, arcOf, angleOf, acosBy, acosOf, pi}
@@ -337,12 +337,12 @@ module _ (a : Float) (A : T (lt zeroF a)) (p : Part (tangentSquare a)) where
 
   pub acos-high : T (le (acosOf a) (twiceTangent (tangentSquare a)))
   unfolding acosOf tangent ofBits lt neg
-  acos-high = chosen (eq a one) nought (cond (eq a (neg one)) pi (acosBy tangent)) (eighths tangent) (λ (h : T (eq a one)). eighths-low tangent tangent-part)
+  acos-high = chosen (eq a one) plusZero (cond (eq a (neg one)) pi (acosBy tangent)) (eighths tangent) (λ (h : T (eq a one)). eighths-low tangent tangent-part)
       (chosen (eq a (neg one)) pi (acosBy tangent) (eighths tangent)
       (λ (h : T (eq a (neg one))). absurd (lt-le-trans zeroF a (neg one) A (equal-le a (neg one) h))) by-high)
 
 -- ---- at or below a cut that serves, the angle is within the limit
-pub surely-within : (a limit cut : Float) → T (fits binary64 cut) → Serves cut limit → lt nought a ≡ true → le nought (tangentSquare a) ≡ true
+pub surely-within : (a limit cut : Float) → T (fits binary64 cut) → Serves cut limit → lt plusZero a ≡ true → le plusZero (tangentSquare a) ≡ true
     → le (tangentSquare a) cut ≡ true → true ≡ le (acosOf a) limit
 unfolding ofBits
 surely-within a limit cut F s h low k =

@@ -2,7 +2,7 @@
 use mathlib.Core.Path.{_≡_}
 use mathlib.Core.Bool.{true, false}
 use lib.Ieee.{Float, le, lt, eq, neg}
-use Rattle.arith.specs.Notation.{_⊕_, _⊖_, _⊗_, _⊘_, bits, count, nought, half, one, two}
+use Rattle.arith.specs.Notation.{_⊕_, _⊖_, _⊗_, _⊘_, bits, count, plusZero, half, one, two}
 use Rattle.arith_root.specs.Root.{rootOf}
 use Rattle.arith_trig.specs.Trig.{acosOf}
 use Rattle.arith_root_limit.specs.Limit.{cutIf}
@@ -38,7 +38,7 @@ overFor limit = limit ⊗ bits 0x3FE05E353F7CED91 ⊗ (limit ⊗ bits 0x3FE05E35
 
 -- it serves a limit below 0.368, which every angle is above whose half has a tangent above a quarter, where the least turn at the cut is above the limit
 unfoldable pub overCut : Float → Float
-overCut limit = let cut = overFor limit in cutIf (lt limit (bits 0x3FD78D4FDF3B645A)) (cutIf (le nought cut) (cutIf (lt limit (leastTurn (rootOf cut))) cut))
+overCut limit = let cut = overFor limit in cutIf (lt limit (bits 0x3FD78D4FDF3B645A)) (cutIf (le plusZero cut) (cutIf (lt limit (leastTurn (rootOf cut))) cut))
 
 -- from the cut on every angle is above the limit
 pub record Exceeds (cut limit : Float) : Type 0 where

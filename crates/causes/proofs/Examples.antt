@@ -6,7 +6,7 @@ use Prim.Native.Nat.{ℕ}
 use lib.ListN.{length, getD}
 use lib.Ieee.{Float, nan, lt, le, eq, ne, neg, ofBits}
 use lib.Ieee.Scale.{finite}
-use Rattle.arith.specs.Notation.{bits, nought, one}
+use Rattle.arith.specs.Notation.{bits, plusZero, one}
 use Rattle.math.specs.Math.{interval}
 use Rattle.brep.specs.declared.Edge.{Edge}
 use Rattle.brep.specs.Rows.{Tables, tables, segmentOf, curveOf, kindOf, pointOf, frameOf}
@@ -24,9 +24,9 @@ use Rattle.causes.specs.Causes.{oversize, missing, verdict}
 -- two points, the second at x; a line with this q; a trim of the row base
 abbrev drawing : Float → Float → ℕ → Tables
 drawing x q base =
-    tables (nought ∷ nought ∷ nought ∷ x ∷ nought ∷ nought ∷ [])
+    tables (plusZero ∷ plusZero ∷ plusZero ∷ x ∷ plusZero ∷ plusZero ∷ [])
     (1 ∷ 0 ∷ 2 ∷ 6 ∷ base ∷ 1 ∷ [])
-    (nought ∷ q ∷ nought ∷ one ∷ [])
+    (plusZero ∷ q ∷ plusZero ∷ one ∷ [])
     []
     []
 
@@ -38,8 +38,8 @@ edge sense start =
       start = start;
       end = 1;
       sense = sense;
-      range = interval nought nan;
-      tolerance = nought;
+      range = interval plusZero nan;
+      tolerance = plusZero;
       low = 0;
       high = 1;
     }
@@ -55,17 +55,17 @@ abbrev more : Float
 more = bits 0x41CDCD6500000001
 
 -- exactly 1e9 passes, and so does a NaN for the edge's hi
-exactly : verdict (drawing most nought 0) (edge 1 0) options ≡ Accepted
+exactly : verdict (drawing most plusZero 0) (edge 1 0) options ≡ Accepted
 unfolding verdict oversize unbounded edgeBeyond optionsBeyond finiteBeyond beyond within illFormed malformedSegment malformedRow malformed targets unusedSet spareQ spareP wrongCount unknownKind uneven broken missing deepRow unorderedRow notLower highSegment someBelow nesting tree below grown segments run curveOf kindOf pointOf frameOf segmentOf lt le eq ne neg ofBits finite
 exactly = refl
 
 -- 1e9 is passed by one float
-above : verdict (drawing more nought 0) (edge 1 0) options ≡ Refused 2
+above : verdict (drawing more plusZero 0) (edge 1 0) options ≡ Refused 2
 unfolding verdict oversize unbounded edgeBeyond optionsBeyond finiteBeyond beyond within illFormed malformedSegment malformedRow malformed targets unusedSet spareQ spareP wrongCount unknownKind uneven broken missing deepRow unorderedRow notLower highSegment someBelow nesting tree below grown segments run curveOf kindOf pointOf frameOf segmentOf lt le eq ne neg ofBits finite
 above = refl
 
 -- a sense of 2
-sense-2 : verdict (drawing most nought 0) (edge 2 0) options ≡ Refused 3
+sense-2 : verdict (drawing most plusZero 0) (edge 2 0) options ≡ Refused 3
 unfolding verdict oversize unbounded edgeBeyond optionsBeyond finiteBeyond beyond within illFormed malformedSegment malformedRow malformed targets unusedSet spareQ spareP wrongCount unknownKind uneven broken missing deepRow unorderedRow notLower highSegment someBelow nesting tree below grown segments run curveOf kindOf pointOf frameOf segmentOf lt le eq ne neg ofBits finite
 sense-2 = refl
 
@@ -75,16 +75,16 @@ unfolding verdict oversize unbounded edgeBeyond optionsBeyond finiteBeyond beyon
 unused-q = refl
 
 -- a trim of its own row
-own-row : verdict (drawing most nought 1) (edge 1 0) options ≡ Refused 4
+own-row : verdict (drawing most plusZero 1) (edge 1 0) options ≡ Refused 4
 unfolding verdict oversize unbounded edgeBeyond optionsBeyond finiteBeyond beyond within illFormed malformedSegment malformedRow malformed targets unusedSet spareQ spareP wrongCount unknownKind uneven broken missing deepRow unorderedRow notLower highSegment someBelow nesting tree below grown segments run curveOf kindOf pointOf frameOf segmentOf lt le eq ne neg ofBits finite
 own-row = refl
 
 -- a start past the end
-start : verdict (drawing most nought 0) (edge 1 2) options ≡ Refused 6
+start : verdict (drawing most plusZero 0) (edge 1 2) options ≡ Refused 6
 unfolding verdict oversize unbounded edgeBeyond optionsBeyond finiteBeyond beyond within illFormed malformedSegment malformedRow malformed targets unusedSet spareQ spareP wrongCount unknownKind uneven broken missing deepRow unorderedRow notLower highSegment someBelow nesting tree below grown segments run curveOf kindOf pointOf frameOf segmentOf lt le eq ne neg ofBits finite
 start = refl
 
 -- two causes: the lower
-lowest : verdict (drawing more nought 1) (edge 2 2) options ≡ Refused 2
+lowest : verdict (drawing more plusZero 1) (edge 2 2) options ≡ Refused 2
 unfolding verdict oversize unbounded edgeBeyond optionsBeyond finiteBeyond beyond within illFormed malformedSegment malformedRow malformed targets unusedSet spareQ spareP wrongCount unknownKind uneven broken missing deepRow unorderedRow notLower highSegment someBelow nesting tree below grown segments run curveOf kindOf pointOf frameOf segmentOf lt le eq ne neg ofBits finite
 lowest = refl

@@ -63,7 +63,7 @@ fn edge_beyond(edge: Edge) -> bool
 fn options_beyond(options: Options) -> bool
     ensures { λ r. ⌜ r ≡ optionsBeyond options ⌝ }
 {
-    let angle = options.angle.radians();
+    let angle = options.angle.to_radians();
     either(
         beyond(options.deflection),
         either(beyond(angle), finite_beyond(options.scale)),

@@ -5,7 +5,7 @@ use Prim.Native.Nat.{ℕ, _+_, _*_, _/_, _%_}
 use lib.ListN.{length, getD}
 use lib.Dec.{eqb, ltb, leb}
 use lib.Ieee.{Float, nan, ne}
-use Rattle.arith.specs.Notation.{nought}
+use Rattle.arith.specs.Notation.{plusZero}
 use Rattle.brep.specs.declared.Edge.{Edge}
 use Rattle.brep.specs.Rows.{Tables}
 use Rattle.options.specs.declared.Options.{Options}
@@ -56,7 +56,7 @@ spareQ kind = not (eqb kind 3 || eqb kind 6)
 
 -- not zero, of either sign
 abbrev pub notZero : Float → Bool
-notZero x = ne x nought
+notZero x = ne x plusZero
 
 -- a p or q that the kind does not use, and that is not zero
 unfoldable pub unusedSet : ℕ → Float → Float → Bool

@@ -77,17 +77,17 @@ larger-marked false true m n = omega arith
 larger-marked false false m n = omega arith
 
 -- the table has the depth of each row below row
-abbrev pub Told : Tables → List ℕ → ℕ → Type 0
-Told T depths row = (i : ℕ) → i < row → getD depths i 0 ≡ min 9 (nesting (tree T i))
+abbrev pub DepthsKnown : Tables → List ℕ → ℕ → Type 0
+DepthsKnown T depths row = (i : ℕ) → i < row → getD depths i 0 ≡ min 9 (nesting (tree T i))
 
-module _ (T : Tables) (depths : List ℕ) (row : ℕ) (told : Told T depths row) where
+module _ (T : Tables) (depths : List ℕ) (row : ℕ) (known : DepthsKnown T depths row) where
   below-marked : (c : ℕ) → depthBelow depths row c ≡ marked (leb row c) (nesting (below T row c))
   unfolding depthBelow
   below-marked c = go (leb row c) refl
     where
       go : (b : Bool) → leb row c ≡ b → cond b 10 (getD depths c 0) ≡ marked b (nesting (below T row c))
       go true e = refl
-      go false e = let l = leb-false row c e in told c l ∙ ap (λ t. min 9 (nesting t)) (sym (lower T row c l))
+      go false e = let l = leb-false row c e in known c l ∙ ap (λ t. min 9 (nesting t)) (sym (lower T row c l))
 
   run-marked : (first n : ℕ) → deepestOf (T .parts) depths row first n ≡ marked (someBelow n (highSegment T row first)) (deepest (segments T (below T row) first n))
   unfolding deepestOf someBelow highSegment segmentOf deepest segments
@@ -141,12 +141,12 @@ pub record Gone (T : Tables) (depths blocks larges : List ℕ) (lowest row : ℕ
   pub formed : someBelow row (malformedRow T) ≡ false
   pub cause : lowest ≡ cond (someBelow row (unorderedRow T)) 4 (cond (someBelow row (deepRow T)) 5 0)
   -- where no row was out of order
-  pub told : someBelow row (unorderedRow T) ≡ false → Told T depths row
+  pub known : someBelow row (unorderedRow T) ≡ false → DepthsKnown T depths row
   pub known : someBelow row (unorderedRow T) ≡ false → Both (T .parts) depths blocks larges row
 
 pub gone-none : (T : Tables) (depths blocks larges : List ℕ) → Both (T .parts) depths blocks larges 0 → Gone T depths blocks larges 0 0
 unfolding someBelow
-gone-none T depths blocks larges h = record { formed = refl; cause = refl; told = λ e i l. absurd (not-suc-le-zero l); known = λ e. h }
+gone-none T depths blocks larges h = record { formed = refl; cause = refl; known = λ e i l. absurd (not-suc-le-zero l); known = λ e. h }
 
 module _ (T : Tables) (depths blocks larges : List ℕ) (lowest row : ℕ) (g : Gone T depths blocks larges lowest row) where
   pub in-order : (lowest ≡ 4 → ⊥) → someBelow row (unorderedRow T) ≡ false
@@ -163,7 +163,7 @@ module _ (T : Tables) (depths blocks larges : List ℕ) (lowest row : ℕ) (g : 
       record {
         formed = rw (add-one, g .formed) m;
         cause = rw (add-one, u) e;
-        told = λ h. absurd (false≢true (sym (rw (add-one, u) at h)));
+        known = λ h. absurd (false≢true (sym (rw (add-one, u) at h)));
         known = λ h. absurd (false≢true (sym (rw (add-one, u) at h)));
       }
 
@@ -172,18 +172,18 @@ module _ (T : Tables) (depths blocks larges : List ℕ) (lowest row : ℕ) (g : 
   unfolding someBelow deepRow
   gone-more h m l now most k depth e next q =
       let o = in-order h in
-      let d : depth ≡ marked (unorderedRow T row) (nesting (tree T row)) = e ∙ depth-marked T depths row (g .told o) in
+      let d : depth ≡ marked (unorderedRow T row) (nesting (tree T row)) = e ∙ depth-marked T depths row (g .known o) in
       let z : lowest ≡ cond (someBelow row (deepRow T)) 5 0 = g .cause ∙ ap (λ a. cond a 4 (cond (someBelow row (deepRow T)) 5 0)) o in
       record {
         formed = rw (add-one, g .formed) m;
         cause = rw (add-one, o) (q ∙ cause-more (someBelow row (deepRow T)) (unorderedRow T row) (nesting (tree T row)) depth lowest z d);
-        told = λ w i j. told-more o d (rw (add-one, o) at w) i j (eqb i row) refl;
+        known = λ w i j. known-more o d (rw (add-one, o) at w) i j (eqb i row) refl;
         known = λ w. both-more (T .parts) depths row depth now most k;
       }
     where
-      told-more : someBelow row (unorderedRow T) ≡ false → depth ≡ marked (unorderedRow T row) (nesting (tree T row)) → unorderedRow T row ≡ false → (i : ℕ) → i < row + 1 → (b : Bool) → eqb i row ≡ b → getD (set depths row depth) i 0 ≡ min 9 (nesting (tree T i))
-      told-more o d u i j true w = let v = eqb-true i row w in rw v (getD-set-same depths row depth 0 l ∙ d ∙ ap (λ b. marked b (nesting (tree T row))) u)
-      told-more o d u i j false w = let ne = eqb-false i row w in getD-set-other depths row i depth 0 ne ∙ g .told o i (omega arith)
+      known-more : someBelow row (unorderedRow T) ≡ false → depth ≡ marked (unorderedRow T row) (nesting (tree T row)) → unorderedRow T row ≡ false → (i : ℕ) → i < row + 1 → (b : Bool) → eqb i row ≡ b → getD (set depths row depth) i 0 ≡ min 9 (nesting (tree T i))
+      known-more o d u i j true w = let v = eqb-true i row w in rw v (getD-set-same depths row depth 0 l ∙ d ∙ ap (λ b. marked b (nesting (tree T row))) u)
+      known-more o d u i j false w = let ne = eqb-false i row w in getD-set-other depths row i depth 0 ne ∙ g .known o i (omega arith)
 
   -- a malformed row decides
   pub gone-malformed : row < curveCount T → malformedRow T row ≡ true → 3 ≡ rowsCause T

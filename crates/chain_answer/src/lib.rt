@@ -9,7 +9,7 @@ ghost use Rattle.sheet.specs.Sheet.{leading};
 ghost use Rattle.draw_spec.specs.Draw.{roomOf, chainIn, Outcome};
 ghost use Rattle.draw_spec.specs.Draw.{chainFloats};
 ghost use Rattle.chain_answer.specs.Printed.{shown, printed, Prints};
-ghost use Rattle.chain_answer.specs.Held.{WasRead, SomeText};
+ghost use Rattle.chain_answer.specs.ReadTables.{WasRead, SomeText};
 use brep::Edge;
 use draw_spec::Drawn;
 use draw_spec::Way;

@@ -5,7 +5,7 @@ use Prim.Native.Nat.{_-_}
 use lib.ListN.{length}
 use lib.Ieee.{Float, neg, lt}
 use lib.Ieee.Scale.{finite}
-use Rattle.arith.specs.Notation.{_⊖_, bits, count, nought}
+use Rattle.arith.specs.Notation.{_⊖_, bits, count, plusZero}
 use Rattle.arith.specs.Pick.{absOf}
 use Rattle.math.specs.declared.Interval.{Interval}
 use Rattle.math.specs.Math.{interval, spanOf}
@@ -24,12 +24,12 @@ tau = bits 0x401921FB54442D18
 -- Curve::natural_range: a line's is ±1e12, a parabola's ±1e6
 unfoldable pub naturalRange : CurveTree → Interval
 naturalRange (line o d) = interval (neg (bits 0x426D1A94A2000000)) (bits 0x426D1A94A2000000)
-naturalRange (circle f r) = interval nought tau
-naturalRange (ellipse f a b) = interval nought tau
+naturalRange (circle f r) = interval plusZero tau
+naturalRange (ellipse f a b) = interval plusZero tau
 naturalRange (parabola f d) = interval (neg (bits 0x412E848000000000)) (bits 0x412E848000000000)
-naturalRange (polyline ps) = interval nought (count (length ps - 1))
+naturalRange (polyline ps) = interval plusZero (count (length ps - 1))
 naturalRange (trimmed base range) = range
-naturalRange (composite ss) = interval nought (count (runLength ss))
+naturalRange (composite ss) = interval plusZero (count (runLength ss))
 
 -- Curve::is_closed: a trim of a closed curve is, if its span is within 1e-9 of the curve's own
 unfoldable pub isClosed : CurveTree → Bool
@@ -44,7 +44,7 @@ isClosed (composite ss) = false
 
 -- a span that is above zero and finite
 unfoldable pub everySpan : Float → Repeats
-everySpan span = cond (lt nought span && finite span) (Every span) Never
+everySpan span = cond (lt plusZero span && finite span) (Every span) Never
 
 -- Curve::period
 unfoldable pub period : CurveTree → Repeats

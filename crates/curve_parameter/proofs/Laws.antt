@@ -7,7 +7,7 @@ use native.Mathlib.Nat.{add-zero, suc-add, add-suc, not-suc-le-zero, le-of-suc-l
 use native.Mathlib.Omega.{arith}
 use lib.Ieee.{Float, lt}
 use borrow.Author.Tests.{le-ltb, lt-ltb}
-use Rattle.arith.specs.Notation.{_⊖_, _⊗_, _⊘_, bits, count, nought}
+use Rattle.arith.specs.Notation.{_⊖_, _⊗_, _⊘_, bits, count, plusZero}
 use Rattle.arith.specs.Floor.{floorOf}
 use Rattle.arith.specs.Pick.{clampOf}
 use Rattle.math.specs.declared.Interval.{Interval}
@@ -47,18 +47,18 @@ module _ (points : List Float) (first n : ℕ) where
   unfolding closes
   closes-many l = rw (length-run points first n, lt-ltb 2 n (omega arith), getD-run points first n 0 vZero (omega arith), getD-run points first n (n - 1) vZero (omega arith))
 
-  pub parameter-closed : (span : Float) → span ≡ count (n - 1) → closes (run points first n) ≡ true → lt nought span ≡ true → (t : Float) → t ⊖ floorOf (t ⊘ span) ⊗ span ≡ polylineParameter (run points first n) t
+  pub parameter-closed : (span : Float) → span ≡ count (n - 1) → closes (run points first n) ≡ true → lt plusZero span ≡ true → (t : Float) → t ⊖ floorOf (t ⊘ span) ⊗ span ≡ polylineParameter (run points first n) t
   unfolding polylineParameter
   parameter-closed span e h k t = rw (h, length-run points first n, ← e, k)
 
-  pub parameter-flat : (span : Float) → span ≡ count (n - 1) → lt nought span ≡ false → (t : Float) → clampOf t nought span ≡ polylineParameter (run points first n) t
+  pub parameter-flat : (span : Float) → span ≡ count (n - 1) → lt plusZero span ≡ false → (t : Float) → clampOf t plusZero span ≡ polylineParameter (run points first n) t
   unfolding polylineParameter
   parameter-flat span e k t = rw (length-run points first n, ← e, k) (pick (closes (run points first n)))
     where
-      pick : (b : Bool) → clampOf t nought span ≡ cond (b && false) (t ⊖ floorOf (t ⊘ span) ⊗ span) (clampOf t nought span)
+      pick : (b : Bool) → clampOf t plusZero span ≡ cond (b && false) (t ⊖ floorOf (t ⊘ span) ⊗ span) (clampOf t plusZero span)
       pick true = refl
       pick false = refl
 
-  pub parameter-open : (span : Float) → span ≡ count (n - 1) → closes (run points first n) ≡ false → (t : Float) → clampOf t nought span ≡ polylineParameter (run points first n) t
+  pub parameter-open : (span : Float) → span ≡ count (n - 1) → closes (run points first n) ≡ false → (t : Float) → clampOf t plusZero span ≡ polylineParameter (run points first n) t
   unfolding polylineParameter
   parameter-open span e h t = rw (h, length-run points first n, ← e)

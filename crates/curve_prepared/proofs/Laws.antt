@@ -1,4 +1,4 @@
--- A curve made ready has the points and the derivatives of the curve. Assumes nothing.
+-- A curve prepared has the points and the derivatives of the curve. Assumes nothing.
 use mathlib.Core.Path.{_≡_, refl, sym, ap, _∙_}
 use lib.Ieee.{Float}
 use Rattle.math.specs.declared.Vec3.{Vec3}
@@ -6,12 +6,12 @@ use Rattle.math.specs.Math.{polar}
 use Rattle.brep.specs.Tree.{CurveTree, line, circle, ellipse, parabola, polyline, trimmed, composite}
 use Rattle.curve_point.specs.Point as curves
 use Rattle.curve_tangent.specs.Derivative as derivatives
-use Rattle.curve_prepared.specs.declared.Ready.{Ready}
-use Rattle.curve_prepared.specs.Ready.{readyOf, roundPoint, preparedParabola, readyPoint, roundDerivative, parabolaSlope, readyDerivative}
+use Rattle.curve_prepared.specs.declared.Prepared.{Prepared}
+use Rattle.curve_prepared.specs.Prepared.{preparedOf, roundPoint, preparedParabola, preparedPoint, roundDerivative, parabolaSlope, preparedDerivative}
 
 -- of a curve c that has the points of b, which is c with trims taken off
-points-of : (b c : CurveTree) (t : Float) → curves.pointAt c t ≡ curves.pointAt b t → readyPoint (readyOf b) c t ≡ curves.pointAt b t
-unfolding readyPoint readyOf roundPoint preparedParabola curves.pointAt curves.ellipsePoint curves.parabolaPoint polar
+points-of : (b c : CurveTree) (t : Float) → curves.pointAt c t ≡ curves.pointAt b t → preparedPoint (preparedOf b) c t ≡ curves.pointAt b t
+unfolding preparedPoint preparedOf roundPoint preparedParabola curves.pointAt curves.ellipsePoint curves.parabolaPoint polar
 points-of (line o d) c t e = refl
 points-of (circle f r) c t e = refl
 points-of (ellipse f a b) c t e = refl
@@ -20,12 +20,12 @@ points-of (polyline ps) c t e = e
 points-of (trimmed base range) c t e = points-of base c t e
 points-of (composite ss) c t e = e
 
-pub ready-point : (c : CurveTree) (t : Float) → readyPoint (readyOf c) c t ≡ curves.pointAt c t
-ready-point c t = points-of c c t refl
+pub prepared-point : (c : CurveTree) (t : Float) → preparedPoint (preparedOf c) c t ≡ curves.pointAt c t
+prepared-point c t = points-of c c t refl
 
 -- the same of derivatives
-derivatives-of : (b c : CurveTree) (t : Float) → derivatives.derivativeAt c t ≡ derivatives.derivativeAt b t → readyDerivative (readyOf b) c t ≡ derivatives.derivativeAt b t
-unfolding readyDerivative readyOf roundDerivative parabolaSlope derivatives.derivativeAt derivatives.ellipseDerivative derivatives.parabolaDerivative
+derivatives-of : (b c : CurveTree) (t : Float) → derivatives.derivativeAt c t ≡ derivatives.derivativeAt b t → preparedDerivative (preparedOf b) c t ≡ derivatives.derivativeAt b t
+unfolding preparedDerivative preparedOf roundDerivative parabolaSlope derivatives.derivativeAt derivatives.ellipseDerivative derivatives.parabolaDerivative
 derivatives-of (line o d) c t e = refl
 derivatives-of (circle f r) c t e = refl
 derivatives-of (ellipse f a b) c t e = refl
@@ -34,17 +34,17 @@ derivatives-of (polyline ps) c t e = e
 derivatives-of (trimmed base range) c t e = derivatives-of base c t e
 derivatives-of (composite ss) c t e = e
 
-pub ready-derivative : (c : CurveTree) (t : Float) → readyDerivative (readyOf c) c t ≡ derivatives.derivativeAt c t
-ready-derivative c t = derivatives-of c c t refl
+pub prepared-derivative : (c : CurveTree) (t : Float) → preparedDerivative (preparedOf c) c t ≡ derivatives.derivativeAt c t
+prepared-derivative c t = derivatives-of c c t refl
 
--- a point of a curve made ready is the curve's own
-pub own-point : (c : CurveTree) (t : Float) {ready : Ready} → ready ≡ readyOf c → {p : Vec3} → p ≡ readyPoint ready c t → p ≡ curves.pointAt c t
-own-point c t R P = P ∙ ap (λ (x : Ready). readyPoint x c t) R ∙ ready-point c t
+-- a point of a curve prepared is the curve's own
+pub own-point : (c : CurveTree) (t : Float) {prepared : Prepared} → prepared ≡ preparedOf c → {p : Vec3} → p ≡ preparedPoint prepared c t → p ≡ curves.pointAt c t
+own-point c t R P = P ∙ ap (λ (x : Prepared). preparedPoint x c t) R ∙ prepared-point c t
 
 -- what is so at the kind k that a ready curve has is so at it
-module _ (c : CurveTree) (t : Float) {r k : Ready} {p : Vec3} where
-  pub point-by : r ≡ k → p ≡ readyPoint k c t → p ≡ readyPoint r c t
-  point-by e h = h ∙ ap (λ x. readyPoint x c t) (sym e)
+module _ (c : CurveTree) (t : Float) {r k : Prepared} {p : Vec3} where
+  pub point-by : r ≡ k → p ≡ preparedPoint k c t → p ≡ preparedPoint r c t
+  point-by e h = h ∙ ap (λ x. preparedPoint x c t) (sym e)
 
-  pub derivative-by : r ≡ k → p ≡ readyDerivative k c t → p ≡ readyDerivative r c t
-  derivative-by e h = h ∙ ap (λ x. readyDerivative x c t) (sym e)
+  pub derivative-by : r ≡ k → p ≡ preparedDerivative k c t → p ≡ preparedDerivative r c t
+  derivative-by e h = h ∙ ap (λ x. preparedDerivative x c t) (sym e)

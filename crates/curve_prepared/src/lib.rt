@@ -1,4 +1,4 @@
-// A curve made ready for many points: its trims taken off, its row read and the second axis of its frame worked out once.
+// A curve prepared for many points: its trims taken off, its row read and the second axis of its frame worked out once.
 use math::Frame;
 use math::Vec3;
 ghost use mathlib.Core.Path.{_≡_};
@@ -6,12 +6,12 @@ ghost use Prim.Native.Nat.{_+_};
 ghost use Rattle.brep.specs.Rows.{lent, pointOf};
 ghost use Rattle.brep.specs.Tree.{tree};
 ghost use Rattle.curve_point.specs.Point.{pointAt};
-ghost use Rattle.curve_prepared.specs.declared.Ready.the-variants.{Line};
-ghost use Rattle.curve_prepared.specs.Ready.{roundOf, parabolaOf, readyOf, roundPoint, preparedParabola, readyPoint};
-ghost use Rattle.curve_prepared.specs.Ready.{roundDerivative, parabolaSlope, readyDerivative};
+ghost use Rattle.curve_prepared.specs.declared.Prepared.the-variants.{Line};
+ghost use Rattle.curve_prepared.specs.Prepared.{roundOf, parabolaOf, preparedOf, roundPoint, preparedParabola, preparedPoint};
+ghost use Rattle.curve_prepared.specs.Prepared.{roundDerivative, parabolaSlope, preparedDerivative};
 
 // Axes are as they are: nothing is normalised. A circle is round with equal axes.
-pub enum Ready {
+pub enum Prepared {
     Line {
         origin: Vec3,
         direction: Vec3,
@@ -33,13 +33,13 @@ pub enum Ready {
     Other,
 }
 
-fn round_of(frame: Frame, major: f64, minor: f64) -> Ready
+fn round_of(frame: Frame, major: f64, minor: f64) -> Prepared
     ensures { λ r. ⌜ r ≡ roundOf frame major minor ⌝ }
 {
     let origin = frame.origin;
     let x = frame.ref_dir;
     let y = frame.y_dir();
-    Ready::Round {
+    Prepared::Round {
         origin,
         x,
         y,
@@ -48,13 +48,13 @@ fn round_of(frame: Frame, major: f64, minor: f64) -> Ready
     }
 }
 
-fn parabola_of(frame: Frame, focal_dist: f64) -> Ready
+fn parabola_of(frame: Frame, focal_dist: f64) -> Prepared
     ensures { λ r. ⌜ r ≡ parabolaOf frame «focal_dist» ⌝ }
 {
     let origin = frame.origin;
     let x = frame.ref_dir;
     let y = frame.y_dir();
-    Ready::Parabola {
+    Prepared::Parabola {
         origin,
         x,
         y,
@@ -62,24 +62,24 @@ fn parabola_of(frame: Frame, focal_dist: f64) -> Ready
     }
 }
 
-fn line_of(points: &[f64], first: u32) -> Ready
+fn line_of(points: &[f64], first: u32) -> Prepared
     ensures { λ r. ⌜ r ≡ Line (pointOf (now (points .entry)) first) (pointOf (now (points .entry)) (first + 1)) ⌝ }
 {
     let origin = brep::point(points, first);
     let direction = brep::point_in(points, first, 1);
-    Ready::Line { origin, direction }
+    Prepared::Line { origin, direction }
 }
 
 // The curve of a row, by the number of its kind under its trims: an arm for each kind, as in `curve`.
-pub fn ready_at(
+pub fn prepare(
     points: &[f64],
     curves: &[u32],
     reals: &[f64],
     parts: &[u32],
     ranges: &[f64],
     row: u32,
-) -> Ready
-    ensures { λ r. ⌜ r ≡ readyOf (tree (lent (points .entry) (curves .entry) (reals .entry) (parts .entry) (ranges .entry)) row) ⌝ }
+) -> Prepared
+    ensures { λ r. ⌜ r ≡ preparedOf (tree (lent (points .entry) (curves .entry) (reals .entry) (parts .entry) (ranges .entry)) row) ⌝ }
 {
     let r = curve_parameter::under_trims(curves, row);
     let at = r as usize * 3;
@@ -100,9 +100,9 @@ pub fn ready_at(
             let p = brep::float_at(reals, r as usize * 2);
             parabola_of(brep::frame_at(points, first), p)
         }
-        5 => Ready::Other,
-        7 => Ready::Other,
-        _ => Ready::Other,
+        5 => Prepared::Other,
+        7 => Prepared::Other,
+        _ => Prepared::Other,
     }
 }
 
@@ -148,9 +148,9 @@ fn other_point(
     }
 }
 
-// The point at t of the curve of a row, made ready.
+// The point at t of the curve of a row, prepared.
 pub fn point_of(
-    ready: Ready,
+    prepared: Prepared,
     points: &[f64],
     curves: &[u32],
     reals: &[f64],
@@ -159,24 +159,24 @@ pub fn point_of(
     row: u32,
     t: f64,
 ) -> Vec3
-    ensures { λ r. ⌜ r ≡ readyPoint ready (tree (lent (points .entry) (curves .entry) (reals .entry) (parts .entry) (ranges .entry)) row) t ⌝ }
+    ensures { λ r. ⌜ r ≡ preparedPoint prepared (tree (lent (points .entry) (curves .entry) (reals .entry) (parts .entry) (ranges .entry)) row) t ⌝ }
 {
-    match ready {
-        Ready::Line { origin, direction } => origin.add(direction.scale(t)),
-        Ready::Round {
+    match prepared {
+        Prepared::Line { origin, direction } => origin.add(direction.scale(t)),
+        Prepared::Round {
             origin,
             x,
             y,
             major,
             minor,
         } => round_point(origin, x, y, major, minor, t),
-        Ready::Parabola {
+        Prepared::Parabola {
             origin,
             x,
             y,
             focal_dist,
         } => parabola_point(origin, x, y, focal_dist, t),
-        Ready::Other => other_point(points, curves, reals, parts, ranges, row, t),
+        Prepared::Other => other_point(points, curves, reals, parts, ranges, row, t),
     }
 }
 
@@ -193,9 +193,9 @@ fn parabola_slope(x: Vec3, y: Vec3, focal_dist: f64, t: f64) -> Vec3
     x.scale(2.0 * focal_dist * t).add(y.scale(2.0 * focal_dist))
 }
 
-// The derivative at t of the curve of a row, made ready.
+// The derivative at t of the curve of a row, prepared.
 pub fn derivative_of(
-    ready: Ready,
+    prepared: Prepared,
     points: &[f64],
     curves: &[u32],
     reals: &[f64],
@@ -204,26 +204,34 @@ pub fn derivative_of(
     row: u32,
     t: f64,
 ) -> Vec3
-    ensures { λ r. ⌜ r ≡ readyDerivative ready (tree (lent (points .entry) (curves .entry) (reals .entry) (parts .entry) (ranges .entry)) row) t ⌝ }
+    ensures { λ r. ⌜ r ≡ preparedDerivative prepared (tree (lent (points .entry) (curves .entry) (reals .entry) (parts .entry) (ranges .entry)) row) t ⌝ }
 {
-    match ready {
-        Ready::Line {
+    match prepared {
+        Prepared::Line {
             origin: _,
             direction,
         } => direction,
-        Ready::Round {
+        Prepared::Round {
             origin: _,
             x,
             y,
             major,
             minor,
         } => round_derivative(x, y, major, minor, t),
-        Ready::Parabola {
+        Prepared::Parabola {
             origin: _,
             x,
             y,
             focal_dist,
         } => parabola_slope(x, y, focal_dist, t),
-        Ready::Other => curve_tangent::derivative_at(points, curves, reals, parts, ranges, row, t),
+        Prepared::Other => curve_tangent::derivative_at(
+            points,
+            curves,
+            reals,
+            parts,
+            ranges,
+            row,
+            t,
+        ),
     }
 }

@@ -67,7 +67,7 @@ fn local_options(
 {
     let r = options.resolve();
     if 0.0 < r.relative {
-        let extent = edge_extent::extent_over(points, curves, reals, parts, ranges, edge, usable);
+        let extent = edge_extent::extent_usable(points, curves, reals, parts, ranges, edge, usable);
         return r.for_extent(extent);
     }
     // No extent changes these.
@@ -91,7 +91,7 @@ fn drawn_in(
         × (usable ≡ usableRange (tree (lent points curves reals parts ranges) (edge .curve)) (edge .range)) ⌝ }
     ensures { λ w. ⌜ DrawnInto (drawnIn (roomOf (length (now (first .entry))) (length (now (second .entry)))) (lent (points .entry) (curves .entry) (reals .entry) (parts .entry) (ranges .entry)) edge r) (now (first .entry)) (now (second .entry)) w (now (first .exit)) (now (second .exit)) ⌝ }
 {
-    let counted = edge_discretise::discretise_over(
+    let counted = edge_discretise::discretise_usable(
         points,
         curves,
         reals,
@@ -171,7 +171,7 @@ pub fn draw_checked(
 
 // Draws an edge over tables that `causes::check_tables` has accepted, for many edges over the same tables: only the edge and
 // the options are looked at.
-pub fn draw_edge(
+pub fn draw_over(
     points: &[f64],
     curves: &[u32],
     reals: &[f64],

@@ -5,7 +5,7 @@ use Prim.Native.Nat.{ℕ, zero, suc, _+_}
 use native.Mathlib.Omega.{arith}
 use lib.Ieee.{Float, add, sub, mul, div, neg, lt, le, eq, ofBits, ofInt}
 use Rattle.base_lists.specs.Result.{Result, got}
-use Rattle.arith.specs.Notation.{bits, nought}
+use Rattle.arith.specs.Notation.{bits, plusZero}
 use Rattle.math.specs.declared.Vec3.{Vec3}
 use Rattle.math.specs.declared.Interval.{Interval}
 use Rattle.math.specs.Math.{distance, at, spanOf, vAdd, vSub, vScale, vDot, vLength}
@@ -38,10 +38,10 @@ onward c natural target k (suc n) =
 -- four parts of the sweep, where the second finds 0
 quarters : (c : CurveTree) (natural : Interval) (target : Vec3) (quarter : Float)
     → nearestOf c natural target 128 ≡ quarter
-    → swept c natural target 128 quarter 128 ≡ nought
-    → swept c natural target 256 nought 128 ≡ nought
-    → swept c natural target 384 nought 128 ≡ nought
-    → nearestOf c natural target 512 ≡ nought
+    → swept c natural target 128 quarter 128 ≡ plusZero
+    → swept c natural target 256 plusZero 128 ≡ plusZero
+    → swept c natural target 384 plusZero 128 ≡ plusZero
+    → nearestOf c natural target 512 ≡ plusZero
 quarters c natural target quarter e f g h = to 384 (to 256 (to 128 e ∙ f) ∙ g) ∙ h
   where
     to : (k : ℕ) {best : Float} → nearestOf c natural target k ≡ best → nearestOf c natural target (k + 128) ≡ swept c natural target k best 128
@@ -53,31 +53,31 @@ first : (nearestOf (edgeCurve boxed escaping) (naturalRange (edgeCurve boxed esc
 unfolding nearestOf pointAt naturalRange at vAdd vSub vScale vDot vLength rootOf rootUnits nearRoot isqrt tree below grown curveOf kindOf pointOf add sub mul div neg lt le eq ofBits ofInt
 first = (refl, refl)
 
-second : (swept (edgeCurve boxed escaping) (naturalRange (edgeCurve boxed escaping)) (edgeStart boxed escaping) 128 (bits 0xC25D1A94A2000000) 128 ≡ nought)
-    × (swept (edgeCurve boxed escaping) (naturalRange (edgeCurve boxed escaping)) (edgeEnd boxed escaping) 128 (bits 0xC25D1A94A2000000) 128 ≡ nought)
+second : (swept (edgeCurve boxed escaping) (naturalRange (edgeCurve boxed escaping)) (edgeStart boxed escaping) 128 (bits 0xC25D1A94A2000000) 128 ≡ plusZero)
+    × (swept (edgeCurve boxed escaping) (naturalRange (edgeCurve boxed escaping)) (edgeEnd boxed escaping) 128 (bits 0xC25D1A94A2000000) 128 ≡ plusZero)
 unfolding swept pointAt naturalRange at vAdd vSub vScale vDot vLength rootOf rootUnits nearRoot isqrt tree below grown curveOf kindOf pointOf add sub mul div neg lt le eq ofBits ofInt
 second = (refl, refl)
 
-third : (swept (edgeCurve boxed escaping) (naturalRange (edgeCurve boxed escaping)) (edgeStart boxed escaping) 256 nought 128 ≡ nought)
-    × (swept (edgeCurve boxed escaping) (naturalRange (edgeCurve boxed escaping)) (edgeEnd boxed escaping) 256 nought 128 ≡ nought)
+third : (swept (edgeCurve boxed escaping) (naturalRange (edgeCurve boxed escaping)) (edgeStart boxed escaping) 256 plusZero 128 ≡ plusZero)
+    × (swept (edgeCurve boxed escaping) (naturalRange (edgeCurve boxed escaping)) (edgeEnd boxed escaping) 256 plusZero 128 ≡ plusZero)
 unfolding swept pointAt naturalRange at vAdd vSub vScale vDot vLength rootOf rootUnits nearRoot isqrt tree below grown curveOf kindOf pointOf add sub mul div neg lt le eq ofBits ofInt
 third = (refl, refl)
 
-fourth : (swept (edgeCurve boxed escaping) (naturalRange (edgeCurve boxed escaping)) (edgeStart boxed escaping) 384 nought 128 ≡ nought)
-    × (swept (edgeCurve boxed escaping) (naturalRange (edgeCurve boxed escaping)) (edgeEnd boxed escaping) 384 nought 128 ≡ nought)
+fourth : (swept (edgeCurve boxed escaping) (naturalRange (edgeCurve boxed escaping)) (edgeStart boxed escaping) 384 plusZero 128 ≡ plusZero)
+    × (swept (edgeCurve boxed escaping) (naturalRange (edgeCurve boxed escaping)) (edgeEnd boxed escaping) 384 plusZero 128 ≡ plusZero)
 unfolding swept pointAt naturalRange at vAdd vSub vScale vDot vLength rootOf rootUnits nearRoot isqrt tree below grown curveOf kindOf pointOf add sub mul div neg lt le eq ofBits ofInt
 fourth = (refl, refl)
 
-from-start : nearestOf (edgeCurve boxed escaping) (naturalRange (edgeCurve boxed escaping)) (edgeStart boxed escaping) 512 ≡ nought
+from-start : nearestOf (edgeCurve boxed escaping) (naturalRange (edgeCurve boxed escaping)) (edgeStart boxed escaping) 512 ≡ plusZero
 from-start = quarters (edgeCurve boxed escaping) (naturalRange (edgeCurve boxed escaping)) (edgeStart boxed escaping) (bits 0xC25D1A94A2000000) (first .0) (second .0) (third .0) (fourth .0)
 
-from-end : nearestOf (edgeCurve boxed escaping) (naturalRange (edgeCurve boxed escaping)) (edgeEnd boxed escaping) 512 ≡ nought
+from-end : nearestOf (edgeCurve boxed escaping) (naturalRange (edgeCurve boxed escaping)) (edgeEnd boxed escaping) 512 ≡ plusZero
 from-end = quarters (edgeCurve boxed escaping) (naturalRange (edgeCurve boxed escaping)) (edgeEnd boxed escaping) (bits 0xC25D1A94A2000000) (first .1) (second .1) (third .1) (fourth .1)
 
 -- so the short arc has no length
-no-length : (a b : Float) → a ≡ nought → b ≡ nought → lt nought (spanOf (orderedInterval a b)) ≡ false
+no-length : (a b : Float) → a ≡ plusZero → b ≡ plusZero → lt plusZero (spanOf (orderedInterval a b)) ≡ false
 unfolding spanOf sub lt le eq neg ofBits
-no-length a b e f = ap (λ (x : Float). lt nought (spanOf (orderedInterval x b))) e ∙ ap (λ (x : Float). lt nought (spanOf (orderedInterval nought x))) f
+no-length a b e f = ap (λ (x : Float). lt plusZero (spanOf (orderedInterval x b))) e ∙ ap (λ (x : Float). lt plusZero (spanOf (orderedInterval plusZero x))) f
 
 neither : (a b c : Bool) → c ≡ false → a && (b && c) ≡ false
 neither true true c e = e
@@ -92,5 +92,5 @@ pub runs-away : (r : Resolved) → byShortArc 2048 boxed escaping r ≡ got (run
 unfolding byShortArc
 runs-away r =
     chosen _ _
-    (neither (finite (spanOf (naturalRange (edgeCurve boxed escaping)))) (lt nought (spanOf (naturalRange (edgeCurve boxed escaping)))) _
+    (neither (finite (spanOf (naturalRange (edgeCurve boxed escaping)))) (lt plusZero (spanOf (naturalRange (edgeCurve boxed escaping)))) _
     (no-length _ _ from-start from-end))

@@ -4,7 +4,7 @@ use mathlib.Core.List.{List, [], _∷_, map}
 use Prim.Native.Nat.{ℕ, _+_}
 use lib.Ieee.{Float}
 use Rattle.base_lists.specs.Result.{Result, refused, got, each}
-use Rattle.arith.specs.Notation.{bits, nought, half, one, two}
+use Rattle.arith.specs.Notation.{bits, plusZero, half, one, two}
 use Rattle.math.specs.declared.Vec3.{Vec3}
 use Rattle.math.specs.declared.Interval.{Interval}
 use Rattle.math.specs.Math.{vec, interval}
@@ -47,13 +47,13 @@ abbrev pub outlineOf : Got → Outline
 outlineOf g = record { way = g .way; params = map (λ (s : Sample). s .param) (g .chain) }
 
 -- an example holds of the definitions
-unfoldable pub Holds : Example → Type 0
-Holds (sag o extent s) = forExtent (resolve o) extent .sag ≡ s
-Holds (floor tolerance s f) = mergeFloor tolerance s ≡ f
-Holds (usable T range used) = usableRange (tree T 0) range ≡ Range used
-Holds (point T t p) = pointAt (tree T 0) t ≡ p
-Holds (draws T e o way params) = each outlineOf (drawn T e o 8192 8192) ≡ got (record { way = way; params = params })
-Holds (refuses T e o n) = each outlineOf (drawn T e o 8192 8192) ≡ refused n
+unfoldable pub ExampleHolds : Example → Type 0
+ExampleHolds (sag o extent s) = forExtent (resolve o) extent .sag ≡ s
+ExampleHolds (floor tolerance s f) = mergeFloor tolerance s ≡ f
+ExampleHolds (usable T range used) = usableRange (tree T 0) range ≡ Range used
+ExampleHolds (point T t p) = pointAt (tree T 0) t ≡ p
+ExampleHolds (draws T e o way params) = each outlineOf (drawn T e o 8192 8192) ≡ got (record { way = way; params = params })
+ExampleHolds (refuses T e o n) = each outlineOf (drawn T e o 8192 8192) ≡ refused n
 
 -- ---- numbers
 abbrev three : Float
@@ -75,11 +75,11 @@ far n = bits (0x41C1E1A300000000 + n)
 -- ---- tables, edges and options
 -- one row of this kind with its points from the first on, and p
 abbrev oneRow : List Float → ℕ → ℕ → Float → Tables
-oneRow points kind count p = tables points (kind ∷ 0 ∷ count ∷ []) (p ∷ nought ∷ []) [] []
+oneRow points kind count p = tables points (kind ∷ 0 ∷ count ∷ []) (p ∷ plusZero ∷ []) [] []
 
 -- an edge of row 0 with sense 1
-abbrev edgeOf : ℕ → ℕ → Float → Float → Float → ℕ → ℕ → Edge
-edgeOf start end lo hi tolerance low high = record {
+abbrev rowEdge : ℕ → ℕ → Float → Float → Float → ℕ → ℕ → Edge
+rowEdge start end lo hi tolerance low high = record {
   curve = 0;
   start = start;
   end = end;
@@ -98,7 +98,7 @@ absolute deflection angle segments depth = record {
   relative = 0;
   segments = segments;
   depth = depth;
-  scale = nought;
+  scale = plusZero;
 }
 
 -- 2^-10 of 1024
@@ -113,49 +113,49 @@ ofScale = record {
 }
 
 -- the line from 0 with direction (2,0,0), its points x = 0 and x = 10 being 0 and 2
-abbrev line : Tables
-line = oneRow (nought ∷ nought ∷ nought ∷ two ∷ nought ∷ nought ∷ ten ∷ nought ∷ nought ∷ []) 1 2 nought
+abbrev straight : Tables
+straight = oneRow (plusZero ∷ plusZero ∷ plusZero ∷ two ∷ plusZero ∷ plusZero ∷ ten ∷ plusZero ∷ plusZero ∷ []) 1 2 plusZero
 
 -- the edge between those points, with this range
 abbrev along : Float → Float → Edge
-along lo hi = edgeOf 0 2 lo hi nought 0 2
+along lo hi = rowEdge 0 2 lo hi plusZero 0 2
 
 -- a parabola with focal distance 1
 abbrev parabola : Tables
-parabola = oneRow (nought ∷ nought ∷ nought ∷ nought ∷ nought ∷ one ∷ one ∷ nought ∷ nought ∷ []) 4 3 one
+parabola = oneRow (plusZero ∷ plusZero ∷ plusZero ∷ plusZero ∷ plusZero ∷ one ∷ one ∷ plusZero ∷ plusZero ∷ []) 4 3 one
 
 -- x = 1e9, then 0.1
-abbrev uneven : Tables
-uneven = oneRow (bits 0x41CDCD6500000000 ∷ nought ∷ nought ∷ bits 0x3FB999999999999A ∷ nought ∷ nought ∷ []) 5 2 nought
+abbrev farApart : Tables
+farApart = oneRow (bits 0x41CDCD6500000000 ∷ plusZero ∷ plusZero ∷ bits 0x3FB999999999999A ∷ plusZero ∷ plusZero ∷ []) 5 2 plusZero
 
 -- (0,0,0), (1,0,0), (1,1,0), and the edge over it with tolerance 0.25
 abbrev corner : Tables
-corner = oneRow (nought ∷ nought ∷ nought ∷ one ∷ nought ∷ nought ∷ one ∷ one ∷ nought ∷ []) 5 3 nought
+corner = oneRow (plusZero ∷ plusZero ∷ plusZero ∷ one ∷ plusZero ∷ plusZero ∷ one ∷ one ∷ plusZero ∷ []) 5 3 plusZero
 
 abbrev round : Edge
-round = edgeOf 0 2 nought two (bits 0x3FD0000000000000) 0 2
+round = rowEdge 0 2 plusZero two (bits 0x3FD0000000000000) 0 2
 
 -- a line with direction (1,0,0), the point x = 100, and a box from 0 to 1 on each axis
 abbrev pub boxed : Tables
 boxed =
     oneRow
-    (nought ∷ nought ∷ nought ∷ one ∷ nought ∷ nought ∷ hundred ∷ nought ∷ nought ∷ nought ∷ nought ∷ nought ∷ one ∷ one ∷ one ∷ [])
+    (plusZero ∷ plusZero ∷ plusZero ∷ one ∷ plusZero ∷ plusZero ∷ hundred ∷ plusZero ∷ plusZero ∷ plusZero ∷ plusZero ∷ plusZero ∷ one ∷ one ∷ one ∷ [])
     1
     2
-    nought
+    plusZero
 
 -- the edge from 0 to 100 along it
 abbrev pub escaping : Edge
-escaping = edgeOf 0 2 nought hundred nought 3 4
+escaping = rowEdge 0 2 plusZero hundred plusZero 3 4
 
 -- an absolute sag of 0.01
 abbrev pub close : Options
 close = absolute (bits 0x3F847AE147AE147B) one 1 12
 
 -- a corner so small and so far out that no distance in it is above zero
-abbrev flat : Tables
-flat =
-    oneRow (far 0 ∷ far 0 ∷ nought ∷ far 1 ∷ far 0 ∷ nought ∷ far 10 ∷ far 3 ∷ nought ∷ []) 5 3 nought
+abbrev tinyCorner : Tables
+tinyCorner =
+    oneRow (far 0 ∷ far 0 ∷ plusZero ∷ far 1 ∷ far 0 ∷ plusZero ∷ far 10 ∷ far 3 ∷ plusZero ∷ []) 5 3 plusZero
 
 -- 0.14
 abbrev narrow : Float
@@ -167,18 +167,18 @@ examples =
     sag ofScale (bits 0x4090000000000000) one
     ∷ sag ofScale (bits 0x4060000000000000) half
     ∷ sag ofScale (bits 0x4030000000000000) (bits 0x3FC0000000000000)
-    ∷ draws line (along nought five) (absolute one one 1 12) AsDrawn (nought ∷ five ∷ [])
-    ∷ draws line (along nought five) (absolute one one 4 12) AsDrawn
-    (nought ∷ bits 0x3FF4000000000000 ∷ bits 0x4004000000000000 ∷ bits 0x400E000000000000 ∷ five ∷ [])
-    ∷ draws line (edgeOf 2 0 nought five nought 0 2) (absolute one one 1 12) AsDrawn (five ∷ nought ∷ [])
-    ∷ draws line (along three three) (absolute one one 1 12) Chord (three ∷ three ∷ [])
-    ∷ draws line (along five two) (absolute one one 1 12) Chord (five ∷ two ∷ [])
+    ∷ draws straight (along plusZero five) (absolute one one 1 12) AsDrawn (plusZero ∷ five ∷ [])
+    ∷ draws straight (along plusZero five) (absolute one one 4 12) AsDrawn
+    (plusZero ∷ bits 0x3FF4000000000000 ∷ bits 0x4004000000000000 ∷ bits 0x400E000000000000 ∷ five ∷ [])
+    ∷ draws straight (rowEdge 2 0 plusZero five plusZero 0 2) (absolute one one 1 12) AsDrawn (five ∷ plusZero ∷ [])
+    ∷ draws straight (along three three) (absolute one one 1 12) Chord (three ∷ three ∷ [])
+    ∷ draws straight (along five two) (absolute one one 1 12) Chord (five ∷ two ∷ [])
     ∷ usable parabola (interval one one) (interval (bits 0xC12E848000000000) (bits 0x412E848000000000))
     -- 838861 / 8388608
-    ∷ point uneven one (vec (bits 0x3FB9999A00000000) nought nought)
-    ∷ draws corner round (absolute one narrow 1 1) AsDrawn (nought ∷ one ∷ two ∷ [])
+    ∷ point farApart one (vec (bits 0x3FB9999A00000000) plusZero plusZero)
+    ∷ draws corner round (absolute one narrow 1 1) AsDrawn (plusZero ∷ one ∷ two ∷ [])
     ∷ floor (bits 0x3FD0000000000000) two one
-    ∷ draws corner round (absolute two narrow 1 1) AsDrawn (nought ∷ two ∷ [])
-    ∷ draws boxed escaping close Runaway (nought ∷ nought ∷ [])
-    ∷ refuses flat (edgeOf 0 2 nought two nought 0 2) (absolute one narrow 1 1) 9
+    ∷ draws corner round (absolute two narrow 1 1) AsDrawn (plusZero ∷ two ∷ [])
+    ∷ draws boxed escaping close Runaway (plusZero ∷ plusZero ∷ [])
+    ∷ refuses tinyCorner (rowEdge 0 2 plusZero two plusZero 0 2) (absolute one narrow 1 1) 9
     ∷ []

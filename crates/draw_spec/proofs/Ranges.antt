@@ -8,7 +8,7 @@ use lib.Ieee.{Float, nan, inf, fin, binary64, le, lt, isNan, ofBits, ofInt, add}
 use lib.Ieee.Scale.{finite}
 use lib.Ieee.Fits.{add-fits, sub-fits}
 use Rattle.arith_order.proofs.Lerp.{quot-low, quot-high, quot-finite}
-use Rattle.arith.specs.Notation.{_⊕_, _⊖_, _⊗_, _⊘_, bits, count, nought}
+use Rattle.arith.specs.Notation.{_⊕_, _⊖_, _⊗_, _⊘_, bits, count, plusZero}
 use Rattle.arith.specs.Pick.{absOf}
 use Rattle.math.specs.declared.Vec3.{Vec3}
 use Rattle.math.specs.declared.Interval.{Interval}
@@ -101,7 +101,7 @@ module _ (c : CurveTree) (tame : Tame c) (found : Interval) where
       go : (b : Bool) → isNoRange range ≡ b → cond b (ownRange (naturalRange c)) (Range (withinDomain (period c) (naturalRange c) range)) ≡ Range found → Goods found
       go true q e = own-goods e
       go false q e =
-          let f = both-finite (finite (range .lo)) (finite (range .hi)) (le (spanOf range) nought) q in
+          let f = both-finite (finite (range .lo)) (finite (range .hi)) (le (spanOf range) plusZero) q in
           found-is (withinDomain (period c) (naturalRange c) range) found e
           (domain-goods range (record { low = h .low (f .0); high = h .high (f .1) }) (period c))
 

@@ -6,7 +6,7 @@ use Prim.Native.Nat.{ℕ}
 use lib.Dec.{T}
 use lib.Ieee.{Float, lt}
 use lib.Ieee.Scale.{finite}
-use Rattle.arith.specs.Notation.{_⊕_, nought}
+use Rattle.arith.specs.Notation.{_⊕_, plusZero}
 use Rattle.base_lists.specs.Result.{Result, got, bind}
 use Rattle.math.specs.declared.Interval.{Interval}
 use Rattle.math.specs.Math.{interval, spanOf, isEmpty, diagonal}
@@ -68,7 +68,7 @@ module _ (H : Type 0) (t : Tables) (e : Edge) (tame : H → Tame (edgeCurve t e)
   short-outcome =
       let natural = naturalRange (edgeCurve t e) in
       let short = orderedInterval (nearest (edgeCurve t e) (edgeStart t e)) (nearest (edgeCurve t e) (edgeEnd t e)) in
-      go (finite (spanOf natural) && (lt nought (spanOf natural) && lt nought (spanOf short)))
+      go (finite (spanOf natural) && (lt plusZero (spanOf natural) && lt plusZero (spanOf short)))
     where
       go : (b : Bool) → Outcome Fine (elim b [
         | true ↦ bind (discretised room t (withRange e (orderedInterval (nearest (edgeCurve t e) (edgeStart t e)) (nearest (edgeCurve t e) (edgeEnd t e)))) r) (λ arc. got (arcOrChord t e r arc))
@@ -82,7 +82,7 @@ module _ (H : Type 0) (t : Tables) (e : Edge) (tame : H → Tame (edgeCurve t e)
 
   complement-outcome : (p : Float) → (H → Size 40 p) → Outcome Fine (byComplement room t e r p)
   unfolding byComplement
-  complement-outcome p s = go (lt nought (spanOf (interval (e .range .hi) (e .range .lo ⊕ p))))
+  complement-outcome p s = go (lt plusZero (spanOf (interval (e .range .hi) (e .range .lo ⊕ p))))
     where
       kept : (arc : List Sample) → Chained H t e (mergeFloor (e .tolerance) (r .sag)) room arc → (b : Bool)
           → Outcome Fine (elim b [ true ↦ byShortArc room t e r | false ↦ got (by Complement arc) ])
@@ -108,7 +108,7 @@ module _ (H : Type 0) (t : Tables) (e : Edge) (tame : H → Tame (edgeCurve t e)
 
   repaired-outcome : (g : Got) → Fine g → Outcome Fine (repaired room t e r g)
   unfolding repaired
-  repaired-outcome g c = go (isEmpty (reference t e) || (not (lt nought (diagonal (reference t e))) || not (escapes (reference t e) r (g .chain))))
+  repaired-outcome g c = go (isEmpty (reference t e) || (not (lt plusZero (diagonal (reference t e))) || not (escapes (reference t e) r (g .chain))))
     where
       go : (b : Bool) → Outcome Fine (elim b [ true ↦ got g | false ↦ byPeriod room t e r (period (edgeCurve t e)) ])
       go true = answer c

@@ -9,7 +9,7 @@ use lib.Dec.{leb, ltb}
 use lib.Ieee.{Float, lt}
 use lib.Ieee.Scale.{finite}
 use borrow.Author.Tests.{leb-true, ltb-false, le-leb, le-ltb}
-use Rattle.arith.specs.Notation.{_⊕_, nought}
+use Rattle.arith.specs.Notation.{_⊕_, plusZero}
 use Rattle.base_lists.specs.Result.{Result, refused, got, bind}
 use Rattle.math.specs.declared.Interval.{Interval}
 use Rattle.math.specs.Math.{interval, spanOf, isEmpty, diagonal}
@@ -128,7 +128,7 @@ module _ (room room' : ℕ) (more : room ≤ room') where
         let natural = naturalRange (edgeCurve t e) in
         let short = orderedInterval (nearest (edgeCurve t e) (edgeStart t e)) (nearest (edgeCurve t e) (edgeEnd t e)) in
         let arc : List Sample → Result Got = λ l. got (arcOrChord t e r l) in
-        kept-either (finite (spanOf natural) && (lt nought (spanOf natural) && lt nought (spanOf short)))
+        kept-either (finite (spanOf natural) && (lt plusZero (spanOf natural) && lt plusZero (spanOf short)))
         (kept-bind arc arc (discretised-kept t (withRange e short) r) (λ l. kept-same (arc l)))
         (kept-same (got (runaway t e)))
 
@@ -136,7 +136,7 @@ module _ (room room' : ℕ) (more : room ≤ room') where
     unfolding byComplement
     complement-kept p =
         let complement = interval (e .range .hi) (e .range .lo ⊕ p) in
-        kept-either (lt nought (spanOf complement))
+        kept-either (lt plusZero (spanOf complement))
         (kept-bind (arcOrShort t e r room) (arcOrShort t e r room') (discretised-kept t (withRange e complement) r)
         (λ arc. kept-either (escapes (reference t e) r arc) short-kept (kept-same (got (by Complement arc)))))
         short-kept
@@ -150,7 +150,7 @@ module _ (room room' : ℕ) (more : room ≤ room') where
     unfolding repaired
     repaired-kept g =
         let box = reference t e in
-        kept-either (isEmpty box || (not (lt nought (diagonal box)) || not (escapes box r (g .chain))))
+        kept-either (isEmpty box || (not (lt plusZero (diagonal box)) || not (escapes box r (g .chain))))
         (kept-same (got g)) (period-kept (period (edgeCurve t e)))
 
     drawn-kept : Kept (drawnIn room t e r) (drawnIn room' t e r)

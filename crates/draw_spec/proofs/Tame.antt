@@ -13,7 +13,7 @@ use lib.Ieee.Scale.{finite}
 use lib.Ieee.Fits.{ofInt-fits}
 use Rattle.arith_order.proofs.Laws.{le-trans, whole-le}
 use Rattle.arith_order.proofs.Modest.{big}
-use Rattle.arith.specs.Notation.{_⊖_, bits, count, nought}
+use Rattle.arith.specs.Notation.{_⊖_, bits, count, plusZero}
 use Rattle.math.specs.declared.Vec3.{Vec3}
 use Rattle.math.specs.declared.Frame.{Frame}
 use Rattle.math.specs.declared.Interval.{Interval}
@@ -50,8 +50,8 @@ record Facts : Type 0 where
   pub count-high : T (le (count 65536) (big 16 false))
   pub turn-fits : T (fits binary64 tau)
   pub turn : Size 40 tau
-  pub zero-fits : T (fits binary64 nought)
-  pub zero : Size 16 nought
+  pub zero-fits : T (fits binary64 plusZero)
+  pub zero : Size 16 plusZero
 
 facts : Facts
 unfolding le neg ofBits ofInt fits
@@ -85,17 +85,17 @@ pub record Reach (range : Interval) : Type 0 where
   pub high : Size 40 (range .hi)
   pub high-fits : T (fits binary64 (range .hi))
 
-turn-reach : Reach (interval nought tau)
+turn-reach : Reach (interval plusZero tau)
 turn-reach = record {
-  low = size-grows 16 40 nought (omega arith) (facts .zero);
+  low = size-grows 16 40 plusZero (omega arith) (facts .zero);
   low-fits = facts .zero-fits;
   high = facts .turn;
   high-fits = facts .turn-fits;
 }
 
-count-reach : (n : ℕ) → n ≤ 65536 → Reach (interval nought (count n))
+count-reach : (n : ℕ) → n ≤ 65536 → Reach (interval plusZero (count n))
 count-reach n h = record {
-  low = size-grows 16 40 nought (omega arith) (facts .zero);
+  low = size-grows 16 40 plusZero (omega arith) (facts .zero);
   low-fits = facts .zero-fits;
   high = size-grows 16 40 (count n) (omega arith) (count-size n h);
   high-fits = ofInt-fits binary64 (pos n);
@@ -123,7 +123,7 @@ turn-period p e = let q : tau ≡ p = cc in subst (Size 40) q (facts .turn)
 
 span-period : (span p : Float) → Size 40 span → everySpan span ≡ Every p → Size 40 p
 unfolding everySpan
-span-period span p s = go (lt nought span && finite span)
+span-period span p s = go (lt plusZero span && finite span)
   where
     go : (b : Bool) → cond b (Every span) Never ≡ Every p → Size 40 p
     go true e = let q : span ≡ p = cc in subst (Size 40) q s
@@ -133,11 +133,11 @@ polyline-tame : (ps : List Vec3) → length ps - 1 ≤ 65536 → Tame (polyline 
 unfolding naturalRange period curveKnots spanOf
 polyline-tame ps h = record { own = count-reach (length ps - 1) h; every = λ p. go p (closes ps); knots = none }
   where
-    go : (p : Float) (b : Bool) → cond b (everySpan (spanOf (interval nought (count (length ps - 1))))) Never ≡ Every p → Size 40 p
+    go : (p : Float) (b : Bool) → cond b (everySpan (spanOf (interval plusZero (count (length ps - 1))))) Never ≡ Every p → Size 40 p
     go p true e =
-        span-period (count (length ps - 1) ⊖ nought) p
-        (size-grows 17 40 (count (length ps - 1) ⊖ nought) (omega arith)
-        (sub-size 16 (omega arith) (count (length ps - 1)) nought (count-size (length ps - 1) h) (facts .zero))) e
+        span-period (count (length ps - 1) ⊖ plusZero) p
+        (size-grows 17 40 (count (length ps - 1) ⊖ plusZero) (omega arith)
+        (sub-size 16 (omega arith) (count (length ps - 1)) plusZero (count-size (length ps - 1) h) (facts .zero))) e
     go p false e = no-period p e
 
 -- ---- a row of accepted tables

@@ -9,7 +9,7 @@ use lib.Ieee.{Float, lt}
 use Rattle.base_lists.specs.Result.{Result, refused, got, bind}
 use Rattle.base_lists.specs.Sub.{All}
 use Rattle.base_lists.specs.Room.{filled}
-use Rattle.arith.specs.Notation.{nought}
+use Rattle.arith.specs.Notation.{plusZero}
 use Rattle.brep.specs.declared.Edge.{Edge}
 use Rattle.brep.specs.Rows.{Tables}
 use Rattle.curve.specs.Eval.{pointAt}
@@ -120,7 +120,7 @@ pub record Sound (T : Tables) (e : Edge) (floor : Float) (chain : List Sample) :
   -- its parameters do not rise in one place and fall in another
   pub oneWay : OneWay (map (λ (s : Sample). s .param) chain)
   -- where the merge floor is above zero, each point but the last is further than it from the one before
-  pub apart : lt nought floor ≡ true → Apart floor (dropLast chain)
+  pub apart : lt plusZero floor ≡ true → Apart floor (dropLast chain)
 
 -- ---- the table of causes
 -- cause n applies, whether or not a lower one does

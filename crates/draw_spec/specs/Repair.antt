@@ -5,7 +5,7 @@ use Prim.Native.Nat.{ℕ, zero, suc}
 use lib.Ieee.{Float, lt, le}
 use lib.Ieee.Scale.{finite}
 use Rattle.base_lists.specs.Result.{Result, refused, got, bind}
-use Rattle.arith.specs.Notation.{_⊕_, _⊗_, _⊘_, bits, count, nought}
+use Rattle.arith.specs.Notation.{_⊕_, _⊗_, _⊘_, bits, count, plusZero}
 use Rattle.arith.specs.Pick.{maxOf}
 use Rattle.math.specs.declared.Vec3.{Vec3}
 use Rattle.math.specs.declared.Aabb.{Aabb}
@@ -98,7 +98,7 @@ unfoldable pub byShortArc : ℕ → Tables → Edge → Resolved → Result Got
 byShortArc room T e r =
     let natural = naturalRange (edgeCurve T e) in
     let short = orderedInterval (nearest (edgeCurve T e) (edgeStart T e)) (nearest (edgeCurve T e) (edgeEnd T e)) in
-    elim (finite (spanOf natural) && (lt nought (spanOf natural) && lt nought (spanOf short))) [
+    elim (finite (spanOf natural) && (lt plusZero (spanOf natural) && lt plusZero (spanOf short))) [
       | true ↦ bind (discretised room T (withRange e short) r) (λ arc. got (arcOrChord T e r arc))
       | false ↦ got (runaway T e)
     ]
@@ -107,7 +107,7 @@ byShortArc room T e r =
 unfoldable pub byComplement : ℕ → Tables → Edge → Resolved → Float → Result Got
 byComplement room T e r p =
     let complement = interval (e .range .hi) (e .range .lo ⊕ p) in
-    elim (lt nought (spanOf complement)) [
+    elim (lt plusZero (spanOf complement)) [
       | true ↦ bind (discretised room T (withRange e complement) r)
           (λ arc. elim (escapes (reference T e) r arc) [ true ↦ byShortArc room T e r | false ↦ got (by Complement arc) ])
       | false ↦ byShortArc room T e r
@@ -121,7 +121,7 @@ byPeriod room T e r Never = byShortArc room T e r
 unfoldable pub repaired : ℕ → Tables → Edge → Resolved → Got → Result Got
 repaired room T e r g =
     let box = reference T e in
-    elim (isEmpty box || (not (lt nought (diagonal box)) || not (escapes box r (g .chain)))) [
+    elim (isEmpty box || (not (lt plusZero (diagonal box)) || not (escapes box r (g .chain)))) [
       | true ↦ got g
       | false ↦ byPeriod room T e r (period (edgeCurve T e))
     ]

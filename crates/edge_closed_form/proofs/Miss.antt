@@ -7,22 +7,22 @@ use native.Mathlib.Omega.{arith}
 use lib.ListN.{length, getD, drop, drop-of-length-le}
 use lib.Seq.{drop-cons}
 use lib.Ieee.{Float, nan}
-use Rattle.arith.specs.Notation.{nought}
+use Rattle.arith.specs.Notation.{plusZero}
 use Rattle.arith.specs.Pick.{maxOf}
 use Rattle.brep.specs.Tree.{CurveTree}
 use Rattle.edge_closed_form.specs.Miss.{missOf, worstMiss}
 
 -- a is the parameter before number i, and worst the largest miss up to it
 abbrev pub Missing : CurveTree → List Float → Float → Float → ℕ → Type 0
-Missing c params worst a i = worstMiss c worst (a ∷ drop i params) ≡ worstMiss c nought params
+Missing c params worst a i = worstMiss c worst (a ∷ drop i params) ≡ worstMiss c plusZero params
 
 module _ (c : CurveTree) where
-  pub no-params : (params : List Float) → length params ≡ 0 → nought ≡ worstMiss c nought params
+  pub no-params : (params : List Float) → length params ≡ 0 → plusZero ≡ worstMiss c plusZero params
   unfolding worstMiss
   no-params [] h = refl
   no-params (a ∷ l) h = absurd (omega arith)
 
-  pub first-param : (params : List Float) → (length params ≡ 0 → ⊥) → Missing c params nought (getD params 0 nan) 1
+  pub first-param : (params : List Float) → (length params ≡ 0 → ⊥) → Missing c params plusZero (getD params 0 nan) 1
   first-param [] h = absurd (h refl)
   first-param (a ∷ l) h = refl
 
@@ -34,6 +34,6 @@ module _ (c : CurveTree) where
         ap (λ (n : ℕ). worstMiss c w (b ∷ drop n params)) (add-one i)
         ∙ rw (W, M, B) (ap (λ (l : List Float). worstMiss c worst (a ∷ l)) (sym (drop-cons params i nan h)) ∙ s)
 
-    pub last-param : length params ≤ i → worst ≡ worstMiss c nought params
+    pub last-param : length params ≤ i → worst ≡ worstMiss c plusZero params
     unfolding worstMiss
     last-param h = sym (ap (λ (l : List Float). worstMiss c worst (a ∷ l)) (drop-of-length-le params {i = i} h)) ∙ s

@@ -6,7 +6,7 @@ use lib.Ieee.{Float, nan, inf, fin, binary64, fits, lt, le, isNan, ofBits}
 use lib.Ieee.Bits.{is-true}
 use Rattle.arith_order.proofs.Signed.{zeroF}
 use Rattle.arith_order.proofs.Laws.{number, le-refl, le-trans, le-lt-trans, lt→le, number-right, nlt→le}
-use Rattle.arith.specs.Notation.{nought}
+use Rattle.arith.specs.Notation.{plusZero}
 use Rattle.arith.specs.Pick.{maxOf}
 use Rattle.arith.proofs.Cmp.{holds, fails}
 use Rattle.arith_root.specs.Root.{rootOf}
@@ -27,7 +27,7 @@ pub record Worst (w m : Float) : Type 0 where
   pub low : T (le zeroF w)
   pub alike : Alike (rootOf w) m
 
-pub worst-first : Worst nought nought
+pub worst-first : Worst plusZero plusZero
 unfolding ofBits rootOf le fits
 worst-first = record { format = tt; low = tt; alike = record { below = tt; above = tt } }
 

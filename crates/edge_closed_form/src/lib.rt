@@ -1,6 +1,6 @@
 // The check of a closed form: how far a curve's middles lie from those of its chords. The points at its parameters are left in
 // the chain, where they are wanted if the form is good enough.
-use curve_prepared::Ready;
+use curve_prepared::Prepared;
 use edge_record::Sample;
 use math::Vec3;
 ghost use mathlib.Core.Path.{_≡_};
@@ -8,12 +8,12 @@ ghost use Prim.Native.Nat.{_*_, _≤_};
 ghost use lib.ListN.{length, take};
 ghost use lib.Seq.{sets};
 ghost use lib.Ieee.{le};
-ghost use Rattle.arith.specs.Notation.{nought};
+ghost use Rattle.arith.specs.Notation.{plusZero};
 ghost use Rattle.arith_root.specs.Root.{rootOf};
 ghost use Rattle.brep.specs.Rows.{lent};
 ghost use Rattle.brep.specs.Tree.{tree};
 ghost use Rattle.curve.specs.Eval.{pointAt};
-ghost use Rattle.curve_prepared.specs.Ready.{readyOf};
+ghost use Rattle.curve_prepared.specs.Prepared.{preparedOf};
 ghost use Rattle.edge_record.specs.Chain.{width, flat};
 ghost use Rattle.edge_closed_form.specs.Miss.{worstMiss};
 ghost use Rattle.edge_closed_form.specs.Located.{located};
@@ -27,18 +27,18 @@ fn miss_square(
     parts: &[u32],
     ranges: &[f64],
     row: u32,
-    ready: Ready,
+    prepared: Prepared,
     a: f64,
     b: f64,
     pa: Vec3,
     pb: Vec3,
 ) -> f64
-    requires { ⌜ (ready ≡ readyOf (tree (lent points curves reals parts ranges) row))
+    requires { ⌜ (prepared ≡ preparedOf (tree (lent points curves reals parts ranges) row))
         × (pa ≡ pointAt (tree (lent points curves reals parts ranges) row) a) × (pb ≡ pointAt (tree (lent points curves reals parts ranges) row) b) ⌝ }
     ensures { λ w. ⌜ w ≡ missSquare (tree (lent (points .entry) (curves .entry) (reals .entry) (parts .entry) (ranges .entry)) row) a b ⌝ }
 {
     let t = 0.5 * (a + b);
-    let m = curve_prepared::point_of(ready, points, curves, reals, parts, ranges, row, t);
+    let m = curve_prepared::point_of(prepared, points, curves, reals, parts, ranges, row, t);
     m.sub(pa.add(pb).scale(0.5)).length_squared()
 }
 
@@ -62,16 +62,16 @@ fn worst_square(
     chain: &mut [f64],
 ) -> f64
     requires { ⌜ width * length (now params) ≤ length (now chain) ⌝ }
-    ensures { λ w. ⌜ Alike (rootOf w) (worstMiss (tree (lent (points .entry) (curves .entry) (reals .entry) (parts .entry) (ranges .entry)) row) nought (now (params .entry)))
+    ensures { λ w. ⌜ Alike (rootOf w) (worstMiss (tree (lent (points .entry) (curves .entry) (reals .entry) (parts .entry) (ranges .entry)) row) plusZero (now (params .entry)))
         × (now (chain .exit) ≡ sets (now (chain .entry)) 0 (flat (located (tree (lent (points .entry) (curves .entry) (reals .entry) (parts .entry) (ranges .entry)) row) (now (params .entry))))) ⌝ }
 {
     if params.len() == 0 {
         return 0.0;
     }
     let mut worst = 0.0;
-    let ready = curve_prepared::ready_at(points, curves, reals, parts, ranges, row);
+    let prepared = curve_prepared::prepare(points, curves, reals, parts, ranges, row);
     let mut a = params[0];
-    let mut pa = curve_prepared::point_of(ready, points, curves, reals, parts, ranges, row, a);
+    let mut pa = curve_prepared::point_of(prepared, points, curves, reals, parts, ranges, row, a);
     let mut i = 0usize;
     while i + 1 < params.len() {
         let here = Sample {
@@ -80,7 +80,7 @@ fn worst_square(
         };
         edge_record::put(chain, i, here);
         let b = params[i + 1];
-        let pb = curve_prepared::point_of(ready, points, curves, reals, parts, ranges, row, b);
+        let pb = curve_prepared::point_of(prepared, points, curves, reals, parts, ranges, row, b);
         let s = miss_square(
             points,
             curves,
@@ -88,7 +88,7 @@ fn worst_square(
             parts,
             ranges,
             row,
-            ready,
+            prepared,
             a,
             b,
             pa,
@@ -121,7 +121,7 @@ pub fn meets(
     chain: &mut [f64],
 ) -> bool
     requires { ⌜ (n ≤ length (now out)) × (width * n ≤ length (now chain)) ⌝ }
-    ensures { λ w. ⌜ (w ≡ le (worstMiss (tree (lent (points .entry) (curves .entry) (reals .entry) (parts .entry) (ranges .entry)) row) nought (take n (now (out .entry)))) sag)
+    ensures { λ w. ⌜ (w ≡ le (worstMiss (tree (lent (points .entry) (curves .entry) (reals .entry) (parts .entry) (ranges .entry)) row) plusZero (take n (now (out .entry)))) sag)
         × (now (chain .exit) ≡ sets (now (chain .entry)) 0 (flat (located (tree (lent (points .entry) (curves .entry) (reals .entry) (parts .entry) (ranges .entry)) row) (take n (now (out .entry)))))) ⌝ }
 {
     let params = &out[..n];

@@ -1,4 +1,4 @@
--- The ways through `draw_range` and `discretise_over`. Assumes nothing.
+-- The ways through `draw_range` and `discretise_usable`. Assumes nothing.
 use mathlib.Core.Path.{_≡_, refl, sym, ap, _∙_}
 use mathlib.Core.Bool.{Bool, true}
 use mathlib.Core.List.{List, [], _∷_, _++_}
@@ -17,7 +17,7 @@ use Rattle.brep.specs.Tree.{CurveTree}
 use Rattle.options.specs.declared.Resolved.{Resolved}
 use Rattle.edge_params.specs.declared.Listed.{Listed}
 use Rattle.edge_params.specs.declared.Listed.the-variants as listed
-use Rattle.edge_params.specs.Held.{said}
+use Rattle.edge_params.specs.Written.{said}
 use Rattle.edge_record.specs.declared.Sample.{Sample}
 use Rattle.edge_record.specs.declared.Counted.{Counted}
 use Rattle.edge_record.specs.declared.Counted.the-variants.{Refused, Count}
@@ -150,7 +150,7 @@ pub none-listed : (room : ℕ) (S : Result (List Float)) (w : Listed) {out : Lis
 none-listed room (refused n) w a e h = h
 none-listed room (got l) w a e h = let q : refused 8 ≡ got (length l) = ap said (sym e) ∙ a in let z : _≡_ {A = ℕ} 0 1 = cc in absurd (omega arith)
 
--- ---- `discretise_over`
+-- ---- `discretise_usable`
 -- n is the room that both buffers give, and scratch's first n floats are lent
 pub record Lent (first n : ℕ) (scratch : List Float) : Type 0 where
   pub few : n ≤ most

@@ -11,7 +11,7 @@ use lib.Ieee.{Float, lt}
 use Rattle.base_lists.specs.Result.{Result, refused, got, each}
 use Rattle.base_lists.specs.Room.{filled}
 use Rattle.base_lists.proofs.Order.{sub-length}
-use Rattle.arith.specs.Notation.{_⊗_, bits, nought}
+use Rattle.arith.specs.Notation.{_⊗_, bits, plusZero}
 use Rattle.math.specs.declared.Vec3.{Vec3}
 use Rattle.brep.specs.declared.Edge.{Edge}
 use Rattle.brep.specs.Rows.{Tables}
@@ -47,7 +47,7 @@ pub thin-capped : (tolerance angle : Float) (segments floor : ℕ) (l : List Sam
     → thinned tolerance angle (floor + 1) l ≡ thinned tolerance angle (segments + 1) l
 unfolding thinned
 thin-capped tolerance angle segments floor l h e =
-    ap (λ (x : Result (List Sample)). cond (ltb (length l) 3 || not (lt nought tolerance)) (got l) x)
+    ap (λ (x : Result (List Sample)). cond (ltb (length l) 3 || not (lt plusZero tolerance)) (got l) x)
     (go (flagged (samplePoint l) tolerance angle (length l)) (flagged-length (samplePoint l) tolerance angle (length l)))
   where
     go : (x : Result (List Bool)) → ((keep : List Bool) → x ≡ got keep → length keep ≡ length l)

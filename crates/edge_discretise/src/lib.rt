@@ -186,7 +186,7 @@ fn draw_range(
 
 // The edge's chain, from the start of chain, and +0.0 behind it, or everywhere where it is refused; +0.0 in all of scratch. The
 // usable range is known.
-pub fn discretise_over(
+pub fn discretise_usable(
     points: &[f64],
     curves: &[u32],
     reals: &[f64],
@@ -249,7 +249,7 @@ pub fn discretise(
         edge.curve,
         edge.range,
     );
-    discretise_over(
+    discretise_usable(
         points,
         curves,
         reals,

@@ -17,7 +17,7 @@ use Rattle.arith_order.proofs.Middle.{above, between}
 use Rattle.arith_order.proofs.Lerp.{no-minus, zero-fits}
 use Rattle.arith_order.proofs.Laws.{le-trans, lt→nle}
 use Rattle.arith.proofs.Cmp.{holds}
-use Rattle.arith.specs.Notation.{_⊕_, _⊗_, bits, nought}
+use Rattle.arith.specs.Notation.{_⊕_, _⊗_, bits, plusZero}
 use Rattle.arith_root.specs.Root.{rootOf}
 use Rattle.arith_root.proofs.RootDigits.{digits-root}
 use Rattle.arith_root.proofs.Laws.{root-monotone, root-under}
@@ -63,7 +63,7 @@ module _ (square sag s : Float) (F : T (fits binary64 square)) (G : T (fits bina
   diagonal-finite z m = between zeroF (rootOf square) (rootOf modest) tt tt (rw root-zero at (root-monotone zeroF square (zero-fits binary64) F tt z))
       (root-monotone square modest F modest-fits z m)
 
-  pub not-beyond : le nought sag ≡ true → le sag modest ≡ true → lt nought square ≡ true → le square modest ≡ true → le nought s ≡ true → le s square ≡ true
+  pub not-beyond : le plusZero sag ≡ true → le sag modest ≡ true → lt plusZero square ≡ true → le square modest ≡ true → le plusZero s ≡ true → le s square ≡ true
       → lt (rootOf square ⊕ sag ⊗ bits 0x4030000000000000) (rootOf s) ≡ false
   unfolding ofBits le mul
   not-beyond a b p c d e =
@@ -82,4 +82,4 @@ module _ (square sag s : Float) (F : T (fits binary64 square)) (G : T (fits bina
 
 -- what no root within the square's is beyond
 abbrev pub Inside : Float → Float → Type 0
-Inside limit square = (s : Float) → T (fits binary64 s) → le nought s ≡ true → le s square ≡ true → lt limit (rootOf s) ≡ false
+Inside limit square = (s : Float) → T (fits binary64 s) → le plusZero s ≡ true → le s square ≡ true → lt limit (rootOf s) ≡ false

@@ -11,8 +11,8 @@ use Rattle.math.specs.declared.Interval.{Interval}
 use Rattle.math.specs.Math.{vSub, vLengthSquared, vLength, distance}
 use Rattle.brep.specs.Tree.{CurveTree}
 use Rattle.curve.specs.Eval.{naturalRange, pointAt}
-use Rattle.curve_prepared.specs.declared.Ready.{Ready}
-use Rattle.curve_prepared.specs.Ready.{readyOf, readyPoint}
+use Rattle.curve_prepared.specs.declared.Prepared.{Prepared}
+use Rattle.curve_prepared.specs.Prepared.{preparedOf, preparedPoint}
 use Rattle.curve_prepared.proofs.Laws.{own-point}
 use Rattle.draw_spec.specs.Repair.{sweepAt, nearestOf, nearest}
 use Rattle.edge_escape.specs.declared.Best.{Best}
@@ -50,12 +50,12 @@ unfolding nearestOf
 nearest-more c natural target n = nearer-own c target (nearestOf c natural target n) (sweepAt natural (suc n))
 
 module _ {c : CurveTree} {natural : Interval} {target : Vec3} where
-  pub swept-first : (t : Float) (p : Vec3) (r : Ready) {b : Best} → t ≡ sweepAt natural 0 → r ≡ readyOf c → p ≡ readyPoint r c t → b ≡ measured target t p → Swept c natural target 0 b
+  pub swept-first : (t : Float) (p : Vec3) (r : Prepared) {b : Best} → t ≡ sweepAt natural 0 → r ≡ preparedOf c → p ≡ preparedPoint r c t → b ≡ measured target t p → Swept c natural target 0 b
   unfolding nearestOf
   swept-first t p r e d f g = record { held = cc (own-point c t d f) }
 
   module _ {n : ℕ} {b : Best} (w : Swept c natural target n b) where
-    pub swept-more : (t : Float) (p : Vec3) (r : Ready) {x : Best} → t ≡ sweepAt natural (n + 1) → r ≡ readyOf c → p ≡ readyPoint r c t → x ≡ nearerOf b (measured target t p) → Swept c natural target (n + 1) x
+    pub swept-more : (t : Float) (p : Vec3) (r : Prepared) {x : Best} → t ≡ sweepAt natural (n + 1) → r ≡ preparedOf c → p ≡ preparedPoint r c t → x ≡ nearerOf b (measured target t p) → Swept c natural target (n + 1) x
     swept-more t p r e d f g = record { held = rw add-one (cc (nearest-more c natural target n, w .held, rw add-one at e, own-point c t d f)) }
 
     pub swept-all : natural ≡ naturalRange c → n ≤ 512 → 512 ≤ n → b .param ≡ nearest c target

@@ -9,7 +9,7 @@ ghost use mathlib.Core.Bool.{true, false};
 ghost use Prim.Native.Nat.{_*_, _≤_};
 ghost use lib.ListN.{length};
 ghost use lib.Ieee.{lt, le};
-ghost use Rattle.arith.specs.Notation.{bits, nought};
+ghost use Rattle.arith.specs.Notation.{bits, plusZero};
 ghost use Rattle.math.specs.Math.{vLengthSquared, boxSize};
 ghost use Rattle.brep.specs.Rows.{lent};
 ghost use Rattle.brep.specs.Tree.{tree};
@@ -37,8 +37,8 @@ const MODEST: f64 = 1e300;
 
 // Whether no point of the chain lies further from the box's centre than its diagonal, by the squares. `false` says nothing.
 fn all_near(reference: Aabb, r: Resolved, square: f64, chain: &[f64], n: usize) -> bool
-    requires { ⌜ (width * n ≤ length (now chain)) × (le nought (r .sag) ≡ true) × (le (r .sag) (bits 0x7E37E43C8800759C) ≡ true)
-        × (lt nought square ≡ true) × (le square (bits 0x7E37E43C8800759C) ≡ true) × (square ≡ vLengthSquared (boxSize reference)) ⌝ }
+    requires { ⌜ (width * n ≤ length (now chain)) × (le plusZero (r .sag) ≡ true) × (le (r .sag) (bits 0x7E37E43C8800759C) ≡ true)
+        × (lt plusZero square ≡ true) × (le square (bits 0x7E37E43C8800759C) ≡ true) × (square ≡ vLengthSquared (boxSize reference)) ⌝ }
     ensures { λ b. ⌜ (b ≡ true → false ≡ escapes reference r (samples n (now (chain .entry)))) ⌝ }
 {
     let centre = reference.centre();
@@ -155,16 +155,16 @@ pub fn nearest(
     ensures { λ w. ⌜ (w .start ≡ nearest (tree (lent (points .entry) (curves .entry) (reals .entry) (parts .entry) (ranges .entry)) row) start) × (w .end ≡ nearest (tree (lent (points .entry) (curves .entry) (reals .entry) (parts .entry) (ranges .entry)) row) end) ⌝ }
 {
     let natural = curve::natural_range(points, curves, reals, parts, ranges, row);
-    let ready = curve_prepared::ready_at(points, curves, reals, parts, ranges, row);
+    let prepared = curve_prepared::prepare(points, curves, reals, parts, ranges, row);
     let first = sweep_at(natural, 0);
-    let p = curve_prepared::point_of(ready, points, curves, reals, parts, ranges, row, first);
+    let p = curve_prepared::point_of(prepared, points, curves, reals, parts, ranges, row, first);
     let mut a = measured(start, first, p);
     let mut b = measured(end, first, p);
     let mut i = 0u32;
     while i < STEPS {
         i += 1;
         let t = sweep_at(natural, i);
-        let q = curve_prepared::point_of(ready, points, curves, reals, parts, ranges, row, t);
+        let q = curve_prepared::point_of(prepared, points, curves, reals, parts, ranges, row, t);
         a = nearer(a, start, t, q);
         b = nearer(b, end, t, q);
     }

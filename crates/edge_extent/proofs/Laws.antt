@@ -16,20 +16,20 @@ use Rattle.math.specs.Math.{vFinite, vMin, vMax, emptyBox, addPoint, boxSize, a
 use Rattle.brep.specs.declared.Edge.{Edge}
 use Rattle.brep.specs.Rows.{Tables}
 use Rattle.brep.specs.Tree.{CurveTree}
-use Rattle.curve_prepared.specs.declared.Ready.{Ready}
-use Rattle.curve_prepared.specs.Ready.{readyOf, readyPoint}
-use Rattle.curve_prepared.proofs.Laws.{point-by, ready-point}
+use Rattle.curve_prepared.specs.declared.Prepared.{Prepared}
+use Rattle.curve_prepared.specs.Prepared.{preparedOf, preparedPoint}
+use Rattle.curve_prepared.proofs.Laws.{point-by, prepared-point}
 use Rattle.edge_range.specs.declared.Usable.{Usable}
 use Rattle.edge_range.specs.Usable.{usableRange}
 use Rattle.draw_spec.specs.Edge.{edgeCurve, edgeStart, edgeEnd, probed, extentBox, edgeExtent}
 
 module _ (c : CurveTree) (range : Interval) (b : Aabb) (i : ℕ) {found : Aabb} (e : found ≡ probed c range b i) where
-  -- the curve was made ready once
-  pub one-more : {r : Ready} → r ≡ readyOf c → {t : Float} → t ≡ at range (count i ⊘ bits 0x4020000000000000) → {p : Vec3} → p ≡ readyPoint r c t → {next : Aabb} → next ≡ cond (vFinite p) (addPoint found p) found → next ≡ probed c range b (i + 1)
+  -- the curve was prepared once
+  pub one-more : {r : Prepared} → r ≡ preparedOf c → {t : Float} → t ≡ at range (count i ⊘ bits 0x4020000000000000) → {p : Vec3} → p ≡ preparedPoint r c t → {next : Aabb} → next ≡ cond (vFinite p) (addPoint found p) found → next ≡ probed c range b (i + 1)
   unfolding probed
   one-more made et ep en =
       let one : suc i ≡ i + 1 = omega arith in
-      en ∙ rw (point-by c _ (sym made) ep ∙ ready-point c _, et, e) (ap (probed c range b) one)
+      en ∙ rw (point-by c _ (sym made) ep ∙ prepared-point c _, et, e) (ap (probed c range b) one)
 
   pub all-nine : i ≤ 9 → 9 ≤ i → found ≡ probed c range b 9
   all-nine h k = e ∙ ap (probed c range b) (omega arith)

@@ -12,16 +12,16 @@ use Rattle.arith_order.proofs.Signed.{zeroF}
 use Rattle.arith_order.proofs.Mono.{add-mono-right, mul-mono, mul-turns}
 use Rattle.arith_order.proofs.Lerp.{mul-swap}
 use Rattle.arith_order.proofs.Laws.{le-trans, le-refl, number as is-num, le-total, between, number-left, Modest, rises}
-use Rattle.arith.specs.Notation.{_⊕_, _⊖_, _⊗_, _⊘_, bits, count, nought, one}
+use Rattle.arith.specs.Notation.{_⊕_, _⊖_, _⊗_, _⊘_, bits, count, plusZero, one}
 use Rattle.math.specs.declared.Vec3.{Vec3}
 use Rattle.math.specs.declared.Aabb.{Aabb}
 use Rattle.math.specs.declared.Interval.{Interval}
 use Rattle.math.specs.Math.{vFinite, addPoint, vAdd, vScale, at}
 use Rattle.brep.specs.Tree.{CurveTree}
-use Rattle.curve_prepared.specs.declared.Ready.the-variants.{Line}
-use Rattle.curve_prepared.specs.declared.Ready.{Ready}
-use Rattle.curve_prepared.specs.Ready.{readyOf, readyPoint}
-use Rattle.curve_prepared.proofs.Laws.{ready-point}
+use Rattle.curve_prepared.specs.declared.Prepared.the-variants.{Line}
+use Rattle.curve_prepared.specs.declared.Prepared.{Prepared}
+use Rattle.curve_prepared.specs.Prepared.{preparedOf, preparedPoint}
+use Rattle.curve_prepared.proofs.Laws.{prepared-point}
 use Rattle.draw_spec.specs.Edge.{probed}
 use Rattle.edge_extent.proofs.Laws.{inside}
 
@@ -67,11 +67,11 @@ module _ (o d first last low high t : Float) (F : T (finite first)) (L : T (fini
       go (inr z) = let u = down z in held (d ⊗ last) (d ⊗ first) C A (u .0) (u .1) q p'
 
 -- all nine
-module _ (o d : Vec3) (range : Interval) (b : Aabb) (c : CurveTree) (R : readyOf c ≡ Line o d) (l : Modest (range .lo)) (h : Modest (range .hi)) (g : T (le (range .lo) (range .hi)))
-    (X : (t : Float) → T (le (at range nought) t) → T (le t (at range one)) → (le (b .min .x) (o .x ⊕ d .x ⊗ t) ≡ true) × (le (o .x ⊕ d .x ⊗ t) (b .max .x) ≡ true))
-    (Y : (t : Float) → T (le (at range nought) t) → T (le t (at range one)) → (le (b .min .y) (o .y ⊕ d .y ⊗ t) ≡ true) × (le (o .y ⊕ d .y ⊗ t) (b .max .y) ≡ true))
-    (Z : (t : Float) → T (le (at range nought) t) → T (le t (at range one)) → (le (b .min .z) (o .z ⊕ d .z ⊗ t) ≡ true) × (le (o .z ⊕ d .z ⊗ t) (b .max .z) ≡ true)) where
-  from-first : (n : ℕ) → n ≤ 8 → T (le (at range nought) (at range (count n ⊘ bits 0x4020000000000000)))
+module _ (o d : Vec3) (range : Interval) (b : Aabb) (c : CurveTree) (R : preparedOf c ≡ Line o d) (l : Modest (range .lo)) (h : Modest (range .hi)) (g : T (le (range .lo) (range .hi)))
+    (X : (t : Float) → T (le (at range plusZero) t) → T (le t (at range one)) → (le (b .min .x) (o .x ⊕ d .x ⊗ t) ≡ true) × (le (o .x ⊕ d .x ⊗ t) (b .max .x) ≡ true))
+    (Y : (t : Float) → T (le (at range plusZero) t) → T (le t (at range one)) → (le (b .min .y) (o .y ⊕ d .y ⊗ t) ≡ true) × (le (o .y ⊕ d .y ⊗ t) (b .max .y) ≡ true))
+    (Z : (t : Float) → T (le (at range plusZero) t) → T (le t (at range one)) → (le (b .min .z) (o .z ⊕ d .z ⊗ t) ≡ true) × (le (o .z ⊕ d .z ⊗ t) (b .max .z) ≡ true)) where
+  from-first : (n : ℕ) → n ≤ 8 → T (le (at range plusZero) (at range (count n ⊘ bits 0x4020000000000000)))
   unfolding at ofBits ofInt div
   from-first n k = rises (range .lo) (range .hi) 8 0 n l h (omega arith) (lit≤ tt) (omega arith) k g
 
@@ -80,13 +80,13 @@ module _ (o d : Vec3) (range : Interval) (b : Aabb) (c : CurveTree) (R : readyOf
   to-last n k = rises (range .lo) (range .hi) 8 n 8 l h (omega arith) (lit≤ tt) k (omega arith) g
 
   first-ones : (n : ℕ) → n ≤ 9 → b ≡ probed c range b n
-  unfolding probed readyPoint vAdd vScale
+  unfolding probed preparedPoint vAdd vScale
   first-ones zero k = refl
   first-ones (suc n) k =
       let t = at range (count n ⊘ bits 0x4020000000000000) in
       let f = from-first n (omega arith) in
       let e = to-last n (omega arith) in
-      rw (sym (first-ones n (omega arith)), sym (ready-point c t), R)
+      rw (sym (first-ones n (omega arith)), sym (prepared-point c t), R)
       (inside b (vAdd o (vScale d t)) (X t f e .0) (X t f e .1) (Y t f e .0) (Y t f e .1) (Z t f e .0) (Z t f e .1))
 
   pub all-inside : b ≡ probed c range b 9

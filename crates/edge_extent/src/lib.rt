@@ -1,6 +1,6 @@
 // edge_extent of edge.rs, on rows.
 use brep::Edge;
-use curve_prepared::Ready;
+use curve_prepared::Prepared;
 use edge_range::Usable;
 use math::Aabb;
 use math::Interval;
@@ -13,8 +13,8 @@ ghost use Rattle.arith.specs.Notation.{_⊕_, _⊗_};
 ghost use Rattle.math.specs.Math.{vFinite, addPoint};
 ghost use Rattle.brep.specs.Rows.{lent};
 ghost use Rattle.brep.specs.Tree.{CurveTree, tree};
-ghost use Rattle.curve_prepared.specs.declared.Ready.the-variants.{Line};
-ghost use Rattle.curve_prepared.specs.Ready.{readyOf};
+ghost use Rattle.curve_prepared.specs.declared.Prepared.the-variants.{Line};
+ghost use Rattle.curve_prepared.specs.Prepared.{preparedOf};
 ghost use Rattle.edge_range.specs.Usable.{usableRange};
 ghost use Rattle.draw_spec.specs.Edge.{probed, extentBox, edgeExtent};
 
@@ -80,7 +80,7 @@ fn is_between(o: f64, d: f64, first: f64, last: f64, low: f64, high: f64) -> boo
 
 // Whether all the probes of a line lie inside the box, by the first and the last of them. `false` says nothing.
 fn is_line_inside(origin: Vec3, direction: Vec3, range: Interval, b: Aabb) -> bool
-    ensures { λ w. ⌜ (w ≡ true → (c : CurveTree) → readyOf c ≡ Line origin direction → b ≡ probed c range b 9) ⌝ }
+    ensures { λ w. ⌜ (w ≡ true → (c : CurveTree) → preparedOf c ≡ Line origin direction → b ≡ probed c range b 9) ⌝ }
 {
     let lo = range.lo;
     let hi = range.hi;
@@ -102,7 +102,7 @@ fn is_line_inside(origin: Vec3, direction: Vec3, range: Interval, b: Aabb) -> bo
 
 // The box with a line's points at each eighth of a range, worked out here: a call for each would cost more.
 fn probe_line(origin: Vec3, direction: Vec3, range: Interval, b: Aabb) -> Aabb
-    ensures { λ r. ⌜ ((c : CurveTree) → readyOf c ≡ Line origin direction → r ≡ probed c range b 9) ⌝ }
+    ensures { λ r. ⌜ ((c : CurveTree) → preparedOf c ≡ Line origin direction → r ≡ probed c range b 9) ⌝ }
 {
     let mut found = b;
     let mut i: u32 = 0;
@@ -115,9 +115,9 @@ fn probe_line(origin: Vec3, direction: Vec3, range: Interval, b: Aabb) -> Aabb
     found
 }
 
-// The box with the points of a curve made ready at each eighth of a range.
+// The box with the points of a curve prepared at each eighth of a range.
 fn probe_each(
-    ready: Ready,
+    prepared: Prepared,
     points: &[f64],
     curves: &[u32],
     reals: &[f64],
@@ -127,14 +127,14 @@ fn probe_each(
     range: Interval,
     b: Aabb,
 ) -> Aabb
-    requires { ⌜ ready ≡ readyOf (tree (lent points curves reals parts ranges) row) ⌝ }
+    requires { ⌜ prepared ≡ preparedOf (tree (lent points curves reals parts ranges) row) ⌝ }
     ensures { λ r. ⌜ r ≡ probed (tree (lent (points .entry) (curves .entry) (reals .entry) (parts .entry) (ranges .entry)) row) range b 9 ⌝ }
 {
     let mut found = b;
     let mut i: u32 = 0;
     while i <= PROBES {
         let t = range.at(i as f64 / EIGHTHS);
-        let p = curve_prepared::point_of(ready, points, curves, reals, parts, ranges, row, t);
+        let p = curve_prepared::point_of(prepared, points, curves, reals, parts, ranges, row, t);
         found = add_finite(found, p);
         i += 1;
     }
@@ -154,14 +154,24 @@ fn probe(
 ) -> Aabb
     ensures { λ r. ⌜ r ≡ probed (tree (lent (points .entry) (curves .entry) (reals .entry) (parts .entry) (ranges .entry)) row) range b 9 ⌝ }
 {
-    let ready = curve_prepared::ready_at(points, curves, reals, parts, ranges, row);
-    if let Ready::Line { origin, direction } = ready {
+    let prepared = curve_prepared::prepare(points, curves, reals, parts, ranges, row);
+    if let Prepared::Line { origin, direction } = prepared {
         if is_line_inside(origin, direction, range, b) {
             return b;
         }
         return probe_line(origin, direction, range, b);
     }
-    probe_each(ready, points, curves, reals, parts, ranges, row, range, b)
+    probe_each(
+        prepared,
+        points,
+        curves,
+        reals,
+        parts,
+        ranges,
+        row,
+        range,
+        b,
+    )
 }
 
 // A curve with no usable range is not probed: the vertices are all there is.
@@ -184,7 +194,7 @@ fn extent_box(
 }
 
 // The longest side of the box of the vertices and the probes, where the usable range is known.
-pub fn extent_over(
+pub fn extent_usable(
     points: &[f64],
     curves: &[u32],
     reals: &[f64],
@@ -225,5 +235,5 @@ pub fn edge_extent(
         edge.curve,
         edge.range,
     );
-    extent_over(points, curves, reals, parts, ranges, edge, usable)
+    extent_usable(points, curves, reals, parts, ranges, edge, usable)
 }

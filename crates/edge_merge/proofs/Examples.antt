@@ -2,7 +2,7 @@
 use mathlib.Core.Path.{_≡_, refl}
 use mathlib.Core.List.{List, [], _∷_}
 use lib.Ieee.{Float, isNan, ofBits, add, sub, mul, lt, le}
-use Rattle.arith.specs.Notation.{bits, nought, half, one, two}
+use Rattle.arith.specs.Notation.{bits, plusZero, half, one, two}
 use Rattle.arith_root.specs.Root.{rootOf}
 use Rattle.math.specs.Math.{vec, vDot, vSub, vLength}
 use Rattle.edge_record.specs.declared.Sample.{Sample}
@@ -13,11 +13,11 @@ abbrev quarter : Float
 quarter = bits 0x3FD0000000000000
 
 abbrev at : Float → Float → Float → Sample
-at x y t = record { point = vec x y nought; param = t }
+at x y t = record { point = vec x y plusZero; param = t }
 
 abbrev polyline : List Sample
-polyline = at nought nought nought ∷ at one nought one ∷ at one one two ∷ []
+polyline = at plusZero plusZero plusZero ∷ at one plusZero one ∷ at one one two ∷ []
 
-pub examples : merged (mergeFloor quarter one) polyline ∷ merged (mergeFloor quarter two) polyline ∷ [] ≡ polyline ∷ (at nought nought nought ∷ at one one two ∷ []) ∷ []
+pub examples : merged (mergeFloor quarter one) polyline ∷ merged (mergeFloor quarter two) polyline ∷ [] ≡ polyline ∷ (at plusZero plusZero plusZero ∷ at one one two ∷ []) ∷ []
 unfolding mergeFloor merged withEnd spaced lastOf vLength vDot vSub rootOf add sub mul lt le isNan ofBits
 examples = refl

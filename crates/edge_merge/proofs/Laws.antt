@@ -10,7 +10,7 @@ use lib.Dec.{T, ltb}
 use lib.Ieee.{Float, lt, le}
 use borrow.Author.Tests.{ltb-false, lt-ltb}
 use Rattle.arith_order.proofs.Signed.{lt→nle}
-use Rattle.arith.specs.Notation.{nought}
+use Rattle.arith.specs.Notation.{plusZero}
 use Rattle.math.specs.declared.Vec3.{Vec3}
 use Rattle.math.specs.Math.{distance}
 use Rattle.base_lists.specs.Sub.{Sub, end, keep, skip}
@@ -57,7 +57,7 @@ record Block (floor : Float) (p z : Sample) (all m : List Sample) : Type 0 where
   pub inner : List Sample
   pub is : m ≡ p ∷ (inner ++ (z ∷ []))
   pub some : Sub inner all
-  pub apart : T (lt nought floor) → Apart floor (p ∷ inner)
+  pub apart : T (lt plusZero floor) → Apart floor (p ∷ inner)
 
 with-end : (floor : Float) (p z : Sample) (kept all : List Sample) → Sub kept all → Apart floor (p ∷ kept) → Block floor p z all (withEnd floor p (p ∷ kept) z)
 unfolding withEnd lastOf
@@ -78,16 +78,16 @@ with-end floor p z (x ∷ kept) all s a = go (le (distance (z .point) (lastOf x 
 module _ (floor : Float) (p q : Sample) (l : List Sample) where
   block : Block floor p (lastOf q l) (dropLast (q ∷ l)) (merged floor (p ∷ q ∷ l))
   unfolding merged lastOf
-  block = go (lt nought floor) (ltb 2 (length (p ∷ q ∷ l))) refl refl
+  block = go (lt plusZero floor) (ltb 2 (length (p ∷ q ∷ l))) refl refl
     where
-      whole : merged floor (p ∷ q ∷ l) ≡ p ∷ q ∷ l → (T (lt nought floor) → Apart floor (p ∷ dropLast (q ∷ l))) → Block floor p (lastOf q l) (dropLast (q ∷ l)) (merged floor (p ∷ q ∷ l))
+      whole : merged floor (p ∷ q ∷ l) ≡ p ∷ q ∷ l → (T (lt plusZero floor) → Apart floor (p ∷ dropLast (q ∷ l))) → Block floor p (lastOf q l) (dropLast (q ∷ l)) (merged floor (p ∷ q ∷ l))
       whole e a = record { inner = dropLast (q ∷ l); is = e ∙ ap (λ (r : List Sample). p ∷ r) (sym (dropLast-last q l)); some = sub-same (dropLast (q ∷ l)); apart = a }
 
       two : (l : List Sample) → ltb 2 (length (p ∷ q ∷ l)) ≡ false → Apart floor (p ∷ dropLast (q ∷ l))
       two [] e = one
       two (r ∷ l) e = absurd (let h = ltb-false 2 (length (p ∷ q ∷ r ∷ l)) e in omega arith)
 
-      go : (a b : Bool) → lt nought floor ≡ a → ltb 2 (length (p ∷ q ∷ l)) ≡ b → Block floor p (lastOf q l) (dropLast (q ∷ l)) (merged floor (p ∷ q ∷ l))
+      go : (a b : Bool) → lt plusZero floor ≡ a → ltb 2 (length (p ∷ q ∷ l)) ≡ b → Block floor p (lastOf q l) (dropLast (q ∷ l)) (merged floor (p ∷ q ∷ l))
       go false b e f = whole (rw e) (λ t. absurd (subst T e t))
       go true false e f = whole (rw (e, f)) (λ t. two l f)
       go true true e f =
@@ -112,7 +112,7 @@ merge-shorter floor (p ∷ q ∷ l) h =
     }
 
 -- the clause of the merge floor: no two neighbours, the last pair excepted, at or under the floor
-pub merge-apart : (floor : Float) (l : List Sample) → 2 ≤ length l → T (lt nought floor) → Apart floor (dropLast (merged floor l))
+pub merge-apart : (floor : Float) (l : List Sample) → 2 ≤ length l → T (lt plusZero floor) → Apart floor (dropLast (merged floor l))
 merge-apart floor [] h t = absurd (omega arith)
 merge-apart floor (p ∷ []) h t = absurd (omega arith)
 merge-apart floor (p ∷ q ∷ l) h t =

@@ -10,7 +10,7 @@ use lib.Seq.{sets, length-sets}
 use lib.Dec.{ltb}
 use lib.Ieee.{Float, lt, le}
 use borrow.Author.Tests.{lt-ltb, le-ltb, ltb-true, ltb-false}
-use Rattle.arith.specs.Notation.{nought}
+use Rattle.arith.specs.Notation.{plusZero}
 use Rattle.math.specs.declared.Vec3.{Vec3}
 use Rattle.math.specs.Math.{distance}
 use Rattle.edge_record.specs.declared.Sample.{Sample}
@@ -119,7 +119,7 @@ module _ (c : List Float) (n : ℕ) (floor : Float) where
     floats = sym (ap (λ (l : List Sample). sets c 0 (flat l)) e ∙ samples-own c 0 n);
   }
 
-  pub no-floor : lt nought floor ≡ false → merged floor (samples n c) ≡ samples n c
+  pub no-floor : lt plusZero floor ≡ false → merged floor (samples n c) ≡ samples n c
   unfolding merged
   no-floor t = go (samples n c)
     where
@@ -133,13 +133,13 @@ module _ (c : List Float) (n : ℕ) (floor : Float) where
     where
       go : (l : List Sample) → length l ≡ n → merged floor l ≡ l
       go [] e = refl
-      go (p ∷ l) e = rw (le-ltb 2 (length (p ∷ l)) (omega arith)) (either (lt nought floor))
+      go (p ∷ l) e = rw (le-ltb 2 (length (p ∷ l)) (omega arith)) (either (lt plusZero floor))
         where
           either : (b : Bool) → cond (b && false) (withEnd floor p (p ∷ spaced floor (p .point) (dropLast l)) (lastOf p l)) (p ∷ l) ≡ p ∷ l
           either true = refl
           either false = refl
 
-  many : lt nought floor ≡ true → 2 < n → merged floor (samples n c) ≡ withEnd floor first all (sampleAt c (n - 1))
+  many : lt plusZero floor ≡ true → 2 < n → merged floor (samples n c) ≡ withEnd floor first all (sampleAt c (n - 1))
   unfolding merged samplesFrom
   many t h =
       let q : n ≡ suc (suc (n - 2)) = omega arith in
@@ -156,7 +156,7 @@ module _ (c : List Float) (n : ℕ) (floor : Float) where
         last-samples first c 1 m,
       )
 
-  module _ (above : lt nought floor ≡ true) {chain : List Float} {last : Vec3} {k i : ℕ} (w : Kept chain last k i) (done : n - 1 ≤ i) {end : Sample} (e : end ≡ sampleAt chain (n - 1)) where
+  module _ (above : lt plusZero floor ≡ true) {chain : List Float} {last : Vec3} {k i : ℕ} (w : Kept chain last k i) (done : n - 1 ≤ i) {end : Sample} (e : end ≡ sampleAt chain (n - 1)) where
     meant : merged floor (samples n c) ≡ withEnd floor first (w .kept) end
     unfolding spaced
     meant =

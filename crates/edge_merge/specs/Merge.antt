@@ -4,7 +4,7 @@ use mathlib.Core.List.{List, [], _∷_, _++_, dropLast}
 use lib.ListN.{length}
 use lib.Dec.{T, ltb}
 use lib.Ieee.{Float, lt, le}
-use Rattle.arith.specs.Notation.{_⊗_, bits, nought, half}
+use Rattle.arith.specs.Notation.{_⊗_, bits, plusZero, half}
 use Rattle.arith.specs.Pick.{minOf, maxOf}
 use Rattle.math.specs.declared.Vec3.{Vec3}
 use Rattle.math.specs.Math.{distance}
@@ -20,7 +20,7 @@ mergeSag = half
 
 -- the merge floor
 unfoldable pub mergeFloor : Float → Float → Float
-mergeFloor tolerance sag = minOf (maxOf tolerance nought ⊗ mergeTolerances) (sag ⊗ mergeSag)
+mergeFloor tolerance sag = minOf (maxOf tolerance plusZero ⊗ mergeTolerances) (sag ⊗ mergeSag)
 
 -- the loop over the points between the ends: those further than the floor from the last one kept, which is `last` at first
 unfoldable pub spaced : Float → Vec3 → List Sample → List Sample
@@ -38,7 +38,7 @@ withEnd floor first kept end =
 unfoldable pub merged : Float → List Sample → List Sample
 merged floor [] = []
 merged floor (first ∷ l) =
-    cond (lt nought floor && ltb 2 (length (first ∷ l)))
+    cond (lt plusZero floor && ltb 2 (length (first ∷ l)))
     (withEnd floor first (first ∷ spaced floor (first .point) (dropLast l)) (lastOf first l))
     (first ∷ l)
 

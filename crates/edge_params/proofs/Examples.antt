@@ -4,7 +4,7 @@ use mathlib.Core.Bool.{Bool, true, false}
 use mathlib.Core.List.{List, [], _∷_}
 use Prim.Native.Nat.{ℕ}
 use lib.Ieee.{Float, lt, eq, ne, add, sub, mul, div, ofBits, ofInt}
-use Rattle.arith.specs.Notation.{_⊖_, bits, nought, half, one, two}
+use Rattle.arith.specs.Notation.{_⊖_, bits, plusZero, half, one, two}
 use Rattle.base_lists.specs.Result.{refused, got}
 use Rattle.math.specs.declared.Interval.{Interval}
 use Rattle.math.specs.Math.{at, interval}
@@ -35,10 +35,10 @@ bent depth breaks = record { closed = Unknown; meets = λ l. true; within = λ a
 
 -- ---- the closed form: 0..5 in four segments
 long : Interval
-long = interval nought five
+long = interval plusZero five
 
 quarters : List Float
-quarters = nought ∷ bits 0x3FF4000000000000 ∷ between ∷ bits 0x400E000000000000 ∷ five ∷ []
+quarters = plusZero ∷ bits 0x3FF4000000000000 ∷ between ∷ bits 0x400E000000000000 ∷ five ∷ []
 
 closed-stands : sampleParams 5 (flat (Segments 4) true 1 []) long ≡ got quarters
 unfolding flat long quarters sampleParams fitting steps at add sub mul div ofInt ofBits
@@ -59,36 +59,36 @@ unfolding flat sampleParams refined fitting through breaksAlong walked subdivide
 same = refl
 
 -- 0..4 split twice
-twice : sampleParams 5 (bent 2 []) (interval nought four) ≡ got (nought ∷ one ∷ two ∷ three ∷ four ∷ [])
+twice : sampleParams 5 (bent 2 []) (interval plusZero four) ≡ got (plusZero ∷ one ∷ two ∷ three ∷ four ∷ [])
 unfolding bent sampleParams refined fitting through breaksAlong walked subdivided unlessHi floored add mul ofBits lt eq ne
 twice = refl
 
 -- 4..0 with breaks 1 and 2, each span split once
-backwards : sampleParams 7 (bent 1 (one ∷ two ∷ [])) (interval four nought)
-    ≡ got (four ∷ three ∷ two ∷ bits 0x3FF8000000000000 ∷ one ∷ half ∷ nought ∷ [])
+backwards : sampleParams 7 (bent 1 (one ∷ two ∷ [])) (interval four plusZero)
+    ≡ got (four ∷ three ∷ two ∷ bits 0x3FF8000000000000 ∷ one ∷ half ∷ plusZero ∷ [])
 unfolding bent sampleParams refined fitting through breaksAlong walked subdivided unlessHi floored add mul ofBits lt eq ne
 backwards = refl
 
-bisected-refused : sampleParams 6 (bent 1 (one ∷ two ∷ [])) (interval four nought) ≡ refused 8
+bisected-refused : sampleParams 6 (bent 1 (one ∷ two ∷ [])) (interval four plusZero) ≡ refused 8
 unfolding bent sampleParams refined fitting through breaksAlong walked subdivided unlessHi add mul ofBits lt eq ne
 bisected-refused = refl
 
 -- 0..3 with a break at 1 has two segments: a floor of two is met, one of three is not
-floor-met : sampleParams 4 (flat Unknown true 2 (one ∷ [])) (interval nought three) ≡ got (nought ∷ one ∷ three ∷ [])
+floor-met : sampleParams 4 (flat Unknown true 2 (one ∷ [])) (interval plusZero three) ≡ got (plusZero ∷ one ∷ three ∷ [])
 unfolding flat sampleParams refined fitting through breaksAlong walked subdivided unlessHi floored ofBits lt eq ne
 floor-met = refl
 
-floor-missed : sampleParams 4 (flat Unknown true 3 (one ∷ [])) (interval nought three) ≡ got (nought ∷ one ∷ two ∷ three ∷ [])
+floor-missed : sampleParams 4 (flat Unknown true 3 (one ∷ [])) (interval plusZero three) ≡ got (plusZero ∷ one ∷ two ∷ three ∷ [])
 unfolding flat sampleParams refined fitting through breaksAlong walked subdivided unlessHi floored steps at add sub mul div ofInt ofBits lt eq ne
 floor-missed = refl
 
 -- ---- breaks 1, 2, 3 of 0..4, the deviation of a span being its width, sag 2.5: from 0 the chord to 2 is within it and that to 3
 -- is not, so 2 stays; from 2 the chord to the end is within it
-kept : thinBreaks (one ∷ two ∷ three ∷ []) nought four between (λ a b. b ⊖ a) ≡ two ∷ []
+kept : thinBreaks (one ∷ two ∷ three ∷ []) plusZero four between (λ a b. b ⊖ a) ≡ two ∷ []
 unfolding thinBreaks thinnedFrom sub ofBits lt
 kept = refl
 
 -- where the sag is not above 0 all stay
-all-kept : thinBreaks (one ∷ two ∷ []) nought four nought (λ a b. nought) ≡ one ∷ two ∷ []
+all-kept : thinBreaks (one ∷ two ∷ []) plusZero four plusZero (λ a b. plusZero) ≡ one ∷ two ∷ []
 unfolding thinBreaks ofBits lt
 all-kept = refl

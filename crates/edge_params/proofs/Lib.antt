@@ -4,5 +4,5 @@ pub mod Runs
 pub mod Lists
 pub mod Sampled
 pub mod Ends
-pub mod Held
+pub mod Written
 pub mod Steps

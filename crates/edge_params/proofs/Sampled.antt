@@ -6,7 +6,7 @@ use Prim.Native.Nat.{ℕ, _^_, _≤_}
 use native.Mathlib.Omega.{arith}
 use lib.Dec.{T}
 use lib.Ieee.{Float, binary64, fits, le, lt}
-use Rattle.arith.specs.Notation.{nought}
+use Rattle.arith.specs.Notation.{plusZero}
 use Rattle.math.specs.declared.Interval.{Interval}
 use Rattle.arith_order.proofs.Laws.{lt→le, nlt→le}
 use Rattle.base_lists.specs.Result.{got}
@@ -94,7 +94,7 @@ thinned-sub deviation sag hi start (b ∷ bs) =
 thin-sub : (bs : List Float) (lo hi sag : Float) (deviation : Float → Float → Float)
     → Sub (thinBreaks bs lo hi sag deviation) bs
 unfolding thinBreaks
-thin-sub bs lo hi sag deviation = go (lt nought sag)
+thin-sub bs lo hi sag deviation = go (lt plusZero sag)
   where
     go : (t : Bool) → Sub (elim t [ true ↦ thinnedFrom deviation sag hi lo bs | false ↦ bs ]) bs
     go true = thinned-sub deviation sag hi lo bs

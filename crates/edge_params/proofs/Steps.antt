@@ -11,8 +11,8 @@ use lib.Ieee.{Float}
 use Rattle.math.specs.declared.Interval.{Interval}
 use Rattle.edge_params.specs.declared.Listed.the-variants.{Count, Refused}
 use Rattle.edge_params.specs.Params.{stepAt, steps, evenly}
-use Rattle.edge_params.specs.Held.{ListWritten}
-use Rattle.edge_params.proofs.Held.{held-none, held-push, held-stop, held-full}
+use Rattle.edge_params.specs.Written.{ListWritten}
+use Rattle.edge_params.proofs.Written.{held-none, held-push, held-stop, held-full}
 
 module _ (range : Interval) (n : ℕ) where
   pub steps-none : (out : List Float) → ListWritten out (steps range n 0) (Count 0) out

@@ -16,9 +16,9 @@ use Rattle.brep.specs.declared.Edge.{Edge}
 use Rattle.brep.specs.Rows.{Tables}
 use Rattle.brep.specs.Tree.{CurveTree}
 use Rattle.curve.specs.Eval.{pointAt}
-use Rattle.curve_prepared.specs.declared.Ready.{Ready}
-use Rattle.curve_prepared.specs.Ready.{readyOf, readyPoint}
-use Rattle.curve_prepared.proofs.Laws.{point-by, ready-point}
+use Rattle.curve_prepared.specs.declared.Prepared.{Prepared}
+use Rattle.curve_prepared.specs.Prepared.{preparedOf, preparedPoint}
+use Rattle.curve_prepared.proofs.Laws.{point-by, prepared-point}
 use Rattle.edge_record.specs.declared.Sample.{Sample}
 use Rattle.edge_record.specs.Chain.{width, row, flat, lastOf, pointAt as inChain}
 use Rattle.edge_closed_form.proofs.Located.{on, located-length, located-at}
@@ -83,9 +83,9 @@ pinned-at start end (s ∷ q ∷ l) last (suc i) d e h k =
     let f : last ≡ suc (length l) = omega arith in
     rw (f, eqb·suc-zero i, eqb·suc-suc i (length l)) (lastPinned-at end q l i d (omega arith))
 
--- ---- a point of the edge's curve, made ready
-pub on-curve : (T : Tables) (e : Edge) {r : Ready} {p : Vec3} (t : Float) → r ≡ readyOf (edgeCurve T e) → p ≡ readyPoint r (edgeCurve T e) t → p ≡ pointAt (edgeCurve T e) t
-on-curve T e t made h = point-by (edgeCurve T e) t (sym made) h ∙ ready-point (edgeCurve T e) t
+-- ---- a point of the edge's curve, prepared
+pub on-curve : (T : Tables) (e : Edge) {r : Prepared} {p : Vec3} (t : Float) → r ≡ preparedOf (edgeCurve T e) → p ≡ preparedPoint r (edgeCurve T e) t → p ≡ pointAt (edgeCurve T e) t
+on-curve T e t made h = point-by (edgeCurve T e) t (sym made) h ∙ prepared-point (edgeCurve T e) t
 
 -- ---- which way the chain runs
 not-not : (b : Bool) → b ≡ not (not b)

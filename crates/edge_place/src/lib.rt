@@ -1,6 +1,6 @@
 // The records of an edge's chain, from its parameters: in the edge's own direction, with both ends pinned to the vertices.
 use brep::Edge;
-use curve_prepared::Ready;
+use curve_prepared::Prepared;
 use edge_record::Sample;
 use math::Vec3;
 ghost use mathlib.Core.Path.{_≡_};
@@ -10,7 +10,7 @@ ghost use lib.ListN.{length, getD};
 ghost use lib.Ieee.{nan};
 ghost use lib.Seq.{sets};
 ghost use Rattle.brep.specs.Rows.{lent};
-ghost use Rattle.curve_prepared.specs.Ready.{readyOf};
+ghost use Rattle.curve_prepared.specs.Prepared.{preparedOf};
 ghost use Rattle.curve.specs.Eval.{pointAt as onCurve};
 ghost use Rattle.edge_record.specs.Chain.{width, flat, pointAt as inChain};
 ghost use Rattle.draw_spec.specs.Edge.{edgeCurve, degenerateEnds, placed};
@@ -34,14 +34,14 @@ fn own_point(
     parts: &[u32],
     ranges: &[f64],
     edge: Edge,
-    ready: Ready,
+    prepared: Prepared,
     params: &[f64],
     chain: &[f64],
     known: bool,
     i: usize,
 ) -> Vec3
     requires { ⌜ (i < length (now params)) × (width * i + width ≤ length (now chain))
-        × (ready ≡ readyOf (edgeCurve (lent points curves reals parts ranges) edge))
+        × (prepared ≡ preparedOf (edgeCurve (lent points curves reals parts ranges) edge))
         × (known ≡ true → PointsKnown (edgeCurve (lent points curves reals parts ranges) edge) (now params) (now chain)) ⌝ }
     ensures { λ r. ⌜ r ≡ onCurve (edgeCurve (lent (points .entry) (curves .entry) (reals .entry) (parts .entry) (ranges .entry)) edge) (getD (now (params .entry)) i nan) ⌝ }
 {
@@ -50,7 +50,7 @@ fn own_point(
     }
     let row = edge.curve;
     let t = params[i];
-    curve_prepared::point_of(ready, points, curves, reals, parts, ranges, row, t)
+    curve_prepared::point_of(prepared, points, curves, reals, parts, ranges, row, t)
 }
 
 // Whether the chain runs against its parameters. The ends are evaluated only where they decide it, and are not known.
@@ -61,13 +61,13 @@ fn is_reversed(
     parts: &[u32],
     ranges: &[f64],
     edge: Edge,
-    ready: Ready,
+    prepared: Prepared,
     params: &[f64],
     chain: &[f64],
     known: bool,
 ) -> bool
     requires { ⌜ (2 ≤ length (now params)) × (width * length (now params) ≤ length (now chain))
-        × (ready ≡ readyOf (edgeCurve (lent points curves reals parts ranges) edge))
+        × (prepared ≡ preparedOf (edgeCurve (lent points curves reals parts ranges) edge))
         × (known ≡ true → PointsKnown (edgeCurve (lent points curves reals parts ranges) edge) (now params) (now chain)) ⌝ }
     ensures { λ r. ⌜ r ≡ runsBack (lent (points .entry) (curves .entry) (reals .entry) (parts .entry) (ranges .entry)) edge (now (params .entry)) ⌝ }
 {
@@ -83,7 +83,7 @@ fn is_reversed(
         parts,
         ranges,
         edge,
-        ready,
+        prepared,
         params,
         chain,
         known,
@@ -96,7 +96,7 @@ fn is_reversed(
         parts,
         ranges,
         edge,
-        ready,
+        prepared,
         params,
         chain,
         known,
@@ -124,7 +124,7 @@ fn record_at(
     parts: &[u32],
     ranges: &[f64],
     edge: Edge,
-    ready: Ready,
+    prepared: Prepared,
     params: &[f64],
     reversed: bool,
     chain: &[f64],
@@ -132,7 +132,7 @@ fn record_at(
     i: usize,
 ) -> Sample
     requires { ⌜ (i < length (now params)) × (width * i + width ≤ length (now chain))
-        × (ready ≡ readyOf (edgeCurve (lent points curves reals parts ranges) edge))
+        × (prepared ≡ preparedOf (edgeCurve (lent points curves reals parts ranges) edge))
         × (kept ≡ true → inChain (now chain) i ≡ onCurve (edgeCurve (lent points curves reals parts ranges) edge) (paramAt (now params) reversed i)) ⌝ }
     ensures { λ r. ⌜ r ≡ recordAt (lent (points .entry) (curves .entry) (reals .entry) (parts .entry) (ranges .entry)) edge (now (params .entry)) reversed i ⌝ }
 {
@@ -153,7 +153,16 @@ fn record_at(
         return Sample { point: held, param };
     }
     let row = edge.curve;
-    let point = curve_prepared::point_of(ready, points, curves, reals, parts, ranges, row, param);
+    let point = curve_prepared::point_of(
+        prepared,
+        points,
+        curves,
+        reals,
+        parts,
+        ranges,
+        row,
+        param,
+    );
     Sample { point, param }
 }
 
@@ -174,7 +183,7 @@ pub fn place(
         × (known ≡ true → PointsKnown (edgeCurve (lent points curves reals parts ranges) edge) (now params) (now chain)) ⌝ }
     ensures { λ _. ⌜ now (chain .exit) ≡ sets (now (chain .entry)) 0 (flat (placed (lent (points .entry) (curves .entry) (reals .entry) (parts .entry) (ranges .entry)) edge (now (params .entry)))) ⌝ }
 {
-    let ready = curve_prepared::ready_at(points, curves, reals, parts, ranges, edge.curve);
+    let prepared = curve_prepared::prepare(points, curves, reals, parts, ranges, edge.curve);
     let reversed = is_reversed(
         points,
         curves,
@@ -182,7 +191,7 @@ pub fn place(
         parts,
         ranges,
         edge,
-        ready,
+        prepared,
         params,
         chain,
         known,
@@ -197,7 +206,7 @@ pub fn place(
             parts,
             ranges,
             edge,
-            ready,
+            prepared,
             params,
             reversed,
             chain,

@@ -5,7 +5,7 @@ use Prim.Native.Nat.{ℕ}
 use lib.Dec.{eqb}
 use lib.Ieee.{Float, lt}
 use borrow.Author.Tests.{eqb-true, eqb-false}
-use Rattle.arith.specs.Notation.{_⊗_, _⊘_, nought}
+use Rattle.arith.specs.Notation.{_⊗_, _⊘_, plusZero}
 use Rattle.arith.specs.Pick.{absOf, minOf, maxOf}
 use Rattle.math.specs.declared.Interval.{Interval}
 use Rattle.math.specs.Math.{spanOf}
@@ -35,11 +35,11 @@ module _ (c : CurveTree) (range : Interval) {natural : Interval} (e : natural �
 
 -- ellipse_radius, of the axes' lengths m and n, the larger a and the smaller b
 module _ (major minor : Float) {m n a b : Float} (em : m ≡ absOf major) (en : n ≡ absOf minor) (ea : a ≡ maxOf m n) (eb : b ≡ minOf m n) where
-  pub of-axes : lt nought a ≡ true → maxOf (b ⊗ b ⊘ a) b ≡ ellipseRadius major minor
+  pub of-axes : lt plusZero a ≡ true → maxOf (b ⊗ b ⊘ a) b ≡ ellipseRadius major minor
   unfolding ellipseRadius
   of-axes h = rw (← em, ← en, ← ea, ← eb, h)
 
-  pub of-none : lt nought a ≡ false → maxOf nought b ≡ ellipseRadius major minor
+  pub of-none : lt plusZero a ≡ false → maxOf plusZero b ≡ ellipseRadius major minor
   unfolding ellipseRadius
   of-none h = rw (← em, ← en, ← ea, ← eb, h)
 

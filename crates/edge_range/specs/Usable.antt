@@ -3,7 +3,7 @@ use mathlib.Core.Bool.{Bool, cond, not, _&&_, _||_}
 use Prim.Native.Nat.{max}
 use lib.Ieee.{Float, lt, le}
 use lib.Ieee.Scale.{finite}
-use Rattle.arith.specs.Notation.{_⊕_, _⊖_, _⊗_, _⊘_, bits, nought}
+use Rattle.arith.specs.Notation.{_⊕_, _⊖_, _⊗_, _⊘_, bits, plusZero}
 use Rattle.arith.specs.Pick.{absOf, minOf, maxOf}
 use Rattle.math.specs.declared.Interval.{Interval}
 use Rattle.math.specs.Math.{interval, spanOf}
@@ -37,7 +37,7 @@ withinDomain Never natural range = heldTo natural range
 
 -- an edge's range is no range where it is not finite, empty or reversed
 abbrev pub isNoRange : Interval → Bool
-isNoRange range = not (finite (range .lo)) || (not (finite (range .hi)) || le (spanOf range) nought)
+isNoRange range = not (finite (range .lo)) || (not (finite (range .hi)) || le (spanOf range) plusZero)
 
 unfoldable pub usableRange : CurveTree → Interval → Usable
 usableRange c range =
@@ -49,7 +49,7 @@ unfoldable pub ellipseRadius : Float → Float → Float
 ellipseRadius major minor =
     let a = maxOf (absOf major) (absOf minor) in
     let b = minOf (absOf major) (absOf minor) in
-    maxOf (cond (lt nought a) (b ⊗ b ⊘ a) nought) b
+    maxOf (cond (lt plusZero a) (b ⊗ b ⊘ a) plusZero) b
 
 unfoldable pub analyticSegments : CurveTree → Interval → Resolved → Closed
 analyticSegments (line o d) range r = Segments (max (r .segments) 1)

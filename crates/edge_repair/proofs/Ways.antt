@@ -5,7 +5,7 @@ use mathlib.Core.List.{List}
 use Prim.Native.Nat.{ℕ}
 use lib.Ieee.{Float, lt, le}
 use lib.Ieee.Scale.{finite}
-use Rattle.arith.specs.Notation.{_⊕_, nought}
+use Rattle.arith.specs.Notation.{_⊕_, plusZero}
 use Rattle.base_lists.specs.Result.{Result, got, bind}
 use Rattle.math.specs.Math.{interval, spanOf, isEmpty, diagonal}
 use Rattle.math.specs.declared.Interval.{Interval}
@@ -42,7 +42,7 @@ module _ (T : Tables) (e : Edge) where
 
   -- whether it is drawn
   abbrev hasShort : Bool
-  hasShort = finite (spanOf (naturalRange (edgeCurve T e))) && (lt nought (spanOf (naturalRange (edgeCurve T e))) && lt nought (spanOf (shortRange T e)))
+  hasShort = finite (spanOf (naturalRange (edgeCurve T e))) && (lt plusZero (spanOf (naturalRange (edgeCurve T e))) && lt plusZero (spanOf (shortRange T e)))
 
   no-short : hasShort ≡ false → Unusable ≡ shortArc T e
   unfolding shortArc
@@ -52,23 +52,23 @@ module _ (T : Tables) (e : Edge) where
     natural-finite : finite (spanOf (naturalRange (edgeCurve T e))) ≡ bounded
     natural-finite = rw (b, q, p)
 
-    natural-long : lt nought (spanOf (naturalRange (edgeCurve T e))) ≡ lt nought span
+    natural-long : lt plusZero (spanOf (naturalRange (edgeCurve T e))) ≡ lt plusZero span
     natural-long = rw (q, p)
 
     pub short-endless : bounded ≡ false → Unusable ≡ shortArc T e
     short-endless h = no-short (rw (natural-finite, h))
 
-    pub short-flat : bounded ≡ true → lt nought span ≡ false → Unusable ≡ shortArc T e
+    pub short-flat : bounded ≡ true → lt plusZero span ≡ false → Unusable ≡ shortArc T e
     short-flat h k = no-short (rw (natural-finite, h, natural-long, k))
 
-    module _ {short : Interval} {width : Float} (f : short ≡ shortRange T e) (g : width ≡ spanOf short) (h : bounded ≡ true) (k : lt nought span ≡ true) where
-      has : (v : Bool) → lt nought width ≡ v → hasShort ≡ v
-      has v l = rw (natural-finite, h, natural-long, k) (ap (λ (i : Interval). lt nought (spanOf i)) (sym f) ∙ ap (lt nought) (sym g) ∙ l)
+    module _ {short : Interval} {width : Float} (f : short ≡ shortRange T e) (g : width ≡ spanOf short) (h : bounded ≡ true) (k : lt plusZero span ≡ true) where
+      has : (v : Bool) → lt plusZero width ≡ v → hasShort ≡ v
+      has v l = rw (natural-finite, h, natural-long, k) (ap (λ (i : Interval). lt plusZero (spanOf i)) (sym f) ∙ ap (lt plusZero) (sym g) ∙ l)
 
-      pub short-none : lt nought width ≡ false → Unusable ≡ shortArc T e
+      pub short-none : lt plusZero width ≡ false → Unusable ≡ shortArc T e
       short-none l = no-short (has false l)
 
-      pub short-some : lt nought width ≡ true → Range short ≡ shortArc T e
+      pub short-some : lt plusZero width ≡ true → Range short ≡ shortArc T e
       unfolding shortArc
       short-some l = rw (has true l) (ap Range f)
 
@@ -79,13 +79,13 @@ module _ (e : Edge) {u : Repeats} where
   complement-never own q = rw (sym own ∙ q)
 
   module _ (p : Float) {v : Repeats} (own : u ≡ v) (q : u ≡ Every p) {width : Float} (w : width ≡ spanOf (interval (e .range .hi) (e .range .lo ⊕ p))) where
-    pub complement-some : lt nought width ≡ true → Range (interval (e .range .hi) (e .range .lo ⊕ p)) ≡ complementBy e v
+    pub complement-some : lt plusZero width ≡ true → Range (interval (e .range .hi) (e .range .lo ⊕ p)) ≡ complementBy e v
     unfolding complementBy
-    complement-some h = let k = ap (lt nought) (sym w) ∙ h in rw (sym own ∙ q, k)
+    complement-some h = let k = ap (lt plusZero) (sym w) ∙ h in rw (sym own ∙ q, k)
 
-    pub complement-none : lt nought width ≡ false → Unusable ≡ complementBy e v
+    pub complement-none : lt plusZero width ≡ false → Unusable ≡ complementBy e v
     unfolding complementBy
-    complement-none h = let k = ap (lt nought) (sym w) ∙ h in rw (sym own ∙ q, k)
+    complement-none h = let k = ap (lt plusZero) (sym w) ∙ h in rw (sym own ∙ q, k)
 
 -- ---- what the tests decide
 module _ (T : Tables) (e : Edge) (r : Resolved) where
@@ -163,7 +163,7 @@ module _ (T : Tables) (e : Edge) (r : Resolved) where
 
     by-period : (p : Repeats) → byPeriod room T e r p ≡ periodTo (complementBy e p)
     unfolding byPeriod complementBy byComplement drawnComplement
-    by-period (Every p) = go (lt nought (spanOf (interval (e .range .hi) (e .range .lo ⊕ p))))
+    by-period (Every p) = go (lt plusZero (spanOf (interval (e .range .hi) (e .range .lo ⊕ p))))
       where
         go : (b : Bool) → elim b [ true ↦ drawnComplement T e r (interval (e .range .hi) (e .range .lo ⊕ p)) room | false ↦ byShortArc room T e r ]
             ≡ periodTo (cond b (Range (interval (e .range .hi) (e .range .lo ⊕ p))) Unusable)
@@ -197,8 +197,8 @@ module _ (T : Tables) (e : Edge) (r : Resolved) where
     empty-is : {none : Bool} (v : Bool) → none ≡ isEmpty box → none ≡ v → isEmpty (reference T e) ≡ v
     empty-is v n h = ap isEmpty (sym b) ∙ sym n ∙ h
 
-    long-is : {d : Float} (v : Bool) → d ≡ diagonal box → lt nought d ≡ v → lt nought (diagonal (reference T e)) ≡ v
-    long-is v q h = ap (λ (x : Aabb). lt nought (diagonal x)) (sym b) ∙ ap (lt nought) (sym q) ∙ h
+    long-is : {d : Float} (v : Bool) → d ≡ diagonal box → lt plusZero d ≡ v → lt plusZero (diagonal (reference T e)) ≡ v
+    long-is v q h = ap (λ (x : Aabb). lt plusZero (diagonal x)) (sym b) ∙ ap (lt plusZero) (sym q) ∙ h
 
     module _ {none : Bool} (n : none ≡ isEmpty box) where
       pub stays-empty : none ≡ true → true ≡ stays T e r chain
@@ -207,15 +207,15 @@ module _ (T : Tables) (e : Edge) (r : Resolved) where
 
       pub stays-inside : {out : Bool} → none ≡ false → out ≡ escapes box r chain → out ≡ false → true ≡ stays T e r chain
       unfolding stays
-      stays-inside h o k = rw (empty-is false n h, escapes-is false o k) (go (lt nought (diagonal (reference T e))))
+      stays-inside h o k = rw (empty-is false n h, escapes-is false o k) (go (lt plusZero (diagonal (reference T e))))
         where
           go : (x : Bool) → true ≡ (not x || not false)
           go true = refl
           go false = refl
 
-      pub stays-outside : {d : Float} {out : Bool} → none ≡ false → d ≡ diagonal box → out ≡ escapes box r chain → out ≡ true → not (lt nought d) ≡ stays T e r chain
+      pub stays-outside : {d : Float} {out : Bool} → none ≡ false → d ≡ diagonal box → out ≡ escapes box r chain → out ≡ true → not (lt plusZero d) ≡ stays T e r chain
       unfolding stays
-      stays-outside {d} h q o k = rw (empty-is false n h, escapes-is true o k, q, b) (go (lt nought (diagonal (reference T e))))
+      stays-outside {d} h q o k = rw (empty-is false n h, escapes-is true o k, q, b) (go (lt plusZero (diagonal (reference T e))))
         where
           go : (x : Bool) → not x ≡ (not x || not true)
           go true = refl

@@ -8,7 +8,7 @@ use lib.Ieee.{Float, lt}
 use lib.Ieee.Scale.{finite}
 use Rattle.base_lists.specs.Result.{Result, refused, got, bind}
 use Rattle.base_lists.specs.Room.{filled}
-use Rattle.arith.specs.Notation.{_⊕_, nought}
+use Rattle.arith.specs.Notation.{_⊕_, plusZero}
 use Rattle.math.specs.declared.Interval.{Interval}
 use Rattle.math.specs.Math.{isEmpty, diagonal, interval, spanOf}
 use Rattle.brep.specs.declared.Edge.{Edge}
@@ -60,7 +60,7 @@ pub record InSecond (g : Got) (n : ℕ) (answer : Drawn) (second : List Float) :
 unfoldable pub stays : Tables → Edge → Resolved → List Sample → Bool
 stays T e r chain =
     let box = reference T e in
-    isEmpty box || (not (lt nought (diagonal box)) || not (escapes box r chain))
+    isEmpty box || (not (lt plusZero (diagonal box)) || not (escapes box r chain))
 
 -- the short arc stays inside and reaches both vertices
 unfoldable pub isShortArc : Tables → Edge → Resolved → List Sample → Bool
@@ -75,12 +75,12 @@ shortRange T e = orderedInterval (nearest (edgeCurve T e) (edgeStart T e)) (near
 unfoldable pub shortArc : Tables → Edge → Usable
 shortArc T e =
     let span = spanOf (naturalRange (edgeCurve T e)) in
-    cond (finite span && (lt nought span && lt nought (spanOf (shortRange T e)))) (Range (shortRange T e)) Unusable
+    cond (finite span && (lt plusZero span && lt plusZero (spanOf (shortRange T e)))) (Range (shortRange T e)) Unusable
 
 unfoldable pub complementBy : Edge → Repeats → Usable
 complementBy e (Every p) =
     let complement = interval (e .range .hi) (e .range .lo ⊕ p) in
-    cond (lt nought (spanOf complement)) (Range complement) Unusable
+    cond (lt plusZero (spanOf complement)) (Range complement) Unusable
 complementBy e Never = Unusable
 
 abbrev pub complementArc : Tables → Edge → Usable

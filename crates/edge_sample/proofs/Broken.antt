@@ -6,7 +6,7 @@ use Prim.Native.Nat.{ℕ, _≤_}
 use native.Mathlib.Omega.{arith}
 use lib.ListN.{length, take}
 use lib.Ieee.{Float, lt, le}
-use Rattle.arith.specs.Notation.{_⊖_, nought}
+use Rattle.arith.specs.Notation.{_⊖_, plusZero}
 use Rattle.base_lists.specs.Room.{filled}
 use Rattle.base_lists.proofs.Filled.{filled-front, filled-most}
 use Rattle.brep.specs.Tree.{CurveTree}
@@ -26,7 +26,7 @@ either false = refl
 
 between-none : (lo hi : Float) → [] ≡ insideUpward [] lo hi
 unfolding insideUpward retainedKnots sorted deduped
-between-none lo hi = either (lt nought (hi ⊖ lo))
+between-none lo hi = either (lt plusZero (hi ⊖ lo))
 
 inside-none : (lo hi : Float) → [] ≡ insideOf [] lo hi
 unfolding insideOf
@@ -38,7 +38,7 @@ inside-none lo hi = go (le lo hi)
 
 thin-none : (lo hi sag : Float) (deviation : Float → Float → Float) → [] ≡ thinBreaks [] lo hi sag deviation
 unfolding thinBreaks thinnedFrom
-thin-none lo hi sag deviation = go (lt nought sag)
+thin-none lo hi sag deviation = go (lt plusZero sag)
   where
     go : (t : Bool) → _≡_ {A = List Float} [] (elim t [ true ↦ [] | false ↦ [] ])
     go true = refl

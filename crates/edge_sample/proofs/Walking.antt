@@ -14,8 +14,8 @@ use Rattle.options.specs.declared.Resolved.{Resolved}
 use Rattle.edge_params.specs.Params.{subdivided, breaksAlong, unlessHi, walked, through, bisected}
 use Rattle.edge_params.specs.declared.Listed.{Listed}
 use Rattle.edge_params.specs.declared.Listed.the-variants.{Count, Refused}
-use Rattle.edge_params.specs.Held.{ListWritten, ListAppended}
-use Rattle.edge_params.proofs.Held.{held-length, behind-none, behind-room, behind-refused, behind-then}
+use Rattle.edge_params.specs.Written.{ListWritten, ListAppended}
+use Rattle.edge_params.proofs.Written.{held-length, behind-none, behind-room, behind-refused, behind-then}
 use Rattle.knots_thin.specs.Thin.{keptBreaks}
 use Rattle.edge_subdivide.specs.declared.End.{End}
 use Rattle.edge_subdivide.specs.Bisect.{endAt, withinBudget}

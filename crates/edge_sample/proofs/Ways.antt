@@ -6,7 +6,7 @@ use Prim.Native.Nat.{ℕ}
 use native.Mathlib.Omega.{arith}
 use lib.ListN.{length, take}
 use lib.Ieee.{Float, le}
-use Rattle.arith.specs.Notation.{nought}
+use Rattle.arith.specs.Notation.{plusZero}
 use Rattle.base_lists.specs.Result.{Result, refused, got, each, bind}
 use Rattle.math.specs.declared.Interval.{Interval}
 use Rattle.brep.specs.Tree.{CurveTree}
@@ -16,8 +16,8 @@ use Rattle.edge_params.specs.declared.Closed.the-variants.{Unknown, Segments}
 use Rattle.edge_params.specs.Params.{evenly, fitting, refined, sampleParams}
 use Rattle.edge_params.specs.declared.Listed.{Listed}
 use Rattle.edge_params.specs.declared.Listed.the-variants.{Count, Refused}
-use Rattle.edge_params.specs.Held.{said, ListWritten}
-use Rattle.edge_params.proofs.Held.{fitting-fits, held-counted, held-list}
+use Rattle.edge_params.specs.Written.{said, ListWritten}
+use Rattle.edge_params.proofs.Written.{fitting-fits, held-counted, held-list}
 use Rattle.edge_range.specs.Usable.{analyticSegments}
 use Rattle.edge_sample.specs.Sample.{worstMiss, sampler, sampled, listOf}
 use Rattle.edge_sample.specs.Tried.{isFormWithin, stepsOf, tried, isKept}
@@ -30,8 +30,8 @@ answered-as w last n room e f s is a =
     subst (λ (x : Result (List Float)). SampledInto room x w last) is (subst (λ (m : ℕ). SampledInto m (f m) w last) e a)
 
 -- an answer handed on
-pub told-as : (v w : Listed) → w ≡ v → (room : ℕ) (s : Result (List Float)) (last : List Float) → SampledInto room s v last → SampledInto room s w last
-told-as v w e room s last a = subst (λ (x : Listed). SampledInto room s x last) (sym e) a
+pub parsed-as : (v w : Listed) → w ≡ v → (room : ℕ) (s : Result (List Float)) (last : List Float) → SampledInto room s v last → SampledInto room s w last
+parsed-as v w e room s last a = subst (λ (x : Listed). SampledInto room s x last) (sym e) a
 
 module _ (room : ℕ) (c : CurveTree) (range : Interval) (r : Resolved) where
   -- a closed form's list, by whether it meets the sag
@@ -41,7 +41,7 @@ module _ (room : ℕ) (c : CurveTree) (range : Interval) (r : Resolved) where
   by-form : (x : Closed) → Result (List Float)
   by-form x = elim x [
     | Unknown ↦ refined room (sampler c range r) range
-    | Segments n ↦ bind (fitting room (evenly range n)) (λ l. checked l (le (worstMiss c nought l) (r .sag)))
+    | Segments n ↦ bind (fitting room (evenly range n)) (λ l. checked l (le (worstMiss c plusZero l) (r .sag)))
   ]
 
   form-of : (x : Closed) → x ≡ analyticSegments c range r → by-form x ≡ sampled room c range r
@@ -62,7 +62,7 @@ module _ (room : ℕ) (c : CurveTree) (range : Interval) (r : Resolved) where
   no-form x is e = form-of Unknown (sym e ∙ is)
 
   module _ (x : Closed) (is : x ≡ analyticSegments c range r) (n : ℕ) (e : x ≡ Segments n) where
-    form : bind (fitting room (evenly range n)) (λ l. checked l (le (worstMiss c nought l) (r .sag))) ≡ sampled room c range r
+    form : bind (fitting room (evenly range n)) (λ l. checked l (le (worstMiss c plusZero l) (r .sag))) ≡ sampled room c range r
     unfolding by-form
     form = form-of (Segments n) (sym e ∙ is)
 
@@ -72,7 +72,7 @@ module _ (room : ℕ) (c : CurveTree) (range : Interval) (r : Resolved) where
 
       pub form-refused : v ≡ Refused → fitting room (evenly range n) ≡ sampled room c range r
       form-refused z =
-          go (fitting room (evenly range n)) (λ l. checked l (le (worstMiss c nought l) (r .sag))) (ap said (sym z) ∙ answer) ∙ form
+          go (fitting room (evenly range n)) (λ l. checked l (le (worstMiss c plusZero l) (r .sag))) (ap said (sym z) ∙ answer) ∙ form
         where
           go : (y : Result (List Float)) (f : List Float → Result (List Float)) → refused 8 ≡ each length y → y ≡ bind y f
           go (refused k) f p = refl
@@ -98,12 +98,12 @@ module _ (room : ℕ) (c : CurveTree) (range : Interval) (r : Resolved) where
         fits = fitting-fits room (evenly range n) (omega (arith, held-counted held .fits))
 
         -- t is what meets answered
-        form-checked : (t : Bool) → le (worstMiss c nought (take m mid)) (r .sag) ≡ t → checked (evenly range n) t ≡ sampled room c range r
+        form-checked : (t : Bool) → le (worstMiss c plusZero (take m mid)) (r .sag) ≡ t → checked (evenly range n) t ≡ sampled room c range r
         form-checked t p =
-            ap (checked (evenly range n)) (sym p ∙ ap (λ (l : List Float). le (worstMiss c nought l) (r .sag)) (held-list held))
-            ∙ ap (λ (y : Result (List Float)). bind y (λ l. checked l (le (worstMiss c nought l) (r .sag)))) (sym fits) ∙ form
+            ap (checked (evenly range n)) (sym p ∙ ap (λ (l : List Float). le (worstMiss c plusZero l) (r .sag)) (held-list held))
+            ∙ ap (λ (y : Result (List Float)). bind y (λ l. checked l (le (worstMiss c plusZero l) (r .sag)))) (sym fits) ∙ form
 
-        module _ (t : Bool) (of : t ≡ le (worstMiss c nought (take m mid)) (r .sag)) where
+        module _ (t : Bool) (of : t ≡ le (worstMiss c plusZero (take m mid)) (r .sag)) where
           pub form-meets : t ≡ true → fitting room (evenly range n) ≡ sampled room c range r
           unfolding checked
           form-meets p = fits ∙ form-checked true (sym of ∙ p)
@@ -116,13 +116,13 @@ module _ (room : ℕ) (c : CurveTree) (range : Interval) (r : Resolved) where
         pub form-tried : take m mid ≡ tried room c range r
         form-tried = held-list held ∙ sym (ap listOf (steps ∙ fits))
 
-        pub form-within : (t : Bool) → t ≡ le (worstMiss c nought (take m mid)) (r .sag) → t ≡ isKept room c range r
+        pub form-within : (t : Bool) → t ≡ le (worstMiss c plusZero (take m mid)) (r .sag) → t ≡ isKept room c range r
         unfolding isFormWithin
-        form-within t of = of ∙ ap (λ (l : List Float). le (worstMiss c nought l) (r .sag)) (held-list held) ∙ sym (ap (isFormWithin c r) (steps ∙ fits))
+        form-within t of = of ∙ ap (λ (l : List Float). le (worstMiss c plusZero l) (r .sag)) (held-list held) ∙ sym (ap (isFormWithin c r) (steps ∙ fits))
 
 -- what was checked and found within the sag is the answer
 module _ (room : ℕ) (c : CurveTree) (range : Interval) (r : Resolved) where
-  within-got : (y : Result (List Float)) → isFormWithin c r y ≡ true → bind y (λ l. checked room c range r l (le (worstMiss c nought l) (r .sag))) ≡ got (listOf y)
+  within-got : (y : Result (List Float)) → isFormWithin c r y ≡ true → bind y (λ l. checked room c range r l (le (worstMiss c plusZero l) (r .sag))) ≡ got (listOf y)
   unfolding isFormWithin checked
   within-got (refused k) e = absurd (let o : _≡_ {A = ℕ} 0 1 = cc in omega arith)
   within-got (got l) e = ap (checked room c range r l) e

@@ -10,7 +10,7 @@ use Rattle.base_lists.specs.Room.{filled}
 use Rattle.math.specs.declared.Interval.{Interval}
 use Rattle.edge_params.specs.declared.Listed.{Listed}
 use Rattle.edge_params.specs.declared.Listed.the-variants.{Count, Refused}
-use Rattle.edge_params.specs.Held.{said}
+use Rattle.edge_params.specs.Written.{said}
 use Rattle.edge_sample.specs.Sample.{listOf}
 
 -- the length of the list, or the refusal; in a buffer of so many floats the list, and +0.0 behind it

@@ -3,7 +3,7 @@ use mathlib.Core.List.{List, []}
 use Prim.Native.Nat.{ℕ}
 use lib.Ieee.{Float, le}
 use Rattle.base_lists.specs.Result.{Result, refused, got}
-use Rattle.arith.specs.Notation.{nought}
+use Rattle.arith.specs.Notation.{plusZero}
 use Rattle.math.specs.declared.Interval.{Interval}
 use Rattle.brep.specs.Tree.{CurveTree}
 use Rattle.options.specs.declared.Resolved.{Resolved}
@@ -17,7 +17,7 @@ unfoldable pub use Rattle.edge_closed_form.specs.Miss.{missOf, worstMiss}
 unfoldable pub sampler : CurveTree → Interval → Resolved → Sampler
 sampler c range r = record {
   closed = analyticSegments c range r;
-  meets = λ l. le (worstMiss c nought l) (r .sag);
+  meets = λ l. le (worstMiss c plusZero l) (r .sag);
   within = withinBudget c r;
   depth = r .depth;
   least = r .segments;

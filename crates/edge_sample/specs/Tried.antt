@@ -4,7 +4,7 @@ use mathlib.Core.List.{List}
 use Prim.Native.Nat.{ℕ}
 use lib.Ieee.{Float, le}
 use Rattle.base_lists.specs.Result.{Result, refused, got}
-use Rattle.arith.specs.Notation.{nought}
+use Rattle.arith.specs.Notation.{plusZero}
 use Rattle.math.specs.declared.Interval.{Interval}
 use Rattle.brep.specs.Tree.{CurveTree}
 use Rattle.options.specs.declared.Resolved.{Resolved}
@@ -17,7 +17,7 @@ use Rattle.edge_sample.specs.Sample.{worstMiss, listOf}
 -- of a list that fits: whether it stays within the sag
 unfoldable pub isFormWithin : CurveTree → Resolved → Result (List Float) → Bool
 isFormWithin c r (refused n) = false
-isFormWithin c r (got l) = le (worstMiss c nought l) (r .sag)
+isFormWithin c r (got l) = le (worstMiss c plusZero l) (r .sag)
 
 -- the even steps of a form, or refusal 8 where they pass the room; of no form too, since then there are none to check
 unfoldable pub stepsOf : ℕ → Interval → Closed → Result (List Float)

@@ -1,5 +1,5 @@
 // sample_params of edge.rs, on rows.
-use curve_prepared::Ready;
+use curve_prepared::Prepared;
 use edge_params::Closed;
 use edge_params::Listed;
 use edge_subdivide::End;
@@ -17,9 +17,9 @@ ghost use lib.Ieee.{nan};
 ghost use Rattle.base_lists.specs.Room.{filled};
 ghost use Rattle.brep.specs.Rows.{lent};
 ghost use Rattle.brep.specs.Tree.{tree};
-ghost use Rattle.curve_prepared.specs.Ready.{readyOf};
+ghost use Rattle.curve_prepared.specs.Prepared.{preparedOf};
 ghost use Rattle.edge_params.specs.Params.{subdivided, unlessHi, bisected, refined};
-ghost use Rattle.edge_params.specs.Held.{ListWritten, ListAppended};
+ghost use Rattle.edge_params.specs.Written.{ListWritten, ListAppended};
 ghost use Rattle.knots.specs.Knots.{curveKnots};
 ghost use Rattle.knots_thin.specs.Thin.{keptBreaks};
 ghost use Rattle.edge_subdivide.specs.Bisect.{endAt, withinBudget, limitsOf};
@@ -53,7 +53,7 @@ fn step(
     parts: &[u32],
     ranges: &[f64],
     row: u32,
-    ready: Ready,
+    prepared: Prepared,
     range: Interval,
     r: Resolved,
     limits: Limits,
@@ -62,7 +62,7 @@ fn step(
     out: &mut [f64],
     k: usize,
 ) -> Listed
-    requires { ⌜ (ready ≡ readyOf (tree (lent points curves reals parts ranges) row)) × (limits ≡ limitsOf r)
+    requires { ⌜ (prepared ≡ preparedOf (tree (lent points curves reals parts ranges) row)) × (limits ≡ limitsOf r)
         × (left ≡ endAt (tree (lent points curves reals parts ranges) row) (left .t)) × (right ≡ endAt (tree (lent points curves reals parts ranges) row) (right .t)) × (k ≤ length (now out)) ⌝ }
     ensures { λ w. ⌜ ListAppended (now (out .entry)) k (subdivided (withinBudget (tree (lent (points .entry) (curves .entry) (reals .entry) (parts .entry) (ranges .entry)) row) r) (r .depth) (left .t) (right .t) ++ unlessHi range (right .t)) w (now (out .exit)) ⌝ }
 {
@@ -73,7 +73,7 @@ fn step(
         parts,
         ranges,
         row,
-        ready,
+        prepared,
         r,
         limits,
         left,
@@ -107,7 +107,7 @@ fn walk(
     requires { ⌜ now breaks ≡ keptBreaks (tree (lent points curves reals parts ranges) row) (range .lo) (range .hi) (r .sag) ⌝ }
     ensures { λ w. ⌜ ListWritten (now (out .entry)) (bisected (sampler (tree (lent (points .entry) (curves .entry) (reals .entry) (parts .entry) (ranges .entry)) row) range r) range) w (now (out .exit)) ⌝ }
 {
-    let ready = curve_prepared::ready_at(points, curves, reals, parts, ranges, row);
+    let prepared = curve_prepared::prepare(points, curves, reals, parts, ranges, row);
     let limits = edge_subdivide::limits_of(r);
     let pushed = edge_params::push(out, 0, range.lo);
     let Listed::Count(first) = pushed else {
@@ -121,13 +121,13 @@ fn walk(
         parts,
         ranges,
         row,
-        ready,
+        prepared,
         range.lo,
     );
     let mut i = 0usize;
     while i <= breaks.len() {
         let b = stop_at(range, breaks, i);
-        let right = edge_subdivide::end_at(points, curves, reals, parts, ranges, row, ready, b);
+        let right = edge_subdivide::end_at(points, curves, reals, parts, ranges, row, prepared, b);
         let stepped = step(
             points,
             curves,
@@ -135,7 +135,7 @@ fn walk(
             parts,
             ranges,
             row,
-            ready,
+            prepared,
             range,
             r,
             limits,

@@ -1,4 +1,4 @@
--- The tangents of a curve made ready, the sag by its square, a span by what split_of answers of its ends, and the ways out of subdivide. Assumes nothing.
+-- The tangents of a curve prepared, the sag by its square, a span by what split_of answers of its ends, and the ways out of subdivide. Assumes nothing.
 use mathlib.Core.Path.{_≡_, refl, sym, ap, subst, _∙_}
 use mathlib.Core.Bool.{Bool, true, false, _&&_}
 use mathlib.Core.List.{List, [], _∷_, _++_}
@@ -6,7 +6,7 @@ use Prim.Native.Nat.{ℕ, _-_, _≤_}
 use native.Mathlib.Omega.{arith}
 use lib.ListN.{length}
 use lib.Ieee.{Float, le, neg}
-use Rattle.arith.specs.Notation.{nought, one}
+use Rattle.arith.specs.Notation.{plusZero, one}
 use Rattle.arith.specs.Pick.{clampOf}
 use Rattle.arith_root.specs.Root.{rootOf}
 use Rattle.arith_root_limit.specs.declared.Limit.{Limit}
@@ -20,16 +20,16 @@ use Rattle.math.specs.Math.{vSub, vDot, vLength, vLengthSquared, tryNormalized}
 use Rattle.brep.specs.Tree.{CurveTree}
 use Rattle.curve.specs.Eval.{pointAt}
 use Rattle.curve_tangent.specs.Derivative.{tangentAt}
-use Rattle.curve_prepared.specs.declared.Ready.{Ready}
-use Rattle.curve_prepared.specs.Ready.{readyOf, readyDerivative}
-use Rattle.curve_prepared.proofs.Laws.{ready-derivative}
+use Rattle.curve_prepared.specs.declared.Prepared.{Prepared}
+use Rattle.curve_prepared.specs.Prepared.{preparedOf, preparedDerivative}
+use Rattle.curve_prepared.proofs.Laws.{prepared-derivative}
 use Rattle.options.specs.declared.Resolved.{Resolved}
 use Rattle.edge_params.specs.Params.{midpoint, subdivided}
 use Rattle.edge_params.proofs.Lists.{subdivided-zero, subdivided-within, subdivided-split}
 use Rattle.edge_params.specs.declared.Listed.{Listed}
 use Rattle.edge_params.specs.declared.Listed.the-variants.{Count}
-use Rattle.edge_params.specs.Held.{ListAppended}
-use Rattle.edge_params.proofs.Held.{behind-none}
+use Rattle.edge_params.specs.Written.{ListAppended}
+use Rattle.edge_params.proofs.Written.{behind-none}
 use Rattle.edge_subdivide.specs.declared.End.{End}
 use Rattle.edge_subdivide.specs.declared.Split.{Split}
 use Rattle.edge_subdivide.specs.declared.Split.the-variants.{Within, At}
@@ -39,10 +39,10 @@ use Rattle.arith_turn_limit.proofs.Bound.{serves}
 use Rattle.arith_turn_limit.proofs.Above.{exceeds}
 use Rattle.edge_subdivide.specs.Bisect.{limitsOf, endAt, sagOf, tangentTurn, isWithin, withinBudget, splitOf}
 
--- ---- the curve's own tangents, where it was made ready
-module _ (c : CurveTree) (t : Float) {ready : Ready} (R : ready ≡ readyOf c) where
-  pub own-tangent : {d : Vec3} {g : Direction} → d ≡ readyDerivative ready c t → g ≡ tryNormalized d → g ≡ tangentAt c t
-  own-tangent D G = G ∙ ap tryNormalized (D ∙ ap (λ (x : Ready). readyDerivative x c t) R ∙ ready-derivative c t)
+-- ---- the curve's own tangents, where it was prepared
+module _ (c : CurveTree) (t : Float) {prepared : Prepared} (R : prepared ≡ preparedOf c) where
+  pub own-tangent : {d : Vec3} {g : Direction} → d ≡ preparedDerivative prepared c t → g ≡ tryNormalized d → g ≡ tangentAt c t
+  own-tangent D G = G ∙ ap tryNormalized (D ∙ ap (λ (x : Prepared). preparedDerivative x c t) R ∙ prepared-derivative c t)
 
 -- ---- the sag, by its square: what is_within works out and compares
 pub sag-within : (pa pb pm chord offset : Vec3) (len s sag : Float) (limit : Limit) → chord ≡ vSub pb pa → len ≡ vLength chord
@@ -66,11 +66,11 @@ module _ (r : Resolved) (l : Limits) (e : l ≡ limitsOf r) where
 
 -- ---- the test, by the branches that the code takes
 module _ (a b : Direction) (limit : Float) where
-  pub turn-no-first : a ≡ Nothing → le nought limit ≡ le (tangentTurn a b) limit
+  pub turn-no-first : a ≡ Nothing → le plusZero limit ≡ le (tangentTurn a b) limit
   unfolding tangentTurn
   turn-no-first e = rw e
 
-  pub turn-no-second : (ta : Vec3) → a ≡ Unit ta → b ≡ Nothing → le nought limit ≡ le (tangentTurn a b) limit
+  pub turn-no-second : (ta : Vec3) → a ≡ Unit ta → b ≡ Nothing → le plusZero limit ≡ le (tangentTurn a b) limit
   unfolding tangentTurn
   turn-no-second ta e f = rw (e, f)
 

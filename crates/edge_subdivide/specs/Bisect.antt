@@ -1,7 +1,7 @@
 -- The budget of a span, of subdivide in edge.rs. Definitions only.
 use mathlib.Core.Bool.{Bool, true, false, _&&_}
 use lib.Ieee.{Float, le, neg}
-use Rattle.arith.specs.Notation.{nought, one}
+use Rattle.arith.specs.Notation.{plusZero, one}
 use Rattle.arith.specs.Pick.{clampOf}
 use Rattle.arith_trig.specs.Trig.{acosOf}
 use Rattle.math.specs.declared.Vec3.{Vec3}
@@ -32,8 +32,8 @@ sagOf pa pb pm = let chord = vSub pb pa in bisectionDistance pa chord (vLength c
 -- the angle between two tangents; 0 where one is missing
 unfoldable pub tangentTurn : Direction → Direction → Float
 tangentTurn (Unit a) (Unit b) = acosOf (clampOf (vDot a b) (neg one) one)
-tangentTurn (Unit a) Nothing = nought
-tangentTurn Nothing b = nought
+tangentTurn (Unit a) Nothing = plusZero
+tangentTurn Nothing b = plusZero
 
 -- deviation <= options.sag && turn <= options.angle, of a span whose middle has the point pm
 unfoldable pub isWithin : Resolved → End → End → Vec3 → Bool

@@ -1,6 +1,6 @@
 // Bisection of a curve's spans: subdivide of edge.rs, on rows. Each point and each tangent is evaluated once and handed down.
 use arith_root_limit::Limit;
-use curve_prepared::Ready;
+use curve_prepared::Prepared;
 use edge_params::Listed;
 use math::Direction;
 use math::Vec3;
@@ -13,9 +13,9 @@ ghost use lib.Ieee.{le};
 ghost use Rattle.arith_turn_limit.specs.Turning.{Serves, Exceeds};
 ghost use Rattle.brep.specs.Rows.{lent};
 ghost use Rattle.brep.specs.Tree.{tree};
-ghost use Rattle.curve_prepared.specs.Ready.{readyOf};
+ghost use Rattle.curve_prepared.specs.Prepared.{preparedOf};
 ghost use Rattle.edge_params.specs.Params.{subdivided};
-ghost use Rattle.edge_params.specs.Held.{ListAppended};
+ghost use Rattle.edge_params.specs.Written.{ListAppended};
 ghost use Rattle.edge_subdivide.specs.Bisect.{endAt, tangentTurn, isWithin, splitOf, withinBudget, limitsOf};
 
 // An end of a span: its parameter, and the curve's point and tangent there.
@@ -48,7 +48,7 @@ pub fn limits_of(r: Resolved) -> Limits
     Limits { sag, turn, over }
 }
 
-// The curve of a row, made ready, at t.
+// The curve of a row, prepared, at t.
 pub fn end_at(
     points: &[f64],
     curves: &[u32],
@@ -56,14 +56,23 @@ pub fn end_at(
     parts: &[u32],
     ranges: &[f64],
     row: u32,
-    ready: Ready,
+    prepared: Prepared,
     t: f64,
 ) -> End
-    requires { ⌜ ready ≡ readyOf (tree (lent points curves reals parts ranges) row) ⌝ }
+    requires { ⌜ prepared ≡ preparedOf (tree (lent points curves reals parts ranges) row) ⌝ }
     ensures { λ r. ⌜ r ≡ endAt (tree (lent (points .entry) (curves .entry) (reals .entry) (parts .entry) (ranges .entry)) row) t ⌝ }
 {
-    let point = curve_prepared::point_of(ready, points, curves, reals, parts, ranges, row, t);
-    let slope = curve_prepared::derivative_of(ready, points, curves, reals, parts, ranges, row, t);
+    let point = curve_prepared::point_of(prepared, points, curves, reals, parts, ranges, row, t);
+    let slope = curve_prepared::derivative_of(
+        prepared,
+        points,
+        curves,
+        reals,
+        parts,
+        ranges,
+        row,
+        t,
+    );
     let tangent = slope.try_normalized();
     End { t, point, tangent }
 }
@@ -125,21 +134,30 @@ fn split_of(
     parts: &[u32],
     ranges: &[f64],
     row: u32,
-    ready: Ready,
+    prepared: Prepared,
     r: Resolved,
     l: Limits,
     a: End,
     b: End,
 ) -> Split
-    requires { ⌜ (ready ≡ readyOf (tree (lent points curves reals parts ranges) row)) × (l ≡ limitsOf r) ⌝ }
+    requires { ⌜ (prepared ≡ preparedOf (tree (lent points curves reals parts ranges) row)) × (l ≡ limitsOf r) ⌝ }
     ensures { λ s. ⌜ s ≡ splitOf (tree (lent (points .entry) (curves .entry) (reals .entry) (parts .entry) (ranges .entry)) row) r a b ⌝ }
 {
     let t = 0.5 * (a.t + b.t);
-    let point = curve_prepared::point_of(ready, points, curves, reals, parts, ranges, row, t);
+    let point = curve_prepared::point_of(prepared, points, curves, reals, parts, ranges, row, t);
     if is_within(r, l, a, b, point) {
         return Split::Within;
     }
-    let slope = curve_prepared::derivative_of(ready, points, curves, reals, parts, ranges, row, t);
+    let slope = curve_prepared::derivative_of(
+        prepared,
+        points,
+        curves,
+        reals,
+        parts,
+        ranges,
+        row,
+        t,
+    );
     let tangent = slope.try_normalized();
     Split::At(End { t, point, tangent })
 }
@@ -152,7 +170,7 @@ pub fn subdivide(
     parts: &[u32],
     ranges: &[f64],
     row: u32,
-    ready: Ready,
+    prepared: Prepared,
     r: Resolved,
     l: Limits,
     a: End,
@@ -161,7 +179,7 @@ pub fn subdivide(
     out: &mut [f64],
     k: usize,
 ) -> Listed
-    requires { ⌜ (ready ≡ readyOf (tree (lent points curves reals parts ranges) row)) × (l ≡ limitsOf r)
+    requires { ⌜ (prepared ≡ preparedOf (tree (lent points curves reals parts ranges) row)) × (l ≡ limitsOf r)
         × (a ≡ endAt (tree (lent points curves reals parts ranges) row) (a .t))
         × (b ≡ endAt (tree (lent points curves reals parts ranges) row) (b .t)) × (k ≤ length (now out)) ⌝ }
     ensures { λ w. ⌜ ListAppended (now (out .entry)) k
@@ -171,7 +189,19 @@ pub fn subdivide(
     if depth == 0 {
         return Listed::Count(k);
     }
-    let split = split_of(points, curves, reals, parts, ranges, row, ready, r, l, a, b);
+    let split = split_of(
+        points,
+        curves,
+        reals,
+        parts,
+        ranges,
+        row,
+        prepared,
+        r,
+        l,
+        a,
+        b,
+    );
     let Split::At(m) = split else {
         return Listed::Count(k);
     };
@@ -182,7 +212,7 @@ pub fn subdivide(
         parts,
         ranges,
         row,
-        ready,
+        prepared,
         r,
         l,
         a,
@@ -205,7 +235,7 @@ pub fn subdivide(
         parts,
         ranges,
         row,
-        ready,
+        prepared,
         r,
         l,
         m,

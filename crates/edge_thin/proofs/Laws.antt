@@ -8,7 +8,7 @@ use lib.ListN.{length, getD, set, replicate, length-set, length-replicate}
 use lib.Seq.{getD-set-same}
 use lib.Dec.{ltb}
 use lib.Ieee.{Float, lt}
-use Rattle.arith.specs.Notation.{nought}
+use Rattle.arith.specs.Notation.{plusZero}
 use Rattle.base_lists.specs.Result.{Result, refused, got, each, both}
 use Rattle.base_lists.specs.Sub.{Sub, end, keep, skip}
 use Rattle.math.specs.declared.Vec3.{Vec3}
@@ -127,7 +127,7 @@ pub thin-shorter : (tolerance angle : Float) (floor : ℕ) (l m : List Sample) �
 unfolding thinned
 thin-shorter tolerance angle floor [] m h e = absurd (omega arith)
 thin-shorter tolerance angle floor (p ∷ []) m h e = absurd (omega arith)
-thin-shorter tolerance angle floor (p ∷ q ∷ l) m h e = some-left tolerance angle floor p q l m (ltb (length (p ∷ q ∷ l)) 3 || not (lt nought tolerance)) e
+thin-shorter tolerance angle floor (p ∷ q ∷ l) m h e = some-left tolerance angle floor p q l m (ltb (length (p ∷ q ∷ l)) 3 || not (lt plusZero tolerance)) e
 
 -- ---- 9 is the only refusal
 kept-refused : (decide : ℕ → ℕ → Decision) (n a b k : ℕ) → keptIn decide n a b ≡ refused k → k ≡ 9
@@ -155,7 +155,7 @@ each-refused f (got a) k e = absurd (let z : _≡_ {A = ℕ} 0 1 = cc in omega a
 
 pub thin-refused : (tolerance angle : Float) (floor : ℕ) (l : List Sample) (k : ℕ) → thinned tolerance angle floor l ≡ refused k → k ≡ 9
 unfolding thinned flagged
-thin-refused tolerance angle floor l k = go (ltb (length l) 3 || not (lt nought tolerance))
+thin-refused tolerance angle floor l k = go (ltb (length l) 3 || not (lt plusZero tolerance))
   where
     decide : ℕ → ℕ → Decision
     decide = decision (samplePoint l) tolerance angle

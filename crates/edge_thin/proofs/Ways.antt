@@ -10,7 +10,7 @@ use lib.Seq.{sets}
 use lib.Dec.{ltb}
 use lib.Ieee.{Float, lt}
 use borrow.Author.Tests.{lt-ltb, le-ltb}
-use Rattle.arith.specs.Notation.{nought}
+use Rattle.arith.specs.Notation.{plusZero}
 use Rattle.base_lists.specs.Result.{Result, refused, got, each}
 use Rattle.edge_record.specs.declared.Sample.{Sample}
 use Rattle.edge_record.specs.declared.Counted.{Counted}
@@ -75,7 +75,7 @@ module _ (tolerance angle : Float) (floor n : ℕ) (c : List Float) where
     w .1 ∙ ap (λ (k : ℕ). after c (thinned tolerance angle floor (samples k c))) e,
   )
 
-  few : (l : List Sample) → (length l < 3) ⊎ (lt nought tolerance ≡ false) → got l ≡ thinned tolerance angle floor l
+  few : (l : List Sample) → (length l < 3) ⊎ (lt plusZero tolerance ≡ false) → got l ≡ thinned tolerance angle floor l
   unfolding thinned
   few l h = ⊎-elim (λ s. sym (rw (lt-ltb (length l) 3 s))) (λ s. sym (rw s (either (ltb (length l) 3)))) h
     where
@@ -83,13 +83,13 @@ module _ (tolerance angle : Float) (floor n : ℕ) (c : List Float) where
       either true = refl
       either false = refl
 
-  pub said-as-it-was : (n < 3) ⊎ (lt nought tolerance ≡ false) → Said (Count n) c
+  pub said-as-it-was : (n < 3) ⊎ (lt plusZero tolerance ≡ false) → Said (Count n) c
   said-as-it-was h =
       let q = samplesFrom-length c 0 n in
       said (Count n) c (got (samples n c)) (ap Count (sym q)) (sym (samples-own c 0 n)) (few (samples n c) (⊎-elim (λ s. inl (omega arith)) inr h))
 
   -- j flags were lent to `flag`, of which it left `keep` and answered b
-  module _ (above : lt nought tolerance ≡ true) (enough : 3 ≤ n) (j : ℕ) (lent : j ≡ n) (b : Bool) (keep : List Bool)
+  module _ (above : lt plusZero tolerance ≡ true) (enough : 3 ≤ n) (j : ℕ) (lent : j ≡ n) (b : Bool) (keep : List Bool)
       (m : flags b keep ≡ each (withFloor floor) (flagged (pointAt c) tolerance angle j)) where
     -- the flags of the buffer's points are those of the chain's
     by-flags : each (λ k. retainedBy k (samples n c)) (flags b keep) ≡ thinning

@@ -5,7 +5,7 @@ use Prim.Native.Nat.{ℕ, zero, suc, _-_, _*_, _/_, min, max}
 use lib.ListN.{length}
 use lib.Dec.{ltb}
 use lib.Ieee.{Float, lt}
-use Rattle.arith.specs.Notation.{nought}
+use Rattle.arith.specs.Notation.{plusZero}
 use Rattle.base_lists.specs.Result.{Result, got, each}
 use Rattle.edge_record.specs.declared.Sample.{Sample}
 use Rattle.edge_record.specs.Chain.{samplePoint}
@@ -43,5 +43,5 @@ retainedBy (false ∷ keep) (s ∷ l) = retainedBy keep l
 -- thin
 unfoldable pub thinned : Float → Float → ℕ → List Sample → Result (List Sample)
 thinned tolerance angle floor l =
-    cond (ltb (length l) 3 || not (lt nought tolerance)) (got l)
+    cond (ltb (length l) 3 || not (lt plusZero tolerance)) (got l)
     (each (λ keep. retainedBy (withFloor floor keep) l) (flagged (samplePoint l) tolerance angle (length l)))

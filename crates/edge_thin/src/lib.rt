@@ -5,7 +5,7 @@ ghost use mathlib.Core.Bool.{true, false};
 ghost use Prim.Native.Nat.{_*_, _<_, _≤_, min};
 ghost use lib.ListN.{length, replicate};
 ghost use lib.Ieee.{lt};
-ghost use Rattle.arith.specs.Notation.{nought};
+ghost use Rattle.arith.specs.Notation.{plusZero};
 ghost use Rattle.base_lists.specs.Result.{each};
 ghost use Rattle.edge_record.specs.Chain.{width, most, pointAt, samples, countedOf, after, ChainStored};
 ghost use Rattle.edge_thin_mark.specs.Spans.{marks, flagged, flags};
@@ -89,7 +89,7 @@ fn thin_with(
     floor: usize,
     keep: &mut [bool],
 ) -> Counted
-    requires { ⌜ (2 < length (now keep)) × (length (now keep) ≤ most) × (width * length (now keep) ≤ length (now chain)) × (now keep ≡ replicate (length (now keep)) false) × (lt nought tolerance ≡ true) ⌝ }
+    requires { ⌜ (2 < length (now keep)) × (length (now keep) ≤ most) × (width * length (now keep) ≤ length (now chain)) × (now keep ≡ replicate (length (now keep)) false) × (lt plusZero tolerance ≡ true) ⌝ }
     ensures { λ r. ⌜ (r ≡ countedOf (thinned tolerance angle floor (samples (length (now (keep .entry))) (now (chain .entry)))))
         × (now (chain .exit) ≡ after (now (chain .entry)) (thinned tolerance angle floor (samples (length (now (keep .entry))) (now (chain .entry))))) ⌝ }
 {

@@ -7,7 +7,7 @@ use native.Mathlib.Omega.{arith}
 use lib.Dec.{leb, eqb}
 use lib.Ieee.{Float, lt}
 use borrow.Author.Tests.{le-leb, lt-leb, leb-false, eqb-false, eq-eqb, ne-eqb}
-use Rattle.arith.specs.Notation.{_⊕_, nought}
+use Rattle.arith.specs.Notation.{_⊕_, plusZero}
 use Rattle.math.specs.declared.Vec3.{Vec3}
 use Rattle.math.specs.declared.Direction.{Direction}
 use Rattle.math.specs.declared.Direction.the-variants.{Unit, Nothing}
@@ -42,24 +42,24 @@ module _ (points : ℕ → Vec3) (a b : ℕ) (d : Direction) where
   abbrev chordDirection : Direction
   chordDirection = tryNormalized (vSub (points b) (points a))
 
-  pub no-chord : d ≡ chordDirection → d ≡ Nothing → nought ≡ spanTurn points a b
+  pub no-chord : d ≡ chordDirection → d ≡ Nothing → plusZero ≡ spanTurn points a b
   unfolding spanTurn
   no-chord e t = sym (rw (sym e ∙ t) (go (firstIn (directions points (b - a) a)) (lastIn (directions points (b - a) a))))
     where
-      go : (f l : Direction) → turnBy f l Nothing ≡ nought
+      go : (f l : Direction) → turnBy f l Nothing ≡ plusZero
       go (Unit f) (Unit l) = refl
       go (Unit f) Nothing = refl
       go Nothing l = refl
 
-  pub no-first : d ≡ firstIn (directions points (b - a) a) → d ≡ Nothing → nought ≡ spanTurn points a b
+  pub no-first : d ≡ firstIn (directions points (b - a) a) → d ≡ Nothing → plusZero ≡ spanTurn points a b
   unfolding spanTurn
   no-first e t = sym (ap (λ (x : Direction). turnBy x (lastIn (directions points (b - a) a)) chordDirection) (sym e ∙ t))
 
-  pub no-last : d ≡ lastIn (directions points (b - a) a) → d ≡ Nothing → nought ≡ spanTurn points a b
+  pub no-last : d ≡ lastIn (directions points (b - a) a) → d ≡ Nothing → plusZero ≡ spanTurn points a b
   unfolding spanTurn
   no-last e t = sym (ap (λ (x : Direction). turnBy (firstIn (directions points (b - a) a)) x chordDirection) (sym e ∙ t) ∙ go (firstIn (directions points (b - a) a)))
     where
-      go : (f : Direction) → turnBy f Nothing chordDirection ≡ nought
+      go : (f : Direction) → turnBy f Nothing chordDirection ≡ plusZero
       go (Unit f) = refl
       go Nothing = refl
 
@@ -90,7 +90,7 @@ module _ (points : ℕ → Vec3) (tolerance angle : Float) where
           let l = leb-false b (a + 1) p in
           let m : worstOf points a b .index ≡ w = cc in
           ⊎-elim (λ s. absurd (eqb-false (worstOf points a b .index) a r s)) (λ s. (omega arith, omega arith))
-          (worst-in points (points a) (vSub (points b) (points a)) (b - (a + 1)) (a + 1) a (worstIs nought a) (omega arith) (inl refl))
+          (worst-in points (points a) (vSub (points b) (points a)) (b - (a + 1)) (a + 1) a (worstIs plusZero a) (omega arith) (inl refl))
 
   -- by the code's tests
   module _ (a b : ℕ) (wide : a + 1 < b) {w : Worst} {x : Bool} (e : w ≡ worstOf points a b) (s : x ≡ lt tolerance (w .distance) || lt angle (spanTurn points a b)) where
@@ -124,6 +124,6 @@ module _ (p q : ℕ → Vec3) (n : ℕ) (same : (j : ℕ) → j < n → p j ≡ 
   decision-same tolerance angle a b g h = rw (
     same a g,
     same b h,
-    worst-same (q a) (vSub (q b) (q a)) (b - (a + 1)) (a + 1) (worstIs nought a) (omega arith),
+    worst-same (q a) (vSub (q b) (q a)) (b - (a + 1)) (a + 1) (worstIs plusZero a) (omega arith),
     directions-same (b - a) a (omega arith),
   )

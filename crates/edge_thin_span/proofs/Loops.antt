@@ -7,7 +7,7 @@ use native.Mathlib.Nat.{add-zero, add-suc, suc-add}
 use native.Mathlib.Numerals.{add-one}
 use native.Mathlib.Omega.{arith}
 use lib.Ieee.{Float, lt, ofBits}
-use Rattle.arith.specs.Notation.{nought}
+use Rattle.arith.specs.Notation.{plusZero}
 use Rattle.arith_root.specs.Root.{rootOf}
 use Rattle.math.specs.declared.Vec3.{Vec3}
 use Rattle.math.specs.declared.Direction.{Direction}
@@ -23,7 +23,7 @@ abbrev pub worstIs : Float → ℕ → Worst
 worstIs d i = record { distance = d; index = i }
 
 -- ---- `find_worst`
-pub root-none : rootOf nought ≡ nought
+pub root-none : rootOf plusZero ≡ plusZero
 unfolding ofBits rootOf
 root-none = refl
 

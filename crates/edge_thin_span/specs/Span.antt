@@ -4,7 +4,7 @@ use mathlib.Core.List.{List, [], _∷_}
 use Prim.Native.Nat.{ℕ, zero, suc, _+_, _-_}
 use lib.Dec.{leb, eqb}
 use lib.Ieee.{Float, lt, neg}
-use Rattle.arith.specs.Notation.{_⊕_, nought, one}
+use Rattle.arith.specs.Notation.{_⊕_, plusZero, one}
 use Rattle.arith.specs.Pick.{clampOf}
 use Rattle.arith_trig.specs.Trig.{acosOf}
 use Rattle.math.specs.declared.Vec3.{Vec3}
@@ -31,7 +31,7 @@ worstFrom points pa axis (suc n) i w =
 unfoldable pub worstOf : (ℕ → Vec3) → ℕ → ℕ → Worst
 worstOf points a b =
     worstFrom points (points a) (vSub (points b) (points a)) (b - (a + 1)) (a + 1)
-    (record { distance = nought; index = a })
+    (record { distance = plusZero; index = a })
 
 -- ends: the directions of n segments from point a on; a segment without one is passed over
 abbrev pub joined : Direction → List Vec3 → List Vec3
@@ -58,9 +58,9 @@ angleBetween u v = acosOf (clampOf (vDot u v) (neg one) one)
 -- turn: from the first direction to the last, by way of the chord's; 0.0 where one of the three is missing
 abbrev pub turnBy : Direction → Direction → Direction → Float
 turnBy (Unit f) (Unit l) (Unit chord) = angleBetween f chord ⊕ angleBetween chord l
-turnBy (Unit f) (Unit l) Nothing = nought
-turnBy (Unit f) Nothing chord = nought
-turnBy Nothing last chord = nought
+turnBy (Unit f) (Unit l) Nothing = plusZero
+turnBy (Unit f) Nothing chord = plusZero
+turnBy Nothing last chord = plusZero
 
 unfoldable pub spanTurn : (ℕ → Vec3) → ℕ → ℕ → Float
 spanTurn points a b =

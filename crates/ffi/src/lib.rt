@@ -1,8 +1,8 @@
 // Drawing, walking, presets and angles under C names, over numbers and slices alone. A slice is a pointer and a length, an
 // out value a pointer. Only cs_draw_over has a requires, and cs_check_tables says whether it is met: nothing else that another
 // language hands over is outside a contract.
+use options::Angle;
 use options::Options;
-use options::Radians;
 ghost use mathlib.Core.Path.{_≡_};
 ghost use Rattle.brep.specs.Rows.{lent};
 ghost use Rattle.causes.specs.declared.Verdict.the-variants.{Accepted};
@@ -10,7 +10,7 @@ ghost use Rattle.causes.specs.Causes.{verdict, tablesVerdict};
 ghost use Rattle.options.specs.Options.{radians, degrees, isClamped, defaultOptions, draftOptions, fineOptions};
 ghost use Rattle.edge_walker.specs.Walk.{startOf, stepped};
 ghost use Rattle.ffi_numbers.specs.Numbers.{edgeOf, optionsOf, causeOf, passed, pointAfter};
-ghost use Rattle.ffi.specs.Told.{NumberedOutcome};
+ghost use Rattle.ffi.specs.Numbered.{NumberedOutcome};
 
 // Draws an edge: 0, or the refusal's number.
 #[no_mangle]
@@ -93,7 +93,7 @@ pub extern "C" fn cs_draw_over(
     requires { ⌜ tablesVerdict (lent points curves reals parts ranges) ≡ Accepted ⌝ }
     ensures { λ r. ⌜ NumberedOutcome (lent (points .entry) (curves .entry) (reals .entry) (parts .entry) (ranges .entry)) (edgeOf curve start end sense lo hi tolerance low high) (optionsOf deflection angle relative segments depth scale) (now (first .entry)) (now (second .entry)) r (now (way .exit)) (now (count .exit)) (now (first .exit)) (now (second .exit)) ⌝ }
 {
-    let drawn = draw::draw_edge(
+    let drawn = draw::draw_over(
         points,
         curves,
         reals,
@@ -191,7 +191,7 @@ pub extern "C" fn cs_default(
 {
     let default = Options::default();
     *deflection = default.deflection;
-    *angle = default.angle.radians();
+    *angle = default.angle.to_radians();
     *relative = default.relative;
     *segments = default.segments;
     *depth = default.depth;
@@ -212,7 +212,7 @@ pub extern "C" fn cs_draft(
 {
     let draft = Options::draft();
     *deflection = draft.deflection;
-    *angle = draft.angle.radians();
+    *angle = draft.angle.to_radians();
     *relative = draft.relative;
     *segments = draft.segments;
     *depth = draft.depth;
@@ -233,7 +233,7 @@ pub extern "C" fn cs_fine(
 {
     let fine = Options::fine();
     *deflection = fine.deflection;
-    *angle = fine.angle.radians();
+    *angle = fine.angle.to_radians();
     *relative = fine.relative;
     *segments = fine.segments;
     *depth = fine.depth;
@@ -245,7 +245,7 @@ pub extern "C" fn cs_fine(
 pub extern "C" fn cs_degrees(x: f64) -> f64
     ensures { λ r. ⌜ r ≡ degrees x .0 ⌝ }
 {
-    Radians::degrees(x).radians()
+    Angle::degrees(x).to_radians()
 }
 
 // Whether drawing changes an angle of so many radians, as it does with 8 that was meant as degrees.
@@ -253,5 +253,5 @@ pub extern "C" fn cs_degrees(x: f64) -> f64
 pub extern "C" fn cs_is_clamped(angle: f64) -> bool
     ensures { λ r. ⌜ r ≡ isClamped (radians angle) ⌝ }
 {
-    Radians::of(angle).is_clamped()
+    Angle::radians(angle).is_clamped()
 }

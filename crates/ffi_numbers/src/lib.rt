@@ -5,8 +5,8 @@ use draw_spec::Drawn;
 use draw_spec::Way;
 use edge_walker::Step;
 use math::Interval;
+use options::Angle;
 use options::Options;
-use options::Radians;
 ghost use mathlib.Core.Path.{_≡_};
 ghost use Rattle.ffi_numbers.specs.Numbers.{edgeOf, optionsOf, causeOf, numberOf, codesOf, passed, pointAfter};
 
@@ -47,7 +47,7 @@ pub fn options_of(
 {
     Options {
         deflection,
-        angle: Radians::of(angle),
+        angle: Angle::radians(angle),
         relative,
         segments,
         depth,

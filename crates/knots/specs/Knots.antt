@@ -2,7 +2,7 @@
 use mathlib.Core.List.{List, [], _∷_}
 use Prim.Native.Nat.{ℕ}
 use lib.Ieee.{Float}
-use Rattle.arith.specs.Notation.{_⊕_, _⊖_, _⊗_, _⊘_, bits, count, nought}
+use Rattle.arith.specs.Notation.{_⊕_, _⊖_, _⊗_, _⊘_, bits, count, plusZero}
 use Rattle.arith.specs.Pick.{maxOf}
 use Rattle.math.specs.declared.Vec3.{Vec3}
 use Rattle.math.specs.Math.{vSub, vLengthSquared}
@@ -39,7 +39,7 @@ worstOfThree pa pb p1 p2 p3 =
     let axis = vSub pb pa in
     let len2 = vLengthSquared axis in
     let d = spanDistance pa axis len2 in
-    maxOf (maxOf (maxOf nought (d p1)) (d p2)) (d p3)
+    maxOf (maxOf (maxOf plusZero (d p1)) (d p2)) (d p3)
 
 -- deviation: how far a curve, whose point at a parameter is `at`, leaves the chord from a to b, by three inner points
 unfoldable pub deviation : (Float → Vec3) → Float → Float → Float

@@ -16,7 +16,7 @@ use Rattle.arith_order.proofs.Mono.{mul-mono-by}
 use Rattle.arith_order.proofs.Middle.{above, under}
 use Rattle.arith_order.proofs.Lerp.{zeroF, oneF, part-finite}
 use Rattle.arith_order.proofs.Modest.{big, Modest, modest-finite, sub-finite, sub-up}
-use Rattle.arith.specs.Notation.{_⊕_, _⊖_, _⊗_, nought}
+use Rattle.arith.specs.Notation.{_⊕_, _⊖_, _⊗_, plusZero}
 use Rattle.base_lists.specs.Way.{Up}
 use Rattle.base_lists.specs.Sub.{All}
 use Rattle.base_lists.proofs.Order.{sub-all, sub-pairwise}
@@ -74,7 +74,7 @@ Between lo hi l = cond (lt hi lo) (Within Up hi l lo) (Within Up lo l hi)
 module _ (knots : List Float) where
   ascends : (a b : Float) → T (fits binary64 a) → T (fits binary64 b) → Modest a → Modest b → T (le a b) → Within Up a (insideUpward knots a b) b
   unfolding insideUpward
-  ascends a b F G A B h = go (lt nought w)
+  ascends a b F G A B h = go (lt plusZero w)
     where
       w : Float
       w = b ⊖ a

@@ -5,7 +5,7 @@ use lib.Dec.{T}
 use lib.Ieee.{Float, fin, lt, le}
 use lib.Ieee.Scale.{finite}
 use lib.Ieee.Fits.{and-l, and-r}
-use Rattle.arith.specs.Notation.{_⊕_, _⊖_, _⊗_, nought}
+use Rattle.arith.specs.Notation.{_⊕_, _⊖_, _⊗_, plusZero}
 use Rattle.base_lists.specs.Sub.{All, none, more, Sub, end, keep, skip}
 use Rattle.base_lists.proofs.Order.{sub-all}
 use Rattle.knots_sort.specs.Sort.{sorted, Number}
@@ -61,7 +61,7 @@ deduped-sub epsilon (k ∷ l) = keep (apart-sub epsilon k l)
 module _ {P : Float → Type 0} (knots : List Float) (h : All P knots) where
   between-all : (lo hi : Float) → All P (insideUpward knots lo hi)
   unfolding insideUpward
-  between-all lo hi = go (lt nought (hi ⊖ lo))
+  between-all lo hi = go (lt plusZero (hi ⊖ lo))
     where
       epsilon : Float
       epsilon = (hi ⊖ lo) ⊗ billionth

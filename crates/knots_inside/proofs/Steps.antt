@@ -7,7 +7,7 @@ use native.Mathlib.Omega.{arith}
 use lib.ListN.{length, take, drop, length-append, length-drop}
 use lib.Seq.{length-take-le, take-at, take-append-le}
 use lib.Ieee.{Float, lt, le}
-use Rattle.arith.specs.Notation.{_⊕_, _⊖_, _⊗_, nought}
+use Rattle.arith.specs.Notation.{_⊕_, _⊖_, _⊗_, plusZero}
 use Rattle.base_lists.specs.Sub.{All}
 use Rattle.base_lists.specs.Room.{filled}
 use Rattle.base_lists.proofs.Joined.{all-map}
@@ -72,12 +72,12 @@ module _ {k r : List Float} {n : ℕ} {above below : Float} (h : Retained k r n 
         kept-floats d e = e ∙ ap (λ (n : ℕ). filled n (take m whole)) whole-length ∙ ap (filled (length k)) (kept-is ∙ known)
 
 module _ (k : List Float) (lo hi : Float) where
-  pub some-between : lt nought (hi ⊖ lo) ≡ true
+  pub some-between : lt plusZero (hi ⊖ lo) ≡ true
       → deduped ((hi ⊖ lo) ⊗ billionth) (sorted (retainedKnots (lo ⊕ (hi ⊖ lo) ⊗ billionth) (hi ⊖ (hi ⊖ lo) ⊗ billionth) k)) ≡ insideUpward k lo hi
   unfolding insideUpward
   some-between h = rw h
 
-  pub none-between : lt nought (hi ⊖ lo) ≡ false → [] ≡ insideUpward k lo hi
+  pub none-between : lt plusZero (hi ⊖ lo) ≡ false → [] ≡ insideUpward k lo hi
   unfolding insideUpward
   none-between h = rw h
 

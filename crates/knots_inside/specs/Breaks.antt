@@ -3,7 +3,7 @@ use mathlib.Core.Bool.{Bool, true, false, cond, _&&_}
 use mathlib.Core.List.{List, [], _∷_}
 use lib.Ieee.{Float, lt, le}
 use lib.Ieee.Scale.{finite}
-use Rattle.arith.specs.Notation.{_⊕_, _⊖_, _⊗_, bits, nought}
+use Rattle.arith.specs.Notation.{_⊕_, _⊖_, _⊗_, bits, plusZero}
 use Rattle.arith.specs.Pick.{absOf}
 use Rattle.knots_sort.specs.Sort.{sorted}
 
@@ -41,7 +41,7 @@ unfoldable pub insideUpward : List Float → Float → Float → List Float
 insideUpward knots lo hi =
     let width = hi ⊖ lo in
     let epsilon = width ⊗ billionth in
-    cond (lt nought width) (deduped epsilon (sorted (retainedKnots (lo ⊕ epsilon) (hi ⊖ epsilon) knots))) []
+    cond (lt plusZero width) (deduped epsilon (sorted (retainedKnots (lo ⊕ epsilon) (hi ⊖ epsilon) knots))) []
 
 -- inside: the distinct knots strictly between lo and hi, in order
 unfoldable pub insideOf : List Float → Float → Float → List Float

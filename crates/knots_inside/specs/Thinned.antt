@@ -2,7 +2,7 @@
 use mathlib.Core.Bool.{true, false}
 use mathlib.Core.List.{List, [], _∷_}
 use lib.Ieee.{Float, lt}
-use Rattle.arith.specs.Notation.{nought}
+use Rattle.arith.specs.Notation.{plusZero}
 
 -- breaks.get(i + 1).copied().unwrap_or(hi), of the breaks after the i-th
 abbrev pub nextOf : Float → List Float → Float
@@ -21,7 +21,7 @@ thinnedFrom deviation sag hi start (b ∷ bs) =
 -- thin_breaks: all of them where !(sag > 0.0)
 unfoldable pub thinBreaks : List Float → Float → Float → Float → (Float → Float → Float) → List Float
 thinBreaks breaks lo hi sag deviation =
-    elim (lt nought sag) [
+    elim (lt plusZero sag) [
       | true ↦ thinnedFrom deviation sag hi lo breaks
       | false ↦ breaks
     ]

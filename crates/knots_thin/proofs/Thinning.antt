@@ -7,7 +7,7 @@ use native.Mathlib.Omega.{arith}
 use lib.ListN.{length, getD, take, drop, set, replicate, drop-of-length-le}
 use lib.Seq.{drop-cons, length-take-le}
 use lib.Ieee.{Float, nan, lt, binary64, ofBits}
-use Rattle.arith.specs.Notation.{nought}
+use Rattle.arith.specs.Notation.{plusZero}
 use Rattle.base_lists.specs.Room.{filled}
 use Rattle.base_lists.proofs.Filtering.{Filtering, filtering-start, filtering-rest, filtering-skip, filtering-keep, filtering-done}
 use Rattle.knots_inside.specs.Thinned.{nextOf, thinnedFrom, thinBreaks}
@@ -56,7 +56,7 @@ module _ (deviation : Float → Float → Float) (sag hi lo : Float) where
     thinning-room = omega (arith, done .0, s .filtering .same-length)
 
     -- cleared: the buffer in the end
-    pub thinning-done : lt nought sag ≡ true → (cleared : List Float) → cleared ≡ filled (length a) (take k a)
+    pub thinning-done : lt plusZero sag ≡ true → (cleared : List Float) → cleared ≡ filled (length a) (take k a)
         → (k ≡ length (thinBreaks a₀ lo hi sag deviation)) × (cleared ≡ filled (length a₀) (thinBreaks a₀ lo hi sag deviation))
     unfolding thinBreaks
     thinning-done t cleared e =
@@ -64,7 +64,7 @@ module _ (deviation : Float → Float → Float) (sag hi lo : Float) where
         let g = done .1 ∙ sym w in
         (sym (length-take-le k a thinning-room) ∙ ap length g, e ∙ ap (λ (n : ℕ). filled n (take k a)) (s .filtering .same-length) ∙ ap (filled (length a₀)) g)
 
-  pub all-kept : (a : List Float) → lt nought sag ≡ false → (length a ≡ length (thinBreaks a lo hi sag deviation)) × (a ≡ filled (length a) (thinBreaks a lo hi sag deviation))
+  pub all-kept : (a : List Float) → lt plusZero sag ≡ false → (length a ≡ length (thinBreaks a lo hi sag deviation)) × (a ≡ filled (length a) (thinBreaks a lo hi sag deviation))
   unfolding thinBreaks
   all-kept a t =
       let w : a ≡ thinBreaks a lo hi sag deviation = sym (ap (λ (v : Bool). elim v [ true ↦ thinnedFrom deviation sag hi lo a | false ↦ a ]) t) in

@@ -2,7 +2,7 @@
 use mathlib.Core.Bool.{Bool, true, false, cond, _&&_, _||_}
 use lib.Ieee.{Float, inf, lt, le, neg}
 use lib.Ieee.Scale.{finite}
-use Rattle.arith.specs.Notation.{_⊕_, _⊖_, _⊗_, _⊘_, bits, nought, half, one}
+use Rattle.arith.specs.Notation.{_⊕_, _⊖_, _⊗_, _⊘_, bits, plusZero, half, one}
 use Rattle.arith.specs.Pick.{minOf, maxOf}
 use Rattle.arith_root.specs.Root.{rootOf}
 use Rattle.arith_trig.specs.Trig.{sinOf, cosOf}
@@ -19,7 +19,7 @@ vec x y z = record { x = x; y = y; z = z }
 
 -- Vec3::ZERO
 abbrev pub vZero : Vec3
-vZero = vec nought nought nought
+vZero = vec plusZero plusZero plusZero
 
 -- a + b, a - b, a * k, -a
 unfoldable pub vAdd : Vec3 → Vec3 → Vec3
@@ -108,7 +108,7 @@ abbrev pub interval : Float → Float → Interval
 interval lo hi = record { lo = lo; hi = hi }
 
 abbrev pub unitInterval : Interval
-unitInterval = interval nought one
+unitInterval = interval plusZero one
 
 -- Interval::span, at, contains
 unfoldable pub spanOf : Interval → Float

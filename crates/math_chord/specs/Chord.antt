@@ -2,14 +2,14 @@
 -- Definitions only.
 use mathlib.Core.Bool.{Bool, cond}
 use lib.Ieee.{Float, lt}
-use Rattle.arith.specs.Notation.{_⊗_, _⊘_, bits, nought, one}
+use Rattle.arith.specs.Notation.{_⊗_, _⊘_, bits, plusZero, one}
 use Rattle.arith.specs.Pick.{clampOf}
 use Rattle.math.specs.declared.Vec3.{Vec3}
 use Rattle.math.specs.Math.{vAdd, vSub, vScale, vDot, vLength}
 
 -- the foot of the perpendicular from p, as a part of the chord: ((p - pa).dot(axis) / divisor).clamp(0.0, 1.0)
 unfoldable pub footOf : Vec3 → Vec3 → Float → Vec3 → Float
-footOf pa axis divisor p = clampOf (vDot (vSub p pa) axis ⊘ divisor) nought one
+footOf pa axis divisor p = clampOf (vDot (vSub p pa) axis ⊘ divisor) plusZero one
 
 -- from the chord to p: p - (pa + axis * s); where the chord has no length p - pa
 unfoldable pub chordOffset : Vec3 → Vec3 → Bool → Float → Vec3 → Vec3
@@ -22,10 +22,10 @@ chordDistance pa axis hasLength divisor p = vLength (chordOffset pa axis hasLeng
 
 -- deviation and thin: the chord has a length where len2, its square, is above zero; that is the divisor
 unfoldable pub spanOffset : Vec3 → Vec3 → Float → Vec3 → Vec3
-spanOffset pa axis len2 p = chordOffset pa axis (lt nought len2) len2 p
+spanOffset pa axis len2 p = chordOffset pa axis (lt plusZero len2) len2 p
 
 unfoldable pub spanDistance : Vec3 → Vec3 → Float → Vec3 → Float
-spanDistance pa axis len2 p = chordDistance pa axis (lt nought len2) len2 p
+spanDistance pa axis len2 p = chordDistance pa axis (lt plusZero len2) len2 p
 
 -- 1e-300
 abbrev pub shortestChord : Float

@@ -4,20 +4,20 @@ use Prim.Native.Nat.{ℕ, min, max}
 use lib.Dec.{eqb}
 use lib.Ieee.{Float, lt, neg, toUnsigned}
 use lib.Ieee.Scale.{finite}
-use Rattle.arith.specs.Notation.{_⊖_, _⊗_, _⊘_, bits, nought, half, one, two}
+use Rattle.arith.specs.Notation.{_⊖_, _⊗_, _⊘_, bits, plusZero, half, one, two}
 use Rattle.arith.specs.Pick.{absOf, minOf, maxOf, clampOf}
 use Rattle.arith.specs.Floor.{ceilOf}
 use Rattle.arith_trig.specs.Trig.{acosOf, pi}
-use Rattle.options.specs.declared.Radians.{Radians}
+use Rattle.options.specs.declared.Angle.{Angle}
 use Rattle.options.specs.declared.Options.{Options}
 use Rattle.options.specs.declared.Resolved.{Resolved}
 
 -- an angle in radians
-abbrev pub radians : Float → Radians
+abbrev pub radians : Float → Angle
 radians x = record { 0 = x }
 
 -- an angle in degrees, by f64::to_radians: times π / 180
-abbrev pub degrees : Float → Radians
+abbrev pub degrees : Float → Angle
 degrees x = radians (x ⊗ bits 0x3F91DF46A2529D39)
 
 -- the least and the largest angle that `resolve` lets pass: 1e-4 and π
@@ -28,12 +28,12 @@ abbrev pub largestAngle : Float
 largestAngle = pi
 
 -- whether `resolve` changes the angle
-unfoldable pub isClamped : Radians → Bool
+unfoldable pub isClamped : Angle → Bool
 isClamped a = lt (a .0) leastAngle || lt largestAngle (a .0)
 
 -- a relative deflection and an angle, with at least 1 segment, depth 12 and no scale
-abbrev pub preset : Float → Radians → Options
-preset d a = record { deflection = d; angle = a; relative = 1; segments = 1; depth = 12; scale = nought }
+abbrev pub preset : Float → Angle → Options
+preset d a = record { deflection = d; angle = a; relative = 1; segments = 1; depth = 12; scale = plusZero }
 
 -- Options::default: 0.0004 and 8 degrees
 abbrev pub defaultOptions : Options
@@ -53,7 +53,7 @@ isRelative o = not (eqb (o .relative) 0)
 
 -- scale.is_finite() && scale > 0.0; a scale that is not so means no scale
 abbrev pub hasScale : Options → Bool
-hasScale o = finite (o .scale) && lt nought (o .scale)
+hasScale o = finite (o .scale) && lt plusZero (o .scale)
 
 -- f64::MIN_POSITIVE
 abbrev pub leastPositive : Float
@@ -69,11 +69,11 @@ resolvedSag o = maxOf (absoluteDeflection o) leastPositive
 
 -- the scale, or 0 for none
 unfoldable pub resolvedModel : Options → Float
-resolvedModel o = cond (hasScale o) (o .scale) nought
+resolvedModel o = cond (hasScale o) (o .scale) plusZero
 
 -- twice the deflection, or 0 where it is absolute
 unfoldable pub resolvedRelative : Options → Float
-resolvedRelative o = cond (isRelative o) (o .deflection ⊗ two) nought
+resolvedRelative o = cond (isRelative o) (o .deflection ⊗ two) plusZero
 
 -- Options::resolve
 unfoldable pub resolve : Options → Resolved
@@ -88,7 +88,7 @@ resolve o = record {
 
 -- relative, and extent a size to be relative to
 abbrev pub isRelativeTo : Resolved → Float → Bool
-isRelativeTo r extent = lt nought (r .relative) && (lt nought (r .model) && (lt nought extent && finite extent))
+isRelativeTo r extent = lt plusZero (r .relative) && (lt plusZero (r .model) && (lt plusZero extent && finite extent))
 
 -- Resolved::sag_for: the tolerance of a feature of this extent
 unfoldable pub sagFor : Resolved → Float → Float

@@ -15,23 +15,23 @@ const LEAST_STEP: f64 = 1e-3;
 
 // An angle in radians. The type keeps a number of degrees from being taken for one of radians: outside this module an angle is
 // made by `of` or `degrees` alone.
-pub struct Radians(f64);
+pub struct Angle(f64);
 
-impl Radians {
-    pub fn of(x: f64) -> Radians
+impl Angle {
+    pub fn of(x: f64) -> Angle
         ensures { λ r. ⌜ r ≡ radians x ⌝ }
     {
-        Radians(x)
+        Angle(x)
     }
 
-    pub fn degrees(x: f64) -> Radians
+    pub fn degrees(x: f64) -> Angle
         ensures { λ r. ⌜ r ≡ degrees x ⌝ }
     {
-        Radians(x * 0.017453292519943295)
+        Angle(x * 0.017453292519943295)
     }
 
     // As a number of radians.
-    pub fn radians(self) -> f64
+    pub fn to_radians(self) -> f64
         ensures { λ r. ⌜ r ≡ self .0 ⌝ }
     {
         self.0
@@ -50,7 +50,7 @@ impl Radians {
 pub struct Options {
     // The largest distance between chord and curve, or that as a fraction of the scale where relative is 1.
     pub deflection: f64,
-    pub angle: Radians,
+    pub angle: Angle,
     pub relative: u32,
     pub segments: u64,
     pub depth: u32,
@@ -68,7 +68,7 @@ pub struct Resolved {
 }
 
 impl Options {
-    fn preset(deflection: f64, angle: Radians) -> Options
+    fn preset(deflection: f64, angle: Angle) -> Options
         ensures { λ r. ⌜ r ≡ preset deflection angle ⌝ }
     {
         Options {
@@ -84,21 +84,21 @@ impl Options {
     pub fn default() -> Options
         ensures { λ r. ⌜ r ≡ defaultOptions ⌝ }
     {
-        Options::preset(0.0004, Radians::degrees(8.0))
+        Options::preset(0.0004, Angle::degrees(8.0))
     }
 
     // For a quick preview.
     pub fn draft() -> Options
         ensures { λ r. ⌜ r ≡ draftOptions ⌝ }
     {
-        Options::preset(0.01, Radians::degrees(35.0))
+        Options::preset(0.01, Angle::degrees(35.0))
     }
 
     // For close inspection.
     pub fn fine() -> Options
         ensures { λ r. ⌜ r ≡ fineOptions ⌝ }
     {
-        Options::preset(0.0001, Radians::degrees(4.0))
+        Options::preset(0.0001, Angle::degrees(4.0))
     }
 
     // A scale that is finite and above zero.

@@ -4,8 +4,8 @@
 // step of the radius and the segments of the arc; and for each angle `RADIANS CLAMPED`, 1 where resolving changes the radians,
 // else 0. `?` stands for a malformed line; malformed options end their group. Floats are 16 lowercase hex digits of their bits.
 use libc::STDIN_FILENO;
+use options::Angle;
 use options::Options;
-use options::Radians;
 use options::Resolved;
 use sheet_row::RawOptions;
 use text_format::Num;
@@ -27,7 +27,7 @@ struct Kept {
 fn options_of(raw: RawOptions) -> Options {
     Options {
         deflection: sheet_row::float_of(raw.deflection),
-        angle: Radians::of(sheet_row::float_of(raw.angle)),
+        angle: Angle::radians(sheet_row::float_of(raw.angle)),
         relative: raw.relative,
         segments: raw.segments,
         depth: raw.depth,
@@ -105,8 +105,8 @@ fn put_degrees(line: &[u8; 128], out: &mut [u8; 4096], at: usize) -> usize {
         let row = sheet_layout::line(line, 8, b"f");
         if row.ok {
             let numbers = row.numbers;
-            let angle = Radians::degrees(sheet_row::float_of(numbers[0]));
-            let n = replay_text::float_then(out, at, angle.radians(), b' ');
+            let angle = Angle::degrees(sheet_row::float_of(numbers[0]));
+            let n = replay_text::float_then(out, at, angle.to_radians(), b' ');
             return replay_text::decimal_then(out, n, flag(angle.is_clamped()), b'\n');
         }
     }

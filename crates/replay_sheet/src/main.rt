@@ -111,7 +111,7 @@ fn put_options(options: Options, out: &mut [u8; 4096], at: usize) -> usize {
     let names = b"\ndeflection angle relative segments depth scale\n";
     let n = replay_text::word(out, at, names);
     let deflection = replay_text::float_then(out, n, options.deflection, b' ');
-    let angle = replay_text::float_then(out, deflection, options.angle.radians(), b' ');
+    let angle = replay_text::float_then(out, deflection, options.angle.to_radians(), b' ');
     let relative = replay_text::decimal_then(out, angle, options.relative as u64, b' ');
     let segments = replay_text::decimal_then(out, relative, options.segments, b' ');
     let depth = replay_text::decimal_then(out, segments, options.depth as u64, b' ');

@@ -18,16 +18,16 @@ use Rattle.sheet_row.specs.Rows.{floatsOf, wholesOf, rawEdgeOf, rawOptionsOf}
 use Rattle.sheet_row.specs.declared.RawEdge.{RawEdge}
 use Rattle.sheet_row.specs.declared.RawOptions.{RawOptions}
 use Rattle.text_format.proofs.Place.{Read, placed, then-bad, then-bad-on, then-read, as-bad, as-read}
-use Rattle.sheet_tables.specs.Told.{flattened, numbersOf}
+use Rattle.sheet_tables.specs.Answers.{flattened, numbersOf}
 use Rattle.sheet_tables.proofs.Stores.{numbers-got}
 use Rattle.sheet_tables.proofs.Fits.{zeros-padded}
-use Rattle.sheet_edge.specs.Told.{toldEnds}
+use Rattle.sheet_edge.specs.Answers.{parsedEnds}
 use Rattle.sheet_edge.specs.declared.Last.the-variants.{Pair, NoPair}
 use Rattle.brep.specs.Rows.{Tables, tables as tables-of}
 use Rattle.brep.specs.declared.Edge.{Edge}
 use Rattle.options.specs.declared.Options.{Options}
 use Rattle.sheet.specs.Sheet.{floatOf, edgeFrom, optionsFrom, answer, tablesOf, noTables, stored, left}
-use Rattle.sheet.specs.Told.{Three, toldTables, onlyTables, TablesStored, Kept}
+use Rattle.sheet.specs.Answers.{Three, parsedTables, onlyTables, TablesStored, Kept}
 use Rattle.sheet.specs.declared.Sheet.the-variants.{Read as ReadSheet, Refused}
 use Rattle.sheet.specs.declared.Counted.the-variants.{Counts, NoTables}
 
@@ -38,18 +38,18 @@ held-part numbers z n q l rest old new e f g = g ∙ ap (λ k. padded k z (numbe
 
 -- ---- the three tables
 module _ (s : List ℕ) (q : Parsed Three) where
-  pub told-no-tables : q ≡ bad → NoTables ≡ toldTables s q
-  unfolding toldTables
-  told-no-tables e = rw e
+  pub parsed-no-tables : q ≡ bad → NoTables ≡ parsedTables s q
+  unfolding parsedTables
+  parsed-no-tables e = rw e
 
-  pub told-tables : (a b c : List (List ℕ)) (n m k p : ℕ) → n ≡ length a → m ≡ length b → k ≡ length c → Read s q (a, (b, c)) p
-      → Counts n m k p ≡ toldTables s q
-  unfolding toldTables
-  told-tables a b c n m k p d e f r =
+  pub parsed-tables : (a b c : List (List ℕ)) (n m k p : ℕ) → n ≡ length a → m ≡ length b → k ≡ length c → Read s q (a, (b, c)) p
+      → Counts n m k p ≡ parsedTables s q
+  unfolding parsedTables
+  parsed-tables a b c n m k p d e f r =
       let w = r .within in
       let j : p ≡ length s - length (drop p s) = simp length-drop (omega arith) in
       let same : Counts n m k p ≡ Counts (length a) (length b) (length c) (length s - length (drop p s)) = cc in
-      same ∙ ap (toldTables s) (sym (r .is))
+      same ∙ ap (parsedTables s) (sym (r .is))
 
   pub held-bad : (new : Tables) → q ≡ bad → TablesStored q new
   unfolding TablesStored
@@ -91,11 +91,11 @@ pub record TablesRead (s : List ℕ) (n m k p : ℕ) : Type 0 where
   pub is : Read s (tablesFormat .read s) (points, (curves, segments)) p
 
 module _ (s : List ℕ) where
-  pub read-tables : (n m k p : ℕ) → Counts n m k p ≡ toldTables s (tablesFormat .read s) → TablesRead s n m k p
-  unfolding toldTables
+  pub read-tables : (n m k p : ℕ) → Counts n m k p ≡ parsedTables s (tablesFormat .read s) → TablesRead s n m k p
+  unfolding parsedTables
   read-tables n m k p e = go (tablesFormat .read s) refl e
     where
-      go : (q : Parsed Three) → tablesFormat .read s ≡ q → Counts n m k p ≡ toldTables s q → TablesRead s n m k p
+      go : (q : Parsed Three) → tablesFormat .read s ≡ q → Counts n m k p ≡ parsedTables s q → TablesRead s n m k p
       go bad f e = absurd (let z : _≡_ {A = ℕ} 0 1 = cc in omega arith)
       go (got t rest) f e =
           let j : p ≡ length s - length rest = cc in
@@ -109,11 +109,11 @@ module _ (s : List ℕ) where
             is = rw j (placed s tablesFormat tables-law 0 t rest (omega arith) f);
           }
 
-  pub read-no-tables : NoTables ≡ toldTables s (tablesFormat .read s) → tablesFormat .read s ≡ bad
-  unfolding toldTables
+  pub read-no-tables : NoTables ≡ parsedTables s (tablesFormat .read s) → tablesFormat .read s ≡ bad
+  unfolding parsedTables
   read-no-tables e = go (tablesFormat .read s) e
     where
-      go : (q : Parsed Three) → NoTables ≡ toldTables s q → q ≡ bad
+      go : (q : Parsed Three) → NoTables ≡ parsedTables s q → q ≡ bad
       go bad e = refl
       go (got t rest) e = absurd (let z : _≡_ {A = ℕ} 0 1 = cc in omega arith)
 
@@ -126,21 +126,21 @@ pub record EndsRead (s : List ℕ) (at : ℕ) (e : RawEdge) (o : RawOptions) (p 
   pub is : Read s (ends .read (drop at s)) (edge, options) p
 
 module _ (s : List ℕ) (at : ℕ) where
-  pub read-ends : (e : RawEdge) (o : RawOptions) (p : ℕ) → at ≤ length s → Pair e o p ≡ toldEnds s (ends .read (drop at s)) → EndsRead s at e o p
-  unfolding toldEnds
+  pub read-ends : (e : RawEdge) (o : RawOptions) (p : ℕ) → at ≤ length s → Pair e o p ≡ parsedEnds s (ends .read (drop at s)) → EndsRead s at e o p
+  unfolding parsedEnds
   read-ends e o p h t = go (ends .read (drop at s)) refl t
     where
-      go : (q : Parsed (List ℕ × List ℕ)) → ends .read (drop at s) ≡ q → Pair e o p ≡ toldEnds s q → EndsRead s at e o p
+      go : (q : Parsed (List ℕ × List ℕ)) → ends .read (drop at s) ≡ q → Pair e o p ≡ parsedEnds s q → EndsRead s at e o p
       go bad f t = absurd (let z : _≡_ {A = ℕ} 0 1 = cc in omega arith)
       go (got r rest) f t =
           let j : p ≡ length s - length rest = cc in
           record { edge = r .0; options = r .1; edge-is = cc; options-is = cc; is = rw j (placed s ends ends-law at r rest h f) }
 
-  pub read-no-ends : NoPair ≡ toldEnds s (ends .read (drop at s)) → ends .read (drop at s) ≡ bad
-  unfolding toldEnds
+  pub read-no-ends : NoPair ≡ parsedEnds s (ends .read (drop at s)) → ends .read (drop at s) ≡ bad
+  unfolding parsedEnds
   read-no-ends t = go (ends .read (drop at s)) t
     where
-      go : (q : Parsed (List ℕ × List ℕ)) → NoPair ≡ toldEnds s q → q ≡ bad
+      go : (q : Parsed (List ℕ × List ℕ)) → NoPair ≡ parsedEnds s q → q ≡ bad
       go bad t = refl
       go (got r rest) t = absurd (let z : _≡_ {A = ℕ} 0 1 = cc in omega arith)
 

@@ -10,7 +10,7 @@ use Rattle.sheet_layout.specs.Letters.{padded}
 use Rattle.sheet_row.specs.Rows.{floatsOf, wholesOf, rawEdgeOf, rawOptionsOf}
 use Rattle.sheet_row.specs.declared.RawEdge.{RawEdge}
 use Rattle.sheet_row.specs.declared.RawOptions.{RawOptions}
-use Rattle.sheet_tables.specs.Told.{flattened}
+use Rattle.sheet_tables.specs.Answers.{flattened}
 use Rattle.math.specs.Math.{interval}
 use Rattle.brep.specs.Rows.{Tables, tables}
 use Rattle.brep.specs.declared.Edge.{Edge}

@@ -5,11 +5,11 @@ ghost use lib.ListN.{length};
 ghost use Rattle.sheet_layout.specs.Layout.{size, tablesFormat, readSheet, Means};
 ghost use Rattle.brep.specs.Rows.{lent};
 ghost use Rattle.sheet.specs.Sheet.{edgeFrom, optionsFrom, answer, noTables, stored, left};
-ghost use Rattle.sheet.specs.Told.{toldTables, TablesStored, Kept};
+ghost use Rattle.sheet.specs.Answers.{parsedTables, TablesStored, Kept};
 use brep::Edge;
 use math::Interval;
+use options::Angle;
 use options::Options;
-use options::Radians;
 use sheet_edge::Last;
 use sheet_row::RawEdge;
 use sheet_row::RawOptions;
@@ -73,7 +73,7 @@ fn options_from(raw: RawOptions) -> Options
 {
     Options {
         deflection: sheet_row::float_of(raw.deflection),
-        angle: Radians::of(sheet_row::float_of(raw.angle)),
+        angle: Angle::radians(sheet_row::float_of(raw.angle)),
         relative: raw.relative,
         segments: raw.segments,
         depth: raw.depth,
@@ -91,7 +91,7 @@ fn three(
     ranges: &mut [f64; RANGES],
 ) -> Counted
     requires { ⌜ length (now text) ≤ size ⌝ }
-    ensures { λ r. ⌜ (r ≡ toldTables (now (text .entry)) (tablesFormat .read (now (text .entry))))
+    ensures { λ r. ⌜ (r ≡ parsedTables (now (text .entry)) (tablesFormat .read (now (text .entry))))
         × TablesStored (tablesFormat .read (now (text .entry))) (lent (points .exit) (curves .exit) (reals .exit) (parts .exit) (ranges .exit)) ⌝ }
 {
     let Num::Got(n, p) = sheet_tables::points(text, 0, points) else {

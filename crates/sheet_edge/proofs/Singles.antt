@@ -16,7 +16,7 @@ use Rattle.sheet_row.specs.Rows.{Narrow, rawEdgeOf, rawOptionsOf}
 use Rattle.sheet_row.specs.declared.RawEdge.{RawEdge}
 use Rattle.sheet_row.specs.declared.RawOptions.{RawOptions}
 use Rattle.text_format.proofs.Place.{Read, placed}
-use Rattle.sheet_edge.specs.Told.{singleOf, toldAs, toldEdge, toldOptions, toldEnds}
+use Rattle.sheet_edge.specs.Answers.{singleOf, parsedAs, parsedEdge, parsedOptions, parsedEnds}
 use Rattle.sheet_edge.specs.declared.EdgeAt.{EdgeAt}
 use Rattle.sheet_edge.specs.declared.EdgeAt.the-variants.{Edge, NoEdge}
 use Rattle.sheet_edge.specs.declared.OptionsAt.{OptionsAt}
@@ -89,14 +89,14 @@ left s p h = simp length-drop (omega arith)
 -- ---- what is told of a line, and what was read by what was told
 module _ {X R : Type 0} (made : X → ℕ → R) (none : R) (value : List ℕ → X) (padded-value : (l : List ℕ) → value (padded 9 0 l) ≡ value l)
     (same : (x y : X) (p q : ℕ) → made x p ≡ made y q → (x ≡ y) × (p ≡ q)) (other : (x : X) (p : ℕ) → made x p ≡ none → ⊥) (s : List ℕ) where
-  pub told-value : (q : Parsed (List ℕ)) (l : List ℕ) (p : ℕ) (row : List ℕ) → row ≡ padded 9 0 l → Read s q l p → made (value row) p ≡ toldAs made none value s q
-  unfolding toldAs
-  told-value q l p row e r =
-      ap (λ x. made x p) (ap value e ∙ padded-value l) ∙ ap (made (value l)) (left s p (r .within)) ∙ ap (toldAs made none value s) (sym (r .is))
+  pub parsed-value : (q : Parsed (List ℕ)) (l : List ℕ) (p : ℕ) (row : List ℕ) → row ≡ padded 9 0 l → Read s q l p → made (value row) p ≡ parsedAs made none value s q
+  unfolding parsedAs
+  parsed-value q l p row e r =
+      ap (λ x. made x p) (ap value e ∙ padded-value l) ∙ ap (made (value l)) (left s p (r .within)) ∙ ap (parsedAs made none value s) (sym (r .is))
 
-  pub told-none : (q : Parsed (List ℕ)) → q ≡ bad → none ≡ toldAs made none value s q
-  unfolding toldAs
-  told-none q e = rw e
+  pub parsed-none : (q : Parsed (List ℕ)) → q ≡ bad → none ≡ parsedAs made none value s q
+  unfolding parsedAs
+  parsed-none q e = rw e
 
   pub record ValueRead (q : Parsed (List ℕ)) (x : X) (p : ℕ) : Type 0 where
     pub list : List ℕ
@@ -104,18 +104,18 @@ module _ {X R : Type 0} (made : X → ℕ → R) (none : R) (value : List ℕ �
     pub is : Read s q list p
 
   pub read-value : (F : Format (List ℕ)) → Lawful F → (at : ℕ) (x : X) (p : ℕ) → at ≤ length s
-      → made x p ≡ toldAs made none value s (F .read (drop at s)) → ValueRead (F .read (drop at s)) x p
-  unfolding toldAs
+      → made x p ≡ parsedAs made none value s (F .read (drop at s)) → ValueRead (F .read (drop at s)) x p
+  unfolding parsedAs
   read-value F L at x p h t = go (F .read (drop at s)) refl t
     where
-      go : (q : Parsed (List ℕ)) → F .read (drop at s) ≡ q → made x p ≡ toldAs made none value s q → ValueRead (F .read (drop at s)) x p
+      go : (q : Parsed (List ℕ)) → F .read (drop at s) ≡ q → made x p ≡ parsedAs made none value s q → ValueRead (F .read (drop at s)) x p
       go bad f t = absurd (other x p t)
       go (got l rest) f t =
           let e = same x (value l) p (length s - length rest) t in
           record { list = l; value-is = e .0; is = rw (e .1) (placed s F L at l rest h f) }
 
-  pub read-none : (q : Parsed (List ℕ)) → none ≡ toldAs made none value s q → q ≡ bad
-  unfolding toldAs
+  pub read-none : (q : Parsed (List ℕ)) → none ≡ parsedAs made none value s q → q ≡ bad
+  unfolding parsedAs
   read-none bad t = refl
   read-none (got l rest) t = absurd (other (value l) (length s - length rest) (sym t))
 
@@ -133,47 +133,47 @@ pub no-options : (x : RawOptions) (p : ℕ) → Options x p ≡ NoOptions → �
 no-options x p e = let z : _≡_ {A = ℕ} 0 1 = cc in omega arith
 
 module _ (s : List ℕ) where
-  pub told-edge : (q : Parsed (List ℕ)) (l : List ℕ) (p : ℕ) (row : List ℕ) → row ≡ padded 9 0 l → Read s q l p → Edge (rawEdgeOf row) p ≡ toldEdge s q
-  told-edge = told-value Edge NoEdge rawEdgeOf edge-padded same-edge no-edge s
+  pub parsed-edge : (q : Parsed (List ℕ)) (l : List ℕ) (p : ℕ) (row : List ℕ) → row ≡ padded 9 0 l → Read s q l p → Edge (rawEdgeOf row) p ≡ parsedEdge s q
+  parsed-edge = parsed-value Edge NoEdge rawEdgeOf edge-padded same-edge no-edge s
 
-  pub told-no-edge : (q : Parsed (List ℕ)) → q ≡ bad → NoEdge ≡ toldEdge s q
-  told-no-edge = told-none Edge NoEdge rawEdgeOf edge-padded same-edge no-edge s
+  pub parsed-no-edge : (q : Parsed (List ℕ)) → q ≡ bad → NoEdge ≡ parsedEdge s q
+  parsed-no-edge = parsed-none Edge NoEdge rawEdgeOf edge-padded same-edge no-edge s
 
   abbrev pub EdgeRead : Parsed (List ℕ) → RawEdge → ℕ → Type 0
   EdgeRead = ValueRead Edge NoEdge rawEdgeOf edge-padded same-edge no-edge s
 
   pub read-edge : (F : Format (List ℕ)) → Lawful F → (at : ℕ) (e : RawEdge) (p : ℕ) → at ≤ length s
-      → Edge e p ≡ toldEdge s (F .read (drop at s)) → EdgeRead (F .read (drop at s)) e p
+      → Edge e p ≡ parsedEdge s (F .read (drop at s)) → EdgeRead (F .read (drop at s)) e p
   read-edge = read-value Edge NoEdge rawEdgeOf edge-padded same-edge no-edge s
 
-  pub read-no-edge : (q : Parsed (List ℕ)) → NoEdge ≡ toldEdge s q → q ≡ bad
+  pub read-no-edge : (q : Parsed (List ℕ)) → NoEdge ≡ parsedEdge s q → q ≡ bad
   read-no-edge = read-none Edge NoEdge rawEdgeOf edge-padded same-edge no-edge s
 
-  pub told-options : (q : Parsed (List ℕ)) (l : List ℕ) (p : ℕ) (row : List ℕ) → row ≡ padded 9 0 l → Read s q l p → Options (rawOptionsOf row) p ≡ toldOptions s q
-  told-options = told-value Options NoOptions rawOptionsOf options-padded same-options no-options s
+  pub parsed-options : (q : Parsed (List ℕ)) (l : List ℕ) (p : ℕ) (row : List ℕ) → row ≡ padded 9 0 l → Read s q l p → Options (rawOptionsOf row) p ≡ parsedOptions s q
+  parsed-options = parsed-value Options NoOptions rawOptionsOf options-padded same-options no-options s
 
-  pub told-no-options : (q : Parsed (List ℕ)) → q ≡ bad → NoOptions ≡ toldOptions s q
-  told-no-options = told-none Options NoOptions rawOptionsOf options-padded same-options no-options s
+  pub parsed-no-options : (q : Parsed (List ℕ)) → q ≡ bad → NoOptions ≡ parsedOptions s q
+  parsed-no-options = parsed-none Options NoOptions rawOptionsOf options-padded same-options no-options s
 
   abbrev pub OptionsRead : Parsed (List ℕ) → RawOptions → ℕ → Type 0
   OptionsRead = ValueRead Options NoOptions rawOptionsOf options-padded same-options no-options s
 
   pub read-options : (F : Format (List ℕ)) → Lawful F → (at : ℕ) (o : RawOptions) (p : ℕ) → at ≤ length s
-      → Options o p ≡ toldOptions s (F .read (drop at s)) → OptionsRead (F .read (drop at s)) o p
+      → Options o p ≡ parsedOptions s (F .read (drop at s)) → OptionsRead (F .read (drop at s)) o p
   read-options = read-value Options NoOptions rawOptionsOf options-padded same-options no-options s
 
-  pub read-no-options : (q : Parsed (List ℕ)) → NoOptions ≡ toldOptions s q → q ≡ bad
+  pub read-no-options : (q : Parsed (List ℕ)) → NoOptions ≡ parsedOptions s q → q ≡ bad
   read-no-options = read-none Options NoOptions rawOptionsOf options-padded same-options no-options s
 
   -- ---- both
-  pub told-ends : (q : Parsed (List ℕ × List ℕ)) (e : RawEdge) (o : RawOptions) (l m : List ℕ) (p : ℕ) → e ≡ rawEdgeOf l → o ≡ rawOptionsOf m → Read s q (l, m) p
-      → Pair e o p ≡ toldEnds s q
-  unfolding toldEnds
-  told-ends q e o l m p d f r =
+  pub parsed-ends : (q : Parsed (List ℕ × List ℕ)) (e : RawEdge) (o : RawOptions) (l m : List ℕ) (p : ℕ) → e ≡ rawEdgeOf l → o ≡ rawOptionsOf m → Read s q (l, m) p
+      → Pair e o p ≡ parsedEnds s q
+  unfolding parsedEnds
+  parsed-ends q e o l m p d f r =
       let j = left s p (r .within) in
       let same : Pair e o p ≡ Pair (rawEdgeOf l) (rawOptionsOf m) (length s - length (drop p s)) = cc in
-      same ∙ ap (toldEnds s) (sym (r .is))
+      same ∙ ap (parsedEnds s) (sym (r .is))
 
-  pub told-no-ends : (q : Parsed (List ℕ × List ℕ)) → q ≡ bad → NoPair ≡ toldEnds s q
-  unfolding toldEnds
-  told-no-ends q e = rw e
+  pub parsed-no-ends : (q : Parsed (List ℕ × List ℕ)) → q ≡ bad → NoPair ≡ parsedEnds s q
+  unfolding parsedEnds
+  parsed-no-ends q e = rw e

@@ -4,8 +4,8 @@ ghost use Prim.Native.Nat.{_≤_};
 ghost use lib.ListN.{length, drop};
 ghost use Rattle.text_format.specs.Table.{single};
 ghost use Rattle.sheet_layout.specs.Layout.{edgeColumns, optionColumns, ends};
-ghost use Rattle.sheet_layout.specs.Letters.{toldRow};
-ghost use Rattle.sheet_edge.specs.Told.{singleOf, toldEdge, toldOptions, toldEnds};
+ghost use Rattle.sheet_layout.specs.Letters.{parsedRow};
+ghost use Rattle.sheet_edge.specs.Answers.{singleOf, parsedEdge, parsedOptions, parsedEnds};
 use sheet_layout::Row;
 use sheet_row::RawEdge;
 use sheet_row::RawOptions;
@@ -32,7 +32,7 @@ enum OptionsAt {
 // A line of names, then one line of values.
 fn single(s: &[u8], at: usize, names: &[u8], shape: &[u8]) -> Row
     requires { ⌜ (at ≤ length (now s)) × (length (now shape) ≤ 9) ⌝ }
-    ensures { λ r. ⌜ r ≡ toldRow (now (s .entry)) (singleOf (now (names .entry)) (now (shape .entry)) .read (drop at (now (s .entry)))) ⌝ }
+    ensures { λ r. ⌜ r ≡ parsedRow (now (s .entry)) (singleOf (now (names .entry)) (now (shape .entry)) .read (drop at (now (s .entry)))) ⌝ }
 {
     match text_format::word(s, at, names, 0) {
         Num::Got(_, p) => sheet_layout::line(s, p, shape),
@@ -47,7 +47,7 @@ fn single(s: &[u8], at: usize, names: &[u8], shape: &[u8]) -> Row
 // The edge's block.
 fn edge(s: &[u8], at: usize) -> EdgeAt
     requires { ⌜ at ≤ length (now s) ⌝ }
-    ensures { λ r. ⌜ r ≡ toldEdge (now (s .entry)) (single edgeColumns .read (drop at (now (s .entry)))) ⌝ }
+    ensures { λ r. ⌜ r ≡ parsedEdge (now (s .entry)) (single edgeColumns .read (drop at (now (s .entry)))) ⌝ }
 {
     let row = single(
         s,
@@ -66,7 +66,7 @@ fn edge(s: &[u8], at: usize) -> EdgeAt
 // The options' block.
 fn options(s: &[u8], at: usize) -> OptionsAt
     requires { ⌜ at ≤ length (now s) ⌝ }
-    ensures { λ r. ⌜ r ≡ toldOptions (now (s .entry)) (single optionColumns .read (drop at (now (s .entry)))) ⌝ }
+    ensures { λ r. ⌜ r ≡ parsedOptions (now (s .entry)) (single optionColumns .read (drop at (now (s .entry)))) ⌝ }
 {
     let row = single(
         s,
@@ -85,7 +85,7 @@ fn options(s: &[u8], at: usize) -> OptionsAt
 // The edge's block, the empty line behind it, and the options' block.
 pub fn ends(s: &[u8], at: usize) -> Last
     requires { ⌜ at ≤ length (now s) ⌝ }
-    ensures { λ r. ⌜ r ≡ toldEnds (now (s .entry)) (ends .read (drop at (now (s .entry)))) ⌝ }
+    ensures { λ r. ⌜ r ≡ parsedEnds (now (s .entry)) (ends .read (drop at (now (s .entry)))) ⌝ }
 {
     let EdgeAt::Edge(edge, p) = edge(s, at) else {
         return Last::NoPair;

@@ -12,9 +12,9 @@ use Rattle.sheet_layout.specs.Layout.{u32, u64, kind}
 use Rattle.sheet_layout.specs.declared.Row.{Row}
 
 -- the first answer, or else the second
-unfoldable pub orTold : Num → Num → Num
-orTold (Got v p) other = Got v p
-orTold Bad other = other
+unfoldable pub orParsed : Num → Num → Num
+orParsed (Got v p) other = Got v p
+orParsed Bad other = other
 
 -- f: a float; w: a whole number of 32 bits; l: one of 64; any other letter: a kind
 unfoldable pub fieldOf : ℕ → Field
@@ -28,6 +28,6 @@ unfoldable pub padded : {E : Type 0} → ℕ → E → List E → List E
 padded n zero l = l ++ replicate (n - length l) zero
 
 -- a line's numbers and the place behind it; or that it cannot be read
-unfoldable pub toldRow : List ℕ → Parsed (List ℕ) → Row
-toldRow s bad = record { ok = false; numbers = padded 9 0 []; next = 0 }
-toldRow s (got l rest) = record { ok = true; numbers = padded 9 0 l; next = length s - length rest }
+unfoldable pub parsedRow : List ℕ → Parsed (List ℕ) → Row
+parsedRow s bad = record { ok = false; numbers = padded 9 0 []; next = 0 }
+parsedRow s (got l rest) = record { ok = true; numbers = padded 9 0 l; next = length s - length rest }

@@ -4,9 +4,9 @@ ghost use Prim.Native.Nat.{_+_, _<_, _≤_};
 ghost use lib.ListN.{length, drop};
 ghost use Rattle.text_format.specs.Format.{expect, readWord};
 ghost use Rattle.text_format.specs.Table.{behind, cell, line};
-ghost use Rattle.text_format.specs.Told.{told};
+ghost use Rattle.text_format.specs.Answers.{parsedAt};
 ghost use Rattle.sheet_layout.specs.Layout.{kinds};
-ghost use Rattle.sheet_layout.specs.Letters.{orTold, fieldOf, shapeOf, toldRow};
+ghost use Rattle.sheet_layout.specs.Letters.{orParsed, fieldOf, shapeOf, parsedRow};
 use text_format::Num;
 
 // A line's numbers, zeros behind them, and the next place; no line where `ok` is false.
@@ -19,7 +19,7 @@ pub struct Row {
 // The answer `first`, or else the word w for the number n.
 fn or_word(first: Num, s: &[u8], at: usize, w: &[u8], n: u64) -> Num
     requires { ⌜ at ≤ length (now s) ⌝ }
-    ensures { λ r. ⌜ r ≡ orTold first (told (now (s .entry)) (expect (now (w .entry)) n (drop at (now (s .entry))))) ⌝ }
+    ensures { λ r. ⌜ r ≡ orParsed first (parsedAt (now (s .entry)) (expect (now (w .entry)) n (drop at (now (s .entry))))) ⌝ }
 {
     match first {
         Num::Got(v, p) => Num::Got(v, p),
@@ -30,7 +30,7 @@ fn or_word(first: Num, s: &[u8], at: usize, w: &[u8], n: u64) -> Num
 // A kind's word, for its number.
 pub fn kind(s: &[u8], at: usize) -> Num
     requires { ⌜ at ≤ length (now s) ⌝ }
-    ensures { λ r. ⌜ r ≡ told (now (s .entry)) (readWord 1 kinds (drop at (now (s .entry)))) ⌝ }
+    ensures { λ r. ⌜ r ≡ parsedAt (now (s .entry)) (readWord 1 kinds (drop at (now (s .entry)))) ⌝ }
 {
     let line = text_format::word(s, at, b"line", 1);
     let circle = or_word(line, s, at, b"circle", 2);
@@ -44,7 +44,7 @@ pub fn kind(s: &[u8], at: usize) -> Num
 // A cell of a line: a value by its letter, and the byte behind it. f: a float's bits; w: 32 bits; l: 64 bits; k: a kind.
 pub fn cell(s: &[u8], at: usize, letter: u8, end: u8) -> Num
     requires { ⌜ at ≤ length (now s) ⌝ }
-    ensures { λ r. ⌜ r ≡ told (now (s .entry)) (cell (fieldOf letter) end .read (drop at (now (s .entry)))) ⌝ }
+    ensures { λ r. ⌜ r ≡ parsedAt (now (s .entry)) (cell (fieldOf letter) end .read (drop at (now (s .entry)))) ⌝ }
 {
     if letter == b'f' {
         return text_format::hex_then(s, at, end);
@@ -72,7 +72,7 @@ fn end_of(shape: &[u8], i: usize) -> u8
 // A line of at most nine columns.
 pub fn line(s: &[u8], at: usize, shape: &[u8]) -> Row
     requires { ⌜ (at ≤ length (now s)) × (length (now shape) ≤ 9) ⌝ }
-    ensures { λ r. ⌜ r ≡ toldRow (now (s .entry)) (line (shapeOf (now (shape .entry))) .read (drop at (now (s .entry)))) ⌝ }
+    ensures { λ r. ⌜ r ≡ parsedRow (now (s .entry)) (line (shapeOf (now (shape .entry))) .read (drop at (now (s .entry)))) ⌝ }
 {
     let mut numbers = [0u64; 9];
     let mut p = at;

@@ -18,7 +18,7 @@ use Rattle.sheet_layout.specs.Letters.{shapeOf, padded}
 use Rattle.sheet_layout.proofs.Columns.{shape-good, shape-law}
 use Rattle.sheet_row.specs.Rows.{isFloat, chosen, floatsOf, wholesOf}
 use Rattle.sheet_tables.specs.Room.{least, columnCount, Roomy}
-use Rattle.sheet_tables.specs.Told.{tableOf, flattened, numbersOf, TableStored}
+use Rattle.sheet_tables.specs.Answers.{tableOf, flattened, numbersOf, TableStored}
 use Rattle.sheet_tables.proofs.Stores.{numbers-bad, numbers-got, stored-is}
 use Rattle.sheet_tables.proofs.Valid.{row-length, chosen-length, line-long}
 use Rattle.sheet_tables.proofs.Turns.{isWhole, shape-no-line}

@@ -9,7 +9,7 @@ use Rattle.sheet_layout.specs.Layout.{pointColumns, curveColumns, segmentColumn
 use Rattle.sheet_layout.specs.Letters.{fieldOf}
 use Rattle.sheet_row.specs.Rows.{isFloat}
 use Rattle.sheet_tables.specs.Room.{least, columnCount, short, Roomy}
-use Rattle.sheet_tables.specs.Told.{tableOf}
+use Rattle.sheet_tables.specs.Answers.{tableOf}
 
 pub points-same : tableOf (bytes "x y z\n") (bytes "fff") ≡ table pointColumns
 unfolding bytes fields behind names fieldOf

@@ -21,7 +21,7 @@ use Rattle.sheet_layout.specs.Letters.{fieldOf, shapeOf, padded}
 use Rattle.sheet_row.specs.Rows.{isFloat, chosen, floatsOf, wholesOf}
 use Rattle.sheet_layout.proofs.Padded.{padded-length}
 use Rattle.text_format.proofs.Place.{Read}
-use Rattle.sheet_tables.specs.Told.{flattened}
+use Rattle.sheet_tables.specs.Answers.{flattened}
 use Rattle.sheet_tables.specs.Room.{least, columnCount, Roomy}
 use Rattle.sheet_layout.proofs.Onto.{onto, onto-onto, onto-nothing, onto-one}
 use Rattle.sheet_tables.proofs.Stores.{flat-snoc, more-stored}

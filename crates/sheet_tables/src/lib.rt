@@ -5,18 +5,18 @@ ghost use lib.ListN.{length, drop};
 ghost use lib.Ieee.{binary64, ofBits};
 ghost use Rattle.text_format.specs.Format.{lines};
 ghost use Rattle.text_format.specs.Table.{fields, line, table};
-ghost use Rattle.text_format.specs.Told.{toldList};
+ghost use Rattle.text_format.specs.Answers.{parsedList};
 ghost use Rattle.sheet_layout.specs.Layout.{size, pointColumns, curveColumns, segmentColumns};
 ghost use Rattle.sheet_layout.specs.Letters.{shapeOf, padded};
 ghost use Rattle.sheet_row.specs.Rows.{floatsOf, wholesOf};
 ghost use Rattle.sheet_tables.specs.Room.{Roomy};
-ghost use Rattle.sheet_tables.specs.Told.{tableOf, flattened, numbersOf, TableStored};
+ghost use Rattle.sheet_tables.specs.Answers.{tableOf, flattened, numbersOf, TableStored};
 use text_format::Num;
 
 // The rows of a table, up to the empty line behind them: whole numbers into one table, floats into another.
 fn rows(s: &[u8], at: usize, shape: &[u8], wholes: &mut [u32], floats: &mut [f64]) -> Num
     requires { ⌜ (at ≤ length (now s)) × (length (now s) ≤ size) × Roomy (now shape) (length (now wholes)) (length (now floats)) ⌝ }
-    ensures { λ r. ⌜ (r ≡ toldList (now (s .entry)) (lines (line (shapeOf (now (shape .entry)))) .read (drop at (now (s .entry)))))
+    ensures { λ r. ⌜ (r ≡ parsedList (now (s .entry)) (lines (line (shapeOf (now (shape .entry)))) .read (drop at (now (s .entry)))))
         × TableStored (flattened (wholesOf (shapeOf (now (shape .entry))))) (lines (line (shapeOf (now (shape .entry)))) .read (drop at (now (s .entry)))) (now (wholes .entry)) (now (wholes .exit))
         × TableStored (flattened (floatsOf (shapeOf (now (shape .entry))))) (lines (line (shapeOf (now (shape .entry)))) .read (drop at (now (s .entry)))) (now (floats .entry)) (now (floats .exit)) ⌝ }
 {
@@ -52,7 +52,7 @@ fn table(
     floats: &mut [f64],
 ) -> Num
     requires { ⌜ (at ≤ length (now s)) × (length (now s) ≤ size) × Roomy (now shape) (length (now wholes)) (length (now floats)) ⌝ }
-    ensures { λ r. ⌜ (r ≡ toldList (now (s .entry)) (tableOf (now (names .entry)) (now (shape .entry)) .read (drop at (now (s .entry)))))
+    ensures { λ r. ⌜ (r ≡ parsedList (now (s .entry)) (tableOf (now (names .entry)) (now (shape .entry)) .read (drop at (now (s .entry)))))
         × TableStored (flattened (wholesOf (shapeOf (now (shape .entry))))) (tableOf (now (names .entry)) (now (shape .entry)) .read (drop at (now (s .entry)))) (now (wholes .entry)) (now (wholes .exit))
         × TableStored (flattened (floatsOf (shapeOf (now (shape .entry))))) (tableOf (now (names .entry)) (now (shape .entry)) .read (drop at (now (s .entry)))) (now (floats .entry)) (now (floats .exit)) ⌝ }
 {
@@ -72,7 +72,7 @@ fn block(
     floats: &mut [f64],
 ) -> Num
     requires { ⌜ (at ≤ length (now s)) × (length (now s) ≤ size) × Roomy (now shape) (length (now wholes)) (length (now floats)) ⌝ }
-    ensures { λ r. ⌜ (r ≡ toldList (now (s .entry)) (tableOf (now (names .entry)) (now (shape .entry)) .read (drop at (now (s .entry)))))
+    ensures { λ r. ⌜ (r ≡ parsedList (now (s .entry)) (tableOf (now (names .entry)) (now (shape .entry)) .read (drop at (now (s .entry)))))
         × (now (wholes .exit) ≡ padded (length (now (wholes .entry))) 0 (numbersOf (flattened (wholesOf (shapeOf (now (shape .entry))))) (tableOf (now (names .entry)) (now (shape .entry)) .read (drop at (now (s .entry))))))
         × (now (floats .exit) ≡ padded (length (now (floats .entry))) (ofBits binary64 0) (numbersOf (flattened (floatsOf (shapeOf (now (shape .entry))))) (tableOf (now (names .entry)) (now (shape .entry)) .read (drop at (now (s .entry)))))) ⌝ }
 {
@@ -91,7 +91,7 @@ fn block(
 // The points' block: x y z.
 pub fn points(s: &[u8], at: usize, floats: &mut [f64]) -> Num
     requires { ⌜ (at ≤ length (now s)) × (length (now s) ≤ size) × (3 * 1285 ≤ length (now floats)) ⌝ }
-    ensures { λ r. ⌜ (r ≡ toldList (now (s .entry)) (table pointColumns .read (drop at (now (s .entry)))))
+    ensures { λ r. ⌜ (r ≡ parsedList (now (s .entry)) (table pointColumns .read (drop at (now (s .entry)))))
         × (now (floats .exit) ≡ padded (length (now (floats .entry))) (ofBits binary64 0) (numbersOf (flattened (floatsOf (fields pointColumns))) (table pointColumns .read (drop at (now (s .entry)))))) ⌝ }
 {
     let mut wholes = [0u32; 1];
@@ -101,7 +101,7 @@ pub fn points(s: &[u8], at: usize, floats: &mut [f64]) -> Num
 // The curves' block: kind first count, and p q.
 pub fn curves(s: &[u8], at: usize, wholes: &mut [u32], floats: &mut [f64]) -> Num
     requires { ⌜ (at ≤ length (now s)) × (length (now s) ≤ size) × (3 * 1638 ≤ length (now wholes)) × (2 * 1638 ≤ length (now floats)) ⌝ }
-    ensures { λ r. ⌜ (r ≡ toldList (now (s .entry)) (table curveColumns .read (drop at (now (s .entry)))))
+    ensures { λ r. ⌜ (r ≡ parsedList (now (s .entry)) (table curveColumns .read (drop at (now (s .entry)))))
         × (now (wholes .exit) ≡ padded (length (now (wholes .entry))) 0 (numbersOf (flattened (wholesOf (fields curveColumns))) (table curveColumns .read (drop at (now (s .entry))))))
         × (now (floats .exit) ≡ padded (length (now (floats .entry))) (ofBits binary64 0) (numbersOf (flattened (floatsOf (fields curveColumns))) (table curveColumns .read (drop at (now (s .entry)))))) ⌝ }
 {
@@ -111,7 +111,7 @@ pub fn curves(s: &[u8], at: usize, wholes: &mut [u32], floats: &mut [f64]) -> Nu
 // The segments' block: curve sense, and lo hi.
 pub fn segments(s: &[u8], at: usize, wholes: &mut [u32], floats: &mut [f64]) -> Num
     requires { ⌜ (at ≤ length (now s)) × (length (now s) ≤ size) × (2 * 1724 ≤ length (now wholes)) × (2 * 1724 ≤ length (now floats)) ⌝ }
-    ensures { λ r. ⌜ (r ≡ toldList (now (s .entry)) (table segmentColumns .read (drop at (now (s .entry)))))
+    ensures { λ r. ⌜ (r ≡ parsedList (now (s .entry)) (table segmentColumns .read (drop at (now (s .entry)))))
         × (now (wholes .exit) ≡ padded (length (now (wholes .entry))) 0 (numbersOf (flattened (wholesOf (fields segmentColumns))) (table segmentColumns .read (drop at (now (s .entry))))))
         × (now (floats .exit) ≡ padded (length (now (floats .entry))) (ofBits binary64 0) (numbersOf (flattened (floatsOf (fields segmentColumns))) (table segmentColumns .read (drop at (now (s .entry)))))) ⌝ }
 {

@@ -9,7 +9,7 @@ use lib.Seq.{drop-drop, drop-append-seam}
 use lib.Dec.{eqb}
 use Rattle.text_format.specs.Format.{Parsed, bad, got, Format, when, andThen, orElse, expect, _ending_, _before_, _then_, as-of}
 use Rattle.text_format.proofs.Laws.{Lawful, no-got, same-got, when-got, expect-was}
-use Rattle.text_format.specs.Told.{told, toldList}
+use Rattle.text_format.specs.Answers.{parsedAt, parsedList}
 use Rattle.text_format.specs.declared.Num.{Num}
 use Rattle.text_format.specs.declared.Num.the-variants.{Got, Bad}
 
@@ -57,30 +57,30 @@ module _ (s : List ℕ) where
   }
 
   -- ---- a number
-  pub told-at : (v p : ℕ) → p ≤ length s → Got v p ≡ told s (got v (drop p s))
-  unfolding told
-  told-at v p h = ap (Got v) (simp length-drop (omega arith))
+  pub parsed-at : (v p : ℕ) → p ≤ length s → Got v p ≡ parsedAt s (got v (drop p s))
+  unfolding parsedAt
+  parsed-at v p h = ap (Got v) (simp length-drop (omega arith))
 
-  pub told-read : (q : Parsed ℕ) (v p : ℕ) → Read q v p → Got v p ≡ told s q
-  told-read q v p r = told-at v p (r .within) ∙ ap (told s) (sym (r .is))
+  pub parsed-read : (q : Parsed ℕ) (v p : ℕ) → Read q v p → Got v p ≡ parsedAt s q
+  parsed-read q v p r = parsed-at v p (r .within) ∙ ap (parsedAt s) (sym (r .is))
 
-  pub told-bad : (q : Parsed ℕ) → q ≡ bad → Bad ≡ told s q
-  unfolding told
-  told-bad q e = rw e
+  pub parsed-bad : (q : Parsed ℕ) → q ≡ bad → Bad ≡ parsedAt s q
+  unfolding parsedAt
+  parsed-bad q e = rw e
 
-  pub read-bad : (q : Parsed ℕ) → Bad ≡ told s q → q ≡ bad
-  unfolding told
+  pub read-bad : (q : Parsed ℕ) → Bad ≡ parsedAt s q → q ≡ bad
+  unfolding parsedAt
   read-bad bad e = refl
   read-bad (got u rest) e = no-num u (length s - length rest) (sym e)
 
-  pub read-at : (F : Format ℕ) → Lawful F → (at v p : ℕ) → at ≤ length s → Got v p ≡ told s (F .read (drop at s)) → Read (F .read (drop at s)) v p
-  unfolding told
+  pub read-at : (F : Format ℕ) → Lawful F → (at v p : ℕ) → at ≤ length s → Got v p ≡ parsedAt s (F .read (drop at s)) → Read (F .read (drop at s)) v p
+  unfolding parsedAt
   read-at F L at v p h e = go (F .read (drop at s)) refl e
     where
       same : (u j : ℕ) → v ≡ u → p ≡ j → Read (F .read (drop at s)) u j → Read (F .read (drop at s)) v p
       same u j e f r = rw (e, f) r
 
-      go : (q : Parsed ℕ) → F .read (drop at s) ≡ q → Got v p ≡ told s q → Read (F .read (drop at s)) v p
+      go : (q : Parsed ℕ) → F .read (drop at s) ≡ q → Got v p ≡ parsedAt s q → Read (F .read (drop at s)) v p
       go bad f e = no-num v p e
       go (got u rest) f e = same u (length s - length rest) (cc) (cc) (placed F L at u rest h f)
 
@@ -90,39 +90,39 @@ module _ (s : List ℕ) where
     pub count : n ≡ length list
     pub is : Read q list p
 
-  pub told-list : {A : Type 0} (q : Parsed (List A)) (l : List A) (n p : ℕ) → n ≡ length l → Read q l p → Got n p ≡ toldList s q
-  unfolding toldList
-  told-list q l n p e r =
+  pub parsed-list : {A : Type 0} (q : Parsed (List A)) (l : List A) (n p : ℕ) → n ≡ length l → Read q l p → Got n p ≡ parsedList s q
+  unfolding parsedList
+  parsed-list q l n p e r =
       let w = r .within in
-      ap (λ k. Got k p) e ∙ ap (Got (length l)) (simp length-drop (omega arith)) ∙ ap (toldList s) (sym (r .is))
+      ap (λ k. Got k p) e ∙ ap (Got (length l)) (simp length-drop (omega arith)) ∙ ap (parsedList s) (sym (r .is))
 
-  pub told-no-list : {A : Type 0} (q : Parsed (List A)) → q ≡ bad → Bad ≡ toldList s q
-  unfolding toldList
-  told-no-list q e = rw e
+  pub parsed-no-list : {A : Type 0} (q : Parsed (List A)) → q ≡ bad → Bad ≡ parsedList s q
+  unfolding parsedList
+  parsed-no-list q e = rw e
 
   pub read-list : {A : Type 0} (F : Format (List A)) → Lawful F → (at n p : ℕ) → at ≤ length s
-      → Got n p ≡ toldList s (F .read (drop at s)) → ReadList (F .read (drop at s)) n p
-  unfolding toldList
+      → Got n p ≡ parsedList s (F .read (drop at s)) → ReadList (F .read (drop at s)) n p
+  unfolding parsedList
   read-list {A} F L at n p h e = go (F .read (drop at s)) refl e
     where
       same : (l : List A) (j : ℕ) → n ≡ length l → p ≡ j → Read (F .read (drop at s)) l j → ReadList (F .read (drop at s)) n p
       same l j e f r = record { list = l; count = e; is = rw f r }
 
-      go : (q : Parsed (List A)) → F .read (drop at s) ≡ q → Got n p ≡ toldList s q → ReadList (F .read (drop at s)) n p
+      go : (q : Parsed (List A)) → F .read (drop at s) ≡ q → Got n p ≡ parsedList s q → ReadList (F .read (drop at s)) n p
       go bad f e = no-num n p e
       go (got l rest) f e = same l (length s - length rest) (cc) (cc) (placed F L at l rest h f)
 
-  pub read-no-list : {A : Type 0} (q : Parsed (List A)) → Bad ≡ toldList s q → q ≡ bad
-  unfolding toldList
+  pub read-no-list : {A : Type 0} (q : Parsed (List A)) → Bad ≡ parsedList s q → q ≡ bad
+  unfolding parsedList
   read-no-list bad e = refl
   read-no-list (got l rest) e = no-num (length l) (length s - length rest) (sym e)
 
   -- ---- a text, for any value
-  pub names-read : (w : List ℕ) (n at v p : ℕ) → at ≤ length s → Got v p ≡ told s (expect w n (drop at s)) → Read (expect w (tt {0}) (drop at s)) (tt {0}) p
-  unfolding told
+  pub names-read : (w : List ℕ) (n at v p : ℕ) → at ≤ length s → Got v p ≡ parsedAt s (expect w n (drop at s)) → Read (expect w (tt {0}) (drop at s)) (tt {0}) p
+  unfolding parsedAt
   names-read w n at v p h e = go (expect w n (drop at s)) refl e
     where
-      go : (q : Parsed ℕ) → expect w n (drop at s) ≡ q → Got v p ≡ told s q → Read (expect w (tt {0}) (drop at s)) (tt {0}) p
+      go : (q : Parsed ℕ) → expect w n (drop at s) ≡ q → Got v p ≡ parsedAt s q → Read (expect w (tt {0}) (drop at s)) (tt {0}) p
       go bad f e = no-num v p e
       go (got u rest) f e =
           let j : p ≡ length s - length rest = cc in
@@ -130,7 +130,7 @@ module _ (s : List ℕ) where
           let y = expect-any w n (tt {0}) (drop at s) rest (f ∙ ap (λ z. got z rest) (sym (x .same))) in
           record { within = omega arith; is = y ∙ ap (got (tt {0})) (suffix w rest at h (x .text) ∙ ap (λ z. drop z s) (sym j)) }
 
-  pub names-bad : (w : List ℕ) (n at : ℕ) → Bad ≡ told s (expect w n (drop at s)) → expect w (tt {0}) (drop at s) ≡ bad
+  pub names-bad : (w : List ℕ) (n at : ℕ) → Bad ≡ parsedAt s (expect w n (drop at s)) → expect w (tt {0}) (drop at s) ≡ bad
   names-bad w n at e = expect-none w n (tt {0}) (drop at s) (read-bad (expect w n (drop at s)) e)
 
   -- ---- formats one behind the other
@@ -145,10 +145,10 @@ module _ (s : List ℕ) where
 
     -- the text w, read for any number
     module _ (a : A) (p n : ℕ) (r : Read (F .read (drop at s)) a p) where
-      pub ending-none : Bad ≡ told s (expect w n (drop p s)) → (F ending w) .read (drop at s) ≡ bad
+      pub ending-none : Bad ≡ parsedAt s (expect w n (drop p s)) → (F ending w) .read (drop at s) ≡ bad
       ending-none e = ending-is a p r ∙ expect-none w n a (drop p s) (read-bad (expect w n (drop p s)) e)
 
-      pub ending-read : (v q : ℕ) → Got v q ≡ told s (expect w n (drop p s)) → Read ((F ending w) .read (drop at s)) a q
+      pub ending-read : (v q : ℕ) → Got v q ≡ parsedAt s (expect w n (drop p s)) → Read ((F ending w) .read (drop at s)) a q
       ending-read v q e =
           let t = names-read w n p v q (r .within) e in
           record { within = t .within; is = ending-is a p r ∙ expect-any w (tt {0}) a (drop p s) (drop q s) (t .is) }
@@ -186,11 +186,11 @@ module _ (s : List ℕ) where
     as-read a p r = record { within = r .within; is = rw (r .is) }
 
   -- ---- one word or another
-  pub or-read : (q r : Parsed ℕ) (v p : ℕ) → Got v p ≡ told s q → Got v p ≡ told s (orElse q r)
-  unfolding told orElse
+  pub or-read : (q r : Parsed ℕ) (v p : ℕ) → Got v p ≡ parsedAt s q → Got v p ≡ parsedAt s (orElse q r)
+  unfolding parsedAt orElse
   or-read bad r v p e = no-num v p e
   or-read (got u rest) r v p e = e
 
-  pub or-else : (q r : Parsed ℕ) → Bad ≡ told s q → orElse q r ≡ r
+  pub or-else : (q r : Parsed ℕ) → Bad ≡ parsedAt s q → orElse q r ≡ r
   unfolding orElse
   or-else q r e = ap (λ z. orElse z r) (read-bad q e)

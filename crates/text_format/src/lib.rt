@@ -1,12 +1,12 @@
-// Formats of texts: definitions in specs/, laws in proofs/. There is no code.
-// Readers of digits, words and numbers. Each reads at a place of the text and is its definition there; `told` turns what the
-// definition gives into the answer: the value and the next place, or Bad.
+// Formats of texts (definitions in specs/, laws in proofs/), and readers of digits, words and numbers. Each reads at a place of
+// the text and is its definition there; `parsedAt` turns what the definition gives into the answer: the value and the next
+// place, or Bad.
 ghost use mathlib.Core.Path.{_≡_};
 ghost use mathlib.Core.List.{[], _∷_, _++_};
 ghost use Prim.Native.Nat.{_+_, _-_, _*_, _≤_, _<_};
 ghost use lib.ListN.{length, drop};
 ghost use Rattle.text_format.specs.Format.{digitOf, charOf, hex16, expect, readPlain, readDecimal, _ending_};
-ghost use Rattle.text_format.specs.Told.{told};
+ghost use Rattle.text_format.specs.Answers.{parsedAt};
 
 // A number and the place behind it.
 pub enum Num {
@@ -42,7 +42,7 @@ pub fn char_of(d: u8) -> u8
 // Sixteen hex digits.
 pub fn hex(s: &[u8], at: usize) -> Num
     requires { ⌜ at ≤ length (now s) ⌝ }
-    ensures { λ r. ⌜ r ≡ told (now (s .entry)) (hex16 .read (drop at (now (s .entry)))) ⌝ }
+    ensures { λ r. ⌜ r ≡ parsedAt (now (s .entry)) (hex16 .read (drop at (now (s .entry)))) ⌝ }
 {
     let mut v = 0u64;
     let mut p = at;
@@ -65,7 +65,7 @@ pub fn hex(s: &[u8], at: usize) -> Num
 // The text w, for the value n.
 pub fn word(s: &[u8], at: usize, w: &[u8], n: u64) -> Num
     requires { ⌜ at ≤ length (now s) ⌝ }
-    ensures { λ r. ⌜ r ≡ told (now (s .entry)) (expect (now (w .entry)) n (drop at (now (s .entry)))) ⌝ }
+    ensures { λ r. ⌜ r ≡ parsedAt (now (s .entry)) (expect (now (w .entry)) n (drop at (now (s .entry)))) ⌝ }
 {
     let mut p = at;
     let mut i = 0usize;
@@ -85,7 +85,7 @@ pub fn word(s: &[u8], at: usize, w: &[u8], n: u64) -> Num
 // The byte c, for the value n.
 pub fn byte(s: &[u8], at: usize, c: u8, n: u64) -> Num
     requires { ⌜ at ≤ length (now s) ⌝ }
-    ensures { λ r. ⌜ r ≡ told (now (s .entry)) (expect (c ∷ []) n (drop at (now (s .entry)))) ⌝ }
+    ensures { λ r. ⌜ r ≡ parsedAt (now (s .entry)) (expect (c ∷ []) n (drop at (now (s .entry)))) ⌝ }
 {
     if s.len() <= at {
         return Num::Bad;
@@ -100,7 +100,7 @@ pub fn byte(s: &[u8], at: usize, c: u8, n: u64) -> Num
 // Sixteen hex digits, then the byte c.
 pub fn hex_then(s: &[u8], at: usize, c: u8) -> Num
     requires { ⌜ at ≤ length (now s) ⌝ }
-    ensures { λ r. ⌜ r ≡ told (now (s .entry)) ((hex16 ending (c ∷ [])) .read (drop at (now (s .entry)))) ⌝ }
+    ensures { λ r. ⌜ r ≡ parsedAt (now (s .entry)) ((hex16 ending (c ∷ [])) .read (drop at (now (s .entry)))) ⌝ }
 {
     match hex(s, at) {
         Num::Got(v, p) => byte(s, p, c, v),
@@ -111,7 +111,7 @@ pub fn hex_then(s: &[u8], at: usize, c: u8) -> Num
 // Digits up to the byte `end`, behind those that made v.
 pub fn digits_to(s: &[u8], at: usize, end: u8, most: u64, v: u64) -> Num
     requires { ⌜ (at ≤ length (now s)) × (9 ≤ most) × (v ≤ most) ⌝ }
-    ensures { λ r. ⌜ r ≡ told (now (s .entry)) (readDecimal most end v (drop at (now (s .entry)))) ⌝ }
+    ensures { λ r. ⌜ r ≡ parsedAt (now (s .entry)) (readDecimal most end v (drop at (now (s .entry)))) ⌝ }
 {
     let mut p = at;
     let mut n = v;
@@ -136,7 +136,7 @@ pub fn digits_to(s: &[u8], at: usize, end: u8, most: u64, v: u64) -> Num
 // A plain decimal of at most `most`, then the byte `end`.
 pub fn decimal(s: &[u8], at: usize, end: u8, most: u64) -> Num
     requires { ⌜ (at ≤ length (now s)) × (9 ≤ most) ⌝ }
-    ensures { λ r. ⌜ r ≡ told (now (s .entry)) (readPlain most end (drop at (now (s .entry)))) ⌝ }
+    ensures { λ r. ⌜ r ≡ parsedAt (now (s .entry)) (readPlain most end (drop at (now (s .entry)))) ⌝ }
 {
     if s.len() <= at {
         return Num::Bad;

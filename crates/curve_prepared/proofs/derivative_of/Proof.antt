@@ -1,5 +1,5 @@
 use Rattle.curve_prepared.proofs.Laws.{derivative-by}
-use Rattle.curve_prepared.specs.Ready.{readyDerivative}
+use Rattle.curve_prepared.specs.Prepared.{preparedDerivative}
 use mathlib.Core.Path.{_≡_, refl, sym, ap, _∙_}
 use borrow.Author.Needs.{needs}
 use Rattle.curve_prepared.proofs.derivative_of.Statement.{statement}
@@ -11,19 +11,19 @@ use Rattle.curve_prepared.proofs.round_derivative.Reads as round-deriva
 use Rattle.curve_tangent.proofs.derivative_at.Reads as derivative-at-reads
 
 returns : tie.Need-returns
-unfolding readyDerivative
-returns c = derivative-by _ _ (c .before .ready .given .1) refl
+unfolding preparedDerivative
+returns c = derivative-by _ _ (c .before .prepared .given .1) refl
 
 returns-2 : tie.Need-returns-2
-unfolding readyDerivative
-returns-2 c = derivative-by _ _ (c .before .before .ready2 .given .1) (c .round-derivative .ensures)
+unfolding preparedDerivative
+returns-2 c = derivative-by _ _ (c .before .before .prepared2 .given .1) (c .round-derivative .ensures)
 
 returns-3 : tie.Need-returns-3
-unfolding readyDerivative
-returns-3 c = derivative-by _ _ (c .before .before .ready3 .given .1) (c .parabola-slope .ensures)
+unfolding preparedDerivative
+returns-3 c = derivative-by _ _ (c .before .before .prepared3 .given .1) (c .parabola-slope .ensures)
 
 returns-4 : tie.Need-returns-4
-unfolding readyDerivative
+unfolding preparedDerivative
 returns-4 c = derivative-by _ _ (c .before .enum-told .given .1) (c .derivative-at .ensures)
 
 pub derivative-of-spec : {M : Type 1} → statement M

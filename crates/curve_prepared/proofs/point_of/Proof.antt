@@ -1,6 +1,6 @@
 use Rattle.math.specs.Math.{vAdd}
 use Rattle.curve_prepared.proofs.Laws.{point-by}
-use Rattle.curve_prepared.specs.Ready.{readyPoint}
+use Rattle.curve_prepared.specs.Prepared.{preparedPoint}
 use mathlib.Core.Path.{_≡_, refl, sym, ap, _∙_}
 use borrow.Author.Needs.{needs}
 use Rattle.curve_prepared.proofs.point_of.Statement.{statement}
@@ -13,19 +13,19 @@ use Rattle.curve_prepared.proofs.parabola_point.Reads as parabola-point
 use Rattle.curve_prepared.proofs.round_point.Reads as round-point-reads
 
 returns : tie.Need-returns
-unfolding readyPoint
-returns c = point-by _ _ (c .before .before .before .ready .given .1) (c .add .ensures ∙ ap (vAdd _) (c .before .scale .ensures))
+unfolding preparedPoint
+returns c = point-by _ _ (c .before .before .before .prepared .given .1) (c .add .ensures ∙ ap (vAdd _) (c .before .scale .ensures))
 
 returns-2 : tie.Need-returns-2
-unfolding readyPoint
-returns-2 c = point-by _ _ (c .before .before .ready2 .given .1) (c .round-point .ensures)
+unfolding preparedPoint
+returns-2 c = point-by _ _ (c .before .before .prepared2 .given .1) (c .round-point .ensures)
 
 returns-3 : tie.Need-returns-3
-unfolding readyPoint
-returns-3 c = point-by _ _ (c .before .before .ready3 .given .1) (c .parabola-point .ensures)
+unfolding preparedPoint
+returns-3 c = point-by _ _ (c .before .before .prepared3 .given .1) (c .parabola-point .ensures)
 
 returns-4 : tie.Need-returns-4
-unfolding readyPoint
+unfolding preparedPoint
 returns-4 c = point-by _ _ (c .before .enum-told .given .1) (c .other-point .ensures)
 
 pub point-of-spec : {M : Type 1} → statement M

@@ -1,4 +1,4 @@
-use Rattle.curve_prepared.specs.Ready.{roundDerivative}
+use Rattle.curve_prepared.specs.Prepared.{roundDerivative}
 use Rattle.arith_trig.specs.Trig.{sinCosOf}
 use mathlib.Core.Path.{_≡_, refl, sym, ap, _∙_}
 use borrow.Author.Needs.{needs}

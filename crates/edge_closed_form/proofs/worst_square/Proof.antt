@@ -11,7 +11,7 @@ use Rattle.brep.specs.Rows.{tables}
 use Rattle.brep.specs.Tree.{CurveTree, tree}
 use Rattle.curve.specs.Eval.{pointAt}
 use Rattle.curve_prepared.proofs.Laws.{own-point}
-use Rattle.arith.specs.Notation.{nought}
+use Rattle.arith.specs.Notation.{plusZero}
 use Rattle.edge_closed_form.specs.Worst.{Alike}
 use Rattle.edge_closed_form.specs.Miss.{missOf}
 use Rattle.edge_closed_form.proofs.Squares.{Worst, worst-first, worst-next, miss-root}
@@ -21,13 +21,13 @@ use Rattle.edge_closed_form.proofs.worst_square.Statement.{statement}
 use Rattle.edge_closed_form.proofs.worst_square.Tie as tie
 
 abbrev Inv-loop : tie.InvT-loop
-Inv-loop points curves reals parts ranges row params chain₀ worst₀ ready a₀ pa₀ i₀ chain worst a pa i =
+Inv-loop points curves reals parts ranges row params chain₀ worst₀ prepared a₀ pa₀ i₀ chain worst a pa i =
     (pa ≡ pointAt (tree (tables points curves reals parts ranges) row) a)
     × ((m : Float) × Missing (tree (tables points curves reals parts ranges) row) params m a (i + 1) × Worst worst m)
     × (i < length params) × (a ≡ getD params i nan) × (length chain ≡ length chain₀) × Written (tree (tables points curves reals parts ranges) row) chain₀ params chain i
 
 abbrev μ-loop : tie.MeasureT-loop
-μ-loop points curves reals parts ranges row params chain₀ worst₀ ready a₀ pa₀ i₀ chain worst a pa i = length params - i
+μ-loop points curves reals parts ranges row params chain₀ worst₀ prepared a₀ pa₀ i₀ chain worst a pa i = length params - i
 
 -- the curve that is read
 abbrev curve-of : tie.Start Inv-loop μ-loop → CurveTree
@@ -38,7 +38,7 @@ curve-of st =
 returns : tie.Need-returns Inv-loop μ-loop
 returns c =
     let st = c .before .before .before .before .before .before .before .before in (
-      subst (λ (x : Float). Alike (rootOf nought) x) (no-params (curve-of st) (st .args .params .now) (c .if1 .taken)) (worst-first .alike),
+      subst (λ (x : Float). Alike (rootOf plusZero) x) (no-params (curve-of st) (st .args .params .now) (c .if1 .taken)) (worst-first .alike),
       written-all (curve-of st) (st .args .chain .now) (st .args .params .now) (st .args .chain .now) 0 (omega (arith, c .if1 .taken)) (written-none (curve-of st) (st .args .chain .now) (st .args .params .now) (st .args .chain .now) refl),
     )
 
@@ -46,8 +46,8 @@ loop-holds : tie.Need-loop-holds Inv-loop μ-loop
 loop-holds c =
     let st = c .before .before .before .before .before .before .before .before .before .before .before in
     let some = c .before .before .before .if1 .left in (
-      own-point (curve-of st) _ (c .before .before .ready-at .ensures) (c .point-of .ensures),
-      (nought, first-param (curve-of st) (st .args .params .now) some, worst-first),
+      own-point (curve-of st) _ (c .before .before .prepare .ensures) (c .point-of .ensures),
+      (plusZero, first-param (curve-of st) (st .args .params .now) some, worst-first),
       positive (st .args .params .now) some,
       refl,
       refl,
@@ -72,7 +72,7 @@ shared-slice-read-b c = omega (arith, c .before .before .before .before .before 
 miss-square-requires : tie.Need-miss-square-requires Inv-loop μ-loop
 miss-square-requires c κs =
     let st = c .before .before .before .before .before .before .before .before .before .before .before .before .before .before .before .before .before .before .before in
-    let R = c .before .before .before .before .before .before .before .before .before .before .ready-at .ensures in
+    let R = c .before .before .before .before .before .before .before .before .before .before .prepare .ensures in
     (R, c .before .before .before .before .before .before .before .loop .inv .0, own-point (curve-of st) _ R (c .point-of2 .ensures))
 
 add-i : tie.Need-add-i Inv-loop μ-loop
@@ -83,7 +83,7 @@ loop-again c =
     let st = c .before .before .before .before .before .before .before .before .before .before .before .before .before .before .before .before .before .before .before .before .before in
     let l = c .before .before .before .before .before .before .before .before .before .loop in
     let m = l .inv .1 .0 in (
-      own-point (curve-of st) _ (c .before .before .before .before .before .before .before .before .before .before .before .before .ready-at .ensures) (c .before .before .point-of2 .ensures),
+      own-point (curve-of st) _ (c .before .before .before .before .before .before .before .before .before .before .before .before .prepare .ensures) (c .before .before .point-of2 .ensures),
       (
         maxOf m (rootOf (c .before .miss-square .result)),
         next-param (curve-of st) (st .args .params .now) m (l .a) (l .i + 1) (l .inv .1 .1)

@@ -1,7 +1,7 @@
 -- `edge_escape::nearest` meets its contract. The invariant: both vertices have their nearest of the parameters up to i. Assumes nothing.
 use Rattle.edge_escape.proofs.Sweep.{Swept, swept-first, swept-more, swept-all}
 use Rattle.curve.specs.Eval.{naturalRange}
-use Rattle.curve_prepared.specs.Ready.{readyOf}
+use Rattle.curve_prepared.specs.Prepared.{preparedOf}
 use Rattle.brep.specs.Tree.{tree}
 use Rattle.brep.specs.Rows.{tables}
 use borrow.Author.Needs.{needs}
@@ -12,20 +12,20 @@ use Rattle.edge_escape.proofs.nearest.Statement.{statement}
 use Rattle.edge_escape.proofs.nearest.Tie as tie
 
 abbrev Inv-loop : tie.InvT-loop
-Inv-loop points curves reals parts ranges row start end natural ready first a₀ b₀ i₀ a b i =
+Inv-loop points curves reals parts ranges row start end natural prepared first a₀ b₀ i₀ a b i =
     let curve = tree (tables points curves reals parts ranges) row in
-    (i ≤ 512) × (natural ≡ naturalRange curve) × (ready ≡ readyOf curve) × Swept curve natural start i a × Swept curve natural end i b
+    (i ≤ 512) × (natural ≡ naturalRange curve) × (prepared ≡ preparedOf curve) × Swept curve natural start i a × Swept curve natural end i b
 
 abbrev μ-loop : tie.MeasureT-loop
-μ-loop points curves reals parts ranges row start end natural ready first a₀ b₀ i₀ a b i = 512 - i
+μ-loop points curves reals parts ranges row start end natural prepared first a₀ b₀ i₀ a b i = 512 - i
 
 loop-holds : tie.Need-loop-holds Inv-loop μ-loop
 loop-holds c = (
   omega arith,
   c .before .before .before .before .before .natural-range .ensures,
-  c .before .before .before .before .ready-at .ensures,
-  swept-first _ _ _ (c .before .before .before .sweep-at .ensures) (c .before .before .before .before .ready-at .ensures) (c .before .before .point-of .ensures) (c .before .measured .ensures),
-  swept-first _ _ _ (c .before .before .before .sweep-at .ensures) (c .before .before .before .before .ready-at .ensures) (c .before .before .point-of .ensures) (c .measured2 .ensures),
+  c .before .before .before .before .prepare .ensures,
+  swept-first _ _ _ (c .before .before .before .sweep-at .ensures) (c .before .before .before .before .prepare .ensures) (c .before .before .point-of .ensures) (c .before .measured .ensures),
+  swept-first _ _ _ (c .before .before .before .sweep-at .ensures) (c .before .before .before .before .prepare .ensures) (c .before .before .point-of .ensures) (c .measured2 .ensures),
 )
 
 loop-again : tie.Need-loop-again Inv-loop μ-loop

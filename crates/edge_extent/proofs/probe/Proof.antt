@@ -5,13 +5,13 @@ use Rattle.edge_extent.proofs.probe.Statement.{statement}
 use Rattle.edge_extent.proofs.probe.Tie as tie
 
 returns : tie.Need-returns
-returns c = c .before .is-line-inside .ensures (c .if1 .taken) _ (sym (c .before .before .before .before .before .ready-at .ensures) ∙ c .before .before .before .ready .given .1)
+returns c = c .before .is-line-inside .ensures (c .if1 .taken) _ (sym (c .before .before .before .before .before .prepare .ensures) ∙ c .before .before .before .prepared .given .1)
 
 returns-2 : tie.Need-returns-2
-returns-2 c = c .probe-line .ensures _ (sym (c .before .before .before .before .before .before .ready-at .ensures) ∙ c .before .before .before .before .ready .given .1)
+returns-2 c = c .probe-line .ensures _ (sym (c .before .before .before .before .before .before .prepare .ensures) ∙ c .before .before .before .before .prepared .given .1)
 
 probe-each-requires : tie.Need-probe-each-requires
-probe-each-requires c κs = c .before .ready-at .ensures
+probe-each-requires c κs = c .before .prepare .ensures
 
 returns-3 : tie.Need-returns-3
 returns-3 c = c .probe-each .ensures

@@ -11,11 +11,11 @@ use Rattle.edge_extent.proofs.probe_each.Statement.{statement}
 use Rattle.edge_extent.proofs.probe_each.Tie as tie
 
 abbrev Inv-loop : tie.InvT-loop
-Inv-loop ready points curves reals parts ranges row range found₀ i₀ found i =
+Inv-loop prepared points curves reals parts ranges row range found₀ i₀ found i =
     (i ≤ 9) × (found ≡ probed (tree (tables points curves reals parts ranges) row) range found₀ i)
 
 abbrev μ-loop : tie.MeasureT-loop
-μ-loop ready points curves reals parts ranges row range found₀ i₀ found i =
+μ-loop prepared points curves reals parts ranges row range found₀ i₀ found i =
     9 - i
 
 loop-holds : tie.Need-loop-holds Inv-loop μ-loop

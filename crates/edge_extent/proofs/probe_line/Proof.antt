@@ -4,8 +4,8 @@ use Prim.Native.Nat.{_≤_, _-_}
 use native.Mathlib.Omega.{arith}
 use Rattle.brep.specs.Tree.{CurveTree}
 use Rattle.math.specs.Math.{vAdd}
-use Rattle.curve_prepared.specs.declared.Ready.the-variants.{Line}
-use Rattle.curve_prepared.specs.Ready.{readyOf, readyPoint}
+use Rattle.curve_prepared.specs.declared.Prepared.the-variants.{Line}
+use Rattle.curve_prepared.specs.Prepared.{preparedOf, preparedPoint}
 use Rattle.draw_spec.specs.Edge.{probed}
 use Rattle.edge_extent.proofs.Laws.{one-more, all-nine}
 use borrow.Author.Needs.{needs}
@@ -14,7 +14,7 @@ use Rattle.edge_extent.proofs.probe_line.Tie as tie
 
 abbrev Inv-loop : tie.InvT-loop
 Inv-loop origin direction range found₀ i₀ found i =
-    (i ≤ 9) × ((c : CurveTree) → readyOf c ≡ Line origin direction → found ≡ probed c range found₀ i)
+    (i ≤ 9) × ((c : CurveTree) → preparedOf c ≡ Line origin direction → found ≡ probed c range found₀ i)
 
 abbrev μ-loop : tie.MeasureT-loop
 μ-loop origin direction range found₀ i₀ found i =
@@ -31,7 +31,7 @@ loop-less : tie.Need-loop-less Inv-loop μ-loop
 loop-less c = omega arith
 
 loop-again : tie.Need-loop-again Inv-loop μ-loop
-unfolding readyPoint
+unfolding preparedPoint
 loop-again c =
     let l = c .before .before .before .before .before .before .loop in (
       omega arith,

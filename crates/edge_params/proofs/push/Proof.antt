@@ -1,6 +1,6 @@
 -- `push` meets its contract. Assumes nothing.
 use borrow.Author.Needs.{needs}
-use Rattle.edge_params.proofs.Held.{behind-one, behind-over}
+use Rattle.edge_params.proofs.Written.{behind-one, behind-over}
 use Rattle.edge_params.proofs.push.Statement.{statement}
 use Rattle.edge_params.proofs.push.Tie as tie
 

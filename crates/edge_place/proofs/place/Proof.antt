@@ -16,14 +16,14 @@ use Rattle.edge_place.proofs.place.Statement.{statement}
 use Rattle.edge_place.proofs.place.Tie as tie
 
 abbrev Inv-loop : tie.InvT-loop
-Inv-loop points curves reals parts ranges edge params known chain₀ ready reversed kept n i₀ chain i =
+Inv-loop points curves reals parts ranges edge params known chain₀ prepared reversed kept n i₀ chain i =
     (i ≤ length params) × (length chain ≡ length chain₀) × (chain ≡ sets chain₀ 0 (flat (take i (placed (tables points curves reals parts ranges) edge params))))
 
 abbrev μ-loop : tie.MeasureT-loop
-μ-loop points curves reals parts ranges edge params known chain₀ ready reversed kept n i₀ chain i = length params - i
+μ-loop points curves reals parts ranges edge params known chain₀ prepared reversed kept n i₀ chain i = length params - i
 
 is-reversed-requires : tie.Need-is-reversed-requires Inv-loop μ-loop
-is-reversed-requires c κs = (omega arith, search needs, c .before .ready-at .ensures, search needs)
+is-reversed-requires c κs = (omega arith, search needs, c .before .prepare .ensures, search needs)
 
 loop-holds : tie.Need-loop-holds Inv-loop μ-loop
 loop-holds c = let a = c .before .before .before .before .before .before .before .before .before .before .before .args in (omega arith, refl, place-start (lent (a .points) (a .curves) (a .reals) (a .parts) (a .ranges)) (a .edge) (now (a .params)) (omega arith) (now (a .chain)))
@@ -37,7 +37,7 @@ record-at-requires c κs =
     let inside : l .i < length (now (a .params)) = omega arith in (
       inside,
       omega arith,
-      c .before .before .before .before .before .before .ready-at .ensures,
+      c .before .before .before .before .before .before .prepare .ensures,
       λ k. ⊎-elim
           (λ w. absurd (false≢true (_∙_ {b = j .kept} (sym (w .1)) k)))
           (λ w. still-held (lent (a .points) (a .curves) (a .reals) (a .parts) (a .ranges)) (a .edge) (now (a .params)) (s .pre .0) (now (a .chain)) (l .chain) (l .i) inside (l .inv .2) (w .0 .left) (s .pre .2 (_∙_ {b = j .kept} (sym (w .1)) k)))

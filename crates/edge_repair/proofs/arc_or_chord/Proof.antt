@@ -1,5 +1,5 @@
 -- `edge_repair::arc_or_chord` meets its contract: the arc stays in the second buffer, or the chord takes its place. Assumes nothing.
-use Rattle.edge_repair.proofs.Held.{kept-second, second-is}
+use Rattle.edge_repair.proofs.Buffers.{kept-second, second-is}
 use Rattle.edge_repair.proofs.Ways.{arc-kept, arc-chord}
 use Rattle.draw_spec.specs.declared.Way.the-variants.{ShortArc}
 use Rattle.edge_place.specs.Place.{ofPoints}

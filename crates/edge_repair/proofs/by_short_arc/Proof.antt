@@ -1,5 +1,5 @@
 -- `edge_repair::by_short_arc` meets its contract: the records in the second buffer are the arc that was drawn. Assumes nothing.
-use Rattle.edge_repair.proofs.Held.{Redrew, redrew, drew, drew-room, drew-own, drew-reads, redrawn-refused, redrawn-second, second-is}
+use Rattle.edge_repair.proofs.Buffers.{Redrew, redrew, drew, drew-room, drew-own, drew-reads, redrawn-refused, redrawn-second, second-is}
 use Rattle.edge_repair.proofs.Ways.{arc-points, short-unusable, short-bind, short-drawn}
 use Rattle.draw_spec.specs.Edge.{discretised}
 use Rattle.draw_spec.specs.Repair.{withRange, arcOrChord}

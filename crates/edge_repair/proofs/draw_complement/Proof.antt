@@ -1,5 +1,5 @@
 -- `edge_repair::draw_complement` meets its contract: the records in the second buffer are the arc that was drawn. Assumes nothing.
-use Rattle.edge_repair.proofs.Held.{Redrew, redrew, drew, drew-room, drew-own, drew-reads, drew-escapes, redrawn-refused, redrawn-is, redrawn-from, redrawn-second, kept-second, second-is}
+use Rattle.edge_repair.proofs.Buffers.{Redrew, redrew, drew, drew-room, drew-own, drew-reads, drew-escapes, redrawn-refused, redrawn-is, redrawn-from, redrawn-second, kept-second, second-is}
 use Rattle.edge_repair.proofs.Ways.{complement-bind, complement-escapes, complement-stays}
 use Rattle.draw_spec.specs.declared.Way.the-variants.{Complement}
 use Rattle.draw_spec.specs.Edge.{discretised}

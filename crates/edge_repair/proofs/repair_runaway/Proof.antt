@@ -1,5 +1,5 @@
 -- `edge_repair::repair_runaway` meets its contract: no refusal is below 8, so that one leaves both buffers all +0.0. Assumes nothing.
-use Rattle.edge_repair.proofs.Held.{kept-after, redrawn-is, redrawn-after}
+use Rattle.edge_repair.proofs.Buffers.{kept-after, redrawn-is, redrawn-after}
 use Rattle.edge_repair.proofs.Ways.{repaired-kept, repaired-complement, repaired-short}
 use Rattle.draw_spec.specs.Repair.{by, repaired}
 use Rattle.edge_record.specs.Chain.{samples}

@@ -1,5 +1,5 @@
 -- `edge_repair::runaway` meets its contract. Assumes nothing.
-use Rattle.edge_repair.proofs.Held.{chord-second}
+use Rattle.edge_repair.proofs.Buffers.{chord-second}
 use Rattle.edge_place.specs.Place.{ofPoints}
 use denote.Ref.{now}
 use borrow.Author.Needs.{needs}

@@ -14,7 +14,7 @@ use Rattle.edge_closed_form.specs.Located.{located}
 use Rattle.edge_closed_form.proofs.Located.{located-none}
 use Rattle.edge_sample.specs.Sample.{sampler, sampled}
 use Rattle.edge_sample.proofs.Settled.{settle-room, settled}
-use Rattle.edge_sample.proofs.Ways.{answered-as, told-as, no-form, no-form-tried, form-refused, refused-tried, form-meets, form-misses, form-tried, form-within}
+use Rattle.edge_sample.proofs.Ways.{answered-as, parsed-as, no-form, no-form-tried, form-refused, refused-tried, form-meets, form-misses, form-tried, form-within}
 use Rattle.edge_sample.proofs.sample_params.Statement.{statement}
 use Rattle.edge_sample.proofs.sample_params.Tie as tie
 
@@ -30,7 +30,7 @@ returns c =
     let is = c .before .before .before .before .before .before .before .analytic-segments .ensures in
     let none = c .before .before .before .before .before .enum-told .given .1 in
     let t = no-form-tried (length (st .args .out .now)) (curve-of st) (st .args .range) (st .args .r) _ is none in (
-      told-as _ _ (c .unknown .ensures .0) (length (st .args .out .now)) (sampled (length (st .args .out .now)) (curve-of st) (st .args .range) (st .args .r)) _ (answered-as (c .before .before .before .refine .result) _ _ _ refl (λ n. refined n (sampler (curve-of st) (st .args .range) (st .args .r)) (st .args .range)) (sampled (length (st .args .out .now)) (curve-of st) (st .args .range) (st .args .r)) (no-form (length (st .args .out .now)) (curve-of st) (st .args .range) (st .args .r) _ is none) (c .before .before .before .refine .ensures)),
+      parsed-as _ _ (c .unknown .ensures .0) (length (st .args .out .now)) (sampled (length (st .args .out .now)) (curve-of st) (st .args .range) (st .args .r)) _ (answered-as (c .before .before .before .refine .result) _ _ _ refl (λ n. refined n (sampler (curve-of st) (st .args .range) (st .args .r)) (st .args .range)) (sampled (length (st .args .out .now)) (curve-of st) (st .args .range) (st .args .r)) (no-form (length (st .args .out .now)) (curve-of st) (st .args .range) (st .args .r) _ is none) (c .before .before .before .refine .ensures)),
       c .unknown .ensures .1 ∙ t .1,
       located-none (curve-of st) _ _ (t .0),
     )
@@ -42,7 +42,7 @@ returns-2 : tie.Need-returns-2
 returns-2 c =
     let st = c .before .before .before .before .before .before .before .before .before .before .before .before .before .before .before .before .before .before .before .before .before .before in
     let t = refused-tried (length (st .args .out .now)) (curve-of st) (st .args .range) (st .args .r) _ (c .before .before .before .before .before .before .before .before .before .before .before .before .before .before .analytic-segments .ensures) _ (c .before .before .before .before .before .before .before .before .before .before .before .before .form .given .1) refl _ (c .before .before .before .before .before .before .before .before .before .evenly .ensures) (c .before .before .before .before .before .enum-told2 .given .1) in (
-      told-as _ _ (c .unknown2 .ensures .0) (length (st .args .out .now)) (sampled (length (st .args .out .now)) (curve-of st) (st .args .range) (st .args .r)) _ (settled _ _ refl (c .before .before .before .before .before .before .before .before .before .evenly .ensures) (length (st .args .out .now)) (sampled (length (st .args .out .now)) (curve-of st) (st .args .range) (st .args .r)) refl (form-refused (length (st .args .out .now)) (curve-of st) (st .args .range) (st .args .r) _ (c .before .before .before .before .before .before .before .before .before .before .before .before .before .before .analytic-segments .ensures) _ (c .before .before .before .before .before .before .before .before .before .before .before .before .form .given .1) refl _ (c .before .before .before .before .before .before .before .before .before .evenly .ensures) (c .before .before .before .before .before .enum-told2 .given .1)) _ _ (c .before .before .before .settle .ensures .0) (c .before .before .before .settle .ensures .1)),
+      parsed-as _ _ (c .unknown2 .ensures .0) (length (st .args .out .now)) (sampled (length (st .args .out .now)) (curve-of st) (st .args .range) (st .args .r)) _ (settled _ _ refl (c .before .before .before .before .before .before .before .before .before .evenly .ensures) (length (st .args .out .now)) (sampled (length (st .args .out .now)) (curve-of st) (st .args .range) (st .args .r)) refl (form-refused (length (st .args .out .now)) (curve-of st) (st .args .range) (st .args .r) _ (c .before .before .before .before .before .before .before .before .before .before .before .before .before .before .analytic-segments .ensures) _ (c .before .before .before .before .before .before .before .before .before .before .before .before .form .given .1) refl _ (c .before .before .before .before .before .before .before .before .before .evenly .ensures) (c .before .before .before .before .before .enum-told2 .given .1)) _ _ (c .before .before .before .settle .ensures .0) (c .before .before .before .settle .ensures .1)),
       c .unknown2 .ensures .1 ∙ t .1,
       located-none (curve-of st) _ _ (t .0),
     )
@@ -71,7 +71,7 @@ returns-4 : tie.Need-returns-4
 returns-4 c =
     let st = c .before .before .before .before .before .before .before .before .before .before .before .before .before .before .before .before .before .before .before .before .before .before .before .before .before .before .before .before .before in
     let m = c .before .before .before .before .before .before .before .before .meets .ensures in (
-      told-as _ _ (c .unknown3 .ensures .0) (length (st .args .out .now)) (sampled (length (st .args .out .now)) (curve-of st) (st .args .range) (st .args .r)) _ (answered-as (c .before .before .before .refine2 .result) _ _ _ (c .before .before .before .before .before .before .before .before .before .before .before .before .before .before .before .out2 .given) (λ n. refined n (sampler (curve-of st) (st .args .range) (st .args .r)) (st .args .range)) (sampled (length (st .args .out .now)) (curve-of st) (st .args .range) (st .args .r)) (form-misses (length (st .args .out .now)) (curve-of st) (st .args .range) (st .args .r) _ (c .before .before .before .before .before .before .before .before .before .before .before .before .before .before .before .before .before .before .before .before .before .analytic-segments .ensures) _ (c .before .before .before .before .before .before .before .before .before .before .before .before .before .before .before .before .before .before .before .form .given .1) refl _ (c .before .before .before .before .before .before .before .before .before .before .before .before .before .before .before .before .evenly .ensures) _ (c .before .before .before .before .before .before .before .before .before .before .before .before .even .given .1) _ (m .0) (c .before .before .before .before .before .if1 .left)) (c .before .before .before .refine2 .ensures)),
+      parsed-as _ _ (c .unknown3 .ensures .0) (length (st .args .out .now)) (sampled (length (st .args .out .now)) (curve-of st) (st .args .range) (st .args .r)) _ (answered-as (c .before .before .before .refine2 .result) _ _ _ (c .before .before .before .before .before .before .before .before .before .before .before .before .before .before .before .out2 .given) (λ n. refined n (sampler (curve-of st) (st .args .range) (st .args .r)) (st .args .range)) (sampled (length (st .args .out .now)) (curve-of st) (st .args .range) (st .args .r)) (form-misses (length (st .args .out .now)) (curve-of st) (st .args .range) (st .args .r) _ (c .before .before .before .before .before .before .before .before .before .before .before .before .before .before .before .before .before .before .before .before .before .analytic-segments .ensures) _ (c .before .before .before .before .before .before .before .before .before .before .before .before .before .before .before .before .before .before .before .form .given .1) refl _ (c .before .before .before .before .before .before .before .before .before .before .before .before .before .before .before .before .evenly .ensures) _ (c .before .before .before .before .before .before .before .before .before .before .before .before .even .given .1) _ (m .0) (c .before .before .before .before .before .if1 .left)) (c .before .before .before .refine2 .ensures)),
       c .unknown3 .ensures .1 ∙ sym (c .before .before .before .before .before .if1 .left) ∙ form-within (length (st .args .out .now)) (curve-of st) (st .args .range) (st .args .r) _ (c .before .before .before .before .before .before .before .before .before .before .before .before .before .before .before .before .before .before .before .before .before .analytic-segments .ensures) _ (c .before .before .before .before .before .before .before .before .before .before .before .before .before .before .before .before .before .before .before .form .given .1) refl _ (c .before .before .before .before .before .before .before .before .before .before .before .before .before .before .before .before .evenly .ensures) _ (c .before .before .before .before .before .before .before .before .before .before .before .before .even .given .1) _ (m .0),
       m .1 ∙ ap (λ (l : List Float). sets (st .args .chain .now) 0 (flat (located (curve-of st) l))) (form-tried (length (st .args .out .now)) (curve-of st) (st .args .range) (st .args .r) _ (c .before .before .before .before .before .before .before .before .before .before .before .before .before .before .before .before .before .before .before .before .before .analytic-segments .ensures) _ (c .before .before .before .before .before .before .before .before .before .before .before .before .before .before .before .before .before .before .before .form .given .1) refl _ (c .before .before .before .before .before .before .before .before .before .before .before .before .before .before .before .before .evenly .ensures) _ (c .before .before .before .before .before .before .before .before .before .before .before .before .even .given .1)),
     )

@@ -1,7 +1,7 @@
 -- `edge_sample::step` meets its contract. Assumes nothing.
 use mathlib.Core.Path.{sym}
 use borrow.Author.Needs.{needs}
-use Rattle.edge_params.proofs.Held.{behind-none, behind-room, behind-refused, behind-then}
+use Rattle.edge_params.proofs.Written.{behind-none, behind-room, behind-refused, behind-then}
 use Rattle.edge_sample.proofs.Walking.{not-hi, is-hi}
 use Rattle.edge_sample.proofs.step.Statement.{statement}
 use Rattle.edge_sample.proofs.step.Tie as tie

@@ -6,18 +6,18 @@ use lib.ListN.{length}
 use borrow.Author.Needs.{needs}
 use Rattle.brep.specs.Rows.{tables}
 use Rattle.brep.specs.Tree.{CurveTree, tree}
-use Rattle.edge_params.proofs.Held.{behind-room}
+use Rattle.edge_params.proofs.Written.{behind-room}
 use Rattle.edge_sample.proofs.Walking.{Walking, end-own, low-refused, low-then, walking-start, walking-room, walking-refused, walking-next, walking-done}
 use Rattle.edge_sample.proofs.walk.Statement.{statement}
 use Rattle.edge_sample.proofs.walk.Tie as tie
 
 abbrev Inv-loop : tie.InvT-loop
-Inv-loop points curves reals parts ranges row range r breaks out₀ ready limits first k₀ left₀ i₀ out k left i =
+Inv-loop points curves reals parts ranges row range r breaks out₀ prepared limits first k₀ left₀ i₀ out k left i =
     (i ≤ length breaks + 1)
     × Walking (tree (tables points curves reals parts ranges) row) range r breaks out₀ k₀ out left k i
 
 abbrev μ-loop : tie.MeasureT-loop
-μ-loop points curves reals parts ranges row range r breaks out₀ ready limits first k₀ left₀ i₀ out k left i = length breaks + 1 - i
+μ-loop points curves reals parts ranges row range r breaks out₀ prepared limits first k₀ left₀ i₀ out k left i = length breaks + 1 - i
 
 -- the curve that is read
 abbrev curve-of : tie.Start Inv-loop μ-loop → CurveTree
@@ -32,7 +32,7 @@ returns c =
     (c .before .before .before .before .push .ensures) (c .enum-told .given .1)
 
 end-at-requires : tie.Need-end-at-requires Inv-loop μ-loop
-end-at-requires c κs = c .before .before .before .before .before .before .before .before .ready-at .ensures
+end-at-requires c κs = c .before .before .before .before .before .before .before .before .prepare .ensures
 
 loop-holds : tie.Need-loop-holds Inv-loop μ-loop
 loop-holds c =
@@ -44,13 +44,13 @@ loop-holds c =
     )
 
 end-at-requires-2 : tie.Need-end-at-requires-2 Inv-loop μ-loop
-end-at-requires-2 c κs = c .before .before .before .before .before .before .before .before .before .before .before .before .ready-at .ensures
+end-at-requires-2 c κs = c .before .before .before .before .before .before .before .before .before .before .before .before .prepare .ensures
 
 step-requires : tie.Need-step-requires Inv-loop μ-loop
 step-requires c κs =
     let st = c .before .before .before .before .before .before .before .before .before .before .before .before .before .before .before .before .before .before .before .before .before .before in
     let s = c .before .before .before .before .loop .inv .1 in (
-      c .before .before .before .before .before .before .before .before .before .before .before .before .before .before .ready-at .ensures,
+      c .before .before .before .before .before .before .before .before .before .before .before .before .before .before .prepare .ensures,
       c .before .before .before .before .before .before .before .before .before .before .before .before .before .limits-of .ensures,
       s .own,
       end-own (curve-of st) _ _ (c .before .end-at2 .ensures),

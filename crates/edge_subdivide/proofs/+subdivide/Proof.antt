@@ -1,5 +1,5 @@
 use Rattle.edge_subdivide.proofs.Laws.{none-deep, none-within, middle-own, halves}
-use Rattle.edge_params.proofs.Held.{behind-room, front-refused, one-refused, all-three}
+use Rattle.edge_params.proofs.Written.{behind-room, front-refused, one-refused, all-three}
 use Rattle.brep.specs.Tree.{tree}
 use Rattle.brep.specs.Rows.{lent}
 use native.Mathlib.Omega.{arith}

@@ -4,7 +4,7 @@ use native.Mathlib.Omega.{arith}
 use mathlib.Core.Path.{sym}
 use mathlib.Core.Logic.{inl, inr}
 use lib.Ieee.{lt}
-use Rattle.arith.specs.Notation.{nought}
+use Rattle.arith.specs.Notation.{plusZero}
 use Rattle.edge_record.specs.Chain.{most}
 use Rattle.edge_thin.proofs.Ways.{lent-length, lent-fits, lent-false, said-as-it-was, said-lent}
 use borrow.Author.Needs.{needs}
@@ -19,7 +19,7 @@ returns c =
 returns-2 : tie.Need-returns-2
 returns-2 c =
     let a = c .before .before .before .args in
-    said-as-it-was (a .tolerance) (a .angle) (a .floor) (a .n) (a .chain .now) (inr (not-true (lt nought (a .tolerance)) (c .if2 .taken)))
+    said-as-it-was (a .tolerance) (a .angle) (a .floor) (a .n) (a .chain .now) (inr (not-true (lt plusZero (a .tolerance)) (c .if2 .taken)))
 
 slice-aggregate-thin-with : tie.Need-slice-aggregate-thin-with
 slice-aggregate-thin-with c = sym (lent-length (c .before .before .before .before .before .before .args .n) 128 (omega arith))
@@ -29,7 +29,7 @@ thin-with-requires c κs =
     let st = c .before .before .before .before .before .before in
     let n = st .args .n in
     let fits = lent-fits n 128 (c .before .before .if3 .taken) (c .before .before .before .before .if1 .left) (st .pre .0) (st .pre .1) in
-    (fits .0, fits .1, fits .2, lent-false n 128 (c .before .before .if3 .taken), not-false (lt nought (st .args .tolerance)) (c .before .before .before .if2 .left))
+    (fits .0, fits .1, fits .2, lent-false n 128 (c .before .before .if3 .taken), not-false (lt plusZero (st .args .tolerance)) (c .before .before .before .if2 .left))
 
 returns-3 : tie.Need-returns-3
 returns-3 c =
@@ -44,7 +44,7 @@ thin-with-requires-2 c κs =
     let st = c .before .before .before .before .before .before in
     let n = st .args .n in
     let fits = lent-fits n most (st .pre .0) (c .before .before .before .before .if1 .left) (st .pre .0) (st .pre .1) in
-    (fits .0, fits .1, fits .2, lent-false n most (st .pre .0), not-false (lt nought (st .args .tolerance)) (c .before .before .before .if2 .left))
+    (fits .0, fits .1, fits .2, lent-false n most (st .pre .0), not-false (lt plusZero (st .args .tolerance)) (c .before .before .before .if2 .left))
 
 returns-4 : tie.Need-returns-4
 returns-4 c =

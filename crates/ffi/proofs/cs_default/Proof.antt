@@ -4,7 +4,7 @@ use Rattle.ffi.proofs.cs_default.Statement.{statement}
 use Rattle.ffi.proofs.cs_default.Tie as tie
 
 returns : tie.Need-returns
-returns c = rw (c .radians .ensures) (c .before .default .ensures)
+returns c = rw (c .to-radians .ensures) (c .before .default .ensures)
 
 pub cs-default-spec : {M : Type 1} → statement M
 cs-default-spec = tie.close (tie.spec (λ c κs. search needs) (λ c κs. search needs) returns)

@@ -5,7 +5,7 @@ use Rattle.ffi.proofs.cs_draw_over.Statement.{statement}
 use Rattle.ffi.proofs.cs_draw_over.Tie as tie
 
 returns : tie.Need-returns
-returns c = by-numbers _ _ _ _ _ _ _ _ _ _ _ (c .before .before .before .before .before .before .before .before .before .edge-of .ensures) (c .before .before .before .before .before .before .before .before .options-of .ensures) (c .before .before .before .before .before .draw-edge .ensures) (c .codes-of .ensures)
+returns c = by-numbers _ _ _ _ _ _ _ _ _ _ _ (c .before .before .before .before .before .before .before .before .before .edge-of .ensures) (c .before .before .before .before .before .before .before .before .options-of .ensures) (c .before .before .before .before .before .draw-over .ensures) (c .codes-of .ensures)
 
 pub cs-draw-over-spec : {M : Type 1} → statement M
 cs-draw-over-spec =

@@ -4,7 +4,7 @@ use Rattle.ffi.proofs.cs_fine.Statement.{statement}
 use Rattle.ffi.proofs.cs_fine.Tie as tie
 
 returns : tie.Need-returns
-returns c = rw (c .radians .ensures) (c .before .fine .ensures)
+returns c = rw (c .to-radians .ensures) (c .before .fine .ensures)
 
 pub cs-fine-spec : {M : Type 1} → statement M
 cs-fine-spec = tie.close (tie.spec (λ c κs. search needs) (λ c κs. search needs) returns)

@@ -6,7 +6,7 @@ use Rattle.ffi.proofs.cs_is_clamped.Statement.{statement}
 use Rattle.ffi.proofs.cs_is_clamped.Tie as tie
 
 returns : tie.Need-returns
-returns c = c .is-clamped .ensures ∙ ap isClamped (c .before .of .ensures)
+returns c = c .is-clamped .ensures ∙ ap isClamped (c .before .radians .ensures)
 
 pub cs-is-clamped-spec : {M : Type 1} → statement M
 cs-is-clamped-spec = tie.close (tie.spec (λ c κs. search needs) (λ c κs. search needs) returns)

@@ -4,7 +4,7 @@ use Rattle.sheet.proofs.options_from.Statement.{statement}
 use Rattle.sheet.proofs.options_from.Tie as tie
 
 returns : tie.Need-returns
-returns c = rw (c .before .before .before .float-of .ensures, c .before .of .ensures, c .before .before .float-of2 .ensures, c .float-of3 .ensures)
+returns c = rw (c .before .before .before .float-of .ensures, c .before .radians .ensures, c .before .before .float-of2 .ensures, c .float-of3 .ensures)
 
 pub options-from-spec : {M : Type 1} → statement M
 options-from-spec =

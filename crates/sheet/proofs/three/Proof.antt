@@ -8,9 +8,9 @@ use Rattle.sheet_layout.specs.Layout.{pointColumns, curveColumns, segmentColumn
 use Rattle.sheet_layout.proofs.Laws.{points-law, curves-law, segments-law}
 use Rattle.sheet_row.specs.Rows.{floatsOf, wholesOf}
 use Rattle.text_format.proofs.Place.{ReadList, read-list, read-no-list, then-bad, then-bad-on, then-read}
-use Rattle.sheet_tables.specs.Told.{flattened}
+use Rattle.sheet_tables.specs.Answers.{flattened}
 use Rattle.sheet.specs.Sheet.{floatOf}
-use Rattle.sheet.proofs.Parts.{held-part, told-no-tables, told-tables, held-bad, held-got, stored-is}
+use Rattle.sheet.proofs.Parts.{held-part, parsed-no-tables, parsed-tables, held-bad, held-got, stored-is}
 use borrow.Author.Needs.{needs}
 use Rattle.sheet.proofs.three.Statement.{statement}
 use Rattle.sheet.proofs.three.Tie as tie
@@ -49,7 +49,7 @@ returns : tie.Need-returns
 returns c =
     let s = c .before .before .before .before .before .args .text .now in
     let none = then-bad s (table pointColumns) (table curveColumns then table segmentColumns) 0 (read-no-list s _ (sym (c .enum-told .given .1) ∙ c .before .before .points .ensures .0)) in
-    (told-no-tables s _ none, held-bad s _ _ none)
+    (parsed-no-tables s _ none, held-bad s _ _ none)
 
 curves-requires : tie.Need-curves-requires
 curves-requires c κs =
@@ -61,7 +61,7 @@ returns-2 c =
     let l = points-read (c .before .before .before .before .before) in
     let none = read-no-list s _ (sym (c .enum-told2 .given .1) ∙ c .before .before .curves .ensures .0) in
     let no-more = then-bad-on s (table pointColumns) (table curveColumns then table segmentColumns) 0 (l .list) _ (l .is) (then-bad s (table curveColumns) (table segmentColumns) (c .before .before .before .before .before .before .n .given .0 .1 .0) none) in
-    (told-no-tables s _ no-more, held-bad s _ _ no-more)
+    (parsed-no-tables s _ no-more, held-bad s _ _ no-more)
 
 segments-requires : tie.Need-segments-requires
 segments-requires c κs =
@@ -74,7 +74,7 @@ returns-3 c =
     let m = curves-read (c .before .before .before .before .before) in
     let none = read-no-list s _ (sym (c .enum-told3 .given .1) ∙ c .before .before .segments .ensures .0) in
     let no-more = then-bad-on s (table pointColumns) (table curveColumns then table segmentColumns) 0 (l .list) _ (l .is) (then-bad-on s (table curveColumns) (table segmentColumns) (c .before .before .before .before .before .before .before .before .before .before .before .before .n .given .0 .1 .0) (m .list) _ (m .is) none) in
-    (told-no-tables s _ no-more, held-bad s _ _ no-more)
+    (parsed-no-tables s _ no-more, held-bad s _ _ no-more)
 
 returns-4 : tie.Need-returns-4
 returns-4 c =
@@ -85,7 +85,7 @@ returns-4 c =
     let m = curves-read (c .before .before .before .before .before .before) in
     let k = read-list s (table segmentColumns) segments-law _ (g .0 .0) (g .0 .1 .0) (m .is .within) (sym (g .1) ∙ c .before .before .before .segments .ensures .0) in
     let r = then-read s (table pointColumns) (table curveColumns then table segmentColumns) 0 (l .list) _ (l .is) (m .list, k .list) _ (then-read s (table curveColumns) (table segmentColumns) (c .before .before .before .before .before .before .before .before .before .before .before .before .before .n .given .0 .1 .0) (m .list) _ (m .is) (k .list) _ (k .is)) in (
-      told-tables s _ (l .list) (m .list) (k .list) _ _ _ _ (l .count) (m .count) (k .count) r,
+      parsed-tables s _ (l .list) (m .list) (k .list) _ _ _ _ (l .count) (m .count) (k .count) r,
       held-got s _ (l .list, (m .list, k .list)) _ _ (r .is)
           (stored-is (l .list) (m .list) (k .list) _ _ _ _ _
           (held-part (flattened (floatsOf (fields pointColumns))) (floatOf 0) 3855 _ (l .list) _ (a .points .now) _ (points-length (c .before .before .before .before .before .before .before .before .before .before .before .before .before .before .before .before)) (l .is .is) (c .before .before .before .before .before .before .before .before .before .before .before .before .before .before .before .points .ensures .1))

@@ -8,7 +8,7 @@ use Rattle.sheet_layout.specs.Layout.{edgeColumns, optionColumns, ends}
 use Rattle.text_format.proofs.Laws.{Lawful}
 use Rattle.sheet_layout.proofs.Laws.{edge-law, options-law}
 use Rattle.text_format.proofs.Place.{Read, ending-bad, ending-none, ending-read, then-bad, then-bad-on, then-read}
-use Rattle.sheet_edge.proofs.Singles.{EdgeRead, read-edge, read-no-edge, OptionsRead, read-options, read-no-options, told-ends, told-no-ends}
+use Rattle.sheet_edge.proofs.Singles.{EdgeRead, read-edge, read-no-edge, OptionsRead, read-options, read-no-options, parsed-ends, parsed-no-ends}
 use borrow.Author.Needs.{needs}
 use Rattle.sheet_edge.proofs.ends.Statement.{statement}
 use Rattle.sheet_edge.proofs.ends.Tie as tie
@@ -35,7 +35,7 @@ returns c =
     let s = c .before .before .before .before .args .s .now in
     let at = c .before .before .before .before .args .at in
     let none = read-no-edge s _ (sym (c .enum-told .given .1) ∙ c .before .before .edge .ensures) in
-    told-no-ends s _ (then-bad s (single edgeColumns ending (10 ∷ [])) (single optionColumns) at (ending-bad s (single edgeColumns) (10 ∷ []) at none))
+    parsed-no-ends s _ (then-bad s (single edgeColumns ending (10 ∷ [])) (single optionColumns) at (ending-bad s (single edgeColumns) (10 ∷ []) at none))
 
 byte-requires : tie.Need-byte-requires
 byte-requires c κs = edge-read c .is .within
@@ -46,7 +46,7 @@ returns-2 c =
     let at = c .before .before .before .before .before .before .before .before .args .at in
     let r = edge-read (c .before .before .before) in
     let none = ending-none s (single edgeColumns) (10 ∷ []) at (r .list) (c .before .before .before .before .edge2 .given .0 .1 .0) 0 (r .is) (sym (c .enum-told2 .given .1) ∙ c .before .before .byte .ensures) in
-    told-no-ends s _ (then-bad s (single edgeColumns ending (10 ∷ [])) (single optionColumns) at none)
+    parsed-no-ends s _ (then-bad s (single edgeColumns ending (10 ∷ [])) (single optionColumns) at none)
 
 options-requires : tie.Need-options-requires
 options-requires c κs = line-read c .within
@@ -57,7 +57,7 @@ returns-3 c =
     let at = c .before .before .before .before .before .before .before .before .before .before .before .before .args .at in
     let none = read-no-options s _ (sym (c .enum-told3 .given .1) ∙ c .before .before .options .ensures) in
     let l = edge-read (c .before .before .before .before .before .before .before) .list in
-    told-no-ends s _ (then-bad-on s (single edgeColumns ending (10 ∷ [])) (single optionColumns) at l (c .before .before .before .before .q .given .0 .1 .0) (line-read (c .before .before .before)) none)
+    parsed-no-ends s _ (then-bad-on s (single edgeColumns ending (10 ∷ [])) (single optionColumns) at l (c .before .before .before .before .q .given .0 .1 .0) (line-read (c .before .before .before)) none)
 
 returns-4 : tie.Need-returns-4
 returns-4 c =
@@ -67,7 +67,7 @@ returns-4 c =
     let e = edge-read (c .before .before .before .before .before .before .before .before) in
     let q = c .before .before .before .before .before .q .given .0 .1 .0 in
     let o = read-options s (single optionColumns) options-law q (k .0 .0) (k .0 .1 .0) (line-read (c .before .before .before .before) .within) (sym (k .1) ∙ c .before .before .before .options .ensures) in
-    told-ends s _ (c .before .before .before .before .before .before .before .before .before .edge2 .given .0 .0) (k .0 .0) (e .list) (o .list) (k .0 .1 .0) (e .value-is) (o .value-is)
+    parsed-ends s _ (c .before .before .before .before .before .before .before .before .before .edge2 .given .0 .0) (k .0 .0) (e .list) (o .list) (k .0 .1 .0) (e .value-is) (o .value-is)
     (then-read s (single edgeColumns ending (10 ∷ [])) (single optionColumns) at (e .list) q (line-read (c .before .before .before .before)) (o .list) (k .0 .1 .0) (o .is))
 
 pub ends-spec : {M : Type 1} → statement M

@@ -5,8 +5,8 @@ use lib.ListN.{drop}
 use Rattle.text_format.specs.Bytes.{bytes}
 use Rattle.text_format.specs.Format.{oneOf}
 use Rattle.text_format.proofs.Laws.{Lawful}
-use Rattle.text_format.specs.Told.{told}
-use Rattle.text_format.proofs.Place.{Read, told-bad, read-at, read-bad, ending-is, ending-bad}
+use Rattle.text_format.specs.Answers.{parsedAt}
+use Rattle.text_format.proofs.Place.{Read, parsed-bad, read-at, read-bad, ending-is, ending-bad}
 use Rattle.sheet_layout.specs.Layout.{kinds}
 use Rattle.sheet_layout.proofs.Laws.{kinds-law}
 use Rattle.sheet_layout.proofs.Cells.{cell-f, cell-w, cell-l, cell-k}
@@ -25,18 +25,18 @@ kind-read c =
 returns : tie.Need-returns
 returns c =
     let a = c .before .before .before .args in
-    c .hex-then .ensures ∙ ap (told (a .s .now)) (cell-f (a .letter) (a .end) (drop (a .at) (a .s .now)) (c .before .if1 .taken))
+    c .hex-then .ensures ∙ ap (parsedAt (a .s .now)) (cell-f (a .letter) (a .end) (drop (a .at) (a .s .now)) (c .before .if1 .taken))
 
 returns-2 : tie.Need-returns-2
 returns-2 c =
     let a = c .before .before .before .before .args in
-    c .decimal .ensures ∙ ap (told (a .s .now)) (cell-w (a .letter) (a .end) (drop (a .at) (a .s .now)) (c .before .before .if1 .left) (c .before .if2 .taken))
+    c .decimal .ensures ∙ ap (parsedAt (a .s .now)) (cell-w (a .letter) (a .end) (drop (a .at) (a .s .now)) (c .before .before .if1 .left) (c .before .if2 .taken))
 
 returns-3 : tie.Need-returns-3
 returns-3 c =
     let a = c .before .before .before .before .before .args in
     c .decimal2 .ensures
-    ∙ ap (told (a .s .now)) (cell-l (a .letter) (a .end) (drop (a .at) (a .s .now)) (c .before .before .before .if1 .left) (c .before .before .if2 .left) (c .before .if3 .taken))
+    ∙ ap (parsedAt (a .s .now)) (cell-l (a .letter) (a .end) (drop (a .at) (a .s .now)) (c .before .before .before .if1 .left) (c .before .before .if2 .left) (c .before .if3 .taken))
 
 byte-requires : tie.Need-byte-requires
 byte-requires c κs = kind-read c .within
@@ -47,14 +47,14 @@ returns-4 c =
     let k = c .before .before .k .given in
     let is = ending-is (a .s .now) (oneOf kinds) (a .end ∷ []) (a .at) (k .0 .0) (k .0 .1 .0) (kind-read (c .before)) in
     let at-k = cell-k (a .letter) (a .end) (drop (a .at) (a .s .now)) (c .before .before .before .before .before .before .before .if1 .left) (c .before .before .before .before .before .before .if2 .left) (c .before .before .before .before .before .if3 .left) in
-    c .byte .ensures ∙ ap (told (a .s .now)) (sym is ∙ at-k)
+    c .byte .ensures ∙ ap (parsedAt (a .s .now)) (sym is ∙ at-k)
 
 returns-5 : tie.Need-returns-5
 returns-5 c =
     let a = c .before .before .before .before .before .before .before .args in
     let none = read-bad (a .s .now) _ (sym (c .enum-told .given .1) ∙ c .before .before .kind .ensures) in
     let at-k = cell-k (a .letter) (a .end) (drop (a .at) (a .s .now)) (c .before .before .before .before .before .if1 .left) (c .before .before .before .before .if2 .left) (c .before .before .before .if3 .left) in
-    told-bad (a .s .now) _ (sym at-k ∙ ending-bad (a .s .now) (oneOf kinds) (a .end ∷ []) (a .at) none)
+    parsed-bad (a .s .now) _ (sym at-k ∙ ending-bad (a .s .now) (oneOf kinds) (a .end ∷ []) (a .at) none)
 
 pub cell-spec : {M : Type 1} → statement M
 cell-spec =

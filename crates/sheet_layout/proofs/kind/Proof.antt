@@ -5,14 +5,14 @@ use lib.ListN.{drop}
 use Rattle.text_format.specs.Bytes.{bytes}
 use Rattle.text_format.specs.declared.Num.the-variants.{Bad}
 use Rattle.sheet_layout.specs.Layout.{kinds}
-use Rattle.sheet_layout.specs.Letters.{orTold}
+use Rattle.sheet_layout.specs.Letters.{orParsed}
 use Rattle.sheet_layout.proofs.Words.{tried, one-tried, all-tried}
 use borrow.Author.Needs.{needs}
 use Rattle.sheet_layout.proofs.kind.Statement.{statement}
 use Rattle.sheet_layout.proofs.kind.Tie as tie
 
 returns : tie.Need-returns
-unfolding kinds bytes tried orTold
+unfolding kinds bytes tried orParsed
 returns c =
     let s = c .before .before .before .before .before .before .before .before .before .before .before .before .before .before .before .args .s .now in
     let bs = drop (c .before .before .before .before .before .before .before .before .before .before .before .before .before .before .before .args .at) s in

@@ -9,8 +9,8 @@ use Rattle.text_format.specs.Format.{lines}
 use Rattle.text_format.specs.Table.{line}
 use Rattle.sheet_layout.specs.Letters.{shapeOf, padded}
 use Rattle.sheet_row.specs.Rows.{floatsOf, wholesOf}
-use Rattle.sheet_tables.specs.Told.{flattened}
-use Rattle.text_format.proofs.Place.{Read, told-list, told-no-list}
+use Rattle.sheet_tables.specs.Answers.{flattened}
+use Rattle.text_format.proofs.Place.{Read, parsed-list, parsed-no-list}
 use Rattle.sheet_layout.proofs.Columns.{shape-law}
 use Rattle.sheet_layout.proofs.Padded.{padded-length}
 use Rattle.sheet_layout.proofs.Rows.{RowRead, row-read, no-row-read}
@@ -71,7 +71,7 @@ returns c =
     let i = l .inv in
     let all = all-rows (a .s .now) (a .shape .now) (a .at) (a .wholes .now) (a .floats .now) (c .before .before .before .before .before .before .before .before .pre .2) (l .wholes) (l .floats) (l .p) (l .n) (l .w) (l .f) (l .inv) (omega arith) (c .if1 .taken) in
     let r : Read (a .s .now) (lines (line (shapeOf (a .shape .now))) .read (drop (a .at) (a .s .now))) (i .taken) (l .p + 1) = record { within = omega arith; is = all } in (
-      told-list (a .s .now) (lines (line (shapeOf (a .shape .now))) .read (drop (a .at) (a .s .now))) (i .taken) (l .n) (l .p + 1) (sym (i .count)) r,
+      parsed-list (a .s .now) (lines (line (shapeOf (a .shape .now))) .read (drop (a .at) (a .s .now))) (i .taken) (l .n) (l .p + 1) (sym (i .count)) r,
       stored-got (flattened (wholesOf (shapeOf (a .shape .now)))) (lines (line (shapeOf (a .shape .now))) .read (drop (a .at) (a .s .now))) (i .taken) _ (a .wholes .now) (l .wholes) all (i .wholes-are),
       stored-got (flattened (floatsOf (shapeOf (a .shape .now)))) (lines (line (shapeOf (a .shape .now))) .read (drop (a .at) (a .s .now))) (i .taken) _ (a .floats .now) (l .floats) all (i .floats-are),
     )
@@ -120,7 +120,7 @@ returns-2 c =
     let l = c .before .before .before .before .before .loop in
     let line-bad = no-row-read (a .s .now) _ (c .before .line .result) (c .before .line .ensures) (c .if2 .left) in
     let none = rows-bad (a .s .now) (a .shape .now) (a .at) (a .wholes .now) (a .floats .now) (c .before .before .before .before .before .before .before .before .before .before .pre .2) (l .wholes) (l .floats) (l .p) (l .n) (l .w) (l .f) (l .inv) (omega arith) (c .before .before .if1 .left) line-bad in (
-      told-no-list (a .s .now) (lines (line (shapeOf (a .shape .now))) .read (drop (a .at) (a .s .now))) none,
+      parsed-no-list (a .s .now) (lines (line (shapeOf (a .shape .now))) .read (drop (a .at) (a .s .now))) none,
       stored-bad (flattened (wholesOf (shapeOf (a .shape .now)))) (lines (line (shapeOf (a .shape .now))) .read (drop (a .at) (a .s .now))) (a .wholes .now) (l .wholes) none,
       stored-bad (flattened (floatsOf (shapeOf (a .shape .now)))) (lines (line (shapeOf (a .shape .now))) .read (drop (a .at) (a .s .now))) (a .floats .now) (l .floats) none,
     )
@@ -136,7 +136,7 @@ returns-3 c =
     let a = c .before .before .before .before .before .before .args in
     let l = c .before .loop in
     let none = rows-end (a .s .now) (a .shape .now) (a .at) (a .wholes .now) (a .floats .now) (c .before .before .before .before .before .before .pre .2) (l .wholes) (l .floats) (l .p) (l .n) (l .w) (l .f) (l .inv) (omega arith) in (
-      told-no-list (a .s .now) (lines (line (shapeOf (a .shape .now))) .read (drop (a .at) (a .s .now))) none,
+      parsed-no-list (a .s .now) (lines (line (shapeOf (a .shape .now))) .read (drop (a .at) (a .s .now))) none,
       stored-bad (flattened (wholesOf (shapeOf (a .shape .now)))) (lines (line (shapeOf (a .shape .now))) .read (drop (a .at) (a .s .now))) (a .wholes .now) (l .wholes) none,
       stored-bad (flattened (floatsOf (shapeOf (a .shape .now)))) (lines (line (shapeOf (a .shape .now))) .read (drop (a .at) (a .s .now))) (a .floats .now) (l .floats) none,
     )

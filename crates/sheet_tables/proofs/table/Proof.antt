@@ -3,11 +3,11 @@ use mathlib.Core.Path.{_≡_, refl, sym, ap, _∙_}
 use lib.ListN.{length, drop}
 use Rattle.text_format.specs.Format.{expect, lines}
 use Rattle.text_format.specs.Table.{line}
-use Rattle.text_format.specs.Told.{toldList}
+use Rattle.text_format.specs.Answers.{parsedList}
 use Rattle.sheet_layout.specs.Letters.{shapeOf}
 use Rattle.sheet_row.specs.Rows.{floatsOf, wholesOf}
-use Rattle.sheet_tables.specs.Told.{tableOf, flattened}
-use Rattle.text_format.proofs.Place.{Read, told-no-list, names-read, names-bad, before-bad, before-is}
+use Rattle.sheet_tables.specs.Answers.{tableOf, flattened}
+use Rattle.text_format.proofs.Place.{Read, parsed-no-list, names-read, names-bad, before-bad, before-is}
 use Rattle.sheet_tables.proofs.Stores.{stored-bad, stored-same}
 use borrow.Author.Needs.{needs}
 use Rattle.sheet_tables.proofs.table.Statement.{statement}
@@ -30,7 +30,7 @@ returns c =
     let a = c .before .before .before .before .before .before .before .before .before .before .before .before .before .before .before .before .args in
     let q = tableOf (a .names .now) (a .shape .now) .read (drop (a .at) (a .s .now)) in
     let same = sym (before-is (a .s .now) (a .names .now) (lines (line (shapeOf (a .shape .now)))) (a .at) (c .before .before .before .before .before .before .before .before .p .given .0 .1 .0) (named (c .before .before .before .before .before .before .before))) in (
-      c .before .before .before .before .rows .ensures .0 ∙ ap (toldList (a .s .now)) same,
+      c .before .before .before .before .rows .ensures .0 ∙ ap (parsedList (a .s .now)) same,
       stored-same (flattened (wholesOf (shapeOf (a .shape .now)))) _ q (a .wholes .now) _ same (c .before .before .before .before .rows .ensures .1),
       stored-same (flattened (floatsOf (shapeOf (a .shape .now)))) _ q (a .floats .now) _ same (c .before .before .before .before .rows .ensures .2),
     )
@@ -42,7 +42,7 @@ returns-2 c =
     let q = tableOf (a .names .now) (a .shape .now) .read (drop (a .at) (a .s .now)) in
     let no-names = names-bad (a .s .now) (a .names .now) 0 (a .at) (sym (c .enum-told .given .1) ∙ c .before .before .word .ensures) in
     let none = before-bad (a .s .now) (a .names .now) F (a .at) no-names in (
-      told-no-list (a .s .now) q none,
+      parsed-no-list (a .s .now) q none,
       stored-bad (flattened (wholesOf (shapeOf (a .shape .now)))) q (a .wholes .now) (a .wholes .now) none,
       stored-bad (flattened (floatsOf (shapeOf (a .shape .now)))) q (a .floats .now) (a .floats .now) none,
     )

@@ -5,8 +5,8 @@ use Prim.Native.Nat.{_+_, _-_, _≤_}
 use native.Mathlib.Omega.{arith}
 use lib.ListN.{length, drop}
 use Rattle.text_format.specs.Format.{readDecimal}
-use Rattle.text_format.specs.Told.{told}
-use Rattle.text_format.proofs.Place.{told-at, told-bad}
+use Rattle.text_format.specs.Answers.{parsedAt}
+use Rattle.text_format.proofs.Place.{parsed-at, parsed-bad}
 use Rattle.text_format.proofs.Leaf.{dec-end, dec-done, dec-stop, dec-over, dec-turn, over, under}
 use borrow.Author.Needs.{needs}
 use Rattle.text_format.proofs.digits_to.Statement.{statement}
@@ -27,14 +27,14 @@ returns c =
     let a = c .before .before .before .before .before .args in
     let l = c .before .before .before .loop in
     let done = dec-done (a .s .now) (a .most) (a .end) (l .n) (l .p) (omega arith) (c .if1 .taken) in
-    told-at (a .s .now) (l .n) (l .p + 1) (omega arith) ∙ ap (told (a .s .now)) (sym done ∙ l .inv .2)
+    parsed-at (a .s .now) (l .n) (l .p + 1) (omega arith) ∙ ap (parsedAt (a .s .now)) (sym done ∙ l .inv .2)
 
 returns-2 : tie.Need-returns-2 Inv-loop μ-loop
 returns-2 c =
     let a = c .before .before .before .before .before .before .before .args in
     let l = c .before .before .before .before .before .loop in
     let d = c .before .digit-of in
-    told-bad (a .s .now) _
+    parsed-bad (a .s .now) _
     (sym (l .inv .2) ∙ dec-stop (a .s .now) (a .most) (a .end) (l .n) (l .p) (d .result) (omega arith) (c .before .before .if1 .left) (d .ensures) (c .if2 .taken))
 
 returns-3 : tie.Need-returns-3 Inv-loop μ-loop
@@ -43,7 +43,7 @@ returns-3 c =
     let l = c .before .before .before .before .before .before .loop in
     let d = c .before .before .digit-of in
     let o = over (a .most) (d .result) (l .n) (omega arith) (c .if3 .taken) in
-    told-bad (a .s .now) _
+    parsed-bad (a .s .now) _
     (sym (l .inv .2) ∙ dec-over (a .s .now) (a .most) (a .end) (l .n) (l .p) (d .result) (omega arith) (c .before .before .before .if1 .left) (d .ensures) (omega arith) o)
 
 mul-n : tie.Need-mul-n Inv-loop μ-loop
@@ -69,7 +69,7 @@ returns-4 : tie.Need-returns-4 Inv-loop μ-loop
 returns-4 c =
     let a = c .before .before .before .args in
     let l = c .before .loop in
-    told-bad (a .s .now) _ (sym (l .inv .2) ∙ dec-end (a .s .now) (a .most) (a .end) (l .n) (l .p) (omega arith))
+    parsed-bad (a .s .now) _ (sym (l .inv .2) ∙ dec-end (a .s .now) (a .most) (a .end) (l .n) (l .p) (omega arith))
 
 pub digits-to-spec : {M : Type 1} → statement M
 digits-to-spec =

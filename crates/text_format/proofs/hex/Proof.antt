@@ -5,8 +5,8 @@ use Prim.Native.Nat.{_+_, _*_, _-_, _^_, _≤_}
 use native.Mathlib.Omega.{arith}
 use lib.ListN.{length, drop}
 use Rattle.text_format.specs.Format.{readDigits}
-use Rattle.text_format.specs.Told.{told}
-use Rattle.text_format.proofs.Place.{told-at, told-bad}
+use Rattle.text_format.specs.Answers.{parsedAt}
+use Rattle.text_format.proofs.Place.{parsed-at, parsed-bad}
 use Rattle.text_format.proofs.Leaf.{digits-end, digits-stop, digits-turn, hex-fits, hex-small}
 use borrow.Author.Needs.{needs}
 use Rattle.text_format.proofs.hex.Statement.{statement}
@@ -26,14 +26,14 @@ returns : tie.Need-returns Inv-loop μ-loop
 returns c =
     let s = c .before .before .before .before .args .s .now in
     let l = c .before .before .loop in
-    told-bad s _ (sym (l .inv .2) ∙ digits-end s 16 (l .left) (l .v) (l .p) (omega arith) (c .if1 .taken))
+    parsed-bad s _ (sym (l .inv .2) ∙ digits-end s 16 (l .left) (l .v) (l .p) (omega arith) (c .if1 .taken))
 
 returns-2 : tie.Need-returns-2 Inv-loop μ-loop
 returns-2 c =
     let s = c .before .before .before .before .before .before .before .args .s .now in
     let l = c .before .before .before .before .before .loop in
     let e = c .before .digit-of .ensures in
-    told-bad s _ (sym (l .inv .2) ∙ digits-stop s 16 (l .left) (l .v) (l .p) (omega arith) (omega arith) (omega arith))
+    parsed-bad s _ (sym (l .inv .2) ∙ digits-stop s 16 (l .left) (l .v) (l .p) (omega arith) (omega arith) (omega arith))
 
 mul-v : tie.Need-mul-v Inv-loop μ-loop
 mul-v c =
@@ -65,7 +65,7 @@ returns-3 c =
     let s = c .before .before .before .args .s .now in
     let l = c .before .loop in
     let z : l .left ≡ 0 = omega arith in
-    told-at s (l .v) (l .p) (l .inv .0) ∙ ap (told s) (ap (λ k. readDigits 16 k (l .v) (drop (l .p) s)) (sym z) ∙ l .inv .2)
+    parsed-at s (l .v) (l .p) (l .inv .0) ∙ ap (parsedAt s) (ap (λ k. readDigits 16 k (l .v) (drop (l .p) s)) (sym z) ∙ l .inv .2)
 
 pub hex-spec : {M : Type 1} → statement M
 hex-spec =

@@ -4,8 +4,8 @@ use mathlib.Core.List.{[], _∷_}
 use Rattle.text_format.specs.Format.{hex16}
 use Rattle.text_format.proofs.Laws.{Lawful}
 use Rattle.text_format.proofs.Digits.{hex16-law}
-use Rattle.text_format.specs.Told.{told}
-use Rattle.text_format.proofs.Place.{told-bad, read-at, read-bad, ending-is, ending-bad}
+use Rattle.text_format.specs.Answers.{parsedAt}
+use Rattle.text_format.proofs.Place.{parsed-bad, read-at, read-bad, ending-is, ending-bad}
 use borrow.Author.Needs.{needs}
 use Rattle.text_format.proofs.hex_then.Statement.{statement}
 use Rattle.text_format.proofs.hex_then.Tie as tie
@@ -21,13 +21,13 @@ returns c =
     let a = c .before .before .before .before .before .before .args in
     let k = c .before .before .v .given in
     let r = read-at (a .s .now) hex16 hex16-law (a .at) (k .0 .0) (k .0 .1 .0) (c .before .before .before .before .before .before .pre) (sym (k .1) ∙ c .before .before .before .before .hex .ensures) in
-    c .byte .ensures ∙ ap (told (a .s .now)) (sym (ending-is (a .s .now) hex16 (a .c ∷ []) (a .at) (k .0 .0) (k .0 .1 .0) r))
+    c .byte .ensures ∙ ap (parsedAt (a .s .now)) (sym (ending-is (a .s .now) hex16 (a .c ∷ []) (a .at) (k .0 .0) (k .0 .1 .0) r))
 
 returns-2 : tie.Need-returns-2
 returns-2 c =
     let a = c .before .before .before .before .args in
     let none = read-bad (a .s .now) _ (sym (c .enum-told .given .1) ∙ c .before .before .hex .ensures) in
-    told-bad (a .s .now) _ (ending-bad (a .s .now) hex16 (a .c ∷ []) (a .at) none)
+    parsed-bad (a .s .now) _ (ending-bad (a .s .now) hex16 (a .c ∷ []) (a .at) none)
 
 pub hex-then-spec : {M : Type 1} → statement M
 hex-then-spec = tie.close (tie.spec (λ c κs. search needs) (λ c. search needs) byte-requires (λ c. search needs) returns returns-2)

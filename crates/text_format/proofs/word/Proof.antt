@@ -5,8 +5,8 @@ use Prim.Native.Nat.{_+_, _-_, _≤_}
 use native.Mathlib.Omega.{arith}
 use lib.ListN.{length, drop}
 use Rattle.text_format.specs.Format.{expect}
-use Rattle.text_format.specs.Told.{told}
-use Rattle.text_format.proofs.Place.{told-at, told-bad}
+use Rattle.text_format.specs.Answers.{parsedAt}
+use Rattle.text_format.proofs.Place.{parsed-at, parsed-bad}
 use Rattle.text_format.proofs.Leaf.{word-end, word-stop, word-turn, word-done}
 use borrow.Author.Needs.{needs}
 use Rattle.text_format.proofs.word.Statement.{statement}
@@ -26,13 +26,13 @@ returns : tie.Need-returns Inv-loop μ-loop
 returns c =
     let a = c .before .before .before .args in
     let l = c .before .before .loop in
-    told-bad (a .s .now) _ (sym (l .inv .2) ∙ word-end (a .s .now) (a .w .now) (a .n) (l .i) (l .p) (omega arith) (c .if1 .taken))
+    parsed-bad (a .s .now) _ (sym (l .inv .2) ∙ word-end (a .s .now) (a .w .now) (a .n) (l .i) (l .p) (omega arith) (c .if1 .taken))
 
 returns-2 : tie.Need-returns-2 Inv-loop μ-loop
 returns-2 c =
     let a = c .before .before .before .before .before .before .args in
     let l = c .before .before .before .before .before .loop in
-    told-bad (a .s .now) _
+    parsed-bad (a .s .now) _
     (sym (l .inv .2) ∙ word-stop (a .s .now) (a .w .now) (a .n) (l .i) (l .p) (omega arith) (omega arith) (c .if2 .taken))
 
 loop-again : tie.Need-loop-again Inv-loop μ-loop
@@ -47,7 +47,7 @@ returns-3 c =
     let a = c .before .before .args in
     let l = c .before .loop in
     let done = word-done (a .s .now) (a .w .now) (a .n) (l .i) (l .p) (omega arith) in
-    told-at (a .s .now) (a .n) (l .p) (l .inv .0) ∙ ap (told (a .s .now)) (sym done ∙ l .inv .2)
+    parsed-at (a .s .now) (a .n) (l .p) (l .inv .0) ∙ ap (parsedAt (a .s .now)) (sym done ∙ l .inv .2)
 
 pub word-spec : {M : Type 1} → statement M
 word-spec =

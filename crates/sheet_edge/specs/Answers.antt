@@ -18,17 +18,17 @@ abbrev pub singleOf : List ℕ → List ℕ → Format (List ℕ)
 singleOf names shape = names before line (shapeOf shape)
 
 -- what a line stands for, and the place behind it; or that there is none
-unfoldable pub toldAs : {X R : Type 0} → (X → ℕ → R) → R → (List ℕ → X) → List ℕ → Parsed (List ℕ) → R
-toldAs made none value s bad = none
-toldAs made none value s (got row rest) = made (value row) (length s - length rest)
+unfoldable pub parsedAs : {X R : Type 0} → (X → ℕ → R) → R → (List ℕ → X) → List ℕ → Parsed (List ℕ) → R
+parsedAs made none value s bad = none
+parsedAs made none value s (got row rest) = made (value row) (length s - length rest)
 
-abbrev pub toldEdge : List ℕ → Parsed (List ℕ) → EdgeAt
-toldEdge = toldAs Edge NoEdge rawEdgeOf
+abbrev pub parsedEdge : List ℕ → Parsed (List ℕ) → EdgeAt
+parsedEdge = parsedAs Edge NoEdge rawEdgeOf
 
-abbrev pub toldOptions : List ℕ → Parsed (List ℕ) → OptionsAt
-toldOptions = toldAs Options NoOptions rawOptionsOf
+abbrev pub parsedOptions : List ℕ → Parsed (List ℕ) → OptionsAt
+parsedOptions = parsedAs Options NoOptions rawOptionsOf
 
 -- the edge and the options, and the place behind them
-unfoldable pub toldEnds : List ℕ → Parsed (List ℕ × List ℕ) → Last
-toldEnds s bad = NoPair
-toldEnds s (got t rest) = Pair (rawEdgeOf (t .0)) (rawOptionsOf (t .1)) (length s - length rest)
+unfoldable pub parsedEnds : List ℕ → Parsed (List ℕ × List ℕ) → Last
+parsedEnds s bad = NoPair
+parsedEnds s (got t rest) = Pair (rawEdgeOf (t .0)) (rawOptionsOf (t .1)) (length s - length rest)

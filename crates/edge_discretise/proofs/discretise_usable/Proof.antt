@@ -1,4 +1,4 @@
--- `discretise_over` meets its contract, by what the edge's range is. Assumes nothing.
+-- `discretise_usable` meets its contract, by what the edge's range is. Assumes nothing.
 use mathlib.Core.Path.{refl, sym, _∙_}
 use Prim.Native.Nat.{ℕ}
 use native.Mathlib.Omega.{arith}
@@ -8,8 +8,8 @@ use Rattle.brep.specs.Rows.{Tables, lent}
 use Rattle.draw_spec.specs.Draw.{roomOf}
 use Rattle.edge_discretise.proofs.Drawing.{Lent, lent-part, whole-length, cleared-whole, drew-range, drew-chord}
 use borrow.Author.Needs.{needs}
-use Rattle.edge_discretise.proofs.discretise_over.Statement.{statement}
-use Rattle.edge_discretise.proofs.discretise_over.Tie as tie
+use Rattle.edge_discretise.proofs.discretise_usable.Statement.{statement}
+use Rattle.edge_discretise.proofs.discretise_usable.Tie as tie
 
 -- the tables as they are lent, and the room that both buffers give
 abbrev tables-of : tie.Start → Tables
@@ -58,8 +58,8 @@ returns-2 c =
       cleared = cleared-whole (n .result) (d .last .1 .1 .1 .1 .1 .1 .1 .1 .1 .0) (now (st .args .scratch)) (l .inside) (d .ensures .1) (c .before .before .clear-from2 .ensures);
     }
 
-pub discretise-over-spec : {M : Type 1} → statement M
-discretise-over-spec =
+pub discretise-usable-spec : {M : Type 1} → statement M
+discretise-usable-spec =
     tie.close
     (tie.spec
     (λ c. search needs)

@@ -1,7 +1,7 @@
--- `options::Radians::is_clamped` meets its contract. Assumes nothing.
+-- `options::Angle::is_clamped` meets its contract. Assumes nothing.
 use Rattle.options.specs.Options.{isClamped}
-use Rattle.options.proofs.Radians.is_clamped.Statement.{statement}
-use Rattle.options.proofs.Radians.is_clamped.Tie as tie
+use Rattle.options.proofs.Angle.is_clamped.Statement.{statement}
+use Rattle.options.proofs.Angle.is_clamped.Tie as tie
 
 returns : tie.Need-returns
 unfolding isClamped

@@ -7,11 +7,11 @@ use Rattle.text_format.specs.declared.Num.{Num}
 use Rattle.text_format.specs.declared.Num.the-variants.{Got, Bad}
 
 -- the value and the place behind it, or Bad
-unfoldable pub told : List ℕ → Parsed ℕ → Num
-told s bad = Bad
-told s (got v rest) = Got v (length s - length rest)
+unfoldable pub parsedAt : List ℕ → Parsed ℕ → Num
+parsedAt s bad = Bad
+parsedAt s (got v rest) = Got v (length s - length rest)
 
 -- of a list: how many, and the place behind them; or Bad
-unfoldable pub toldList : {A : Type 0} → List ℕ → Parsed (List A) → Num
-toldList s bad = Bad
-toldList s (got l rest) = Got (length l) (length s - length rest)
+unfoldable pub parsedList : {A : Type 0} → List ℕ → Parsed (List A) → Num
+parsedList s bad = Bad
+parsedList s (got l rest) = Got (length l) (length s - length rest)

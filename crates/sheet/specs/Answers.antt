@@ -16,9 +16,9 @@ abbrev pub Three : Type 0
 Three = List (List ℕ) × (List (List ℕ) × List (List ℕ))
 
 -- the three tables: their rows' counts and the place behind them
-unfoldable pub toldTables : List ℕ → Parsed Three → Counted
-toldTables s bad = NoTables
-toldTables s (got t rest) = Counts (length (t .0)) (length (t .1 .0)) (length (t .1 .1)) (length s - length rest)
+unfoldable pub parsedTables : List ℕ → Parsed Three → Counted
+parsedTables s bad = NoTables
+parsedTables s (got t rest) = Counts (length (t .0)) (length (t .1 .0)) (length (t .1 .1)) (length s - length rest)
 
 -- the three tables, as a sheet with nothing else
 abbrev pub onlyTables : Three → RawSheet

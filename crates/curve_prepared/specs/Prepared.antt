@@ -1,4 +1,4 @@
--- A curve made ready for many points, and its points and derivatives. For the code's own use: the laws beside it say that they are
+-- A curve prepared for many points, and its points and derivatives. For the code's own use: the laws beside it say that they are
 -- those of eval/curve.rs. Definitions only.
 use lib.Ieee.{Float, neg}
 use Rattle.arith.specs.Notation.{_⊗_, two}
@@ -9,26 +9,26 @@ use Rattle.math.specs.Math.{vAdd, vScale, yDir}
 use Rattle.brep.specs.Tree.{CurveTree, line, circle, ellipse, parabola, polyline, trimmed, composite}
 use Rattle.curve_point.specs.Point.{pointAt}
 use Rattle.curve_tangent.specs.Derivative.{derivativeAt}
-use Rattle.curve_prepared.specs.declared.Ready.{Ready}
-use Rattle.curve_prepared.specs.declared.Ready.the-variants.{Line, Round, Parabola, Other}
+use Rattle.curve_prepared.specs.declared.Prepared.{Prepared}
+use Rattle.curve_prepared.specs.declared.Prepared.the-variants.{Line, Round, Parabola, Other}
 
 -- an ellipse, or a circle as one of equal axes, with its frame's second axis worked out
-abbrev pub roundOf : Frame → Float → Float → Ready
+abbrev pub roundOf : Frame → Float → Float → Prepared
 roundOf f major minor = Round (f .origin) (f .«ref_dir») (yDir f) major minor
 
 -- a parabola, likewise
-abbrev pub parabolaOf : Frame → Float → Ready
+abbrev pub parabolaOf : Frame → Float → Prepared
 parabolaOf f focal = Parabola (f .origin) (f .«ref_dir») (yDir f) focal
 
 -- trims taken off; a polyline or a composite stays to be looked up
-unfoldable pub readyOf : CurveTree → Ready
-readyOf (line origin direction) = Line origin direction
-readyOf (circle f r) = roundOf f r r
-readyOf (ellipse f major minor) = roundOf f major minor
-readyOf (parabola f focal) = parabolaOf f focal
-readyOf (polyline points) = Other
-readyOf (trimmed base range) = readyOf base
-readyOf (composite segments) = Other
+unfoldable pub preparedOf : CurveTree → Prepared
+preparedOf (line origin direction) = Line origin direction
+preparedOf (circle f r) = roundOf f r r
+preparedOf (ellipse f major minor) = roundOf f major minor
+preparedOf (parabola f focal) = parabolaOf f focal
+preparedOf (polyline points) = Other
+preparedOf (trimmed base range) = preparedOf base
+preparedOf (composite segments) = Other
 
 -- O + x (a cos t) + y (b sin t)
 unfoldable pub roundPoint : Vec3 → Vec3 → Vec3 → Float → Float → Float → Vec3
@@ -38,12 +38,12 @@ roundPoint origin x y major minor t = vAdd (vAdd origin (vScale x (major ⊗ cos
 unfoldable pub preparedParabola : Vec3 → Vec3 → Vec3 → Float → Float → Vec3
 preparedParabola origin x y focal t = vAdd (vAdd origin (vScale x (focal ⊗ t ⊗ t))) (vScale y (two ⊗ focal ⊗ t))
 
--- the point at t of a curve that was made ready
-unfoldable pub readyPoint : Ready → CurveTree → Float → Vec3
-readyPoint (Line origin direction) c t = vAdd origin (vScale direction t)
-readyPoint (Round origin x y major minor) c t = roundPoint origin x y major minor t
-readyPoint (Parabola origin x y focal) c t = preparedParabola origin x y focal t
-readyPoint Other c t = pointAt c t
+-- the point at t of a curve that was prepared
+unfoldable pub preparedPoint : Prepared → CurveTree → Float → Vec3
+preparedPoint (Line origin direction) c t = vAdd origin (vScale direction t)
+preparedPoint (Round origin x y major minor) c t = roundPoint origin x y major minor t
+preparedPoint (Parabola origin x y focal) c t = preparedParabola origin x y focal t
+preparedPoint Other c t = pointAt c t
 
 -- x (-a sin t) + y (b cos t)
 unfoldable pub roundDerivative : Vec3 → Vec3 → Float → Float → Float → Vec3
@@ -53,9 +53,9 @@ roundDerivative x y major minor t = vAdd (vScale x (neg major ⊗ sinOf t)) (vSc
 unfoldable pub parabolaSlope : Vec3 → Vec3 → Float → Float → Vec3
 parabolaSlope x y focal t = vAdd (vScale x (two ⊗ focal ⊗ t)) (vScale y (two ⊗ focal))
 
--- the derivative at t of a curve that was made ready
-unfoldable pub readyDerivative : Ready → CurveTree → Float → Vec3
-readyDerivative (Line origin direction) c t = direction
-readyDerivative (Round origin x y major minor) c t = roundDerivative x y major minor t
-readyDerivative (Parabola origin x y focal) c t = parabolaSlope x y focal t
-readyDerivative Other c t = derivativeAt c t
+-- the derivative at t of a curve that was prepared
+unfoldable pub preparedDerivative : Prepared → CurveTree → Float → Vec3
+preparedDerivative (Line origin direction) c t = direction
+preparedDerivative (Round origin x y major minor) c t = roundDerivative x y major minor t
+preparedDerivative (Parabola origin x y focal) c t = parabolaSlope x y focal t
+preparedDerivative Other c t = derivativeAt c t
