@@ -5,7 +5,7 @@ ghost use Prim.Native.Nat.{_≤_};
 ghost use lib.ListN.{length};
 ghost use Rattle.base_lists.specs.Room.{filled};
 ghost use Rattle.knots_inside.specs.Breaks.{insideOf};
-ghost use Rattle.brep.specs.Rows.{lent};
+ghost use Rattle.brep.specs.Rows.{given};
 ghost use Rattle.brep.specs.Tree.{tree};
 ghost use Rattle.curve.specs.Eval.{pointAt};
 
@@ -23,7 +23,7 @@ pub extern "C" fn cs_point_at(
     y: &mut f64,
     z: &mut f64,
 )
-    ensures { λ _. ⌜ (now (x .exit) ≡ pointAt (tree (lent (points .entry) (curves .entry) (reals .entry) (parts .entry) (ranges .entry)) row) t .x) × (now (y .exit) ≡ pointAt (tree (lent (points .entry) (curves .entry) (reals .entry) (parts .entry) (ranges .entry)) row) t .y) × (now (z .exit) ≡ pointAt (tree (lent (points .entry) (curves .entry) (reals .entry) (parts .entry) (ranges .entry)) row) t .z) ⌝ }
+    ensures { λ _. ⌜ (now (x .exit) ≡ pointAt (tree (given points curves reals parts ranges) row) t .x) × (now (y .exit) ≡ pointAt (tree (given points curves reals parts ranges) row) t .y) × (now (z .exit) ≡ pointAt (tree (given points curves reals parts ranges) row) t .z) ⌝ }
 {
     let p = curve::point_at(points, curves, reals, parts, ranges, row, t);
     *x = p.x;

@@ -4,6 +4,7 @@ use mathlib.Core.List.{List}
 use Prim.Native.Nat.{ℕ, _+_, _*_}
 use lib.ListN.{getD}
 use denote.Ref.{RefT, now}
+use denote.Triple.Both.{Both}
 use lib.Dec.{eqb}
 use lib.Ieee.{Float, nan}
 use Rattle.math.specs.declared.Vec3.{Vec3}
@@ -28,6 +29,10 @@ tables points curves reals parts ranges =
 -- the tables as they are lent to a function
 abbrev pub lent : RefT (List Float) → RefT (List ℕ) → RefT (List Float) → RefT (List ℕ) → RefT (List Float) → Tables
 lent points curves reals parts ranges = tables (now points) (now curves) (now reals) (now parts) (now ranges)
+
+-- the tables that a function was given, as they were at its entry
+abbrev pub given : {A B C D E : Type 0} → Both (RefT (List Float)) A → Both (RefT (List ℕ)) B → Both (RefT (List Float)) C → Both (RefT (List ℕ)) D → Both (RefT (List Float)) E → Tables
+given points curves reals parts ranges = lent (points .entry) (curves .entry) (reals .entry) (parts .entry) (ranges .entry)
 
 -- point i: solid.vertex(i)
 unfoldable pub pointOf : List Float → ℕ → Vec3

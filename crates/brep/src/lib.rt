@@ -137,7 +137,7 @@ pub fn segment_at(parts: &[u32], ranges: &[f64], first: u32, i: u32) -> Segment
 }
 
 // A row's numbers as one of the kinds; an unknown kind is the empty polyline.
-pub fn kind_of(points: &[f64], kind: u32, first: u32, count: u32, p: f64, q: f64) -> Curve
+fn kind_of(points: &[f64], kind: u32, first: u32, count: u32, p: f64, q: f64) -> Curve
     ensures { λ r. ⌜ r ≡ kindOf (now (points .entry)) kind first count p q ⌝ }
 {
     match kind {

@@ -3,7 +3,7 @@ use brep::Edge;
 use causes_bounds::either;
 use options::Options;
 ghost use mathlib.Core.Path.{_≡_};
-ghost use Rattle.brep.specs.Rows.{lent};
+ghost use Rattle.brep.specs.Rows.{given};
 ghost use Rattle.causes.specs.Causes.{oversize, missingFrom, verdict, tablesVerdict, edgeVerdict, lowestOf};
 
 pub enum Verdict {
@@ -13,7 +13,7 @@ pub enum Verdict {
 
 // Cause 1: 65,536 points in threes, 4,096 rows in threes and pairs, 4,096 segments in pairs.
 fn oversize(points: &[f64], curves: &[u32], reals: &[f64], parts: &[u32], ranges: &[f64]) -> bool
-    ensures { λ r. ⌜ r ≡ oversize (lent (points .entry) (curves .entry) (reals .entry) (parts .entry) (ranges .entry)) ⌝ }
+    ensures { λ r. ⌜ r ≡ oversize (given points curves reals parts ranges) ⌝ }
 {
     let rows = either(12288 < curves.len(), 8192 < reals.len());
     let segments = either(8192 < parts.len(), 8192 < ranges.len());
@@ -38,7 +38,7 @@ pub fn check_tables(
     parts: &[u32],
     ranges: &[f64],
 ) -> Verdict
-    ensures { λ r. ⌜ r ≡ tablesVerdict (lent (points .entry) (curves .entry) (reals .entry) (parts .entry) (ranges .entry)) ⌝ }
+    ensures { λ r. ⌜ r ≡ tablesVerdict (given points curves reals parts ranges) ⌝ }
 {
     if oversize(points, curves, reals, parts, ranges) {
         return Verdict::Refused(1);
@@ -67,7 +67,7 @@ pub fn check_edge(
     edge: Edge,
     options: Options,
 ) -> Verdict
-    ensures { λ r. ⌜ r ≡ edgeVerdict (lent (points .entry) (curves .entry) (reals .entry) (parts .entry) (ranges .entry)) edge options ⌝ }
+    ensures { λ r. ⌜ r ≡ edgeVerdict (given points curves reals parts ranges) edge options ⌝ }
 {
     if causes_bounds::unbounded_edge(edge, options) {
         return Verdict::Refused(2);
@@ -82,7 +82,7 @@ pub fn check_edge(
 }
 
 // The lower refusal of two; accepted where both are.
-pub fn lower(a: Verdict, b: Verdict) -> Verdict
+fn lower(a: Verdict, b: Verdict) -> Verdict
     ensures { λ r. ⌜ r ≡ lowestOf a b ⌝ }
 {
     match a {
@@ -104,7 +104,7 @@ pub fn check(
     edge: Edge,
     options: Options,
 ) -> Verdict
-    ensures { λ r. ⌜ r ≡ verdict (lent (points .entry) (curves .entry) (reals .entry) (parts .entry) (ranges .entry)) edge options ⌝ }
+    ensures { λ r. ⌜ r ≡ verdict (given points curves reals parts ranges) edge options ⌝ }
 {
     let of_tables = check_tables(points, curves, reals, parts, ranges);
     let of_edge = check_edge(points, curves, reals, parts, ranges, edge, options);

@@ -7,13 +7,13 @@ ghost use mathlib.Core.Path.{_≡_};
 ghost use Prim.Native.Nat.{_+_, _*_, _/_, _≤_};
 ghost use lib.ListN.{length};
 ghost use lib.Dec.{ltb};
-ghost use Rattle.brep.specs.Rows.{lent};
+ghost use Rattle.brep.specs.Rows.{given};
 ghost use Rattle.causes_bounds.specs.Some.{someBelow};
 ghost use Rattle.causes_form.specs.Forms.{broken, uneven, unknownKind, wrongCount, spareP, spareQ, unusedSet, targetCount, malformedIn};
 ghost use Rattle.causes_form.specs.Forms.{malformedRow, malformedPart, ragged, illFormedEdge};
 
 fn broken(points: &[f64], curves: &[u32], reals: &[f64], parts: &[u32], ranges: &[f64]) -> bool
-    ensures { λ r. ⌜ r ≡ broken (lent (points .entry) (curves .entry) (reals .entry) (parts .entry) (ranges .entry)) ⌝ }
+    ensures { λ r. ⌜ r ≡ broken (given points curves reals parts ranges) ⌝ }
 {
     let rows = either(curves.len() % 3 != 0, reals.len() % 2 != 0);
     let segments = either(parts.len() % 2 != 0, ranges.len() % 2 != 0);
@@ -21,7 +21,7 @@ fn broken(points: &[f64], curves: &[u32], reals: &[f64], parts: &[u32], ranges: 
 }
 
 fn uneven(points: &[f64], curves: &[u32], reals: &[f64], parts: &[u32], ranges: &[f64]) -> bool
-    ensures { λ r. ⌜ r ≡ uneven (lent (points .entry) (curves .entry) (reals .entry) (parts .entry) (ranges .entry)) ⌝ }
+    ensures { λ r. ⌜ r ≡ uneven (given points curves reals parts ranges) ⌝ }
 {
     either(
         reals.len() / 2 != curves.len() / 3,
@@ -106,7 +106,7 @@ pub fn malformed_row(
     row: usize,
 ) -> bool
     requires { ⌜ row * 3 + 3 ≤ length (now curves) ⌝ }
-    ensures { λ r. ⌜ r ≡ malformedRow (lent (points .entry) (curves .entry) (reals .entry) (parts .entry) (ranges .entry)) row ⌝ }
+    ensures { λ r. ⌜ r ≡ malformedRow (given points curves reals parts ranges) row ⌝ }
 {
     let at = row * 3;
     let kind = brep::int_at(curves, at);
@@ -144,7 +144,7 @@ pub fn malformed_segments(parts: &[u32], rows: usize) -> bool
 
 // The slices: not of whole rows, or not of as many.
 pub fn ragged(points: &[f64], curves: &[u32], reals: &[f64], parts: &[u32], ranges: &[f64]) -> bool
-    ensures { λ r. ⌜ r ≡ ragged (lent (points .entry) (curves .entry) (reals .entry) (parts .entry) (ranges .entry)) ⌝ }
+    ensures { λ r. ⌜ r ≡ ragged (given points curves reals parts ranges) ⌝ }
 {
     either(
         broken(points, curves, reals, parts, ranges),

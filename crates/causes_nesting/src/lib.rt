@@ -4,7 +4,7 @@
 ghost use mathlib.Core.Path.{_≡_};
 ghost use Prim.Native.Nat.{_+_, _*_, _/_, _<_, _≤_, max};
 ghost use lib.ListN.{length};
-ghost use Rattle.brep.specs.Rows.{lent};
+ghost use Rattle.brep.specs.Rows.{given};
 ghost use Rattle.causes_nesting.specs.Nest.{rowsCause};
 ghost use Rattle.causes_nesting.specs.Depths.{depthBelow, segmentDepth, deepestOf, oneDeeper, rowDepth, blockDepth, Known, Both, RunFits, causeWith, NoneKnown};
 
@@ -172,7 +172,7 @@ fn rows_cause_in(
     requires { ⌜ (length (now curves) / 3 ≤ length (now depths)) × (length (now depths) ≤ 4096) ⌝ }
     requires { ⌜ NoneKnown (now blocks) × (length (now parts) / 2 ≤ length (now blocks) * 16) × (length (now blocks) ≤ 256) ⌝ }
     requires { ⌜ NoneKnown (now larges) × (length (now blocks) ≤ length (now larges) * 16) ⌝ }
-    ensures { λ r. ⌜ r ≡ rowsCause (lent (points .entry) (curves .entry) (reals .entry) (parts .entry) (ranges .entry)) ⌝ }
+    ensures { λ r. ⌜ r ≡ rowsCause (given points curves reals parts ranges) ⌝ }
 {
     let rows = (curves.len() / 3) as u32;
     let mut lowest: u32 = 0;
@@ -200,7 +200,7 @@ pub fn rows_cause(
     ranges: &[f64],
 ) -> u32
     requires { ⌜ (length (now curves) / 3 ≤ 4096) × (length (now parts) / 2 ≤ 4096) ⌝ }
-    ensures { λ r. ⌜ r ≡ rowsCause (lent (points .entry) (curves .entry) (reals .entry) (parts .entry) (ranges .entry)) ⌝ }
+    ensures { λ r. ⌜ r ≡ rowsCause (given points curves reals parts ranges) ⌝ }
 {
     if curves.len() / 3 <= 32 && parts.len() / 2 <= 64 {
         let mut few = [0u32; 32];

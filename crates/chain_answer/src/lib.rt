@@ -4,7 +4,7 @@ ghost use mathlib.Core.List.{List};
 ghost use Prim.Native.Nat.{ℕ, _+_, _*_, _≤_};
 ghost use lib.ListN.{length};
 ghost use lib.Seq.{sets};
-ghost use Rattle.brep.specs.Rows.{lent};
+ghost use Rattle.brep.specs.Rows.{lent, given};
 ghost use Rattle.sheet.specs.Sheet.{leading};
 ghost use Rattle.draw_spec.specs.Draw.{roomOf, chainIn, Outcome};
 ghost use Rattle.draw_spec.specs.Draw.{chainFloats};
@@ -57,7 +57,7 @@ fn draw_rows(
     second: &mut [f64],
 ) -> Drawn
     requires { ⌜ (3 * n ≤ length (now points)) × (3 * m ≤ length (now curves)) × (2 * m ≤ length (now reals)) × (2 * k ≤ length (now parts)) × (2 * k ≤ length (now ranges)) ⌝ }
-    ensures { λ r. ⌜ Outcome (leading n m k (lent (points .entry) (curves .entry) (reals .entry) (parts .entry) (ranges .entry))) edge options (now (first .entry)) (now (second .entry)) r (now (first .exit)) (now (second .exit)) ⌝ }
+    ensures { λ r. ⌜ Outcome (leading n m k (given points curves reals parts ranges)) edge options (now (first .entry)) (now (second .entry)) r (now (first .exit)) (now (second .exit)) ⌝ }
 {
     let n3 = 3 * n;
     let m3 = 3 * m;
@@ -89,7 +89,7 @@ fn answer_read(
     out: &mut [u8],
 ) -> usize
     requires { ⌜ SomeText read (lent points curves reals parts ranges) × (19 + 68 * roomOf (length (now first)) (length (now second)) ≤ length (now out)) ⌝ }
-    ensures { λ r. ⌜ ((text : List ℕ) → WasRead text read (lent (points .entry) (curves .entry) (reals .entry) (parts .entry) (ranges .entry))
+    ensures { λ r. ⌜ ((text : List ℕ) → WasRead text read (given points curves reals parts ranges)
         → Prints text (now (first .entry)) (now (second .entry)) (now (out .entry)) r (now (first .exit)) (now (second .exit)) (now (out .exit))) ⌝ }
 {
     match read {

@@ -10,7 +10,7 @@ ghost use Prim.Native.Nat.{_+_, _*_};
 ghost use lib.ListN.{getD};
 ghost use lib.Ieee.{nan};
 ghost use Rattle.math.specs.Math.{interval};
-ghost use Rattle.brep.specs.Rows.{lent};
+ghost use Rattle.brep.specs.Rows.{given};
 ghost use Rattle.brep.specs.Tree.{tree, run, polyline};
 ghost use Rattle.curve.specs.Eval.{naturalRange, isClosed, everySpan, period, isSampled};
 
@@ -47,7 +47,7 @@ pub fn natural_range(
     ranges: &[f64],
     row: u32,
 ) -> Interval
-    ensures { λ r. ⌜ r ≡ naturalRange (tree (lent (points .entry) (curves .entry) (reals .entry) (parts .entry) (ranges .entry)) row) ⌝ }
+    ensures { λ r. ⌜ r ≡ naturalRange (tree (given points curves reals parts ranges) row) ⌝ }
 {
     let at = row as usize * 3;
     let kind = brep::int_at(curves, at);
@@ -80,7 +80,7 @@ pub fn is_closed(
     ranges: &[f64],
     row: u32,
 ) -> bool
-    ensures { λ r. ⌜ r ≡ isClosed (tree (lent (points .entry) (curves .entry) (reals .entry) (parts .entry) (ranges .entry)) row) ⌝ }
+    ensures { λ r. ⌜ r ≡ isClosed (tree (given points curves reals parts ranges) row) ⌝ }
 {
     let at = row as usize * 3;
     let kind = brep::int_at(curves, at);
@@ -140,7 +140,7 @@ pub fn period(
     ranges: &[f64],
     row: u32,
 ) -> Repeats
-    ensures { λ r. ⌜ r ≡ period (tree (lent (points .entry) (curves .entry) (reals .entry) (parts .entry) (ranges .entry)) row) ⌝ }
+    ensures { λ r. ⌜ r ≡ period (tree (given points curves reals parts ranges) row) ⌝ }
 {
     let at = under_trims(curves, row) as usize * 3;
     let kind = brep::int_at(curves, at);
@@ -167,7 +167,7 @@ pub fn is_sampled(
     ranges: &[f64],
     row: u32,
 ) -> bool
-    ensures { λ r. ⌜ r ≡ isSampled (tree (lent (points .entry) (curves .entry) (reals .entry) (parts .entry) (ranges .entry)) row) ⌝ }
+    ensures { λ r. ⌜ r ≡ isSampled (tree (given points curves reals parts ranges) row) ⌝ }
 {
     let at = under_trims(curves, row) as usize * 3;
     let kind = brep::int_at(curves, at);

@@ -6,7 +6,7 @@ use math::Vec3;
 ghost use mathlib.Core.Path.{_≡_};
 ghost use Prim.Native.Nat.{_*_};
 ghost use lib.ListN.{getD};
-ghost use Rattle.brep.specs.Rows.{lent};
+ghost use Rattle.brep.specs.Rows.{given};
 ghost use Rattle.brep.specs.Tree.{tree, run, runOf};
 ghost use Rattle.curve_point.specs.Turn.{sinCosFor};
 ghost use Rattle.curve_point.specs.Point.{polylinePoint, around, parabolaPoint, pointAt};
@@ -65,7 +65,7 @@ pub fn point_at(
     row: u32,
     t: f64,
 ) -> Vec3
-    ensures { λ r. ⌜ r ≡ pointAt (tree (lent (points .entry) (curves .entry) (reals .entry) (parts .entry) (ranges .entry)) row) t ⌝ }
+    ensures { λ r. ⌜ r ≡ pointAt (tree (given points curves reals parts ranges) row) t ⌝ }
 {
     let r = curve_parameter::under_trims(curves, row);
     // Before the row, whose nine floats need not be kept over the call.
@@ -101,7 +101,7 @@ fn composite_at(
     count: u32,
     t: f64,
 ) -> Vec3
-    ensures { λ r. ⌜ r ≡ pointAt (runOf (lent (points .entry) (curves .entry) (reals .entry) (parts .entry) (ranges .entry)) row first count) t ⌝ }
+    ensures { λ r. ⌜ r ≡ pointAt (runOf (given points curves reals parts ranges) row first count) t ⌝ }
 {
     if count == 0 {
         return Vec3::ZERO;

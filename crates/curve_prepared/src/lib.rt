@@ -3,7 +3,7 @@ use math::Frame;
 use math::Vec3;
 ghost use mathlib.Core.Path.{_≡_};
 ghost use Prim.Native.Nat.{_+_};
-ghost use Rattle.brep.specs.Rows.{lent, pointOf};
+ghost use Rattle.brep.specs.Rows.{given, pointOf};
 ghost use Rattle.brep.specs.Tree.{tree};
 ghost use Rattle.curve_point.specs.Point.{pointAt};
 ghost use Rattle.curve_prepared.specs.declared.Prepared.the-variants.{Line};
@@ -79,7 +79,7 @@ pub fn prepare(
     ranges: &[f64],
     row: u32,
 ) -> Prepared
-    ensures { λ r. ⌜ r ≡ preparedOf (tree (lent (points .entry) (curves .entry) (reals .entry) (parts .entry) (ranges .entry)) row) ⌝ }
+    ensures { λ r. ⌜ r ≡ preparedOf (tree (given points curves reals parts ranges) row) ⌝ }
 {
     let r = curve_parameter::under_trims(curves, row);
     let at = r as usize * 3;
@@ -133,7 +133,7 @@ fn other_point(
     row: u32,
     t: f64,
 ) -> Vec3
-    ensures { λ r. ⌜ r ≡ pointAt (tree (lent (points .entry) (curves .entry) (reals .entry) (parts .entry) (ranges .entry)) row) t ⌝ }
+    ensures { λ r. ⌜ r ≡ pointAt (tree (given points curves reals parts ranges) row) t ⌝ }
 {
     let r = curve_parameter::under_trims(curves, row);
     let at = r as usize * 3;
@@ -159,7 +159,7 @@ pub fn point_of(
     row: u32,
     t: f64,
 ) -> Vec3
-    ensures { λ r. ⌜ r ≡ preparedPoint prepared (tree (lent (points .entry) (curves .entry) (reals .entry) (parts .entry) (ranges .entry)) row) t ⌝ }
+    ensures { λ r. ⌜ r ≡ preparedPoint prepared (tree (given points curves reals parts ranges) row) t ⌝ }
 {
     match prepared {
         Prepared::Line { origin, direction } => origin.add(direction.scale(t)),
@@ -204,7 +204,7 @@ pub fn derivative_of(
     row: u32,
     t: f64,
 ) -> Vec3
-    ensures { λ r. ⌜ r ≡ preparedDerivative prepared (tree (lent (points .entry) (curves .entry) (reals .entry) (parts .entry) (ranges .entry)) row) t ⌝ }
+    ensures { λ r. ⌜ r ≡ preparedDerivative prepared (tree (given points curves reals parts ranges) row) t ⌝ }
 {
     match prepared {
         Prepared::Line {

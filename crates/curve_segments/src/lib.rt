@@ -6,7 +6,7 @@ use math::Vec3;
 ghost use mathlib.Core.Path.{_≡_};
 ghost use Prim.Native.Nat.{_-_};
 ghost use lib.ListN.{getD};
-ghost use Rattle.brep.specs.Rows.{lent};
+ghost use Rattle.brep.specs.Rows.{lent, given};
 ghost use Rattle.curve.specs.Eval.{indexIn, pointAt};
 ghost use Rattle.curve_segments.specs.Run.{past, placeIn, alongOf, compositeOf};
 
@@ -55,7 +55,7 @@ fn past_the_end() -> Segment
 }
 
 // Record i of a run.
-pub fn segment_at(run: &[Segment], i: usize) -> Segment
+fn segment_at(run: &[Segment], i: usize) -> Segment
     ensures { λ r. ⌜ r ≡ getD (now (run .entry)) i past ⌝ }
 {
     if i < run.len() {
@@ -76,7 +76,7 @@ fn along(
     s: Segment,
     local: f64,
 ) -> Vec3
-    ensures { λ r. ⌜ r ≡ alongOf (lent (points .entry) (curves .entry) (reals .entry) (parts .entry) (ranges .entry)) row count s local ⌝ }
+    ensures { λ r. ⌜ r ≡ alongOf (given points curves reals parts ranges) row count s local ⌝ }
 {
     if count == 0 {
         return Vec3::ZERO;
@@ -101,7 +101,7 @@ pub fn point_in(
     run: &[Segment],
     t: f64,
 ) -> Vec3
-    ensures { λ r. ⌜ r ≡ pointAt (compositeOf (lent (points .entry) (curves .entry) (reals .entry) (parts .entry) (ranges .entry)) row (now (run .entry))) t ⌝ }
+    ensures { λ r. ⌜ r ≡ pointAt (compositeOf (given points curves reals parts ranges) row (now (run .entry))) t ⌝ }
 {
     let count = run.len();
     let at = place_in(count, t);

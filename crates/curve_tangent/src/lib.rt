@@ -4,7 +4,7 @@ use math::Direction;
 use math::Interval;
 use math::Vec3;
 ghost use mathlib.Core.Path.{_≡_};
-ghost use Rattle.brep.specs.Rows.{lent, frameOf};
+ghost use Rattle.brep.specs.Rows.{given, frameOf};
 ghost use Rattle.brep.specs.Tree.{tree, run, runOf};
 ghost use Rattle.curve_tangent.specs.Derivative.{polylineDerivative, signedSpan, ellipseDerivative, parabolaDerivative, derivativeAt, tangentAt};
 
@@ -61,7 +61,7 @@ pub fn derivative_at(
     row: u32,
     t: f64,
 ) -> Vec3
-    ensures { λ r. ⌜ r ≡ derivativeAt (tree (lent (points .entry) (curves .entry) (reals .entry) (parts .entry) (ranges .entry)) row) t ⌝ }
+    ensures { λ r. ⌜ r ≡ derivativeAt (tree (given points curves reals parts ranges) row) t ⌝ }
 {
     let r = curve_parameter::under_trims(curves, row);
     let at = r as usize * 3;
@@ -100,7 +100,7 @@ fn composite_derivative(
     count: u32,
     t: f64,
 ) -> Vec3
-    ensures { λ r. ⌜ r ≡ derivativeAt (runOf (lent (points .entry) (curves .entry) (reals .entry) (parts .entry) (ranges .entry)) row first count) t ⌝ }
+    ensures { λ r. ⌜ r ≡ derivativeAt (runOf (given points curves reals parts ranges) row first count) t ⌝ }
 {
     if count == 0 {
         return Vec3::ZERO;
@@ -127,7 +127,7 @@ pub fn tangent_at(
     row: u32,
     t: f64,
 ) -> Direction
-    ensures { λ r. ⌜ r ≡ tangentAt (tree (lent (points .entry) (curves .entry) (reals .entry) (parts .entry) (ranges .entry)) row) t ⌝ }
+    ensures { λ r. ⌜ r ≡ tangentAt (tree (given points curves reals parts ranges) row) t ⌝ }
 {
     derivative_at(points, curves, reals, parts, ranges, row, t).try_normalized()
 }

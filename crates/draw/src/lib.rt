@@ -16,7 +16,7 @@ ghost use denote.Ref.{ptr};
 ghost use lib.ListN.{length, take};
 ghost use lib.Dec.{T};
 ghost use lib.Ieee.{binary64, fits};
-ghost use Rattle.brep.specs.Rows.{lent};
+ghost use Rattle.brep.specs.Rows.{lent, given};
 ghost use Rattle.brep.specs.Tree.{tree};
 ghost use Rattle.causes.specs.declared.Verdict.the-variants.{Accepted};
 ghost use Rattle.causes.specs.Causes.{verdict, tablesVerdict};
@@ -63,7 +63,7 @@ fn local_options(
     options: Options,
 ) -> Resolved
     requires { ⌜ usable ≡ usableRange (tree (lent points curves reals parts ranges) (edge .curve)) (edge .range) ⌝ }
-    ensures { λ r. ⌜ r ≡ localOptions (lent (points .entry) (curves .entry) (reals .entry) (parts .entry) (ranges .entry)) edge options ⌝ }
+    ensures { λ r. ⌜ r ≡ localOptions (given points curves reals parts ranges) edge options ⌝ }
 {
     let r = options.resolve();
     if 0.0 < r.relative {
@@ -89,7 +89,7 @@ fn drawn_in(
 ) -> Drawn
     requires { ⌜ (8 ≤ length (now first)) × (8 ≤ length (now second)) × (length (curveKnots (tree (lent points curves reals parts ranges) (edge .curve))) ≤ 8192)
         × (usable ≡ usableRange (tree (lent points curves reals parts ranges) (edge .curve)) (edge .range)) ⌝ }
-    ensures { λ w. ⌜ DrawnInto (drawnIn (roomOf (length (now (first .entry))) (length (now (second .entry)))) (lent (points .entry) (curves .entry) (reals .entry) (parts .entry) (ranges .entry)) edge r) (now (first .entry)) (now (second .entry)) w (now (first .exit)) (now (second .exit)) ⌝ }
+    ensures { λ w. ⌜ DrawnInto (drawnIn (roomOf (length (now (first .entry))) (length (now (second .entry)))) (given points curves reals parts ranges) edge r) (now (first .entry)) (now (second .entry)) w (now (first .exit)) (now (second .exit)) ⌝ }
 {
     let counted = edge_discretise::discretise_usable(
         points,
@@ -125,7 +125,7 @@ fn drawn_in(
 }
 
 // Draws an edge that `causes::check` has accepted with these tables and options, without looking at them again.
-pub fn draw_checked(
+fn draw_checked(
     points: &[f64],
     curves: &[u32],
     reals: &[f64],
@@ -137,7 +137,7 @@ pub fn draw_checked(
     second: &mut [f64],
 ) -> Drawn
     requires { ⌜ verdict (lent points curves reals parts ranges) edge options ≡ Accepted ⌝ }
-    ensures { λ r. ⌜ Outcome (lent (points .entry) (curves .entry) (reals .entry) (parts .entry) (ranges .entry)) edge options (now (first .entry)) (now (second .entry)) r (now (first .exit)) (now (second .exit)) ⌝ }
+    ensures { λ r. ⌜ Outcome (given points curves reals parts ranges) edge options (now (first .entry)) (now (second .entry)) r (now (first .exit)) (now (second .exit)) ⌝ }
 {
     if first.len() < 8 || second.len() < 8 {
         return Drawn::Refused(7);
@@ -183,7 +183,7 @@ pub fn draw_over(
     second: &mut [f64],
 ) -> Drawn
     requires { ⌜ tablesVerdict (lent points curves reals parts ranges) ≡ Accepted ⌝ }
-    ensures { λ r. ⌜ Outcome (lent (points .entry) (curves .entry) (reals .entry) (parts .entry) (ranges .entry)) edge options (now (first .entry)) (now (second .entry)) r (now (first .exit)) (now (second .exit)) ⌝ }
+    ensures { λ r. ⌜ Outcome (given points curves reals parts ranges) edge options (now (first .entry)) (now (second .entry)) r (now (first .exit)) (now (second .exit)) ⌝ }
 {
     let verdict = causes::check_edge(points, curves, reals, parts, ranges, edge, options);
     match verdict {
@@ -214,7 +214,7 @@ pub fn draw(
     first: &mut [f64],
     second: &mut [f64],
 ) -> Drawn
-    ensures { λ r. ⌜ Outcome (lent (points .entry) (curves .entry) (reals .entry) (parts .entry) (ranges .entry)) edge options (now (first .entry)) (now (second .entry)) r (now (first .exit)) (now (second .exit)) ⌝ }
+    ensures { λ r. ⌜ Outcome (given points curves reals parts ranges) edge options (now (first .entry)) (now (second .entry)) r (now (first .exit)) (now (second .exit)) ⌝ }
 {
     let verdict = causes::check(points, curves, reals, parts, ranges, edge, options);
     match verdict {

@@ -10,7 +10,7 @@ ghost use lib.Seq.{sets};
 ghost use lib.Ieee.{le};
 ghost use Rattle.arith.specs.Notation.{plusZero};
 ghost use Rattle.arith_root.specs.Root.{rootOf};
-ghost use Rattle.brep.specs.Rows.{lent};
+ghost use Rattle.brep.specs.Rows.{lent, given};
 ghost use Rattle.brep.specs.Tree.{tree};
 ghost use Rattle.curve.specs.Eval.{pointAt};
 ghost use Rattle.curve_prepared.specs.Prepared.{preparedOf};
@@ -35,7 +35,7 @@ fn miss_square(
 ) -> f64
     requires { ⌜ (prepared ≡ preparedOf (tree (lent points curves reals parts ranges) row))
         × (pa ≡ pointAt (tree (lent points curves reals parts ranges) row) a) × (pb ≡ pointAt (tree (lent points curves reals parts ranges) row) b) ⌝ }
-    ensures { λ w. ⌜ w ≡ missSquare (tree (lent (points .entry) (curves .entry) (reals .entry) (parts .entry) (ranges .entry)) row) a b ⌝ }
+    ensures { λ w. ⌜ w ≡ missSquare (tree (given points curves reals parts ranges) row) a b ⌝ }
 {
     let t = 0.5 * (a + b);
     let m = curve_prepared::point_of(prepared, points, curves, reals, parts, ranges, row, t);
@@ -62,8 +62,8 @@ fn worst_square(
     chain: &mut [f64],
 ) -> f64
     requires { ⌜ width * length (now params) ≤ length (now chain) ⌝ }
-    ensures { λ w. ⌜ Alike (rootOf w) (worstMiss (tree (lent (points .entry) (curves .entry) (reals .entry) (parts .entry) (ranges .entry)) row) plusZero (now (params .entry)))
-        × (now (chain .exit) ≡ sets (now (chain .entry)) 0 (flat (located (tree (lent (points .entry) (curves .entry) (reals .entry) (parts .entry) (ranges .entry)) row) (now (params .entry))))) ⌝ }
+    ensures { λ w. ⌜ Alike (rootOf w) (worstMiss (tree (given points curves reals parts ranges) row) plusZero (now (params .entry)))
+        × (now (chain .exit) ≡ sets (now (chain .entry)) 0 (flat (located (tree (given points curves reals parts ranges) row) (now (params .entry))))) ⌝ }
 {
     if params.len() == 0 {
         return 0.0;
@@ -121,8 +121,8 @@ pub fn meets(
     chain: &mut [f64],
 ) -> bool
     requires { ⌜ (n ≤ length (now out)) × (width * n ≤ length (now chain)) ⌝ }
-    ensures { λ w. ⌜ (w ≡ le (worstMiss (tree (lent (points .entry) (curves .entry) (reals .entry) (parts .entry) (ranges .entry)) row) plusZero (take n (now (out .entry)))) sag)
-        × (now (chain .exit) ≡ sets (now (chain .entry)) 0 (flat (located (tree (lent (points .entry) (curves .entry) (reals .entry) (parts .entry) (ranges .entry)) row) (take n (now (out .entry)))))) ⌝ }
+    ensures { λ w. ⌜ (w ≡ le (worstMiss (tree (given points curves reals parts ranges) row) plusZero (take n (now (out .entry)))) sag)
+        × (now (chain .exit) ≡ sets (now (chain .entry)) 0 (flat (located (tree (given points curves reals parts ranges) row) (take n (now (out .entry)))))) ⌝ }
 {
     let params = &out[..n];
     // The largest of the roots is the root of the largest.

@@ -12,7 +12,7 @@ ghost use mathlib.Core.List.{[]};
 ghost use Prim.Native.Nat.{_*_, _≤_, min};
 ghost use lib.ListN.{length};
 ghost use Rattle.base_lists.specs.Room.{filled};
-ghost use Rattle.brep.specs.Rows.{lent};
+ghost use Rattle.brep.specs.Rows.{lent, given};
 ghost use Rattle.brep.specs.Tree.{tree};
 ghost use Rattle.curve.specs.Eval.{isSampled};
 ghost use Rattle.knots.specs.Knots.{curveKnots};
@@ -53,8 +53,8 @@ fn thin_sampled(
     n: usize,
 ) -> Counted
     requires { ⌜ (n ≤ most) × (width * n ≤ length (now chain)) ⌝ }
-    ensures { λ w. ⌜ (w ≡ countedOf (thinnedIf (isSampled (tree (lent (points .entry) (curves .entry) (reals .entry) (parts .entry) (ranges .entry)) row)) r (samples n (now (chain .entry)))))
-        × (now (chain .exit) ≡ after (now (chain .entry)) (thinnedIf (isSampled (tree (lent (points .entry) (curves .entry) (reals .entry) (parts .entry) (ranges .entry)) row)) r (samples n (now (chain .entry))))) ⌝ }
+    ensures { λ w. ⌜ (w ≡ countedOf (thinnedIf (isSampled (tree (given points curves reals parts ranges) row)) r (samples n (now (chain .entry)))))
+        × (now (chain .exit) ≡ after (now (chain .entry)) (thinnedIf (isSampled (tree (given points curves reals parts ranges) row)) r (samples n (now (chain .entry))))) ⌝ }
 {
     if curve::is_sampled(points, curves, reals, parts, ranges, row) {
         // A chain has no more than MOST records, so that a higher floor says nothing more.
@@ -77,7 +77,7 @@ fn finish(
     n: usize,
 ) -> Counted
     requires { ⌜ (2 ≤ n) × (n ≤ most) × (width * n ≤ length (now chain)) ⌝ }
-    ensures { λ w. ⌜ ChainInto (length (now (chain .entry))) (thinnedMerged (lent (points .entry) (curves .entry) (reals .entry) (parts .entry) (ranges .entry)) edge r (samples n (now (chain .entry)))) w (now (chain .exit)) ⌝ }
+    ensures { λ w. ⌜ ChainInto (length (now (chain .entry))) (thinnedMerged (given points curves reals parts ranges) edge r (samples n (now (chain .entry)))) w (now (chain .exit)) ⌝ }
 {
     let thinned = thin_sampled(
         points,
@@ -145,7 +145,7 @@ fn draw_range(
 ) -> Counted
     requires { ⌜ (length (now scratch) ≤ most) × (width * length (now scratch) ≤ length (now chain))
         × (length (curveKnots (tree (lent points curves reals parts ranges) (edge .curve))) ≤ 8192) ⌝ }
-    ensures { λ w. ⌜ ChainInto (length (now (chain .entry))) (overRange (length (now (scratch .entry))) (lent (points .entry) (curves .entry) (reals .entry) (parts .entry) (ranges .entry)) edge r range) w (now (chain .exit))
+    ensures { λ w. ⌜ ChainInto (length (now (chain .entry))) (overRange (length (now (scratch .entry))) (given points curves reals parts ranges) edge r range) w (now (chain .exit))
         × (now (scratch .exit) ≡ filled (length (now (scratch .entry))) []) ⌝ }
 {
     let row = edge.curve;
@@ -200,7 +200,7 @@ pub fn discretise_usable(
 ) -> Counted
     requires { ⌜ (8 ≤ length (now chain)) × (8 ≤ length (now scratch)) × (length (curveKnots (tree (lent points curves reals parts ranges) (edge .curve))) ≤ 8192)
         × (usable ≡ usableRange (tree (lent points curves reals parts ranges) (edge .curve)) (edge .range)) ⌝ }
-    ensures { λ w. ⌜ DiscretisedInto (λ room. discretised room (lent (points .entry) (curves .entry) (reals .entry) (parts .entry) (ranges .entry)) edge r) (now (chain .entry)) (now (scratch .entry)) w (now (chain .exit)) (now (scratch .exit)) ⌝ }
+    ensures { λ w. ⌜ DiscretisedInto (λ room. discretised room (given points curves reals parts ranges) edge r) (now (chain .entry)) (now (scratch .entry)) w (now (chain .exit)) (now (scratch .exit)) ⌝ }
 {
     let Usable::Range(range) = usable else {
         chord(points, edge, edge.range.lo, edge.range.hi, chain);
@@ -238,7 +238,7 @@ pub fn discretise(
     scratch: &mut [f64],
 ) -> Counted
     requires { ⌜ (8 ≤ length (now chain)) × (8 ≤ length (now scratch)) × (length (curveKnots (tree (lent points curves reals parts ranges) (edge .curve))) ≤ 8192) ⌝ }
-    ensures { λ w. ⌜ DiscretisedInto (λ room. discretised room (lent (points .entry) (curves .entry) (reals .entry) (parts .entry) (ranges .entry)) edge r) (now (chain .entry)) (now (scratch .entry)) w (now (chain .exit)) (now (scratch .exit)) ⌝ }
+    ensures { λ w. ⌜ DiscretisedInto (λ room. discretised room (given points curves reals parts ranges) edge r) (now (chain .entry)) (now (scratch .entry)) w (now (chain .exit)) (now (scratch .exit)) ⌝ }
 {
     let usable = edge_range::usable_range(
         points,

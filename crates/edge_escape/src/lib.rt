@@ -11,7 +11,7 @@ ghost use lib.ListN.{length};
 ghost use lib.Ieee.{lt, le};
 ghost use Rattle.arith.specs.Notation.{bits, plusZero};
 ghost use Rattle.math.specs.Math.{vLengthSquared, boxSize};
-ghost use Rattle.brep.specs.Rows.{lent};
+ghost use Rattle.brep.specs.Rows.{given};
 ghost use Rattle.brep.specs.Tree.{tree};
 ghost use Rattle.edge_record.specs.Chain.{width, samples};
 ghost use Rattle.draw_spec.specs.Repair.{escapes, reaches, sweepAt, nearest};
@@ -152,7 +152,7 @@ pub fn nearest(
     start: Vec3,
     end: Vec3,
 ) -> Ends
-    ensures { λ w. ⌜ (w .start ≡ nearest (tree (lent (points .entry) (curves .entry) (reals .entry) (parts .entry) (ranges .entry)) row) start) × (w .end ≡ nearest (tree (lent (points .entry) (curves .entry) (reals .entry) (parts .entry) (ranges .entry)) row) end) ⌝ }
+    ensures { λ w. ⌜ (w .start ≡ nearest (tree (given points curves reals parts ranges) row) start) × (w .end ≡ nearest (tree (given points curves reals parts ranges) row) end) ⌝ }
 {
     let natural = curve::natural_range(points, curves, reals, parts, ranges, row);
     let prepared = curve_prepared::prepare(points, curves, reals, parts, ranges, row);

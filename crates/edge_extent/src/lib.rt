@@ -11,7 +11,7 @@ ghost use lib.Dec.{T};
 ghost use lib.Ieee.{Float, le};
 ghost use Rattle.arith.specs.Notation.{_⊕_, _⊗_};
 ghost use Rattle.math.specs.Math.{vFinite, addPoint};
-ghost use Rattle.brep.specs.Rows.{lent};
+ghost use Rattle.brep.specs.Rows.{lent, given};
 ghost use Rattle.brep.specs.Tree.{CurveTree, tree};
 ghost use Rattle.curve_prepared.specs.declared.Prepared.the-variants.{Line};
 ghost use Rattle.curve_prepared.specs.Prepared.{preparedOf};
@@ -128,7 +128,7 @@ fn probe_each(
     b: Aabb,
 ) -> Aabb
     requires { ⌜ prepared ≡ preparedOf (tree (lent points curves reals parts ranges) row) ⌝ }
-    ensures { λ r. ⌜ r ≡ probed (tree (lent (points .entry) (curves .entry) (reals .entry) (parts .entry) (ranges .entry)) row) range b 9 ⌝ }
+    ensures { λ r. ⌜ r ≡ probed (tree (given points curves reals parts ranges) row) range b 9 ⌝ }
 {
     let mut found = b;
     let mut i: u32 = 0;
@@ -152,7 +152,7 @@ fn probe(
     range: Interval,
     b: Aabb,
 ) -> Aabb
-    ensures { λ r. ⌜ r ≡ probed (tree (lent (points .entry) (curves .entry) (reals .entry) (parts .entry) (ranges .entry)) row) range b 9 ⌝ }
+    ensures { λ r. ⌜ r ≡ probed (tree (given points curves reals parts ranges) row) range b 9 ⌝ }
 {
     let prepared = curve_prepared::prepare(points, curves, reals, parts, ranges, row);
     if let Prepared::Line { origin, direction } = prepared {
@@ -185,7 +185,7 @@ fn extent_box(
     usable: Usable,
     b: Aabb,
 ) -> Aabb
-    ensures { λ r. ⌜ r ≡ extentBox (tree (lent (points .entry) (curves .entry) (reals .entry) (parts .entry) (ranges .entry)) row) usable b ⌝ }
+    ensures { λ r. ⌜ r ≡ extentBox (tree (given points curves reals parts ranges) row) usable b ⌝ }
 {
     match usable {
         Usable::Range(range) => probe(points, curves, reals, parts, ranges, row, range, b),
@@ -204,7 +204,7 @@ pub fn extent_usable(
     usable: Usable,
 ) -> f64
     requires { ⌜ usable ≡ usableRange (tree (lent points curves reals parts ranges) (edge .curve)) (edge .range) ⌝ }
-    ensures { λ r. ⌜ r ≡ edgeExtent (lent (points .entry) (curves .entry) (reals .entry) (parts .entry) (ranges .entry)) edge ⌝ }
+    ensures { λ r. ⌜ r ≡ edgeExtent (given points curves reals parts ranges) edge ⌝ }
 {
     let start = brep::point(points, edge.start);
     let end = brep::point(points, edge.end);
@@ -224,7 +224,7 @@ pub fn edge_extent(
     ranges: &[f64],
     edge: Edge,
 ) -> f64
-    ensures { λ r. ⌜ r ≡ edgeExtent (lent (points .entry) (curves .entry) (reals .entry) (parts .entry) (ranges .entry)) edge ⌝ }
+    ensures { λ r. ⌜ r ≡ edgeExtent (given points curves reals parts ranges) edge ⌝ }
 {
     let usable = edge_range::usable_range(
         points,

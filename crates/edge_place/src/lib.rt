@@ -9,7 +9,7 @@ ghost use Prim.Native.Nat.{_+_, _*_, _<_, _≤_};
 ghost use lib.ListN.{length, getD};
 ghost use lib.Ieee.{nan};
 ghost use lib.Seq.{sets};
-ghost use Rattle.brep.specs.Rows.{lent};
+ghost use Rattle.brep.specs.Rows.{lent, given};
 ghost use Rattle.curve_prepared.specs.Prepared.{preparedOf};
 ghost use Rattle.curve.specs.Eval.{pointAt as onCurve};
 ghost use Rattle.edge_record.specs.Chain.{width, flat, pointAt as inChain};
@@ -43,7 +43,7 @@ fn own_point(
     requires { ⌜ (i < length (now params)) × (width * i + width ≤ length (now chain))
         × (prepared ≡ preparedOf (edgeCurve (lent points curves reals parts ranges) edge))
         × (known ≡ true → PointsKnown (edgeCurve (lent points curves reals parts ranges) edge) (now params) (now chain)) ⌝ }
-    ensures { λ r. ⌜ r ≡ onCurve (edgeCurve (lent (points .entry) (curves .entry) (reals .entry) (parts .entry) (ranges .entry)) edge) (getD (now (params .entry)) i nan) ⌝ }
+    ensures { λ r. ⌜ r ≡ onCurve (edgeCurve (given points curves reals parts ranges) edge) (getD (now (params .entry)) i nan) ⌝ }
 {
     if known {
         return edge_record::point_at(chain, i);
@@ -69,7 +69,7 @@ fn is_reversed(
     requires { ⌜ (2 ≤ length (now params)) × (width * length (now params) ≤ length (now chain))
         × (prepared ≡ preparedOf (edgeCurve (lent points curves reals parts ranges) edge))
         × (known ≡ true → PointsKnown (edgeCurve (lent points curves reals parts ranges) edge) (now params) (now chain)) ⌝ }
-    ensures { λ r. ⌜ r ≡ runsBack (lent (points .entry) (curves .entry) (reals .entry) (parts .entry) (ranges .entry)) edge (now (params .entry)) ⌝ }
+    ensures { λ r. ⌜ r ≡ runsBack (given points curves reals parts ranges) edge (now (params .entry)) ⌝ }
 {
     if degenerate_ends(points, edge) {
         return edge.sense == 0;
@@ -134,7 +134,7 @@ fn record_at(
     requires { ⌜ (i < length (now params)) × (width * i + width ≤ length (now chain))
         × (prepared ≡ preparedOf (edgeCurve (lent points curves reals parts ranges) edge))
         × (kept ≡ true → inChain (now chain) i ≡ onCurve (edgeCurve (lent points curves reals parts ranges) edge) (paramAt (now params) reversed i)) ⌝ }
-    ensures { λ r. ⌜ r ≡ recordAt (lent (points .entry) (curves .entry) (reals .entry) (parts .entry) (ranges .entry)) edge (now (params .entry)) reversed i ⌝ }
+    ensures { λ r. ⌜ r ≡ recordAt (given points curves reals parts ranges) edge (now (params .entry)) reversed i ⌝ }
 {
     let param = param_at(params, reversed, i);
     if i == 0 {
@@ -181,7 +181,7 @@ pub fn place(
 )
     requires { ⌜ (2 ≤ length (now params)) × (width * length (now params) ≤ length (now chain))
         × (known ≡ true → PointsKnown (edgeCurve (lent points curves reals parts ranges) edge) (now params) (now chain)) ⌝ }
-    ensures { λ _. ⌜ now (chain .exit) ≡ sets (now (chain .entry)) 0 (flat (placed (lent (points .entry) (curves .entry) (reals .entry) (parts .entry) (ranges .entry)) edge (now (params .entry)))) ⌝ }
+    ensures { λ _. ⌜ now (chain .exit) ≡ sets (now (chain .entry)) 0 (flat (placed (given points curves reals parts ranges) edge (now (params .entry)))) ⌝ }
 {
     let prepared = curve_prepared::prepare(points, curves, reals, parts, ranges, edge.curve);
     let reversed = is_reversed(

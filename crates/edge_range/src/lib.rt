@@ -5,7 +5,7 @@ use math::Interval;
 use options::Resolved;
 ghost use mathlib.Core.Path.{_≡_};
 ghost use Prim.Native.Nat.{max};
-ghost use Rattle.brep.specs.Rows.{lent};
+ghost use Rattle.brep.specs.Rows.{given};
 ghost use Rattle.brep.specs.Tree.{tree};
 ghost use Rattle.edge_range.specs.Usable.{ownRange, heldTo, withinDomain, isNoRange, usableRange, ellipseRadius, analyticSegments};
 
@@ -69,7 +69,7 @@ pub fn usable_range(
     row: u32,
     range: Interval,
 ) -> Usable
-    ensures { λ r. ⌜ r ≡ usableRange (tree (lent (points .entry) (curves .entry) (reals .entry) (parts .entry) (ranges .entry)) row) range ⌝ }
+    ensures { λ r. ⌜ r ≡ usableRange (tree (given points curves reals parts ranges) row) range ⌝ }
 {
     let natural = curve::natural_range(points, curves, reals, parts, ranges, row);
     if is_no_range(range) {
@@ -110,7 +110,7 @@ pub fn analytic_segments(
     range: Interval,
     r: Resolved,
 ) -> Closed
-    ensures { λ s. ⌜ s ≡ analyticSegments (tree (lent (points .entry) (curves .entry) (reals .entry) (parts .entry) (ranges .entry)) row) range r ⌝ }
+    ensures { λ s. ⌜ s ≡ analyticSegments (tree (given points curves reals parts ranges) row) range r ⌝ }
 {
     let base = curve::under_trims(curves, row);
     let kind = brep::int_at(curves, base as usize * 3);

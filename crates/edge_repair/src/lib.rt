@@ -14,7 +14,7 @@ ghost use mathlib.Core.List.{[]};
 ghost use Prim.Native.Nat.{_*_, _≤_};
 ghost use lib.ListN.{length};
 ghost use Rattle.base_lists.specs.Room.{filled};
-ghost use Rattle.brep.specs.Rows.{lent};
+ghost use Rattle.brep.specs.Rows.{lent, given};
 ghost use Rattle.brep.specs.Tree.{tree};
 ghost use Rattle.knots.specs.Knots.{curveKnots};
 ghost use Rattle.edge_record.specs.Chain.{width, flat, samples};
@@ -91,7 +91,7 @@ fn short_range(
     ranges: &[f64],
     edge: Edge,
 ) -> Interval
-    ensures { λ i. ⌜ i ≡ shortRange (lent (points .entry) (curves .entry) (reals .entry) (parts .entry) (ranges .entry)) edge ⌝ }
+    ensures { λ i. ⌜ i ≡ shortRange (given points curves reals parts ranges) edge ⌝ }
 {
     let start = brep::point(points, edge.start);
     let end = brep::point(points, edge.end);
@@ -117,7 +117,7 @@ fn short_arc(
     ranges: &[f64],
     edge: Edge,
 ) -> Usable
-    ensures { λ u. ⌜ u ≡ shortArc (lent (points .entry) (curves .entry) (reals .entry) (parts .entry) (ranges .entry)) edge ⌝ }
+    ensures { λ u. ⌜ u ≡ shortArc (given points curves reals parts ranges) edge ⌝ }
 {
     let natural = curve::natural_range(points, curves, reals, parts, ranges, edge.curve);
     let span = natural.span();
@@ -143,7 +143,7 @@ fn by_short_arc(
     second: &mut [f64],
 ) -> Drawn
     requires { ⌜ (8 ≤ length (now first)) × (8 ≤ length (now second)) × (length (curveKnots (tree (lent points curves reals parts ranges) (edge .curve))) ≤ 8192) ⌝ }
-    ensures { λ w. ⌜ RedrawnInto (λ room. byShortArc room (lent (points .entry) (curves .entry) (reals .entry) (parts .entry) (ranges .entry)) edge r) (now (first .entry)) (now (second .entry)) w (now (first .exit)) (now (second .exit)) ⌝ }
+    ensures { λ w. ⌜ RedrawnInto (λ room. byShortArc room (given points curves reals parts ranges) edge r) (now (first .entry)) (now (second .entry)) w (now (first .exit)) (now (second .exit)) ⌝ }
 {
     let arc = short_arc(points, curves, reals, parts, ranges, edge);
     let Usable::Range(short) = arc else {
@@ -182,7 +182,7 @@ fn draw_complement(
     second: &mut [f64],
 ) -> Drawn
     requires { ⌜ (8 ≤ length (now first)) × (8 ≤ length (now second)) × (length (curveKnots (tree (lent points curves reals parts ranges) (edge .curve))) ≤ 8192) ⌝ }
-    ensures { λ w. ⌜ RedrawnInto (drawnComplement (lent (points .entry) (curves .entry) (reals .entry) (parts .entry) (ranges .entry)) edge r complement) (now (first .entry)) (now (second .entry)) w (now (first .exit)) (now (second .exit)) ⌝ }
+    ensures { λ w. ⌜ RedrawnInto (drawnComplement (given points curves reals parts ranges) edge r complement) (now (first .entry)) (now (second .entry)) w (now (first .exit)) (now (second .exit)) ⌝ }
 {
     let d = with_range(edge, complement);
     let drawn = edge_discretise::discretise(
@@ -217,7 +217,7 @@ fn complement_arc(
     ranges: &[f64],
     edge: Edge,
 ) -> Usable
-    ensures { λ u. ⌜ u ≡ complementArc (lent (points .entry) (curves .entry) (reals .entry) (parts .entry) (ranges .entry)) edge ⌝ }
+    ensures { λ u. ⌜ u ≡ complementArc (given points curves reals parts ranges) edge ⌝ }
 {
     let period = curve::period(points, curves, reals, parts, ranges, edge.curve);
     let Repeats::Every(p) = period else {
@@ -265,7 +265,7 @@ pub fn repair_runaway(
 ) -> Drawn
     requires { ⌜ (8 ≤ length (now first)) × (8 ≤ length (now second)) × (length (curveKnots (tree (lent points curves reals parts ranges) (edge .curve))) ≤ 8192)
         × (width * n ≤ length (now first)) × (now first ≡ filled (length (now first)) (flat (samples n (now first)))) × (now second ≡ filled (length (now second)) []) × (inFirst way ≡ true) ⌝ }
-    ensures { λ w. ⌜ DrawnInto (repaired (roomOf (length (now (first .entry))) (length (now (second .entry)))) (lent (points .entry) (curves .entry) (reals .entry) (parts .entry) (ranges .entry)) edge r (by way (samples n (now (first .entry))))) (now (first .entry)) (now (second .entry)) w (now (first .exit)) (now (second .exit)) ⌝ }
+    ensures { λ w. ⌜ DrawnInto (repaired (roomOf (length (now (first .entry))) (length (now (second .entry)))) (given points curves reals parts ranges) edge r (by way (samples n (now (first .entry))))) (now (first .entry)) (now (second .entry)) w (now (first .exit)) (now (second .exit)) ⌝ }
 {
     if stays(points, edge, r, first, n) {
         return Drawn::Chain(way, n);

@@ -15,7 +15,7 @@ ghost use lib.ListN.{length, getD, take};
 ghost use lib.Seq.{sets};
 ghost use lib.Ieee.{nan};
 ghost use Rattle.base_lists.specs.Room.{filled};
-ghost use Rattle.brep.specs.Rows.{lent};
+ghost use Rattle.brep.specs.Rows.{lent, given};
 ghost use Rattle.brep.specs.Tree.{tree};
 ghost use Rattle.curve_prepared.specs.Prepared.{preparedOf};
 ghost use Rattle.edge_params.specs.Params.{subdivided, unlessHi, bisected, refined};
@@ -64,7 +64,7 @@ fn step(
 ) -> Listed
     requires { ⌜ (prepared ≡ preparedOf (tree (lent points curves reals parts ranges) row)) × (limits ≡ limitsOf r)
         × (left ≡ endAt (tree (lent points curves reals parts ranges) row) (left .t)) × (right ≡ endAt (tree (lent points curves reals parts ranges) row) (right .t)) × (k ≤ length (now out)) ⌝ }
-    ensures { λ w. ⌜ ListAppended (now (out .entry)) k (subdivided (withinBudget (tree (lent (points .entry) (curves .entry) (reals .entry) (parts .entry) (ranges .entry)) row) r) (r .depth) (left .t) (right .t) ++ unlessHi range (right .t)) w (now (out .exit)) ⌝ }
+    ensures { λ w. ⌜ ListAppended (now (out .entry)) k (subdivided (withinBudget (tree (given points curves reals parts ranges) row) r) (r .depth) (left .t) (right .t) ++ unlessHi range (right .t)) w (now (out .exit)) ⌝ }
 {
     let inside = edge_subdivide::subdivide(
         points,
@@ -105,7 +105,7 @@ fn walk(
     out: &mut [f64],
 ) -> Listed
     requires { ⌜ now breaks ≡ keptBreaks (tree (lent points curves reals parts ranges) row) (range .lo) (range .hi) (r .sag) ⌝ }
-    ensures { λ w. ⌜ ListWritten (now (out .entry)) (bisected (sampler (tree (lent (points .entry) (curves .entry) (reals .entry) (parts .entry) (ranges .entry)) row) range r) range) w (now (out .exit)) ⌝ }
+    ensures { λ w. ⌜ ListWritten (now (out .entry)) (bisected (sampler (tree (given points curves reals parts ranges) row) range r) range) w (now (out .exit)) ⌝ }
 {
     let prepared = curve_prepared::prepare(points, curves, reals, parts, ranges, row);
     let limits = edge_subdivide::limits_of(r);
@@ -167,7 +167,7 @@ fn walk_breaks(
     out: &mut [f64],
 ) -> Listed
     requires { ⌜ length (curveKnots (tree (lent points curves reals parts ranges) row)) ≤ 8192 ⌝ }
-    ensures { λ w. ⌜ ListWritten (now (out .entry)) (bisected (sampler (tree (lent (points .entry) (curves .entry) (reals .entry) (parts .entry) (ranges .entry)) row) range r) range) w (now (out .exit)) ⌝ }
+    ensures { λ w. ⌜ ListWritten (now (out .entry)) (bisected (sampler (tree (given points curves reals parts ranges) row) range r) range) w (now (out .exit)) ⌝ }
 {
     let mut breaks = [0.0; 8192];
     let kept = knots_thin::kept_breaks(
@@ -213,7 +213,7 @@ fn bisect_range(
     out: &mut [f64],
 ) -> Listed
     requires { ⌜ length (curveKnots (tree (lent points curves reals parts ranges) row)) ≤ 8192 ⌝ }
-    ensures { λ w. ⌜ ListWritten (now (out .entry)) (bisected (sampler (tree (lent (points .entry) (curves .entry) (reals .entry) (parts .entry) (ranges .entry)) row) range r) range) w (now (out .exit)) ⌝ }
+    ensures { λ w. ⌜ ListWritten (now (out .entry)) (bisected (sampler (tree (given points curves reals parts ranges) row) range r) range) w (now (out .exit)) ⌝ }
 {
     if knots::knot_count(points, curves, reals, parts, ranges, row) == 0 {
         let none = [0.0; 1];
@@ -263,7 +263,7 @@ fn refine(
     out: &mut [f64],
 ) -> Listed
     requires { ⌜ length (curveKnots (tree (lent points curves reals parts ranges) row)) ≤ 8192 ⌝ }
-    ensures { λ w. ⌜ SampledInto (length (now (out .entry))) (refined (length (now (out .entry))) (sampler (tree (lent (points .entry) (curves .entry) (reals .entry) (parts .entry) (ranges .entry)) row) range r) range) w (now (out .exit)) ⌝ }
+    ensures { λ w. ⌜ SampledInto (length (now (out .entry))) (refined (length (now (out .entry))) (sampler (tree (given points curves reals parts ranges) row) range r) range) w (now (out .exit)) ⌝ }
 {
     let listed = bisect_range(points, curves, reals, parts, ranges, row, range, r, out);
     let Listed::Count(n) = listed else {
@@ -308,10 +308,10 @@ pub fn sample_params(
     chain: &mut [f64],
 ) -> Sampled
     requires { ⌜ (length (curveKnots (tree (lent points curves reals parts ranges) row)) ≤ 8192) × (width * length (now out) ≤ length (now chain)) ⌝ }
-    ensures { λ w. ⌜ SampledInto (length (now (out .entry))) (sampled (length (now (out .entry))) (tree (lent (points .entry) (curves .entry) (reals .entry) (parts .entry) (ranges .entry)) row) range r) (w .listed) (now (out .exit))
-        × (w .known ≡ isKept (length (now (out .entry))) (tree (lent (points .entry) (curves .entry) (reals .entry) (parts .entry) (ranges .entry)) row) range r)
-        × (now (chain .exit) ≡ sets (now (chain .entry)) 0 (flat (located (tree (lent (points .entry) (curves .entry) (reals .entry) (parts .entry) (ranges .entry)) row)
-        (tried (length (now (out .entry))) (tree (lent (points .entry) (curves .entry) (reals .entry) (parts .entry) (ranges .entry)) row) range r)))) ⌝ }
+    ensures { λ w. ⌜ SampledInto (length (now (out .entry))) (sampled (length (now (out .entry))) (tree (given points curves reals parts ranges) row) range r) (w .listed) (now (out .exit))
+        × (w .known ≡ isKept (length (now (out .entry))) (tree (given points curves reals parts ranges) row) range r)
+        × (now (chain .exit) ≡ sets (now (chain .entry)) 0 (flat (located (tree (given points curves reals parts ranges) row)
+        (tried (length (now (out .entry))) (tree (given points curves reals parts ranges) row) range r)))) ⌝ }
 {
     let form = edge_range::analytic_segments(points, curves, reals, parts, ranges, row, range, r);
     let Closed::Segments(n) = form else {

@@ -11,7 +11,7 @@ ghost use Prim.Native.Nat.{_≤_};
 ghost use lib.ListN.{length};
 ghost use lib.Ieee.{le};
 ghost use Rattle.arith_turn_limit.specs.Turning.{Serves, Exceeds};
-ghost use Rattle.brep.specs.Rows.{lent};
+ghost use Rattle.brep.specs.Rows.{lent, given};
 ghost use Rattle.brep.specs.Tree.{tree};
 ghost use Rattle.curve_prepared.specs.Prepared.{preparedOf};
 ghost use Rattle.edge_params.specs.Params.{subdivided};
@@ -60,7 +60,7 @@ pub fn end_at(
     t: f64,
 ) -> End
     requires { ⌜ prepared ≡ preparedOf (tree (lent points curves reals parts ranges) row) ⌝ }
-    ensures { λ r. ⌜ r ≡ endAt (tree (lent (points .entry) (curves .entry) (reals .entry) (parts .entry) (ranges .entry)) row) t ⌝ }
+    ensures { λ r. ⌜ r ≡ endAt (tree (given points curves reals parts ranges) row) t ⌝ }
 {
     let point = curve_prepared::point_of(prepared, points, curves, reals, parts, ranges, row, t);
     let slope = curve_prepared::derivative_of(
@@ -141,7 +141,7 @@ fn split_of(
     b: End,
 ) -> Split
     requires { ⌜ (prepared ≡ preparedOf (tree (lent points curves reals parts ranges) row)) × (l ≡ limitsOf r) ⌝ }
-    ensures { λ s. ⌜ s ≡ splitOf (tree (lent (points .entry) (curves .entry) (reals .entry) (parts .entry) (ranges .entry)) row) r a b ⌝ }
+    ensures { λ s. ⌜ s ≡ splitOf (tree (given points curves reals parts ranges) row) r a b ⌝ }
 {
     let t = 0.5 * (a.t + b.t);
     let point = curve_prepared::point_of(prepared, points, curves, reals, parts, ranges, row, t);
@@ -183,7 +183,7 @@ pub fn subdivide(
         × (a ≡ endAt (tree (lent points curves reals parts ranges) row) (a .t))
         × (b ≡ endAt (tree (lent points curves reals parts ranges) row) (b .t)) × (k ≤ length (now out)) ⌝ }
     ensures { λ w. ⌜ ListAppended (now (out .entry)) k
-        (subdivided (withinBudget (tree (lent (points .entry) (curves .entry) (reals .entry) (parts .entry) (ranges .entry)) row) r) depth (a .t) (b .t))
+        (subdivided (withinBudget (tree (given points curves reals parts ranges) row) r) depth (a .t) (b .t))
         w (now (out .exit)) ⌝ }
 {
     if depth == 0 {

@@ -4,7 +4,7 @@
 use options::Angle;
 use options::Options;
 ghost use mathlib.Core.Path.{_≡_};
-ghost use Rattle.brep.specs.Rows.{lent};
+ghost use Rattle.brep.specs.Rows.{lent, given};
 ghost use Rattle.causes.specs.declared.Verdict.the-variants.{Accepted};
 ghost use Rattle.causes.specs.Causes.{verdict, tablesVerdict};
 ghost use Rattle.options.specs.Options.{radians, degrees, isClamped, defaultOptions, draftOptions, fineOptions};
@@ -40,7 +40,7 @@ pub extern "C" fn cs_draw(
     way: &mut u32,
     count: &mut usize,
 ) -> u32
-    ensures { λ r. ⌜ NumberedOutcome (lent (points .entry) (curves .entry) (reals .entry) (parts .entry) (ranges .entry)) (edgeOf curve start end sense lo hi tolerance low high) (optionsOf deflection angle relative segments depth scale) (now (first .entry)) (now (second .entry)) r (now (way .exit)) (now (count .exit)) (now (first .exit)) (now (second .exit)) ⌝ }
+    ensures { λ r. ⌜ NumberedOutcome (given points curves reals parts ranges) (edgeOf curve start end sense lo hi tolerance low high) (optionsOf deflection angle relative segments depth scale) (now (first .entry)) (now (second .entry)) r (now (way .exit)) (now (count .exit)) (now (first .exit)) (now (second .exit)) ⌝ }
 {
     let edge = ffi_numbers::edge_of(curve, start, end, sense, lo, hi, tolerance, low, high);
     let options = ffi_numbers::options_of(deflection, angle, relative, segments, depth, scale);
@@ -91,7 +91,7 @@ pub extern "C" fn cs_draw_over(
     count: &mut usize,
 ) -> u32
     requires { ⌜ tablesVerdict (lent points curves reals parts ranges) ≡ Accepted ⌝ }
-    ensures { λ r. ⌜ NumberedOutcome (lent (points .entry) (curves .entry) (reals .entry) (parts .entry) (ranges .entry)) (edgeOf curve start end sense lo hi tolerance low high) (optionsOf deflection angle relative segments depth scale) (now (first .entry)) (now (second .entry)) r (now (way .exit)) (now (count .exit)) (now (first .exit)) (now (second .exit)) ⌝ }
+    ensures { λ r. ⌜ NumberedOutcome (given points curves reals parts ranges) (edgeOf curve start end sense lo hi tolerance low high) (optionsOf deflection angle relative segments depth scale) (now (first .entry)) (now (second .entry)) r (now (way .exit)) (now (count .exit)) (now (first .exit)) (now (second .exit)) ⌝ }
 {
     let drawn = draw::draw_over(
         points,
@@ -134,7 +134,7 @@ pub extern "C" fn cs_check(
     depth: u32,
     scale: f64,
 ) -> u32
-    ensures { λ r. ⌜ r ≡ causeOf (verdict (lent (points .entry) (curves .entry) (reals .entry) (parts .entry) (ranges .entry)) (edgeOf curve start end sense lo hi tolerance low high) (optionsOf deflection angle relative segments depth scale)) ⌝ }
+    ensures { λ r. ⌜ r ≡ causeOf (verdict (given points curves reals parts ranges) (edgeOf curve start end sense lo hi tolerance low high) (optionsOf deflection angle relative segments depth scale)) ⌝ }
 {
     let e = ffi_numbers::edge_of(curve, start, end, sense, lo, hi, tolerance, low, high);
     let o = ffi_numbers::options_of(deflection, angle, relative, segments, depth, scale);
@@ -150,8 +150,8 @@ pub extern "C" fn cs_check_tables(
     parts: &[u32],
     ranges: &[f64],
 ) -> u32
-    ensures { λ r. ⌜ (r ≡ causeOf (tablesVerdict (lent (points .entry) (curves .entry) (reals .entry) (parts .entry) (ranges .entry))))
-        × (r ≡ 0 → tablesVerdict (lent (points .entry) (curves .entry) (reals .entry) (parts .entry) (ranges .entry)) ≡ Accepted) ⌝ }
+    ensures { λ r. ⌜ (r ≡ causeOf (tablesVerdict (given points curves reals parts ranges)))
+        × (r ≡ 0 → tablesVerdict (given points curves reals parts ranges) ≡ Accepted) ⌝ }
 {
     ffi_numbers::cause_of(causes::check_tables(points, curves, reals, parts, ranges))
 }

@@ -6,7 +6,7 @@ ghost use Prim.Native.Nat.{_+_, _<_, _≤_};
 ghost use lib.ListN.{length, drop};
 ghost use Rattle.base_lists.specs.Room.{filled};
 ghost use Rattle.knots_inside.specs.Thinned.{nextOf};
-ghost use Rattle.brep.specs.Rows.{lent};
+ghost use Rattle.brep.specs.Rows.{lent, given};
 ghost use Rattle.brep.specs.Tree.{tree};
 ghost use Rattle.curve.specs.Eval.{pointAt};
 ghost use Rattle.knots_thin.specs.Thin.{curveDeviation, curveThinned, keptAnswer, keptLeft};
@@ -24,7 +24,7 @@ fn deviation(
     pa: Vec3,
 ) -> f64
     requires { ⌜ pa ≡ pointAt (tree (lent points curves reals parts ranges) row) a ⌝ }
-    ensures { λ r. ⌜ r ≡ curveDeviation (tree (lent (points .entry) (curves .entry) (reals .entry) (parts .entry) (ranges .entry)) row) a b ⌝ }
+    ensures { λ r. ⌜ r ≡ curveDeviation (tree (given points curves reals parts ranges) row) a b ⌝ }
 {
     let pb = curve::point_at(points, curves, reals, parts, ranges, row, b);
     let width = b - a;
@@ -47,7 +47,7 @@ fn next_of(breaks: &[f64], i: usize, hi: f64) -> f64
 }
 
 // Keeps the breaks that the curve bends across, from the start of breaks, and +0.0 after them; answers how many.
-pub fn thin_breaks(
+fn thin_breaks(
     points: &[f64],
     curves: &[u32],
     reals: &[f64],
@@ -59,8 +59,8 @@ pub fn thin_breaks(
     sag: f64,
     breaks: &mut [f64],
 ) -> usize
-    ensures { λ r. ⌜ (r ≡ length (curveThinned (tree (lent (points .entry) (curves .entry) (reals .entry) (parts .entry) (ranges .entry)) row) (now (breaks .entry)) lo hi sag))
-        × (now (breaks .exit) ≡ filled (length (now (breaks .entry))) (curveThinned (tree (lent (points .entry) (curves .entry) (reals .entry) (parts .entry) (ranges .entry)) row) (now (breaks .entry)) lo hi sag)) ⌝ }
+    ensures { λ r. ⌜ (r ≡ length (curveThinned (tree (given points curves reals parts ranges) row) (now (breaks .entry)) lo hi sag))
+        × (now (breaks .exit) ≡ filled (length (now (breaks .entry))) (curveThinned (tree (given points curves reals parts ranges) row) (now (breaks .entry)) lo hi sag)) ⌝ }
 {
     let n = breaks.len();
     if 0.0 < sag {
@@ -100,8 +100,8 @@ pub fn kept_breaks(
     out: &mut [f64],
 ) -> Knots
     requires { ⌜ length (now out) ≤ 8192 ⌝ }
-    ensures { λ r. ⌜ (r ≡ keptAnswer (length (now (out .entry))) (tree (lent (points .entry) (curves .entry) (reals .entry) (parts .entry) (ranges .entry)) row) lo hi sag)
-        × (now (out .exit) ≡ keptLeft (now (out .entry)) (tree (lent (points .entry) (curves .entry) (reals .entry) (parts .entry) (ranges .entry)) row) lo hi sag) ⌝ }
+    ensures { λ r. ⌜ (r ≡ keptAnswer (length (now (out .entry))) (tree (given points curves reals parts ranges) row) lo hi sag)
+        × (now (out .exit) ≡ keptLeft (now (out .entry)) (tree (given points curves reals parts ranges) row) lo hi sag) ⌝ }
 {
     let found = knots::curve_breaks(points, curves, reals, parts, ranges, row, lo, hi, out);
     match found {

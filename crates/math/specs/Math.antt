@@ -31,9 +31,6 @@ vSub a b = vec (a .x ⊖ b .x) (a .y ⊖ b .y) (a .z ⊖ b .z)
 unfoldable pub vScale : Vec3 → Float → Vec3
 vScale a k = vec (a .x ⊗ k) (a .y ⊗ k) (a .z ⊗ k)
 
-unfoldable pub vNeg : Vec3 → Vec3
-vNeg a = vec (neg (a .x)) (neg (a .y)) (neg (a .z))
-
 -- Vec3::dot, cross
 unfoldable pub vDot : Vec3 → Vec3 → Float
 vDot a b = a .x ⊗ b .x ⊕ a .y ⊗ b .y ⊕ a .z ⊗ b .z
@@ -110,12 +107,9 @@ interval lo hi = record { lo = lo; hi = hi }
 abbrev pub unitInterval : Interval
 unitInterval = interval plusZero one
 
--- Interval::span, at, contains
+-- Interval::span, at
 unfoldable pub spanOf : Interval → Float
 spanOf i = i .hi ⊖ i .lo
 
 unfoldable pub at : Interval → Float → Float
 at i t = i .lo ⊕ (i .hi ⊖ i .lo) ⊗ t
-
-unfoldable pub contains : Interval → Float → Bool
-contains i t = le (i .lo) t && le t (i .hi)

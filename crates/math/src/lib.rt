@@ -1,8 +1,8 @@
 // Vectors, frames, boxes and intervals: the part of math.rs that the road from an edge to its chain uses.
 ghost use mathlib.Core.Path.{_≡_};
-ghost use Rattle.math.specs.Math.{vAdd, vSub, vScale, vNeg, vDot, vCross, vLengthSquared, vLength, distance};
-ghost use Rattle.math.specs.Math.{tryNormalized, vLerp, vMin, vMax, vFinite, yDir, polar};
-ghost use Rattle.math.specs.Math.{emptyBox, isEmpty, addPoint, boxSize, centre, diagonal, spanOf, at, contains};
+ghost use Rattle.math.specs.Math.{vAdd, vSub, vScale, vDot, vCross, vLengthSquared, vLength, distance};
+ghost use Rattle.math.specs.Math.{tryNormalized, vLerp, vMin, vMax, vFinite, yDir};
+ghost use Rattle.math.specs.Math.{emptyBox, isEmpty, addPoint, boxSize, centre, diagonal, spanOf, at};
 
 pub struct Vec3 {
     pub x: f64,
@@ -51,7 +51,7 @@ impl Vec3 {
         self.x * o.x + self.y * o.y + self.z * o.z
     }
 
-    pub fn cross(self, o: Vec3) -> Vec3
+    fn cross(self, o: Vec3) -> Vec3
         ensures { λ r. ⌜ r ≡ vCross self o ⌝ }
     {
         Vec3 {
@@ -91,7 +91,7 @@ impl Vec3 {
         self.add(o.sub(self).scale(t))
     }
 
-    pub fn min(self, o: Vec3) -> Vec3
+    fn min(self, o: Vec3) -> Vec3
         ensures { λ r. ⌜ r ≡ vMin self o ⌝ }
     {
         Vec3 {
@@ -101,7 +101,7 @@ impl Vec3 {
         }
     }
 
-    pub fn max(self, o: Vec3) -> Vec3
+    fn max(self, o: Vec3) -> Vec3
         ensures { λ r. ⌜ r ≡ vMax self o ⌝ }
     {
         Vec3 {
@@ -147,16 +147,6 @@ impl Vec3 {
             z: self.z * s,
         }
     }
-
-    pub fn neg(self) -> Vec3
-        ensures { λ r. ⌜ r ≡ vNeg self ⌝ }
-    {
-        Vec3 {
-            x: -self.x,
-            y: -self.y,
-            z: -self.z,
-        }
-    }
 }
 
 // The computed distance of two points.
@@ -172,16 +162,6 @@ impl Frame {
         ensures { λ r. ⌜ r ≡ yDir self ⌝ }
     {
         self.axis.cross(self.ref_dir)
-    }
-
-    // The point of the frame's XY plane at the angle theta and the radius r.
-    pub fn polar(self, r: f64, theta: f64) -> Vec3
-        ensures { λ p. ⌜ p ≡ polar self r theta ⌝ }
-    {
-        let turn = arith_trig::sin_cos(theta);
-        let along = self.ref_dir.scale(r * turn.cos);
-        let across = self.y_dir().scale(r * turn.sin);
-        self.origin.add(along).add(across)
     }
 }
 
@@ -261,11 +241,5 @@ impl Interval {
         ensures { λ r. ⌜ r ≡ at self t ⌝ }
     {
         self.lo + (self.hi - self.lo) * t
-    }
-
-    pub fn contains(self, t: f64) -> bool
-        ensures { λ r. ⌜ r ≡ contains self t ⌝ }
-    {
-        self.lo <= t && t <= self.hi
     }
 }

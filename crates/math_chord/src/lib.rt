@@ -19,7 +19,7 @@ fn foot(pa: Vec3, axis: Vec3, divisor: f64, p: Vec3) -> f64
 }
 
 // From the chord to p.
-pub fn chord_offset(pa: Vec3, axis: Vec3, has_length: bool, divisor: f64, p: Vec3) -> Vec3
+fn chord_offset(pa: Vec3, axis: Vec3, has_length: bool, divisor: f64, p: Vec3) -> Vec3
     ensures { λ r. ⌜ r ≡ chordOffset pa axis «has_length» divisor p ⌝ }
 {
     if has_length {
@@ -30,7 +30,7 @@ pub fn chord_offset(pa: Vec3, axis: Vec3, has_length: bool, divisor: f64, p: Vec
 }
 
 // The leaf: the distance of p to the chord from pa along axis.
-pub fn chord_distance(pa: Vec3, axis: Vec3, has_length: bool, divisor: f64, p: Vec3) -> f64
+fn chord_distance(pa: Vec3, axis: Vec3, has_length: bool, divisor: f64, p: Vec3) -> f64
     ensures { λ r. ⌜ r ≡ chordDistance pa axis «has_length» divisor p ⌝ }
 {
     chord_offset(pa, axis, has_length, divisor, p).length()

@@ -14,11 +14,11 @@ const LARGEST_ANGLE: f64 = 3.141592653589793;
 const LEAST_STEP: f64 = 1e-3;
 
 // An angle in radians. The type keeps a number of degrees from being taken for one of radians: outside this module an angle is
-// made by `of` or `degrees` alone.
+// made by `radians` or `degrees` alone.
 pub struct Angle(f64);
 
 impl Angle {
-    pub fn of(x: f64) -> Angle
+    pub fn radians(x: f64) -> Angle
         ensures { λ r. ⌜ r ≡ radians x ⌝ }
     {
         Angle(x)

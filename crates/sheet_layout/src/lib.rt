@@ -28,7 +28,7 @@ fn or_word(first: Num, s: &[u8], at: usize, w: &[u8], n: u64) -> Num
 }
 
 // A kind's word, for its number.
-pub fn kind(s: &[u8], at: usize) -> Num
+fn kind(s: &[u8], at: usize) -> Num
     requires { ⌜ at ≤ length (now s) ⌝ }
     ensures { λ r. ⌜ r ≡ parsedAt (now (s .entry)) (readWord 1 kinds (drop at (now (s .entry)))) ⌝ }
 {
@@ -42,7 +42,7 @@ pub fn kind(s: &[u8], at: usize) -> Num
 }
 
 // A cell of a line: a value by its letter, and the byte behind it. f: a float's bits; w: 32 bits; l: 64 bits; k: a kind.
-pub fn cell(s: &[u8], at: usize, letter: u8, end: u8) -> Num
+fn cell(s: &[u8], at: usize, letter: u8, end: u8) -> Num
     requires { ⌜ at ≤ length (now s) ⌝ }
     ensures { λ r. ⌜ r ≡ parsedAt (now (s .entry)) (cell (fieldOf letter) end .read (drop at (now (s .entry)))) ⌝ }
 {

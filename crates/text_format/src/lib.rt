@@ -15,7 +15,7 @@ pub enum Num {
 }
 
 // The digit of a character; 16 if it is none.
-pub fn digit_of(b: u8) -> u8
+fn digit_of(b: u8) -> u8
     ensures { λ r. ⌜ r ≡ digitOf b ⌝ }
 {
     if b < 48 {
@@ -109,7 +109,7 @@ pub fn hex_then(s: &[u8], at: usize, c: u8) -> Num
 }
 
 // Digits up to the byte `end`, behind those that made v.
-pub fn digits_to(s: &[u8], at: usize, end: u8, most: u64, v: u64) -> Num
+fn digits_to(s: &[u8], at: usize, end: u8, most: u64, v: u64) -> Num
     requires { ⌜ (at ≤ length (now s)) × (9 ≤ most) × (v ≤ most) ⌝ }
     ensures { λ r. ⌜ r ≡ parsedAt (now (s .entry)) (readDecimal most end v (drop at (now (s .entry)))) ⌝ }
 {
