@@ -4,6 +4,7 @@ ghost use mathlib.Core.List.{[]};
 ghost use Prim.Native.Nat.{_≤_};
 ghost use lib.ListN.{length};
 ghost use Rattle.base_lists.specs.Room.{filled};
+ghost use Rattle.knots_sort.specs.Sort.{mostKnots};
 ghost use Rattle.knots_inside.specs.Breaks.{insideOf};
 ghost use Rattle.brep.specs.Rows.{given};
 ghost use Rattle.brep.specs.Tree.{tree};
@@ -34,7 +35,7 @@ pub extern "C" fn cs_point_at(
 // The breaks inside a range, of knots in any order.
 #[no_mangle]
 pub extern "C" fn cs_breaks(knots: &mut [f64], lo: f64, hi: f64) -> usize
-    requires { ⌜ length (now knots) ≤ 8192 ⌝ }
+    requires { ⌜ length (now knots) ≤ mostKnots ⌝ }
     ensures { λ r. ⌜ (r ≡ length (insideOf (now (knots .entry)) lo hi)) × (now (knots .exit) ≡ filled (length (now (knots .entry))) (insideOf (now (knots .entry)) lo hi)) ⌝ }
 {
     knots_inside::inside(knots, lo, hi)

@@ -51,6 +51,13 @@ segmentOf parts ranges i = record {
   «same_sense» = not (eqb (getD parts (i * 2 + 1) 0) 0);
 }
 
+-- the kinds are 1 to 7; the first of them, up to 5, are leaves: they refer to points alone
+abbrev pub lastKind : ℕ
+lastKind = 7
+
+abbrev pub lastLeaf : ℕ
+lastLeaf = 5
+
 -- a row's numbers as one of the seven kinds; an unknown kind is the empty polyline
 unfoldable pub kindOf : List Float → ℕ → ℕ → ℕ → Float → Float → Curve
 kindOf points kind first count p q =

@@ -13,11 +13,20 @@ use Rattle.causes.specs.declared.Verdict.{Verdict}
 use Rattle.causes.specs.declared.Verdict.the-variants.{Accepted, Refused}
 
 -- 1: a table above its size: 65,536 points, 4,096 rows, 4,096 segments
+abbrev pub mostPoints : ℕ
+mostPoints = 65536
+
+abbrev pub mostRows : ℕ
+mostRows = 4096
+
+abbrev pub mostSegments : ℕ
+mostSegments = 4096
+
 unfoldable pub oversize : Tables → Bool
 oversize T =
-    ltb (3 * 65536) (length (T .points))
-    || ((ltb (3 * 4096) (length (T .curves)) || ltb (2 * 4096) (length (T .reals)))
-    || (ltb (2 * 4096) (length (T .parts)) || ltb (2 * 4096) (length (T .ranges))))
+    ltb (3 * mostPoints) (length (T .points))
+    || ((ltb (3 * mostRows) (length (T .curves)) || ltb (2 * mostRows) (length (T .reals)))
+    || (ltb (2 * mostSegments) (length (T .parts)) || ltb (2 * mostSegments) (length (T .ranges))))
 
 -- 2 is `unbounded` of the crate bounds, 3 `illFormed` of forms, 4 `unordered` and 5 `tooDeep` of nest
 

@@ -11,13 +11,23 @@ pub enum Verdict {
     Refused(u32),
 }
 
-// Cause 1: 65,536 points in threes, 4,096 rows in threes and pairs, 4,096 segments in pairs.
+// The largest tables.
+const MOST_POINTS: usize = 65536;
+
+const MOST_ROWS: usize = 4096;
+
+const MOST_SEGMENTS: usize = 4096;
+
+// Cause 1: points in threes, rows in threes and pairs, segments in pairs.
 fn oversize(points: &[f64], curves: &[u32], reals: &[f64], parts: &[u32], ranges: &[f64]) -> bool
     ensures { λ r. ⌜ r ≡ oversize (given points curves reals parts ranges) ⌝ }
 {
-    let rows = either(12288 < curves.len(), 8192 < reals.len());
-    let segments = either(8192 < parts.len(), 8192 < ranges.len());
-    either(196608 < points.len(), either(rows, segments))
+    let rows = either(3 * MOST_ROWS < curves.len(), 2 * MOST_ROWS < reals.len());
+    let segments = either(
+        2 * MOST_SEGMENTS < parts.len(),
+        2 * MOST_SEGMENTS < ranges.len(),
+    );
+    either(3 * MOST_POINTS < points.len(), either(rows, segments))
 }
 
 // Cause 6, over so many points and rows.

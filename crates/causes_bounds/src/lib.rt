@@ -7,13 +7,13 @@ ghost use Rattle.causes_bounds.specs.Some.{some};
 ghost use Rattle.causes_bounds.specs.Bounds.{within, beyond, finiteBeyond, edgeBeyond, optionsBeyond, unboundedTables, unboundedEdge};
 
 // `||` and `&&` as calls: a function of many tests has one way through it.
-fn either(a: bool, b: bool) -> bool
+pub fn either(a: bool, b: bool) -> bool
     ensures { λ r. ⌜ r ≡ a || b ⌝ }
 {
     a || b
 }
 
-fn both(a: bool, b: bool) -> bool
+pub fn both(a: bool, b: bool) -> bool
     ensures { λ r. ⌜ r ≡ a && b ⌝ }
 {
     a && b

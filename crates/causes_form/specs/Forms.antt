@@ -7,7 +7,7 @@ use lib.Dec.{eqb, ltb, leb}
 use lib.Ieee.{Float, nan, ne}
 use Rattle.arith.specs.Notation.{plusZero}
 use Rattle.brep.specs.declared.Edge.{Edge}
-use Rattle.brep.specs.Rows.{Tables}
+use Rattle.brep.specs.Rows.{lastKind, lastLeaf, Tables}
 use Rattle.options.specs.declared.Options.{Options}
 use Rattle.causes_bounds.specs.Some.{someBelow}
 
@@ -37,7 +37,7 @@ ragged T = broken T || uneven T
 
 -- none of the seven kinds
 unfoldable pub unknownKind : ℕ → Bool
-unknownKind kind = ltb kind 1 || ltb 7 kind
+unknownKind kind = ltb kind 1 || ltb lastKind kind
 
 -- a line has 2 points, a circle, ellipse or parabola 3, a trim 1 base
 unfoldable pub wrongCount : ℕ → ℕ → Bool
@@ -64,7 +64,7 @@ unusedSet kind p q = (spareP kind && notZero p) || (spareQ kind && notZero q)
 
 -- how many there are of what a row refers to: points, or the rows for a trim's base, or the segments of a composite
 abbrev pub targetCount : ℕ → ℕ → ℕ → ℕ → ℕ
-targetCount points rows segments kind = cond (leb kind 5) points (cond (eqb kind 6) rows segments)
+targetCount points rows segments kind = cond (leb kind lastLeaf) points (cond (eqb kind 6) rows segments)
 
 unfoldable pub targets : Tables → ℕ → ℕ
 targets T kind = targetCount (pointCount T) (curveCount T) (segmentCount T) kind

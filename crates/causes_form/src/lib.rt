@@ -32,7 +32,7 @@ fn uneven(points: &[f64], curves: &[u32], reals: &[f64], parts: &[u32], ranges: 
 fn unknown_kind(kind: u32) -> bool
     ensures { λ r. ⌜ r ≡ unknownKind kind ⌝ }
 {
-    either(kind < 1, 7 < kind)
+    either(kind < 1, brep::LAST_KIND < kind)
 }
 
 fn wrong_count(kind: u32, count: u32) -> bool
@@ -72,7 +72,7 @@ fn unused_set(kind: u32, p: f64, q: f64) -> bool
 fn room(points: usize, rows: usize, segments: usize, kind: u32) -> usize
     ensures { λ r. ⌜ r ≡ targetCount points rows segments kind ⌝ }
 {
-    if kind <= 5 {
+    if kind <= brep::LAST_LEAF {
         points
     } else if kind == 6 {
         rows

@@ -7,7 +7,7 @@ ghost use lib.Seq.{sets};
 ghost use Rattle.brep.specs.Rows.{lent, given};
 ghost use Rattle.sheet.specs.Sheet.{leading};
 ghost use Rattle.draw_spec.specs.Draw.{roomOf, chainIn, Outcome};
-ghost use Rattle.draw_spec.specs.Draw.{chainFloats};
+ghost use Rattle.draw_spec.specs.Draw.{programFloats, chainFloats};
 ghost use Rattle.chain_answer.specs.Printed.{shown, printed, Prints};
 ghost use Rattle.chain_answer.specs.ReadTables.{WasRead, SomeText};
 use brep::Edge;
@@ -16,11 +16,13 @@ use draw_spec::Way;
 use options::Options;
 use sheet::Sheet;
 
-// The floats of each chain buffer of the program.
-const FLOATS: usize = 8192;
+// The records of each chain buffer of the program, and their floats.
+const POINTS: usize = 2048;
 
-// Enough for every listing of the program: 68 bytes a point, and 19 for its names or a refusal.
-pub const BYTES: usize = 139283;
+pub const FLOATS: usize = edge_record::WIDTH * POINTS;
+
+// Enough for every listing of the program: 17 bytes a float, and 19 for its names or a refusal.
+pub const BYTES: usize = 19 + 17 * FLOATS;
 
 // The listing of an answer, whose chain lies in the first buffer or in the second. `lo` and `hi` are the bits of the edge's
 // range: a NaN parameter is a copy of one of them.
@@ -153,11 +155,11 @@ pub fn answer(text: &[u8], first: &mut [f64], second: &mut [f64], out: &mut [u8]
     )
 }
 
-// WHAT THE PROGRAM PRINTS for a text, and how many bytes: the answer, in chain buffers of 8,192 floats, 2,048 points.
+// WHAT THE PROGRAM PRINTS for a text, and how many bytes: the answer, in chain buffers of `FLOATS` floats.
 pub fn print(text: &[u8], out: &mut [u8]) -> usize
-    requires { ⌜ 139283 ≤ length (now out) ⌝ }
-    ensures { λ r. ⌜ (r ≡ length (printed (now (text .entry)) 8192 8192))
-        × (now (out .exit) ≡ sets (now (out .entry)) 0 (printed (now (text .entry)) 8192 8192)) ⌝ }
+    requires { ⌜ 19 + 17 * programFloats ≤ length (now out) ⌝ }
+    ensures { λ r. ⌜ (r ≡ length (printed (now (text .entry)) programFloats programFloats))
+        × (now (out .exit) ≡ sets (now (out .entry)) 0 (printed (now (text .entry)) programFloats programFloats)) ⌝ }
 {
     let mut first = [0.0f64; FLOATS];
     let mut second = [0.0f64; FLOATS];

@@ -7,7 +7,7 @@ ghost use Rattle.curve_parameter.specs.Under.{under};
 ghost use Rattle.curve_parameter.specs.Run.{closes, indexIn, polylineParameter, ownParameter};
 
 // saturating_sub(1)
-fn last_of(count: u32) -> u32
+pub fn last_of(count: u32) -> u32
     ensures { λ r. ⌜ r ≡ count - 1 ⌝ }
 {
     if count == 0 { 0 } else { count - 1 }
@@ -29,7 +29,7 @@ pub fn under_trims(curves: &[u32], row: u32) -> u32
 }
 
 // Whether a run of points ends where it begins.
-fn closes_at(points: &[f64], first: u32, count: u32) -> bool
+pub fn closes_at(points: &[f64], first: u32, count: u32) -> bool
     ensures { λ r. ⌜ r ≡ closes (run (now (points .entry)) first count) ⌝ }
 {
     if count < 3 {

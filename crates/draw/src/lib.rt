@@ -20,8 +20,9 @@ ghost use Rattle.brep.specs.Rows.{lent, given};
 ghost use Rattle.brep.specs.Tree.{tree};
 ghost use Rattle.causes.specs.declared.Verdict.the-variants.{Accepted};
 ghost use Rattle.causes.specs.Causes.{verdict, tablesVerdict};
+ghost use Rattle.knots_sort.specs.Sort.{mostKnots};
 ghost use Rattle.knots.specs.Knots.{curveKnots};
-ghost use Rattle.edge_record.specs.Chain.{width};
+ghost use Rattle.edge_record.specs.Chain.{width, shortest};
 ghost use Rattle.edge_range.specs.Usable.{usableRange};
 ghost use Rattle.draw_spec.specs.Draw.{firstWay, localOptions, drawnIn, roomOf, inFirst, liesInFirst, chainFloats, Outcome};
 ghost use Rattle.draw_spec.specs.Binary.{Fitting};
@@ -87,7 +88,7 @@ fn drawn_in(
     first: &mut [f64],
     second: &mut [f64],
 ) -> Drawn
-    requires { ⌜ (8 ≤ length (now first)) × (8 ≤ length (now second)) × (length (curveKnots (tree (lent points curves reals parts ranges) (edge .curve))) ≤ 8192)
+    requires { ⌜ (shortest ≤ length (now first)) × (shortest ≤ length (now second)) × (length (curveKnots (tree (lent points curves reals parts ranges) (edge .curve))) ≤ mostKnots)
         × (usable ≡ usableRange (tree (lent points curves reals parts ranges) (edge .curve)) (edge .range)) ⌝ }
     ensures { λ w. ⌜ DrawnInto (drawnIn (roomOf (length (now (first .entry))) (length (now (second .entry)))) (given points curves reals parts ranges) edge r) (now (first .entry)) (now (second .entry)) w (now (first .exit)) (now (second .exit)) ⌝ }
 {
@@ -139,7 +140,7 @@ fn draw_checked(
     requires { ⌜ verdict (lent points curves reals parts ranges) edge options ≡ Accepted ⌝ }
     ensures { λ r. ⌜ Outcome (given points curves reals parts ranges) edge options (now (first .entry)) (now (second .entry)) r (now (first .exit)) (now (second .exit)) ⌝ }
 {
-    if first.len() < 8 || second.len() < 8 {
+    if first.len() < edge_record::SHORTEST || second.len() < edge_record::SHORTEST {
         return Drawn::Refused(7);
     }
     fitting(reals);

@@ -13,6 +13,7 @@ use Rattle.brep.specs.Rows.{pointOf, kindOf, curveOf}
 use Rattle.brep.specs.Tree.{CurveTree, tree, below, grown}
 use Rattle.curve.specs.Eval.{pointAt, naturalRange}
 use Rattle.options.specs.declared.Resolved.{Resolved}
+use Rattle.draw_spec.specs.Draw.{programPoints}
 use Rattle.draw_spec.specs.Edge.{edgeCurve, edgeStart, edgeEnd}
 use Rattle.draw_spec.specs.Repair.{Got, nearestOf, sweepAt, orderedInterval, byShortArc, runaway}
 use lib.Ieee.Scale.{finite}
@@ -88,7 +89,7 @@ chosen : (b : Bool) (arc : Result Got) → b ≡ false → elim b [ true ↦ arc
 chosen b arc e = ap (λ (t : Bool). elim t [ true ↦ arc | false ↦ got (runaway boxed escaping) ]) e
 
 -- and the chord is left, whatever the options are
-pub runs-away : (r : Resolved) → byShortArc 2048 boxed escaping r ≡ got (runaway boxed escaping)
+pub runs-away : (r : Resolved) → byShortArc programPoints boxed escaping r ≡ got (runaway boxed escaping)
 unfolding byShortArc
 runs-away r =
     chosen _ _

@@ -21,7 +21,7 @@ use Rattle.edge_range.specs.Usable.{usableRange}
 use Rattle.draw_spec.specs.declared.Way.{Way}
 use Rattle.draw_spec.specs.declared.Way.the-variants.{AsDrawn, Chord, Runaway}
 use Rattle.draw_spec.specs.Repair.{Got}
-use Rattle.draw_spec.specs.Draw.{drawn}
+use Rattle.draw_spec.specs.Draw.{programFloats, drawn}
 
 -- what an example says
 pub data Example : Type 0 where
@@ -52,8 +52,8 @@ ExampleHolds (sag o extent s) = forExtent (resolve o) extent .sag ≡ s
 ExampleHolds (floor tolerance s f) = mergeFloor tolerance s ≡ f
 ExampleHolds (usable T range used) = usableRange (tree T 0) range ≡ Range used
 ExampleHolds (point T t p) = pointAt (tree T 0) t ≡ p
-ExampleHolds (draws T e o way params) = each outlineOf (drawn T e o 8192 8192) ≡ got (record { way = way; params = params })
-ExampleHolds (refuses T e o n) = each outlineOf (drawn T e o 8192 8192) ≡ refused n
+ExampleHolds (draws T e o way params) = each outlineOf (drawn T e o programFloats programFloats) ≡ got (record { way = way; params = params })
+ExampleHolds (refuses T e o n) = each outlineOf (drawn T e o programFloats programFloats) ≡ refused n
 
 -- ---- numbers
 abbrev three : Float

@@ -22,7 +22,7 @@ use Rattle.causes_form.specs.Forms.{illFormed}
 use Rattle.causes.specs.Causes.{oversize, unordered, tooDeep, missing, verdict}
 use Rattle.edge_params.specs.OneWay.{OneWay}
 use Rattle.edge_record.specs.declared.Sample.{Sample}
-use Rattle.edge_record.specs.Chain.{width, most, flat, samples, samplePoint, innerSamples}
+use Rattle.edge_record.specs.Chain.{width, shortest, most, flat, samples, samplePoint, innerSamples}
 use Rattle.edge_merge.specs.Merge.{mergeFloor, Apart}
 use Rattle.edge_range.specs.declared.Usable.{Usable}
 use Rattle.edge_range.specs.declared.Usable.the-variants.{Range, Unusable}
@@ -54,9 +54,16 @@ drawnIn room T e r =
 unfoldable pub roomOf : ℕ → ℕ → ℕ
 roomOf first second = min most (min (first / width) (second / width))
 
--- cause 7: a chain buffer shorter than 8 floats
+-- the program lends two buffers of so many records
+abbrev pub programPoints : ℕ
+programPoints = 2048
+
+abbrev pub programFloats : ℕ
+programFloats = width * programPoints
+
+-- cause 7: a chain buffer shorter than two records
 abbrev pub tooShort : ℕ → ℕ → Bool
-tooShort first second = ltb first 8 || ltb second 8
+tooShort first second = ltb first shortest || ltb second shortest
 
 -- the refusal with the lowest number from 1 to 7; else 8 or 9 in the reference's order of work; else the chain and its way
 unfoldable pub drawn : Tables → Edge → Options → ℕ → ℕ → Result Got
@@ -137,7 +144,7 @@ pub data Applies (T : Tables) (e : Edge) (o : Options) (first second : ℕ) : �
   five : tooDeep T ≡ true → Applies T e o first second 5
   -- the edge's curve, start, end, low or high outside its table
   six : missing T e ≡ true → Applies T e o first second 6
-  -- a chain buffer shorter than 8 floats
+  -- a chain buffer shorter than two records
   seven : tooShort first second ≡ true → Applies T e o first second 7
   -- on the reference's way, what comes first: a parameter list longer than the room
   eight : drawnIn (roomOf first second) T e (localOptions T e o) ≡ refused 8 → Applies T e o first second 8

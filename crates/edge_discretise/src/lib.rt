@@ -15,9 +15,10 @@ ghost use Rattle.base_lists.specs.Room.{filled};
 ghost use Rattle.brep.specs.Rows.{lent, given};
 ghost use Rattle.brep.specs.Tree.{tree};
 ghost use Rattle.curve.specs.Eval.{isSampled};
+ghost use Rattle.knots_sort.specs.Sort.{mostKnots};
 ghost use Rattle.knots.specs.Knots.{curveKnots};
 ghost use Rattle.edge_range.specs.Usable.{usableRange};
-ghost use Rattle.edge_record.specs.Chain.{width, most, flat, samples, countedOf, after};
+ghost use Rattle.edge_record.specs.Chain.{width, shortest, most, flat, samples, countedOf, after};
 ghost use Rattle.draw_spec.specs.Edge.{thinnedIf, chordOf, discretised};
 ghost use Rattle.draw_spec.specs.Draw.{roomOf};
 ghost use Rattle.edge_place.specs.Place.{ofPoints};
@@ -144,7 +145,7 @@ fn draw_range(
     scratch: &mut [f64],
 ) -> Counted
     requires { ⌜ (length (now scratch) ≤ most) × (width * length (now scratch) ≤ length (now chain))
-        × (length (curveKnots (tree (lent points curves reals parts ranges) (edge .curve))) ≤ 8192) ⌝ }
+        × (length (curveKnots (tree (lent points curves reals parts ranges) (edge .curve))) ≤ mostKnots) ⌝ }
     ensures { λ w. ⌜ ChainInto (length (now (chain .entry))) (overRange (length (now (scratch .entry))) (given points curves reals parts ranges) edge r range) w (now (chain .exit))
         × (now (scratch .exit) ≡ filled (length (now (scratch .entry))) []) ⌝ }
 {
@@ -198,7 +199,7 @@ pub fn discretise_usable(
     chain: &mut [f64],
     scratch: &mut [f64],
 ) -> Counted
-    requires { ⌜ (8 ≤ length (now chain)) × (8 ≤ length (now scratch)) × (length (curveKnots (tree (lent points curves reals parts ranges) (edge .curve))) ≤ 8192)
+    requires { ⌜ (shortest ≤ length (now chain)) × (shortest ≤ length (now scratch)) × (length (curveKnots (tree (lent points curves reals parts ranges) (edge .curve))) ≤ mostKnots)
         × (usable ≡ usableRange (tree (lent points curves reals parts ranges) (edge .curve)) (edge .range)) ⌝ }
     ensures { λ w. ⌜ DiscretisedInto (λ room. discretised room (given points curves reals parts ranges) edge r) (now (chain .entry)) (now (scratch .entry)) w (now (chain .exit)) (now (scratch .exit)) ⌝ }
 {
@@ -237,7 +238,7 @@ pub fn discretise(
     chain: &mut [f64],
     scratch: &mut [f64],
 ) -> Counted
-    requires { ⌜ (8 ≤ length (now chain)) × (8 ≤ length (now scratch)) × (length (curveKnots (tree (lent points curves reals parts ranges) (edge .curve))) ≤ 8192) ⌝ }
+    requires { ⌜ (shortest ≤ length (now chain)) × (shortest ≤ length (now scratch)) × (length (curveKnots (tree (lent points curves reals parts ranges) (edge .curve))) ≤ mostKnots) ⌝ }
     ensures { λ w. ⌜ DiscretisedInto (λ room. discretised room (given points curves reals parts ranges) edge r) (now (chain .entry)) (now (scratch .entry)) w (now (chain .exit)) (now (scratch .exit)) ⌝ }
 {
     let usable = edge_range::usable_range(

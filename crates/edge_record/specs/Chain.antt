@@ -16,6 +16,10 @@ use Rattle.edge_record.specs.declared.Counted.the-variants.{Refused, Cou
 abbrev pub width : ℕ
 width = 4
 
+-- the fewest floats that a chain buffer must have: two records
+abbrev pub shortest : ℕ
+shortest = 2 * width
+
 -- the most records that a chain can have
 abbrev pub most : ℕ
 most = 16384

@@ -9,6 +9,9 @@ ghost use Rattle.edge_record.specs.Chain.{width, row, pointAt, sampleAt}
 // How many floats a record has.
 pub const WIDTH: usize = 4;
 
+// The fewest floats that a chain buffer must have: two records.
+pub const SHORTEST: usize = 2 * WIDTH;
+
 // The most records that a chain can have.
 pub const MOST: usize = 16384;
 

@@ -16,8 +16,9 @@ ghost use lib.ListN.{length};
 ghost use Rattle.base_lists.specs.Room.{filled};
 ghost use Rattle.brep.specs.Rows.{lent, given};
 ghost use Rattle.brep.specs.Tree.{tree};
+ghost use Rattle.knots_sort.specs.Sort.{mostKnots};
 ghost use Rattle.knots.specs.Knots.{curveKnots};
-ghost use Rattle.edge_record.specs.Chain.{width, flat, samples};
+ghost use Rattle.edge_record.specs.Chain.{width, shortest, flat, samples};
 ghost use Rattle.draw_spec.specs.Repair.{by, withRange, reference, runaway, arcOrChord, byShortArc, repaired};
 ghost use Rattle.draw_spec.specs.Draw.{roomOf, inFirst};
 ghost use Rattle.edge_place.specs.Place.{ofPoints};
@@ -73,7 +74,7 @@ fn is_short_arc(points: &[f64], edge: Edge, r: Resolved, chain: &[f64], n: usize
 
 // The arc in the second buffer where it serves, else the chord.
 fn arc_or_chord(points: &[f64], edge: Edge, r: Resolved, second: &mut [f64], n: usize) -> Drawn
-    requires { ⌜ (8 ≤ length (now second)) × (width * n ≤ length (now second)) × (now second ≡ filled (length (now second)) (flat (samples n (now second)))) ⌝ }
+    requires { ⌜ (shortest ≤ length (now second)) × (width * n ≤ length (now second)) × (now second ≡ filled (length (now second)) (flat (samples n (now second)))) ⌝ }
     ensures { λ w. ⌜ InSecond (arcOrChord (ofPoints (now (points .entry))) edge r (samples n (now (second .entry)))) (length (now (second .entry))) w (now (second .exit)) ⌝ }
 {
     if is_short_arc(points, edge, r, second, n) {
@@ -142,7 +143,7 @@ fn by_short_arc(
     first: &mut [f64],
     second: &mut [f64],
 ) -> Drawn
-    requires { ⌜ (8 ≤ length (now first)) × (8 ≤ length (now second)) × (length (curveKnots (tree (lent points curves reals parts ranges) (edge .curve))) ≤ 8192) ⌝ }
+    requires { ⌜ (shortest ≤ length (now first)) × (shortest ≤ length (now second)) × (length (curveKnots (tree (lent points curves reals parts ranges) (edge .curve))) ≤ mostKnots) ⌝ }
     ensures { λ w. ⌜ RedrawnInto (λ room. byShortArc room (given points curves reals parts ranges) edge r) (now (first .entry)) (now (second .entry)) w (now (first .exit)) (now (second .exit)) ⌝ }
 {
     let arc = short_arc(points, curves, reals, parts, ranges, edge);
@@ -181,7 +182,7 @@ fn draw_complement(
     first: &mut [f64],
     second: &mut [f64],
 ) -> Drawn
-    requires { ⌜ (8 ≤ length (now first)) × (8 ≤ length (now second)) × (length (curveKnots (tree (lent points curves reals parts ranges) (edge .curve))) ≤ 8192) ⌝ }
+    requires { ⌜ (shortest ≤ length (now first)) × (shortest ≤ length (now second)) × (length (curveKnots (tree (lent points curves reals parts ranges) (edge .curve))) ≤ mostKnots) ⌝ }
     ensures { λ w. ⌜ RedrawnInto (drawnComplement (given points curves reals parts ranges) edge r complement) (now (first .entry)) (now (second .entry)) w (now (first .exit)) (now (second .exit)) ⌝ }
 {
     let d = with_range(edge, complement);
@@ -263,7 +264,7 @@ pub fn repair_runaway(
     first: &mut [f64],
     second: &mut [f64],
 ) -> Drawn
-    requires { ⌜ (8 ≤ length (now first)) × (8 ≤ length (now second)) × (length (curveKnots (tree (lent points curves reals parts ranges) (edge .curve))) ≤ 8192)
+    requires { ⌜ (shortest ≤ length (now first)) × (shortest ≤ length (now second)) × (length (curveKnots (tree (lent points curves reals parts ranges) (edge .curve))) ≤ mostKnots)
         × (width * n ≤ length (now first)) × (now first ≡ filled (length (now first)) (flat (samples n (now first)))) × (now second ≡ filled (length (now second)) []) × (inFirst way ≡ true) ⌝ }
     ensures { λ w. ⌜ DrawnInto (repaired (roomOf (length (now (first .entry))) (length (now (second .entry)))) (given points curves reals parts ranges) edge r (by way (samples n (now (first .entry))))) (now (first .entry)) (now (second .entry)) w (now (first .exit)) (now (second .exit)) ⌝ }
 {

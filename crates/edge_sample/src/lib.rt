@@ -18,6 +18,7 @@ ghost use Rattle.base_lists.specs.Room.{filled};
 ghost use Rattle.brep.specs.Rows.{lent, given};
 ghost use Rattle.brep.specs.Tree.{tree};
 ghost use Rattle.curve_prepared.specs.Prepared.{preparedOf};
+ghost use Rattle.knots_sort.specs.Sort.{mostKnots};
 ghost use Rattle.edge_params.specs.Params.{subdivided, unlessHi, bisected, refined};
 ghost use Rattle.edge_params.specs.Written.{ListWritten, ListAppended};
 ghost use Rattle.knots.specs.Knots.{curveKnots};
@@ -166,10 +167,10 @@ fn walk_breaks(
     r: Resolved,
     out: &mut [f64],
 ) -> Listed
-    requires { ⌜ length (curveKnots (tree (lent points curves reals parts ranges) row)) ≤ 8192 ⌝ }
+    requires { ⌜ length (curveKnots (tree (lent points curves reals parts ranges) row)) ≤ mostKnots ⌝ }
     ensures { λ w. ⌜ ListWritten (now (out .entry)) (bisected (sampler (tree (given points curves reals parts ranges) row) range r) range) w (now (out .exit)) ⌝ }
 {
-    let mut breaks = [0.0; 8192];
+    let mut breaks = [0.0; knots_sort::MOST_KNOTS];
     let kept = knots_thin::kept_breaks(
         points,
         curves,
@@ -212,7 +213,7 @@ fn bisect_range(
     r: Resolved,
     out: &mut [f64],
 ) -> Listed
-    requires { ⌜ length (curveKnots (tree (lent points curves reals parts ranges) row)) ≤ 8192 ⌝ }
+    requires { ⌜ length (curveKnots (tree (lent points curves reals parts ranges) row)) ≤ mostKnots ⌝ }
     ensures { λ w. ⌜ ListWritten (now (out .entry)) (bisected (sampler (tree (given points curves reals parts ranges) row) range r) range) w (now (out .exit)) ⌝ }
 {
     if knots::knot_count(points, curves, reals, parts, ranges, row) == 0 {
@@ -262,7 +263,7 @@ fn refine(
     r: Resolved,
     out: &mut [f64],
 ) -> Listed
-    requires { ⌜ length (curveKnots (tree (lent points curves reals parts ranges) row)) ≤ 8192 ⌝ }
+    requires { ⌜ length (curveKnots (tree (lent points curves reals parts ranges) row)) ≤ mostKnots ⌝ }
     ensures { λ w. ⌜ SampledInto (length (now (out .entry))) (refined (length (now (out .entry))) (sampler (tree (given points curves reals parts ranges) row) range r) range) w (now (out .exit)) ⌝ }
 {
     let listed = bisect_range(points, curves, reals, parts, ranges, row, range, r, out);
@@ -307,7 +308,7 @@ pub fn sample_params(
     out: &mut [f64],
     chain: &mut [f64],
 ) -> Sampled
-    requires { ⌜ (length (curveKnots (tree (lent points curves reals parts ranges) row)) ≤ 8192) × (width * length (now out) ≤ length (now chain)) ⌝ }
+    requires { ⌜ (length (curveKnots (tree (lent points curves reals parts ranges) row)) ≤ mostKnots) × (width * length (now out) ≤ length (now chain)) ⌝ }
     ensures { λ w. ⌜ SampledInto (length (now (out .entry))) (sampled (length (now (out .entry))) (tree (given points curves reals parts ranges) row) range r) (w .listed) (now (out .exit))
         × (w .known ≡ isKept (length (now (out .entry))) (tree (given points curves reals parts ranges) row) range r)
         × (now (chain .exit) ≡ sets (now (chain .entry)) 0 (flat (located (tree (given points curves reals parts ranges) row)

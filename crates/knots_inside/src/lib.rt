@@ -3,6 +3,7 @@ ghost use mathlib.Core.Path.{_≡_};
 ghost use Prim.Native.Nat.{_≤_};
 ghost use lib.ListN.{length, take};
 ghost use Rattle.base_lists.specs.Room.{filled};
+ghost use Rattle.knots_sort.specs.Sort.{mostKnots};
 ghost use Rattle.knots_inside.specs.Breaks.{isStrict, retainedKnots, isNear, deduped, insideUpward, insideOf};
 
 // Whether x lies strictly between two bounds; such an x is finite.
@@ -62,7 +63,7 @@ fn dedup(a: &mut [f64], epsilon: f64) -> usize
 
 // The breaks between lo and hi, lo being the smaller; +0.0 after them.
 fn ascending(knots: &mut [f64], lo: f64, hi: f64) -> usize
-    requires { ⌜ length (now knots) ≤ 8192 ⌝ }
+    requires { ⌜ length (now knots) ≤ mostKnots ⌝ }
     ensures { λ r. ⌜ (r ≡ length (insideUpward (now (knots .entry)) lo hi)) × (now (knots .exit) ≡ filled (length (now (knots .entry))) (insideUpward (now (knots .entry)) lo hi)) ⌝ }
 {
     let width = hi - lo;
@@ -80,7 +81,7 @@ fn ascending(knots: &mut [f64], lo: f64, hi: f64) -> usize
 
 // The distinct knots strictly between lo and hi, in order, at the start of knots, and +0.0 after them; answers how many.
 pub fn inside(knots: &mut [f64], lo: f64, hi: f64) -> usize
-    requires { ⌜ length (now knots) ≤ 8192 ⌝ }
+    requires { ⌜ length (now knots) ≤ mostKnots ⌝ }
     ensures { λ r. ⌜ (r ≡ length (insideOf (now (knots .entry)) lo hi)) × (now (knots .exit) ≡ filled (length (now (knots .entry))) (insideOf (now (knots .entry)) lo hi)) ⌝ }
 {
     if lo <= hi {

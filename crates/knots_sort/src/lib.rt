@@ -3,8 +3,11 @@ ghost use mathlib.Core.Path.{_≡_};
 ghost use Prim.Native.Nat.{_/_, _≤_};
 ghost use lib.ListN.{length, drop, take};
 ghost use Rattle.base_lists.specs.Sub.{All};
-ghost use Rattle.knots_sort.specs.Sort.{sorted, Number};
+ghost use Rattle.knots_sort.specs.Sort.{mostKnots, sorted, Number};
 ghost use Rattle.knots_sort.specs.Merge.{inOrder, mergedRuns, Halves};
+
+// The most floats that are sorted, and so the most knots of a curve: two a segment.
+pub const MOST_KNOTS: usize = 8192;
 
 // The list left merged with what stands behind its length in a, into a from its start.
 fn merge(left: &[f64], a: &mut [f64])
@@ -101,14 +104,14 @@ fn merge_sort(a: &mut [f64], scratch: &mut [f64])
     join(a, scratch, m);
 }
 
-// Sorts a, stably: up to 8,192 floats, none of them a NaN.
+// Sorts a, stably: up to `MOST_KNOTS` floats, none of them a NaN.
 pub fn sort(a: &mut [f64])
-    requires { ⌜ (length (now a) ≤ 8192) × All Number (now a) ⌝ }
+    requires { ⌜ (length (now a) ≤ mostKnots) × All Number (now a) ⌝ }
     ensures { λ _. ⌜ now (a .exit) ≡ sorted (now (a .entry)) ⌝ }
 {
     if in_order(a) {
         return;
     }
-    let mut scratch = [0.0; 4096];
+    let mut scratch = [0.0; MOST_KNOTS / 2];
     merge_sort(a, &mut scratch);
 }

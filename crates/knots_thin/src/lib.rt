@@ -5,6 +5,7 @@ ghost use mathlib.Core.Path.{_≡_};
 ghost use Prim.Native.Nat.{_+_, _<_, _≤_};
 ghost use lib.ListN.{length, drop};
 ghost use Rattle.base_lists.specs.Room.{filled};
+ghost use Rattle.knots_sort.specs.Sort.{mostKnots};
 ghost use Rattle.knots_inside.specs.Thinned.{nextOf};
 ghost use Rattle.brep.specs.Rows.{lent, given};
 ghost use Rattle.brep.specs.Tree.{tree};
@@ -99,7 +100,7 @@ pub fn kept_breaks(
     sag: f64,
     out: &mut [f64],
 ) -> Knots
-    requires { ⌜ length (now out) ≤ 8192 ⌝ }
+    requires { ⌜ length (now out) ≤ mostKnots ⌝ }
     ensures { λ r. ⌜ (r ≡ keptAnswer (length (now (out .entry))) (tree (given points curves reals parts ranges) row) lo hi sag)
         × (now (out .exit) ≡ keptLeft (now (out .entry)) (tree (given points curves reals parts ranges) row) lo hi sag) ⌝ }
 {

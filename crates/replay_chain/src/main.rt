@@ -215,8 +215,8 @@ fn main() {
     let mut kept = Kept {
         text: 0,
         equals: 0,
-        first: 8192,
-        second: 8192,
+        first: chain_answer::FLOATS,
+        second: chain_answer::FLOATS,
     };
     let mut turns = u64::MAX;
     while 0 < turns {
