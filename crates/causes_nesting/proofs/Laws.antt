@@ -141,12 +141,12 @@ pub record Gone (T : Tables) (depths blocks larges : List ℕ) (lowest row : ℕ
   pub formed : someBelow row (malformedRow T) ≡ false
   pub cause : lowest ≡ cond (someBelow row (unorderedRow T)) 4 (cond (someBelow row (deepRow T)) 5 0)
   -- where no row was out of order
-  pub known : someBelow row (unorderedRow T) ≡ false → DepthsKnown T depths row
+  pub depthsKnown : someBelow row (unorderedRow T) ≡ false → DepthsKnown T depths row
   pub known : someBelow row (unorderedRow T) ≡ false → Both (T .parts) depths blocks larges row
 
 pub gone-none : (T : Tables) (depths blocks larges : List ℕ) → Both (T .parts) depths blocks larges 0 → Gone T depths blocks larges 0 0
 unfolding someBelow
-gone-none T depths blocks larges h = record { formed = refl; cause = refl; known = λ e i l. absurd (not-suc-le-zero l); known = λ e. h }
+gone-none T depths blocks larges h = record { formed = refl; cause = refl; depthsKnown = λ e i l. absurd (not-suc-le-zero l); known = λ e. h }
 
 module _ (T : Tables) (depths blocks larges : List ℕ) (lowest row : ℕ) (g : Gone T depths blocks larges lowest row) where
   pub in-order : (lowest ≡ 4 → ⊥) → someBelow row (unorderedRow T) ≡ false
@@ -163,7 +163,7 @@ module _ (T : Tables) (depths blocks larges : List ℕ) (lowest row : ℕ) (g : 
       record {
         formed = rw (add-one, g .formed) m;
         cause = rw (add-one, u) e;
-        known = λ h. absurd (false≢true (sym (rw (add-one, u) at h)));
+        depthsKnown = λ h. absurd (false≢true (sym (rw (add-one, u) at h)));
         known = λ h. absurd (false≢true (sym (rw (add-one, u) at h)));
       }
 
@@ -172,18 +172,18 @@ module _ (T : Tables) (depths blocks larges : List ℕ) (lowest row : ℕ) (g : 
   unfolding someBelow deepRow
   gone-more h m l now most k depth e next q =
       let o = in-order h in
-      let d : depth ≡ marked (unorderedRow T row) (nesting (tree T row)) = e ∙ depth-marked T depths row (g .known o) in
+      let d : depth ≡ marked (unorderedRow T row) (nesting (tree T row)) = e ∙ depth-marked T depths row (g .depthsKnown o) in
       let z : lowest ≡ cond (someBelow row (deepRow T)) 5 0 = g .cause ∙ ap (λ a. cond a 4 (cond (someBelow row (deepRow T)) 5 0)) o in
       record {
         formed = rw (add-one, g .formed) m;
         cause = rw (add-one, o) (q ∙ cause-more (someBelow row (deepRow T)) (unorderedRow T row) (nesting (tree T row)) depth lowest z d);
-        known = λ w i j. known-more o d (rw (add-one, o) at w) i j (eqb i row) refl;
+        depthsKnown = λ w i j. known-more o d (rw (add-one, o) at w) i j (eqb i row) refl;
         known = λ w. both-more (T .parts) depths row depth now most k;
       }
     where
       known-more : someBelow row (unorderedRow T) ≡ false → depth ≡ marked (unorderedRow T row) (nesting (tree T row)) → unorderedRow T row ≡ false → (i : ℕ) → i < row + 1 → (b : Bool) → eqb i row ≡ b → getD (set depths row depth) i 0 ≡ min 9 (nesting (tree T i))
       known-more o d u i j true w = let v = eqb-true i row w in rw v (getD-set-same depths row depth 0 l ∙ d ∙ ap (λ b. marked b (nesting (tree T row))) u)
-      known-more o d u i j false w = let ne = eqb-false i row w in getD-set-other depths row i depth 0 ne ∙ g .known o i (omega arith)
+      known-more o d u i j false w = let ne = eqb-false i row w in getD-set-other depths row i depth 0 ne ∙ g .depthsKnown o i (omega arith)
 
   -- a malformed row decides
   pub gone-malformed : row < curveCount T → malformedRow T row ≡ true → 3 ≡ rowsCause T
