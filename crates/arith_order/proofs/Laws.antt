@@ -4,7 +4,7 @@
 -- Assumes nothing.
 
 -- ≤ is reflexive and total on numbers, transitive, and at most each other means equal
-pub use Rattle.arith_order.specs.Number.{number}
+pub use Rattle.arith_order.specs.Own.Number.{number}
 pub use Rattle.arith_order.proofs.Signed.{le-refl, le-trans, total as le-total, antisym}
 -- x ≤ y and x < y hold of numbers only
 pub use Rattle.arith_order.proofs.Signed.{number-left, number-right}

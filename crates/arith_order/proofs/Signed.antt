@@ -12,7 +12,7 @@ use lib.Ieee.{Float, nan, inf, fin, up, down, below, level, lt, eq, le, neg}
 use lib.Ieee.Fits.{and-l, and-r, and-i, eq→eqb}
 use lib.Ieee.Scale.{finite}
 use lib.Ieee.Positive.{den, den-pos}
-pub use Rattle.arith_order.specs.Number.{number}
+pub use Rattle.arith_order.specs.Own.Number.{number}
 
 -- ---- ±a as P - N
 abbrev pub P : Bool → ℕ → ℕ

@@ -1,1 +1,1 @@
-pub mod Number
+pub mod Own

@@ -11,7 +11,7 @@ use Rattle.arith.specs.Notation.{_⊗_, plusZero}
 use Rattle.arith_root.specs.Root.{rootOf}
 use Rattle.arith_root.proofs.Laws.{root-over, root-under, root-reflects}
 use Rattle.arith_root.proofs.Apart.{little, apart}
-use Rattle.arith_root_limit.specs.Limit.{cutIf, aboveSquare, limitOf, Stands}
+use Rattle.arith_root_limit.specs.Own.Limit.{cutIf, aboveSquare, limitOf, Stands}
 
 -- a test that cannot hold
 refuted : (b : Bool) → (T b → ⊥) → false ≡ b

@@ -4,7 +4,7 @@ ghost use mathlib.Core.Path.{_≡_};
 ghost use mathlib.Core.Bool.{true};
 ghost use lib.Ieee.{lt, le};
 ghost use Rattle.arith_root.specs.Root.{rootOf};
-ghost use Rattle.arith_root_limit.specs.Limit.{cutIf, limitOf, Stands};
+ghost use Rattle.arith_root_limit.specs.Own.Limit.{cutIf, limitOf, Stands};
 
 // A limit for roots, with a cut on either side of it; a cut that does not serve is a NaN.
 pub struct Limit {

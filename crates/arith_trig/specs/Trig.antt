@@ -77,9 +77,6 @@ sinOf t = sinBy (quarter (turns t)) (reduced t (turns t))
 unfoldable pub cosOf : Float → Float
 cosOf t = cosBy (quarter (turns t)) (reduced t (turns t))
 
-unfoldable pub sinCosOf : Float → SinCos
-sinCosOf t = record { sin = sinOf t; cos = cosOf t }
-
 -- y becomes y / (1 + root(1 + y * y)): the tangent of half the angle
 unfoldable pub halved : Float → Float
 halved y = y ⊘ (one ⊕ rootOf (one ⊕ y ⊗ y))

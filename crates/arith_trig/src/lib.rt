@@ -3,7 +3,8 @@ ghost use mathlib.Core.Path.{_≡_};
 ghost use Prim.Native.Nat.{_<_};
 ghost use mathlib.Core.List.{[], _∷_};
 ghost use Rattle.arith.specs.Notation.{one};
-ghost use Rattle.arith_trig.specs.Trig.{turns, reduced, quarter, step, hornerSteps, sinBy, cosBy, sinOf, cosOf, sinCosOf, halved, arcOf, angleOf, acosBy, acosOf};
+ghost use Rattle.arith_trig.specs.Own.SinCos.{sinCosOf};
+ghost use Rattle.arith_trig.specs.Trig.{turns, reduced, quarter, step, hornerSteps, sinBy, cosBy, sinOf, cosOf, halved, arcOf, angleOf, acosBy, acosOf};
 
 // The sine and the cosine of one angle.
 pub struct SinCos {

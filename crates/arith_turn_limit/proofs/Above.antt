@@ -18,9 +18,9 @@ use Rattle.arith_root.specs.Root.{rootOf}
 use Rattle.arith_root.proofs.Laws.{root-monotone}
 use Rattle.arith_trig.specs.Trig.{halved, summed, arcOf, angleOf, acosBy, acosOf, pi}
 use Rattle.arith.proofs.Cmp.{fails}
-use Rattle.arith_turn_limit.specs.Turning.{tangentSquare, leastTurn, overFor, overCut, Exceeds}
+use Rattle.arith_turn_limit.specs.Own.Limit.{tangentSquare, leastTurn, overFor, overCut, Exceeds}
 use Rattle.arith_turn_limit.proofs.Bound.{Part, part-finite, square-part, div-turns, quotient-low, twoF, divisor-low, divisor-finite, square-finite, root-finite, halved-high, halved-part, half-mono, thrice, Below, next, term, term-fits, first, scaled-low, scaled-high, sixteen-mono, angle-high, eighths, half-part, one-fits, series-part}
-use Rattle.arith_root_limit.specs.Limit.{cutIf}
+use Rattle.arith_root_limit.specs.Own.Limit.{cutIf}
 
 -- ---- a part at most u, halved: what it is divided by is at most d
 record Step (u d : Float) : Type 0 where

@@ -24,8 +24,8 @@ use Rattle.arith.specs.Notation.{_⊕_, _⊖_, _⊗_, _⊘_, plusZero, one, two
 use Rattle.arith_root.specs.Root.{rootOf}
 use Rattle.arith_root.proofs.Laws.{root-monotone}
 use Rattle.arith_trig.specs.Trig.{halved, summed, arcOf, angleOf, acosBy, acosOf, pi}
-use Rattle.arith_turn_limit.specs.Turning.{tangentSquare, twiceTangent, cutFor, turnCut, Serves}
-use Rattle.arith_root_limit.specs.Limit.{cutIf}
+use Rattle.arith_turn_limit.specs.Own.Limit.{tangentSquare, twiceTangent, cutFor, turnCut, Serves}
+use Rattle.arith_root_limit.specs.Own.Limit.{cutIf}
 
 -- ---- a float not below zero, and one from 0 to 1
 abbrev pub Part : Float → Type 0

@@ -3,7 +3,7 @@ ghost use mathlib.Core.Path.{_≡_};
 ghost use lib.Ieee.{le};
 ghost use Rattle.arith_trig.specs.Trig.{acosOf};
 ghost use mathlib.Core.Bool.{true, false};
-ghost use Rattle.arith_turn_limit.specs.Turning.{turnCut, Serves, overCut, Exceeds};
+ghost use Rattle.arith_turn_limit.specs.Own.Limit.{turnCut, Serves, overCut, Exceeds};
 
 // The cut for a limit, which costs a root: for many comparisons with one limit.
 pub fn turn_cut(limit: f64) -> f64

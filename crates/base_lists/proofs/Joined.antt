@@ -1,7 +1,8 @@
 -- `All` and `Pairwise` of joined, reversed and mapped lists; lists that lie between two bounds. Assumes nothing.
 use mathlib.Core.Path.{_≡_, refl, sym, subst}
 use mathlib.Core.List.{List, [], _∷_, _++_, map, reverse, reverse-cons}
-use Rattle.base_lists.specs.Sub.{All, none, more, Pairwise, empty, first, Sub, end, keep, skip}
+use Rattle.base_lists.specs.All.{All, none, more}
+use Rattle.base_lists.specs.Own.Sub.{Pairwise, empty, first, Sub, end, keep, skip}
 
 module _ {A : Type 0} where
   pub all-join : {P : A → Type 0} {k l : List A} → All P k → All P l → All P (k ++ l)

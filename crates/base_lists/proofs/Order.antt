@@ -3,7 +3,8 @@ use mathlib.Core.List.{List, [], _∷_, _++_}
 use Prim.Native.Nat.{ℕ, suc, _≤_}
 use native.Mathlib.Omega.{arith}
 use lib.ListN.{length}
-use Rattle.base_lists.specs.Sub.{All, none, more, Pairwise, empty, first, Sub, end, keep, skip}
+use Rattle.base_lists.specs.All.{All, none, more}
+use Rattle.base_lists.specs.Own.Sub.{Pairwise, empty, first, Sub, end, keep, skip}
 
 module _ {A : Type 0} where
   pub sub-all : {P : A → Type 0} {k l : List A} → Sub k l → All P l → All P k

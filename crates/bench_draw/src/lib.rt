@@ -4,7 +4,7 @@ ghost use mathlib.Core.List.{[]};
 ghost use Prim.Native.Nat.{_≤_};
 ghost use lib.ListN.{length};
 ghost use Rattle.base_lists.specs.Room.{filled};
-ghost use Rattle.knots_sort.specs.Sort.{mostKnots};
+ghost use Rattle.knots_sort.specs.Own.Sortable.{mostKnots};
 ghost use Rattle.knots_inside.specs.Breaks.{insideOf};
 ghost use Rattle.brep.specs.Rows.{given};
 ghost use Rattle.brep.specs.Tree.{tree};

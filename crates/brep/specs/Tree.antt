@@ -72,7 +72,3 @@ below T (suc n) i = elim (eqb i n) [ true ↦ grown T (below T n) (rowIn T n) | 
 -- THE READING: a row's tree, over the trees of the rows below it. A reference that does not fall reads as the empty polyline.
 unfoldable pub tree : Tables → ℕ → CurveTree
 tree T i = grown T (below T i) (rowIn T i)
-
--- the composite of a run of segments that row refers to
-abbrev pub runOf : Tables → ℕ → ℕ → ℕ → CurveTree
-runOf T row first count = composite (segments T (below T row) first count)

@@ -10,7 +10,8 @@ use Rattle.causes_bounds.specs.Bounds.{unboundedTables, unboundedEdge, unbounde
 use Rattle.causes_form.specs.Forms.{illFormedTables, illFormedEdge, illFormed}
 use Rattle.causes.specs.declared.Verdict.{Verdict}
 use Rattle.causes.specs.declared.Verdict.the-variants.{Accepted, Refused}
-use Rattle.causes.specs.Causes.{oversize, unordered, tooDeep, missing, verdict, tablesVerdict, edgeVerdict, lowestOf}
+use Rattle.causes.specs.Own.Lowest.{lowestOf}
+use Rattle.causes.specs.Causes.{oversize, unordered, tooDeep, missing, verdict, tablesVerdict, edgeVerdict}
 
 -- ---- what `lower` answers, by what its two are
 pub lower-none : (a b : Verdict) → a ≡ Accepted → b ≡ lowestOf a b

@@ -1,7 +1,7 @@
 -- What the proofs of the causes share: the sizes, and the tables' verdict by what the rows come to. Assumes nothing.
 use mathlib.Core.Path.{_≡_, refl, sym, ap, _∙_}
 use mathlib.Core.Bool.{Bool, true, false, cond, _||_}
-use Prim.Native.Nat.{ℕ, _≤_}
+use Prim.Native.Nat.{ℕ, _*_, _≤_}
 use native.Mathlib.Omega.{arith}
 use lib.ListN.{length}
 use lib.Dec.{ltb}
@@ -11,23 +11,23 @@ use Rattle.causes_bounds.specs.Some.{someBelow}
 use Rattle.causes_bounds.specs.Bounds.{unboundedTables}
 use Rattle.causes_bounds.proofs.Laws.{or-true, or-false, neither, four}
 use Rattle.causes_form.specs.Forms.{curveCount, segmentCount, malformedRow, malformedSegment, ragged}
-use Rattle.causes_nesting.specs.Nest.{rowsCause}
+use Rattle.causes_nesting.specs.Own.RowsCause.{rowsCause}
 use Rattle.causes.specs.declared.Verdict.{Verdict}
 use Rattle.causes.specs.declared.Verdict.the-variants.{Accepted, Refused}
-use Rattle.causes.specs.Causes.{oversize, unordered, tooDeep, tablesVerdict}
+use Rattle.causes.specs.Causes.{mostPoints, mostRows, mostSegments, oversize, unordered, tooDeep, tablesVerdict}
 
 -- tables that are not above their sizes
-pub sizes : (T : Tables) → oversize T ≡ false → (length (T .points) ≤ 196608) × (length (T .curves) ≤ 12288) × (length (T .parts) ≤ 8192)
+pub sizes : (T : Tables) → oversize T ≡ false → (length (T .points) ≤ 3 * mostPoints) × (length (T .curves) ≤ 3 * mostRows) × (length (T .parts) ≤ 2 * mostSegments)
 unfolding oversize
 sizes T e =
-    let p = ltb 196608 (length (T .points)) in
-    let c = ltb 12288 (length (T .curves)) in
-    let r = ltb 8192 (length (T .reals)) in
-    let s = ltb 8192 (length (T .parts)) in
-    let g = ltb 8192 (length (T .ranges)) in
+    let p = ltb (3 * mostPoints) (length (T .points)) in
+    let c = ltb (3 * mostRows) (length (T .curves)) in
+    let r = ltb (2 * mostRows) (length (T .reals)) in
+    let s = ltb (2 * mostSegments) (length (T .parts)) in
+    let g = ltb (2 * mostSegments) (length (T .ranges)) in
     let k = neither p ((c || r) || (s || g)) e in
     let l = four c r s g (k .1) in
-    (ltb-false 196608 (length (T .points)) (k .0), ltb-false 12288 (length (T .curves)) (l .0), ltb-false 8192 (length (T .parts)) (l .2))
+    (ltb-false (3 * mostPoints) (length (T .points)) (k .0), ltb-false (3 * mostRows) (length (T .curves)) (l .0), ltb-false (2 * mostSegments) (length (T .parts)) (l .2))
 
 -- ---- the tables' verdict
 abbrev rest : Bool → Bool → Bool → Verdict

@@ -67,9 +67,3 @@ edgeVerdict T e o =
     (cond (illFormedEdge e o) (Refused 3)
     (cond (missing T e) (Refused 6)
     Accepted))
-
--- the lower refusal of two; accepted where both are
-unfoldable pub lowestOf : Verdict → Verdict → Verdict
-lowestOf Accepted v = v
-lowestOf (Refused m) Accepted = Refused m
-lowestOf (Refused m) (Refused n) = Refused (min m n)

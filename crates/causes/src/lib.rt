@@ -4,30 +4,36 @@ use causes_bounds::either;
 use options::Options;
 ghost use mathlib.Core.Path.{_≡_};
 ghost use Rattle.brep.specs.Rows.{given};
-ghost use Rattle.causes.specs.Causes.{oversize, missingFrom, verdict, tablesVerdict, edgeVerdict, lowestOf};
+ghost use Rattle.causes.specs.Own.Lowest.{lowestOf};
+ghost use Rattle.causes.specs.Causes.{oversize, missingFrom, verdict, tablesVerdict, edgeVerdict};
 
 pub enum Verdict {
     Accepted,
     Refused(u32),
 }
 
-// The largest tables.
+// The largest tables, and their slices: points in threes, rows in threes and pairs, segments in pairs.
 const MOST_POINTS: usize = 65536;
 
 const MOST_ROWS: usize = 4096;
 
 const MOST_SEGMENTS: usize = 4096;
 
-// Cause 1: points in threes, rows in threes and pairs, segments in pairs.
+const POINT_THREES: usize = 3 * MOST_POINTS;
+
+const ROW_THREES: usize = 3 * MOST_ROWS;
+
+const ROW_PAIRS: usize = 2 * MOST_ROWS;
+
+const SEGMENT_PAIRS: usize = 2 * MOST_SEGMENTS;
+
+// Cause 1.
 fn oversize(points: &[f64], curves: &[u32], reals: &[f64], parts: &[u32], ranges: &[f64]) -> bool
     ensures { λ r. ⌜ r ≡ oversize (given points curves reals parts ranges) ⌝ }
 {
-    let rows = either(3 * MOST_ROWS < curves.len(), 2 * MOST_ROWS < reals.len());
-    let segments = either(
-        2 * MOST_SEGMENTS < parts.len(),
-        2 * MOST_SEGMENTS < ranges.len(),
-    );
-    either(3 * MOST_POINTS < points.len(), either(rows, segments))
+    let rows = either(ROW_THREES < curves.len(), ROW_PAIRS < reals.len());
+    let segments = either(SEGMENT_PAIRS < parts.len(), SEGMENT_PAIRS < ranges.len());
+    either(POINT_THREES < points.len(), either(rows, segments))
 }
 
 // Cause 6, over so many points and rows.

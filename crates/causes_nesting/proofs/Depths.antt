@@ -10,7 +10,7 @@ use lib.ListN.{length, getD, set, replicate, length-set, length-replicate, getD-
 use lib.Seq.{getD-set-same, getD-set-other}
 use lib.Dec.{eqb, leb}
 use borrow.Author.Tests.{eqb-true, eqb-false, eq-eqb, ne-eqb, leb-false, le-leb, lt-leb, lt-ltb, le-ltb}
-use Rattle.causes_nesting.specs.Depths.{depthBelow, segmentDepth, deepestOf, oneDeeper, rowDepth, blockDepth, Known, Both, NoneKnown, causeWith}
+use Rattle.causes_nesting.specs.Own.Depths.{depthBelow, segmentDepth, deepestOf, oneDeeper, rowDepth, blockDepth, Known, Both, NoneKnown, causeWith}
 
 -- ---- what the small functions answer
 module _ (depths : List ℕ) {row base : ℕ} where

@@ -19,8 +19,9 @@ use Rattle.brep.proofs.ByKind.{kindIn, firstIn, countIn, pIn, qIn, row-trim, ro
 use Rattle.causes_bounds.specs.Some.{someBelow}
 use Rattle.causes_bounds.proofs.Laws.{or-true, or-false, some-found}
 use Rattle.causes_form.specs.Forms.{curveCount, malformedRow}
-use Rattle.causes_nesting.specs.Nest.{highSegment, notLower, unorderedRow, nesting, deepest, deepRow, rowsCause}
-use Rattle.causes_nesting.specs.Depths.{depthBelow, deepestOf, oneDeeper, rowDepth, Both, causeWith}
+use Rattle.causes_nesting.specs.Own.RowsCause.{rowsCause}
+use Rattle.causes_nesting.specs.Nest.{highSegment, notLower, unorderedRow, nesting, deepest, deepRow}
+use Rattle.causes_nesting.specs.Own.Depths.{depthBelow, deepestOf, oneDeeper, rowDepth, Both, causeWith}
 use Rattle.causes_nesting.proofs.Depths.{both-more}
 
 -- ---- a row by its kind

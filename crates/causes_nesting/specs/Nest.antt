@@ -54,7 +54,3 @@ deepRow T row = ltb 8 (nesting (tree T row))
 -- 5: trims and composites nested deeper than 8
 abbrev pub tooDeep : Tables → Bool
 tooDeep T = someBelow (curveCount T) (deepRow T)
-
--- the lowest of the causes 3, 4 and 5 that a row has, or 0 where none has one
-unfoldable pub rowsCause : Tables → ℕ
-rowsCause T = cond (someBelow (curveCount T) (malformedRow T)) 3 (cond (unordered T) 4 (cond (tooDeep T) 5 0))

@@ -5,8 +5,8 @@ ghost use mathlib.Core.Path.{_≡_};
 ghost use Prim.Native.Nat.{_+_, _*_, _/_, _<_, _≤_, max};
 ghost use lib.ListN.{length};
 ghost use Rattle.brep.specs.Rows.{given};
-ghost use Rattle.causes_nesting.specs.Nest.{rowsCause};
-ghost use Rattle.causes_nesting.specs.Depths.{depthBelow, segmentDepth, deepestOf, oneDeeper, rowDepth, blockDepth, Known, Both, RunFits, causeWith, NoneKnown};
+ghost use Rattle.causes_nesting.specs.Own.RowsCause.{rowsCause};
+ghost use Rattle.causes_nesting.specs.Own.Depths.{depthBelow, segmentDepth, deepestOf, oneDeeper, rowDepth, blockDepth, Known, Both, RunFits, causeWith, NoneKnown};
 
 fn larger(a: u32, b: u32) -> u32
     ensures { λ r. ⌜ r ≡ max a b ⌝ }

@@ -11,7 +11,7 @@ use Rattle.base_lists.specs.Result.{Result, refused, got}
 use Rattle.base_lists.specs.Room.{filled}
 use Rattle.sheet_layout.specs.Layout.{RawSheet, readSheet}
 use Rattle.sheet_row.specs.Rows.{rawEdgeOf}
-use Rattle.sheet.specs.Sheet.{leading}
+use Rattle.sheet.specs.Own.Leading.{leading}
 use Rattle.sheet.proofs.Laws.{SheetRead}
 use Rattle.brep.specs.Rows.{Tables}
 use Rattle.brep.specs.declared.Edge.{Edge}
@@ -26,7 +26,8 @@ use Rattle.draw_spec.specs.Draw.{roomOf, drawn, answerOf, inFirst, firstAfter, 
 use Rattle.draw_spec.proofs.Sound.{drawn-fits}
 use Rattle.draw_spec.proofs.Held.{held}
 use Rattle.draw_spec.specs.Draw.{chainFloats}
-use Rattle.chain_answer.specs.Printed.{lastBits, shown, printedDrawn, drawnOf, printedRead, firstLeft, secondLeft, Prints}
+use Rattle.chain_answer.specs.Own.Shown.{shown}
+use Rattle.chain_answer.specs.Printed.{lastBits, printedDrawn, drawnOf, printedRead, firstLeft, secondLeft, Prints}
 
 -- bytes at the start of a buffer, and how many they are
 abbrev pub Put : ℕ → List ℕ → List ℕ → List ℕ → Type 0

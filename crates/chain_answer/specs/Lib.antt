@@ -1,2 +1,2 @@
-pub mod ReadTables
 pub mod Printed
+pub mod Own

@@ -27,11 +27,6 @@ lastBits Complement lo hi = hi
 lastBits ShortArc lo hi = hi
 lastBits Runaway lo hi = lo
 
--- for an answer and its chain, where the edge's range has the bits lo and hi
-unfoldable pub shown : ℕ → ℕ → Drawn → List Sample → List ℕ
-shown lo hi (Refused n) chain = refusal n
-shown lo hi (Chain way n) chain = listing lo (lastBits way lo hi) chain
-
 -- for what drawing gives
 unfoldable pub printedDrawn : ℕ → ℕ → Result Got → List ℕ
 printedDrawn lo hi (refused n) = refusal n

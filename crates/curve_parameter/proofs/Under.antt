@@ -15,7 +15,7 @@ use Rattle.brep.specs.Rows.{Tables}
 use Rattle.brep.specs.Tree.{CurveTree, line, circle, ellipse, parabola, polyline, trimmed, tree}
 use Rattle.brep.proofs.Laws.{at-lower, at-high}
 use Rattle.brep.proofs.ByKind.{kindIn, firstIn, at-line, at-circle, at-ellipse, at-parabola, at-polyline, at-trim, at-unknown}
-use Rattle.curve_parameter.specs.Under.{descends, downBy, under}
+use Rattle.curve_parameter.specs.Own.Under.{descends, downBy, under}
 
 module _ (curves : List ℕ) where
   abbrev kind : ℕ → ℕ

@@ -3,7 +3,7 @@ use math::Interval;
 ghost use mathlib.Core.Path.{_≡_};
 ghost use Prim.Native.Nat.{_-_};
 ghost use Rattle.brep.specs.Tree.{run};
-ghost use Rattle.curve_parameter.specs.Under.{under};
+ghost use Rattle.curve_parameter.specs.Own.Under.{under};
 ghost use Rattle.curve_parameter.specs.Run.{closes, indexIn, polylineParameter, ownParameter};
 
 // saturating_sub(1)

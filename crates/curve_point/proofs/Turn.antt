@@ -9,7 +9,7 @@ use lib.Dec.{eqb}
 use lib.Ieee.{Float}
 use borrow.Author.Tests.{eqb-true}
 use Rattle.arith_trig.specs.declared.SinCos.{SinCos}
-use Rattle.arith_trig.specs.Trig.{sinCosOf}
+use Rattle.arith_trig.specs.Own.SinCos.{sinCosOf}
 use Rattle.math.specs.declared.Frame.{Frame}
 use Rattle.math.specs.declared.Interval.{Interval}
 use Rattle.math.specs.Math.{interval, polar}
@@ -18,9 +18,10 @@ use Rattle.brep.specs.declared.Curve.the-variants.{Line, Circle, Ellipse, Parab
 use Rattle.brep.specs.Rows.{Tables, pointOf, frameOf, kindOf, curveOf}
 use Rattle.brep.specs.Tree.{CurveTree, polyline, circle, ellipse, trimmed, rowIn, tree}
 use Rattle.brep.proofs.ByKind.{kindIn, firstIn, countIn, pIn, qIn}
-use Rattle.curve_point.specs.Point.{around, ellipsePoint, pointAt}
-use Rattle.curve_parameter.specs.Under.{under}
-use Rattle.curve_point.specs.Turn.{sinCosFor}
+use Rattle.curve_point.specs.Own.Around.{around}
+use Rattle.curve_point.specs.Point.{ellipsePoint, pointAt}
+use Rattle.curve_parameter.specs.Own.Under.{under}
+use Rattle.curve_point.specs.Own.Turn.{sinCosFor}
 use Rattle.curve_parameter.proofs.Under.{Left, under-rest}
 
 -- a curve's number among the kinds

@@ -26,10 +26,6 @@ polylinePoint ps t =
     (cond (eqb (length ps) 1) (getD ps 0 vZero)
     (alongFrom ps (indexIn (length ps - 2) u) u))
 
--- O + x (a c) + y (b s), of a cosine c and a sine s that are at hand
-abbrev pub around : Frame → Float → Float → SinCos → Vec3
-around f a b sc = vAdd (vAdd (f .origin) (vScale (f .«ref_dir») (a ⊗ sc .cos))) (vScale (yDir f) (b ⊗ sc .sin))
-
 -- an ellipse's point: O + x (a cos t) + y (b sin t)
 unfoldable pub ellipsePoint : Frame → Float → Float → Float → Vec3
 ellipsePoint f a b t = vAdd (vAdd (f .origin) (vScale (f .«ref_dir») (a ⊗ cosOf t))) (vScale (yDir f) (b ⊗ sinOf t))

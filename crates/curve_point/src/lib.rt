@@ -7,9 +7,11 @@ ghost use mathlib.Core.Path.{_≡_};
 ghost use Prim.Native.Nat.{_*_};
 ghost use lib.ListN.{getD};
 ghost use Rattle.brep.specs.Rows.{given};
-ghost use Rattle.brep.specs.Tree.{tree, run, runOf};
-ghost use Rattle.curve_point.specs.Turn.{sinCosFor};
-ghost use Rattle.curve_point.specs.Point.{polylinePoint, around, parabolaPoint, pointAt};
+ghost use Rattle.brep.specs.Own.RunOf.{runOf};
+ghost use Rattle.brep.specs.Tree.{tree, run};
+ghost use Rattle.curve_point.specs.Own.Turn.{sinCosFor};
+ghost use Rattle.curve_point.specs.Own.Around.{around};
+ghost use Rattle.curve_point.specs.Point.{polylinePoint, parabolaPoint, pointAt};
 
 // A polyline's point, of its run of points.
 pub fn polyline_point(points: &[f64], first: u32, count: u32, t: f64) -> Vec3

@@ -7,7 +7,7 @@ use Rattle.brep.specs.Tree.{CurveTree, line, circle, ellipse, parabola, polylin
 use Rattle.curve_point.specs.Point as curves
 use Rattle.curve_tangent.specs.Derivative as derivatives
 use Rattle.curve_prepared.specs.declared.Prepared.{Prepared}
-use Rattle.curve_prepared.specs.Prepared.{preparedOf, roundPoint, preparedParabola, preparedPoint, roundDerivative, parabolaSlope, preparedDerivative}
+use Rattle.curve_prepared.specs.Own.Prepared.{preparedOf, roundPoint, preparedParabola, preparedPoint, roundDerivative, parabolaSlope, preparedDerivative}
 
 -- of a curve c that has the points of b, which is c with trims taken off
 points-of : (b c : CurveTree) (t : Float) → curves.pointAt c t ≡ curves.pointAt b t → preparedPoint (preparedOf b) c t ≡ curves.pointAt b t

@@ -7,8 +7,8 @@ ghost use Rattle.brep.specs.Rows.{given, pointOf};
 ghost use Rattle.brep.specs.Tree.{tree};
 ghost use Rattle.curve_point.specs.Point.{pointAt};
 ghost use Rattle.curve_prepared.specs.declared.Prepared.the-variants.{Line};
-ghost use Rattle.curve_prepared.specs.Prepared.{roundOf, parabolaOf, preparedOf, roundPoint, preparedParabola, preparedPoint};
-ghost use Rattle.curve_prepared.specs.Prepared.{roundDerivative, parabolaSlope, preparedDerivative};
+ghost use Rattle.curve_prepared.specs.Own.Prepared.{roundOf, parabolaOf, preparedOf, roundPoint, preparedParabola, preparedPoint};
+ghost use Rattle.curve_prepared.specs.Own.Prepared.{roundDerivative, parabolaSlope, preparedDerivative};
 
 // Axes are as they are: nothing is normalised. A circle is round with equal axes.
 pub enum Prepared {

@@ -12,11 +12,13 @@ use Rattle.math.specs.Math.{vZero}
 use Rattle.brep.specs.declared.Segment.{Segment}
 use Rattle.brep.specs.declared.Curve.the-variants.{Composite}
 use Rattle.brep.specs.Rows.{Tables}
-use Rattle.brep.specs.Tree.{CurveTree, polyline, composite, segment, segments, segmentIn, rowIn, grown, below, tree, runOf}
+use Rattle.brep.specs.Own.RunOf.{runOf}
+use Rattle.brep.specs.Tree.{CurveTree, polyline, composite, segment, segments, segmentIn, rowIn, grown, below, tree}
 use Rattle.brep.proofs.Laws.{lower, at-high}
 use Rattle.curve.specs.Eval.{runLength, segmentIndex, segmentLocal, ownParameter, polylinePoint, pointAt, segmentPoint}
 use Rattle.curve_segments.specs.declared.Place.{Place}
-use Rattle.curve_segments.specs.Run.{past, recordsIn, segmentsOf, compositeOf, placeIn, alongOf}
+use Rattle.curve_segments.specs.Own.Places.{past, recordsIn, placeIn, alongOf}
+use Rattle.curve_segments.specs.Run.{segmentsOf, compositeOf}
 
 -- ---- the point on one segment
 no-points : (u : Float) → vZero ≡ pointAt (polyline []) u

@@ -12,15 +12,6 @@ use Rattle.brep.specs.Tree.{CurveTree, composite, Segments, none, segment, segm
 use Rattle.curve.specs.Eval.{segmentIndex, segmentLocal, ownParameter, pointAt}
 use Rattle.curve_segments.specs.declared.Place.{Place}
 
--- what a record past the end of a run reads as
-abbrev pub past : Segment
-past = record { curve = 0; range = interval nan nan; «same_sense» = false }
-
--- the records of the tables' segments, n of them from number first on
-unfoldable pub recordsIn : Tables → ℕ → ℕ → List Segment
-recordsIn T first zero = []
-recordsIn T first (suc n) = segmentIn T first ∷ recordsIn T (suc first) n
-
 -- a run of records as segments; f gives the curve of a row
 unfoldable pub segmentsOf : (ℕ → CurveTree) → List Segment → Segments
 segmentsOf f [] = none
@@ -29,12 +20,3 @@ segmentsOf f (s ∷ run) = segment (f (s .curve)) (s .range) (s .«same_sense»)
 -- THE READING: the composite of a run of records that row refers to
 abbrev pub compositeOf : Tables → ℕ → List Segment → CurveTree
 compositeOf T row run = composite (segmentsOf (below T row) run)
-
--- where t falls on a composite of so many segments
-abbrev pub placeIn : ℕ → Float → Place
-placeIn count t = record { index = segmentIndex count t; local = segmentLocal count t }
-
--- the point on one segment of so many
-unfoldable pub alongOf : Tables → ℕ → ℕ → Segment → Float → Vec3
-alongOf T row count s local =
-    cond (eqb count 0) vZero (pointAt (below T row (s .curve)) (ownParameter (s .range) (s .«same_sense») local))

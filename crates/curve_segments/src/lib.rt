@@ -8,7 +8,8 @@ ghost use Prim.Native.Nat.{_-_};
 ghost use lib.ListN.{getD};
 ghost use Rattle.brep.specs.Rows.{lent, given};
 ghost use Rattle.curve.specs.Eval.{indexIn, pointAt};
-ghost use Rattle.curve_segments.specs.Run.{past, placeIn, alongOf, compositeOf};
+ghost use Rattle.curve_segments.specs.Own.Places.{past, placeIn, alongOf};
+ghost use Rattle.curve_segments.specs.Run.{compositeOf};
 
 // Where a composite's parameter falls: the index of the segment, and how far along that.
 struct Place {

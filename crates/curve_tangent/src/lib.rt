@@ -5,7 +5,8 @@ use math::Interval;
 use math::Vec3;
 ghost use mathlib.Core.Path.{_≡_};
 ghost use Rattle.brep.specs.Rows.{given, frameOf};
-ghost use Rattle.brep.specs.Tree.{tree, run, runOf};
+ghost use Rattle.brep.specs.Own.RunOf.{runOf};
+ghost use Rattle.brep.specs.Tree.{tree, run};
 ghost use Rattle.curve_tangent.specs.Derivative.{polylineDerivative, signedSpan, ellipseDerivative, parabolaDerivative, derivativeAt, tangentAt};
 
 fn polyline_derivative(points: &[f64], first: u32, count: u32, t: f64) -> Vec3

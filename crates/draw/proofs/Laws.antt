@@ -25,7 +25,8 @@ use Rattle.edge_range.specs.Usable.{usableRange}
 use Rattle.edge_record.specs.declared.Sample.{Sample}
 use Rattle.edge_record.specs.declared.Counted.{Counted}
 use Rattle.edge_record.specs.declared.Counted.the-variants as counted
-use Rattle.edge_record.specs.Chain.{width, flat, samples, countedOf}
+use Rattle.edge_record.specs.Own.Stored.{countedOf}
+use Rattle.edge_record.specs.Chain.{width, flat, samples}
 use Rattle.edge_record.proofs.Laws.{length-flat, reads}
 use Rattle.edge_merge.specs.Merge.{mergeFloor}
 use Rattle.draw_spec.specs.declared.Way.{Way}
@@ -42,8 +43,8 @@ use Rattle.draw_spec.proofs.Sound.{Binary}
 use Rattle.draw_spec.proofs.Accepted.{given, by-tables, by-buffers, refused-so}
 use Rattle.draw_spec.proofs.Table.{lowest}
 use Rattle.draw_spec.proofs.Held.{held, outcome}
-use Rattle.edge_discretise.specs.Discretised.{chainOf, DiscretisedInto}
-use Rattle.edge_repair.specs.Redrawn.{DrawnInto}
+use Rattle.edge_discretise.specs.Own.Discretised.{chainOf, DiscretisedInto}
+use Rattle.edge_repair.specs.Own.Redrawn.{DrawnInto}
 use Rattle.draw_spec.specs.Draw.{liesInFirst, chainFloats}
 
 -- ---- the room of buffers that are long enough

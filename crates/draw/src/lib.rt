@@ -20,13 +20,13 @@ ghost use Rattle.brep.specs.Rows.{lent, given};
 ghost use Rattle.brep.specs.Tree.{tree};
 ghost use Rattle.causes.specs.declared.Verdict.the-variants.{Accepted};
 ghost use Rattle.causes.specs.Causes.{verdict, tablesVerdict};
-ghost use Rattle.knots_sort.specs.Sort.{mostKnots};
+ghost use Rattle.knots_sort.specs.Own.Sortable.{mostKnots};
 ghost use Rattle.knots.specs.Knots.{curveKnots};
 ghost use Rattle.edge_record.specs.Chain.{width, shortest};
 ghost use Rattle.edge_range.specs.Usable.{usableRange};
 ghost use Rattle.draw_spec.specs.Draw.{firstWay, localOptions, drawnIn, roomOf, inFirst, liesInFirst, chainFloats, Outcome};
-ghost use Rattle.draw_spec.specs.Binary.{Fitting};
-ghost use Rattle.edge_repair.specs.Redrawn.{DrawnInto};
+ghost use Rattle.draw_spec.specs.Own.Binary.{Fitting};
+ghost use Rattle.edge_repair.specs.Own.Redrawn.{DrawnInto};
 
 // The way of the first drawing: the chord where the edge has no usable range.
 fn first_way(usable: Usable) -> Way

@@ -8,7 +8,7 @@ use lib.ListN.{length, getD}
 use lib.Ieee.{Float}
 use Rattle.arith.specs.Notation.{_⊗_, bits}
 use Rattle.base_lists.specs.Result.{Result, refused, got, bind, each}
-use Rattle.base_lists.specs.Sub.{none}
+use Rattle.base_lists.specs.All.{none}
 use Rattle.base_lists.proofs.Order.{sub-length}
 use Rattle.base_lists.proofs.Joined.{sub-map}
 use Rattle.math.specs.declared.Interval.{Interval}

@@ -7,7 +7,7 @@ use Prim.Native.Nat.{suc, _≤_}
 use native.Mathlib.Omega.{arith}
 use lib.ListN.{length, getD, length-reverse}
 use lib.Ieee.{Float}
-use Rattle.base_lists.specs.Sub.{All, none, more}
+use Rattle.base_lists.specs.All.{All, none, more}
 use Rattle.base_lists.proofs.Joined.{all-reverse}
 use Rattle.math.specs.declared.Vec3.{Vec3}
 use Rattle.brep.specs.declared.Edge.{Edge}

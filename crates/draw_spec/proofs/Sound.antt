@@ -20,7 +20,7 @@ use Rattle.edge_params.proofs.Ends.{size-grows, size-good}
 use Rattle.edge_merge.specs.Merge.{mergeFloor}
 use Rattle.draw_spec.specs.Repair.{Got}
 use Rattle.draw_spec.specs.Draw.{localOptions, drawnIn, roomOf, tooShort, drawn, Sound}
-use Rattle.draw_spec.specs.Binary.{Fitting}
+use Rattle.draw_spec.specs.Own.Binary.{Fitting}
 use Rattle.draw_spec.proofs.Tame.{bounded-size, tree-tame}
 use Rattle.draw_spec.proofs.Accepted.{Refuses, by-tables, by-buffers, by-drawing, accepts, refuses}
 use Rattle.draw_spec.proofs.Outcome.{Outcome, outcome-got, outcome-refused}

@@ -18,7 +18,7 @@ use Rattle.math.specs.declared.Vec3.{Vec3}
 use Rattle.math.specs.declared.Frame.{Frame}
 use Rattle.math.specs.declared.Interval.{Interval}
 use Rattle.math.specs.Math.{interval, spanOf}
-use Rattle.base_lists.specs.Sub.{All, none, more}
+use Rattle.base_lists.specs.All.{All, none, more}
 use Rattle.brep.specs.declared.Curve.{Curve}
 use Rattle.brep.specs.declared.Curve.the-variants.{Line, Circle, Ellipse, Parabola, Polyline, Trimmed, Composite}
 use Rattle.brep.specs.declared.Edge.{Edge}
@@ -29,7 +29,7 @@ use Rattle.causes_bounds.specs.Bounds.{largest}
 use Rattle.causes_form.specs.Forms.{pointCount, curveCount, segmentCount, targets}
 use Rattle.options.specs.declared.Options.{Options}
 use Rattle.causes.proofs.Checked.{Bounded, Checked}
-use Rattle.draw_spec.specs.Binary.{Fitting}
+use Rattle.draw_spec.specs.Own.Binary.{Fitting}
 use Rattle.curve.specs.declared.Repeats.the-variants.{Every, Never}
 use Rattle.curve.specs.Eval.{tau, naturalRange, closes, everySpan, period}
 use Rattle.curve.proofs.Laws.{count-segments}

@@ -7,7 +7,7 @@ use lib.ListN.{length}
 use lib.Dec.{ltb, leb}
 use lib.Ieee.{Float, lt}
 use Rattle.base_lists.specs.Result.{Result, refused, got, bind}
-use Rattle.base_lists.specs.Sub.{All}
+use Rattle.base_lists.specs.All.{All}
 use Rattle.base_lists.specs.Room.{filled}
 use Rattle.arith.specs.Notation.{plusZero}
 use Rattle.brep.specs.declared.Edge.{Edge}

@@ -1,4 +1,4 @@
 pub mod Edge
 pub mod Repair
 pub mod Draw
-pub mod Binary
+pub mod Own

@@ -15,7 +15,7 @@ use Rattle.arith_root_limit.proofs.Roots.{root-not-below}
 use Rattle.math.specs.Math.{vLength}
 use Rattle.brep.specs.Tree.{CurveTree}
 use Rattle.edge_closed_form.specs.Miss.{missOf}
-use Rattle.edge_closed_form.specs.Worst.{missSquare, largerOf, Alike}
+use Rattle.edge_closed_form.specs.Own.Worst.{missSquare, largerOf, Alike}
 
 pub miss-root : (c : CurveTree) (a b : Float) → rootOf (missSquare c a b) ≡ missOf c a b
 unfolding missSquare missOf vLength

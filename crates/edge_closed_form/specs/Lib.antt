@@ -1,3 +1,3 @@
 pub mod Miss
-pub mod Worst
 pub mod Located
+pub mod Own

@@ -13,11 +13,11 @@ ghost use Rattle.arith_root.specs.Root.{rootOf};
 ghost use Rattle.brep.specs.Rows.{lent, given};
 ghost use Rattle.brep.specs.Tree.{tree};
 ghost use Rattle.curve.specs.Eval.{pointAt};
-ghost use Rattle.curve_prepared.specs.Prepared.{preparedOf};
+ghost use Rattle.curve_prepared.specs.Own.Prepared.{preparedOf};
 ghost use Rattle.edge_record.specs.Chain.{width, flat};
 ghost use Rattle.edge_closed_form.specs.Miss.{worstMiss};
 ghost use Rattle.edge_closed_form.specs.Located.{located};
-ghost use Rattle.edge_closed_form.specs.Worst.{missSquare, largerOf, Alike};
+ghost use Rattle.edge_closed_form.specs.Own.Worst.{missSquare, largerOf, Alike};
 
 // How far the middle of the curve of a row lies from the middle of the chord from a to b, squared; pa and pb are its points there.
 fn miss_square(

@@ -17,28 +17,30 @@ use Rattle.brep.specs.Tree.{CurveTree}
 use Rattle.options.specs.declared.Resolved.{Resolved}
 use Rattle.edge_params.specs.declared.Listed.{Listed}
 use Rattle.edge_params.specs.declared.Listed.the-variants as listed
-use Rattle.edge_params.specs.Written.{said}
+use Rattle.edge_params.specs.Own.Written.{said}
 use Rattle.edge_record.specs.declared.Sample.{Sample}
 use Rattle.edge_record.specs.declared.Counted.{Counted}
 use Rattle.edge_record.specs.declared.Counted.the-variants.{Refused, Count}
-use Rattle.edge_record.specs.Chain.{width, most, flat, samples, samplePoint, pointAt, countedOf}
+use Rattle.edge_record.specs.Own.Stored.{pointAt, countedOf}
+use Rattle.edge_record.specs.Chain.{width, most, flat, samples, samplePoint}
 use Rattle.curve.specs.Eval as eval
 use Rattle.edge_record.proofs.Laws.{pointOf-samples}
 use Rattle.edge_range.specs.declared.Usable.{Usable}
 use Rattle.edge_range.specs.declared.Usable.the-variants.{Range, Unusable}
 use Rattle.edge_range.specs.Usable.{usableRange}
-use Rattle.edge_sample.specs.Sample.{sampled, listOf}
-use Rattle.edge_sample.specs.Answered.{SampledInto}
-use Rattle.edge_sample.specs.Tried.{tried, isKept}
+use Rattle.edge_sample.specs.Own.ListOf.{listOf}
+use Rattle.edge_sample.specs.Sample.{sampled}
+use Rattle.edge_sample.specs.Own.Answered.{SampledInto}
+use Rattle.edge_sample.specs.Own.Tried.{tried, isKept}
 use Rattle.edge_sample.proofs.Laws.{sampled-two, sampled-room}
 use Rattle.edge_sample.proofs.Ways.{tried-sampled}
 use Rattle.edge_closed_form.specs.Located.{located}
 use Rattle.edge_closed_form.proofs.Located.{located-length, located-at}
 use Rattle.draw_spec.specs.Edge.{edgeCurve, atLeastTwo, chordOf, placed, finished, discretised}
 use Rattle.draw_spec.specs.Draw.{roomOf}
-use Rattle.edge_place.specs.Place.{PointsKnown}
+use Rattle.edge_place.specs.Own.Place.{PointsKnown}
 use Rattle.edge_place.proofs.Laws.{placed-length}
-use Rattle.edge_discretise.specs.Discretised.{chainOf, thinnedMerged, overRange, ChainInto}
+use Rattle.edge_discretise.specs.Own.Discretised.{chainOf, thinnedMerged, overRange, ChainInto}
 use Rattle.edge_discretise.proofs.Thinning.{read-back}
 
 drew : (n m : ℕ) (D E : Result (List Sample)) {w : Counted} {g : List Float} → n ≡ m → D ≡ E → ChainInto n D w g → ChainInto m E w g

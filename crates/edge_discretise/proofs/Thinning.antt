@@ -19,7 +19,8 @@ use Rattle.options.specs.declared.Resolved.{Resolved}
 use Rattle.edge_record.specs.declared.Sample.{Sample}
 use Rattle.edge_record.specs.declared.Counted.{Counted}
 use Rattle.edge_record.specs.declared.Counted.the-variants.{Refused, Count}
-use Rattle.edge_record.specs.Chain.{width, most, row, flat, samplePoint, samples, countedOf, after, ChainStored}
+use Rattle.edge_record.specs.Own.Stored.{countedOf, after, ChainStored}
+use Rattle.edge_record.specs.Chain.{width, most, row, flat, samplePoint, samples}
 use Rattle.edge_record.proofs.Laws.{length-flat, flat-one, push, samplesFrom-length, samples-own, reads, rest-cleared}
 use Rattle.edge_record.proofs.Shorter.{Shorter, shorter-same, shorter-sub, shorter-two}
 use Rattle.edge_merge.specs.Merge.{merged}
@@ -30,7 +31,7 @@ use Rattle.edge_thin.specs.Thin.{withFloor, restored, retainedBy, thinned}
 use Rattle.edge_thin.proofs.Loops.{length-marks}
 use Rattle.edge_thin.proofs.Laws.{thin-shorter}
 use Rattle.draw_spec.specs.Edge.{edgeStart, edgeEnd, thinnedIf, chordOf}
-use Rattle.edge_discretise.specs.Discretised.{ChainInto}
+use Rattle.edge_discretise.specs.Own.Discretised.{ChainInto}
 
 -- ---- a floor above the most samples says nothing more
 flagged-length : (points : ℕ → Vec3) (tolerance angle : Float) (n : ℕ) (keep : List Bool) → flagged points tolerance angle n ≡ got keep → length keep ≡ n

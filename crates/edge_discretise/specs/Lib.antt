@@ -1,1 +1,1 @@
-pub mod Discretised
+pub mod Own

@@ -15,14 +15,15 @@ ghost use Rattle.base_lists.specs.Room.{filled};
 ghost use Rattle.brep.specs.Rows.{lent, given};
 ghost use Rattle.brep.specs.Tree.{tree};
 ghost use Rattle.curve.specs.Eval.{isSampled};
-ghost use Rattle.knots_sort.specs.Sort.{mostKnots};
+ghost use Rattle.knots_sort.specs.Own.Sortable.{mostKnots};
 ghost use Rattle.knots.specs.Knots.{curveKnots};
 ghost use Rattle.edge_range.specs.Usable.{usableRange};
-ghost use Rattle.edge_record.specs.Chain.{width, shortest, most, flat, samples, countedOf, after};
+ghost use Rattle.edge_record.specs.Own.Stored.{countedOf, after};
+ghost use Rattle.edge_record.specs.Chain.{width, shortest, most, flat, samples};
 ghost use Rattle.draw_spec.specs.Edge.{thinnedIf, chordOf, discretised};
 ghost use Rattle.draw_spec.specs.Draw.{roomOf};
-ghost use Rattle.edge_place.specs.Place.{ofPoints};
-ghost use Rattle.edge_discretise.specs.Discretised.{thinnedMerged, overRange, ChainInto, DiscretisedInto};
+ghost use Rattle.edge_place.specs.Own.Place.{ofPoints};
+ghost use Rattle.edge_discretise.specs.Own.Discretised.{thinnedMerged, overRange, ChainInto, DiscretisedInto};
 
 // The smaller of two.
 fn least(a: usize, b: usize) -> usize

@@ -14,7 +14,8 @@ use Rattle.math.specs.Math.{distance, centre}
 use Rattle.brep.specs.declared.Edge.{Edge}
 use Rattle.options.specs.declared.Resolved.{Resolved}
 use Rattle.edge_record.specs.declared.Sample.{Sample}
-use Rattle.edge_record.specs.Chain.{pointAt, samplesFrom, samples}
+use Rattle.edge_record.specs.Own.Stored.{pointAt}
+use Rattle.edge_record.specs.Chain.{samplesFrom, samples}
 use Rattle.draw_spec.specs.Repair.{escapeLimit, escapes, reaches}
 
 -- some point of a chain passes a test

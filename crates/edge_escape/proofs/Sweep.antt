@@ -12,11 +12,11 @@ use Rattle.math.specs.Math.{vSub, vLengthSquared, vLength, distance}
 use Rattle.brep.specs.Tree.{CurveTree}
 use Rattle.curve.specs.Eval.{naturalRange, pointAt}
 use Rattle.curve_prepared.specs.declared.Prepared.{Prepared}
-use Rattle.curve_prepared.specs.Prepared.{preparedOf, preparedPoint}
+use Rattle.curve_prepared.specs.Own.Prepared.{preparedOf, preparedPoint}
 use Rattle.curve_prepared.proofs.Laws.{own-point}
 use Rattle.draw_spec.specs.Repair.{sweepAt, nearestOf, nearest}
 use Rattle.edge_escape.specs.declared.Best.{Best}
-use Rattle.edge_escape.specs.Best.{measured, nearerOf}
+use Rattle.edge_escape.specs.Own.Best.{measured, nearerOf}
 
 -- ---- `nearer`
 module _ (best next : Best) (o : Bool) (h : o ≡ lt (rootOf (next .square)) (rootOf (best .square))) where

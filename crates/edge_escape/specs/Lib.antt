@@ -1,1 +1,1 @@
-pub mod Best
+pub mod Own

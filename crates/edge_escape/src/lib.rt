@@ -15,7 +15,7 @@ ghost use Rattle.brep.specs.Rows.{given};
 ghost use Rattle.brep.specs.Tree.{tree};
 ghost use Rattle.edge_record.specs.Chain.{width, samples};
 ghost use Rattle.draw_spec.specs.Repair.{escapes, reaches, sweepAt, nearest};
-ghost use Rattle.edge_escape.specs.Best.{measured, nearerOf};
+ghost use Rattle.edge_escape.specs.Own.Best.{measured, nearerOf};
 
 // How many steps `nearest` takes along the natural range.
 const STEPS: u32 = 512;

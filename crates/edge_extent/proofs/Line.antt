@@ -20,7 +20,7 @@ use Rattle.math.specs.Math.{vFinite, addPoint, vAdd, vScale, at}
 use Rattle.brep.specs.Tree.{CurveTree}
 use Rattle.curve_prepared.specs.declared.Prepared.the-variants.{Line}
 use Rattle.curve_prepared.specs.declared.Prepared.{Prepared}
-use Rattle.curve_prepared.specs.Prepared.{preparedOf, preparedPoint}
+use Rattle.curve_prepared.specs.Own.Prepared.{preparedOf, preparedPoint}
 use Rattle.curve_prepared.proofs.Laws.{prepared-point}
 use Rattle.draw_spec.specs.Edge.{probed}
 use Rattle.edge_extent.proofs.Laws.{inside}

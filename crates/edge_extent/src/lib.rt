@@ -14,7 +14,7 @@ ghost use Rattle.math.specs.Math.{vFinite, addPoint};
 ghost use Rattle.brep.specs.Rows.{lent, given};
 ghost use Rattle.brep.specs.Tree.{CurveTree, tree};
 ghost use Rattle.curve_prepared.specs.declared.Prepared.the-variants.{Line};
-ghost use Rattle.curve_prepared.specs.Prepared.{preparedOf};
+ghost use Rattle.curve_prepared.specs.Own.Prepared.{preparedOf};
 ghost use Rattle.edge_range.specs.Usable.{usableRange};
 ghost use Rattle.draw_spec.specs.Edge.{probed, extentBox, edgeExtent};
 

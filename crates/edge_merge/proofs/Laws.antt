@@ -13,7 +13,7 @@ use Rattle.arith_order.proofs.Signed.{lt→nle}
 use Rattle.arith.specs.Notation.{plusZero}
 use Rattle.math.specs.declared.Vec3.{Vec3}
 use Rattle.math.specs.Math.{distance}
-use Rattle.base_lists.specs.Sub.{Sub, end, keep, skip}
+use Rattle.base_lists.specs.Own.Sub.{Sub, end, keep, skip}
 use Rattle.base_lists.proofs.Order.{sub-same, sub-trans}
 use Rattle.edge_record.specs.declared.Sample.{Sample}
 use Rattle.edge_record.specs.Chain.{lastOf}

@@ -14,7 +14,8 @@ use Rattle.arith.specs.Notation.{plusZero}
 use Rattle.math.specs.declared.Vec3.{Vec3}
 use Rattle.math.specs.Math.{distance}
 use Rattle.edge_record.specs.declared.Sample.{Sample}
-use Rattle.edge_record.specs.Chain.{width, row, flat, sampleAt, samplesFrom, samples, lastOf, ChainStored}
+use Rattle.edge_record.specs.Own.Stored.{ChainStored}
+use Rattle.edge_record.specs.Chain.{width, row, flat, sampleAt, samplesFrom, samples, lastOf}
 use Rattle.edge_record.proofs.Laws.{push, replace, row-own, samples-own, samplesFrom-length, flat-one}
 use Rattle.edge_record.proofs.Compact.{Compacted, compact-behind, compact-skip, compact-keep, compact-all}
 use Rattle.edge_record.proofs.Shorter.{last-snoc, dropLast-last, dropLast-length}

@@ -8,7 +8,8 @@ ghost use lib.Dec.{ltb};
 ghost use lib.Ieee.{lt, le};
 ghost use Rattle.arith_root.specs.Root.{rootOf};
 ghost use Rattle.math.specs.Math.{distance};
-ghost use Rattle.edge_record.specs.Chain.{width, samples, ChainStored};
+ghost use Rattle.edge_record.specs.Own.Stored.{ChainStored};
+ghost use Rattle.edge_record.specs.Chain.{width, samples};
 ghost use Rattle.edge_merge.specs.Merge.{mergeFloor, merged};
 
 // How far apart two points of a chain may be and still count as one: in the edge's tolerance, and in the sag.

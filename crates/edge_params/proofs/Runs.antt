@@ -12,8 +12,9 @@ use Rattle.math.specs.declared.Interval.{Interval}
 use Rattle.math.specs.Math.{at}
 use Rattle.arith_order.proofs.Laws.{number, number-left, le-trans, le-refl, Modest, middle, middle-down, rises, falls}
 use Rattle.arith_order.proofs.Modest.{big}
-use Rattle.base_lists.specs.Way.{Up, Down}
-use Rattle.base_lists.specs.Sub.{All, none, more, Pairwise, empty, first}
+use Rattle.base_lists.specs.Own.Way.{Up, Down}
+use Rattle.base_lists.specs.All.{All, none, more}
+use Rattle.base_lists.specs.Own.Sub.{Pairwise, empty, first}
 use Rattle.base_lists.proofs.Joined.{all-join, all-one, pair-snoc, Within, within-none, within-join, within-mid, within-ends}
 use Rattle.edge_params.specs.Params.{midpoint, subdivided, Sampler, stepAt, steps, evenly, unlessHi, walked, through}
 

@@ -10,8 +10,9 @@ use Rattle.arith.specs.Notation.{plusZero}
 use Rattle.math.specs.declared.Interval.{Interval}
 use Rattle.arith_order.proofs.Laws.{lt→le, nlt→le}
 use Rattle.base_lists.specs.Result.{got}
-use Rattle.base_lists.specs.Way.{Up, Down}
-use Rattle.base_lists.specs.Sub.{All, Sub, end, keep, skip}
+use Rattle.base_lists.specs.Own.Way.{Up, Down}
+use Rattle.base_lists.specs.All.{All}
+use Rattle.base_lists.specs.Own.Sub.{Sub, end, keep, skip}
 use Rattle.base_lists.proofs.Joined.{Within, all-map, all-reverse, pair-reverse}
 use Rattle.base_lists.proofs.Parts.{all-both}
 use Rattle.base_lists.proofs.Order.{sub-all, sub-pairwise, sub-same}

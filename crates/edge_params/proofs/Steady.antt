@@ -5,8 +5,9 @@ use mathlib.Core.Logic.{⊎-elim}
 use lib.Dec.{T}
 use lib.Ieee.{Float}
 use Rattle.arith_order.proofs.Laws.{number, le-total, lt→le, lt→nle}
-use Rattle.base_lists.specs.Way.{Up, Down}
-use Rattle.base_lists.specs.Sub.{none, more, Pairwise, empty, first, Sub}
+use Rattle.base_lists.specs.Own.Way.{Up, Down}
+use Rattle.base_lists.specs.All.{none, more}
+use Rattle.base_lists.specs.Own.Sub.{Pairwise, empty, first, Sub}
 use Rattle.base_lists.proofs.Order.{sub-pairwise}
 use Rattle.base_lists.proofs.Joined.{all-one, pair-reverse}
 use Rattle.edge_params.specs.OneWay.{Rises, rise, later, Falls, fall, after, OneWay}

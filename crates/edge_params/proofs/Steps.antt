@@ -11,7 +11,7 @@ use lib.Ieee.{Float}
 use Rattle.math.specs.declared.Interval.{Interval}
 use Rattle.edge_params.specs.declared.Listed.the-variants.{Count, Refused}
 use Rattle.edge_params.specs.Params.{stepAt, steps, evenly}
-use Rattle.edge_params.specs.Written.{ListWritten}
+use Rattle.edge_params.specs.Own.Written.{ListWritten}
 use Rattle.edge_params.proofs.Written.{held-none, held-push, held-stop, held-full}
 
 module _ (range : Interval) (n : ℕ) where

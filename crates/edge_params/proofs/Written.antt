@@ -15,7 +15,7 @@ use Rattle.base_lists.specs.Result.{refused, got, each}
 use Rattle.edge_params.specs.declared.Listed.{Listed}
 use Rattle.edge_params.specs.declared.Listed.the-variants.{Count, Refused}
 use Rattle.edge_params.specs.Params.{fitting}
-use Rattle.edge_params.specs.Written.{ListWritten, ListAppended}
+use Rattle.edge_params.specs.Own.Written.{ListWritten, ListAppended}
 
 -- ---- stores in parts
 pub sets-append : (l : List Float) (n : ℕ) (a b : List Float) → sets l n (a ++ b) ≡ sets (sets l n a) (n + length a) b

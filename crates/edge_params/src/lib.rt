@@ -4,7 +4,7 @@ ghost use mathlib.Core.List.{[], _∷_};
 ghost use Prim.Native.Nat.{_≤_};
 ghost use lib.ListN.{length};
 ghost use Rattle.edge_params.specs.Params.{evenly};
-ghost use Rattle.edge_params.specs.Written.{ListWritten, ListAppended};
+ghost use Rattle.edge_params.specs.Own.Written.{ListWritten, ListAppended};
 
 // What the closed form of a curve gives: a number of segments, or nothing where the curve has none.
 pub enum Closed {

@@ -17,14 +17,14 @@ use Rattle.brep.specs.Rows.{Tables}
 use Rattle.brep.specs.Tree.{CurveTree}
 use Rattle.curve.specs.Eval.{pointAt}
 use Rattle.curve_prepared.specs.declared.Prepared.{Prepared}
-use Rattle.curve_prepared.specs.Prepared.{preparedOf, preparedPoint}
+use Rattle.curve_prepared.specs.Own.Prepared.{preparedOf, preparedPoint}
 use Rattle.curve_prepared.proofs.Laws.{point-by, prepared-point}
 use Rattle.edge_record.specs.declared.Sample.{Sample}
 use Rattle.edge_record.specs.Chain.{width, row, flat, lastOf, pointAt as inChain}
 use Rattle.edge_closed_form.proofs.Located.{on, located-length, located-at}
 use Rattle.edge_record.proofs.Laws.{push, sampleAt-behind}
 use Rattle.draw_spec.specs.Edge.{edgeCurve, edgeStart, edgeEnd, located, degenerateEnds, isReversed, oriented, movedTo, lastPinned, pinned, placed}
-use Rattle.edge_place.specs.Place.{ofPoints, lastIndex, runsBack, paramAt, recordAt, PointsKnown}
+use Rattle.edge_place.specs.Own.Place.{ofPoints, lastIndex, runsBack, paramAt, recordAt, PointsKnown}
 
 -- ---- a list from its end
 module _ {A : Type 0} where

@@ -10,11 +10,11 @@ ghost use lib.ListN.{length, getD};
 ghost use lib.Ieee.{nan};
 ghost use lib.Seq.{sets};
 ghost use Rattle.brep.specs.Rows.{lent, given};
-ghost use Rattle.curve_prepared.specs.Prepared.{preparedOf};
+ghost use Rattle.curve_prepared.specs.Own.Prepared.{preparedOf};
 ghost use Rattle.curve.specs.Eval.{pointAt as onCurve};
 ghost use Rattle.edge_record.specs.Chain.{width, flat, pointAt as inChain};
 ghost use Rattle.draw_spec.specs.Edge.{edgeCurve, degenerateEnds, placed};
-ghost use Rattle.edge_place.specs.Place.{ofPoints, runsBack, paramAt, recordAt, PointsKnown};
+ghost use Rattle.edge_place.specs.Own.Place.{ofPoints, runsBack, paramAt, recordAt, PointsKnown};
 
 // Whether the vertices are too near each other to tell the direction.
 fn degenerate_ends(points: &[f64], edge: Edge) -> bool

@@ -14,7 +14,7 @@ use Rattle.brep.specs.Tree.{CurveTree, tree}
 use Rattle.brep.proofs.ByKind.{kindIn, at-parabola, at-polyline, at-composite}
 use Rattle.curve.specs.declared.Repeats.{Repeats}
 use Rattle.curve.specs.Eval.{naturalRange, period}
-use Rattle.curve_parameter.specs.Under.{under}
+use Rattle.curve_parameter.specs.Own.Under.{under}
 use Rattle.curve.proofs.Under.{under-same, under-rest}
 use Rattle.options.specs.declared.Resolved.{Resolved}
 use Rattle.options.specs.Options.{segmentsForArc}

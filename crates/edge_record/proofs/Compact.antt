@@ -8,7 +8,8 @@ use lib.ListN.{length}
 use lib.Seq.{sets}
 use lib.Ieee.{Float}
 use Rattle.edge_record.specs.declared.Sample.{Sample}
-use Rattle.edge_record.specs.Chain.{width, row, flat, sampleAt, samplesFrom, samples, ChainStored}
+use Rattle.edge_record.specs.Own.Stored.{ChainStored}
+use Rattle.edge_record.specs.Chain.{width, row, flat, sampleAt, samplesFrom, samples}
 use Rattle.edge_record.proofs.Laws.{push, sampleAt-behind}
 
 -- of the first m records of c those before i are read, and `chain` holds `kept` at its start

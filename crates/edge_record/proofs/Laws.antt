@@ -10,7 +10,8 @@ use lib.Seq.{getD-at, getD-append-add, set-comm, set-set, set-getD, sets, sets-e
 use lib.Ieee.{Float, nan}
 use Rattle.base_lists.specs.Room.{filled}
 use Rattle.edge_record.specs.declared.Sample.{Sample}
-use Rattle.edge_record.specs.Chain.{width, row, flat, sampleAt, pointAt, samplesFrom, samples, samplePoint}
+use Rattle.edge_record.specs.Own.Stored.{pointAt}
+use Rattle.edge_record.specs.Chain.{width, row, flat, sampleAt, samplesFrom, samples, samplePoint}
 
 -- ---- stores of a run of floats
 pub sets-append : (l : List Float) (n : ℕ) (a b : List Float) → sets l n (a ++ b) ≡ sets (sets l n a) (n + length a) b

@@ -5,7 +5,8 @@ use Prim.Native.Nat.{ℕ, _-_, _≤_}
 use native.Mathlib.Omega.{arith}
 use lib.ListN.{length, getD, length-append}
 use lib.Ieee.{Float}
-use Rattle.base_lists.specs.Sub.{All, Pairwise, Sub, keep}
+use Rattle.base_lists.specs.All.{All}
+use Rattle.base_lists.specs.Own.Sub.{Pairwise, Sub, keep}
 use Rattle.base_lists.proofs.Order.{sub-all, sub-pairwise, sub-same, sub-trans, sub-append}
 use Rattle.base_lists.proofs.Joined.{sub-map}
 use Rattle.edge_record.specs.declared.Sample.{Sample}

@@ -33,15 +33,12 @@ unfoldable pub flat : List Sample → List Float
 flat [] = []
 flat (s ∷ l) = row s ++ flat l
 
--- the sample of a buffer's record i, and its point
+-- the sample of a buffer's record i
 unfoldable pub sampleAt : List Float → ℕ → Sample
 sampleAt c i = record {
   point = vec (getD c (width * i) nan) (getD c (width * i + 1) nan) (getD c (width * i + 2) nan);
   param = getD c (width * i + 3) nan;
 }
-
-abbrev pub pointAt : List Float → ℕ → Vec3
-pointAt c i = sampleAt c i .point
 
 -- n samples from record i on
 unfoldable pub samplesFrom : List Float → ℕ → ℕ → List Sample
@@ -65,17 +62,3 @@ lastOf d (a ∷ l) = lastOf a l
 abbrev pub innerSamples : List Sample → List Sample
 innerSamples [] = []
 innerSamples (p ∷ l) = dropLast l
-
--- what a pass over a chain leaves: its samples stand at the buffer's start, what lies behind them stays, and their number is the answer
-pub record ChainStored (entry exit : List Float) (answer : ℕ) (l : List Sample) : Type 0 where
-  pub count : answer ≡ length l
-  pub floats : exit ≡ sets entry 0 (flat l)
-
--- the same of a pass that may refuse; the buffer is then as it was
-abbrev pub countedOf : Result (List Sample) → Counted
-countedOf (refused n) = Refused n
-countedOf (got l) = Count (length l)
-
-abbrev pub after : List Float → Result (List Sample) → List Float
-after entry (refused n) = entry
-after entry (got l) = sets entry 0 (flat l)

@@ -4,7 +4,8 @@ ghost use mathlib.Core.Path.{_≡_};
 ghost use Prim.Native.Nat.{_+_, _*_, _≤_};
 ghost use lib.ListN.{length};
 ghost use lib.Seq.{sets};
-ghost use Rattle.edge_record.specs.Chain.{width, row, pointAt, sampleAt};
+ghost use Rattle.edge_record.specs.Own.Stored.{pointAt};
+ghost use Rattle.edge_record.specs.Chain.{width, row, sampleAt};
 
 // How many floats a record has.
 pub const WIDTH: usize = 4;

@@ -31,8 +31,8 @@ use Rattle.draw_spec.specs.Repair.{Got, by, escapes, runaway}
 use Rattle.draw_spec.specs.Draw.{roomOf, answerOf, inFirst, firstAfter, secondAfter}
 use Rattle.draw_spec.proofs.Outcome.{outcome-refused}
 use Rattle.draw_spec.proofs.Discretised.{Room, discretised-outcome}
-use Rattle.edge_discretise.specs.Discretised.{chainOf, DiscretisedInto}
-use Rattle.edge_repair.specs.Redrawn.{heldFirst, heldSecond, RedrawnInto, DrawnInto, InSecond}
+use Rattle.edge_discretise.specs.Own.Discretised.{chainOf, DiscretisedInto}
+use Rattle.edge_repair.specs.Own.Redrawn.{heldFirst, heldSecond, RedrawnInto, DrawnInto, InSecond}
 
 -- ---- `discretise` into the second buffer
 room-swap : (a b : ℕ) → roomOf a b ≡ roomOf b a

@@ -23,8 +23,8 @@ use Rattle.edge_range.specs.declared.Usable.the-variants.{Range, Unusable}
 use Rattle.draw_spec.specs.declared.Way.the-variants.{Complement, ShortArc}
 use Rattle.draw_spec.specs.Edge.{edgeCurve, edgeStart, edgeEnd, discretised}
 use Rattle.draw_spec.specs.Repair.{Got, by, withRange, reference, escapes, reaches, nearest, orderedInterval, runaway, arcOrChord, byShortArc, byComplement, byPeriod, repaired}
-use Rattle.edge_place.specs.Place.{ofPoints}
-use Rattle.edge_repair.specs.Redrawn.{stays, isShortArc, shortRange, shortArc, complementBy, complementArc, drawnComplement}
+use Rattle.edge_place.specs.Own.Place.{ofPoints}
+use Rattle.edge_repair.specs.Own.Redrawn.{stays, isShortArc, shortRange, shortArc, complementBy, complementArc, drawnComplement}
 
 -- ---- the range of the short arc
 module _ (T : Tables) (e : Edge) where

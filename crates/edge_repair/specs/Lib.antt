@@ -1,1 +1,1 @@
-pub mod Redrawn
+pub mod Own

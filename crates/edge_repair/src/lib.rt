@@ -16,13 +16,13 @@ ghost use lib.ListN.{length};
 ghost use Rattle.base_lists.specs.Room.{filled};
 ghost use Rattle.brep.specs.Rows.{lent, given};
 ghost use Rattle.brep.specs.Tree.{tree};
-ghost use Rattle.knots_sort.specs.Sort.{mostKnots};
+ghost use Rattle.knots_sort.specs.Own.Sortable.{mostKnots};
 ghost use Rattle.knots.specs.Knots.{curveKnots};
 ghost use Rattle.edge_record.specs.Chain.{width, shortest, flat, samples};
 ghost use Rattle.draw_spec.specs.Repair.{by, withRange, reference, runaway, arcOrChord, byShortArc, repaired};
 ghost use Rattle.draw_spec.specs.Draw.{roomOf, inFirst};
-ghost use Rattle.edge_place.specs.Place.{ofPoints};
-ghost use Rattle.edge_repair.specs.Redrawn.{InSecond, RedrawnInto, DrawnInto, stays, isShortArc, shortRange, shortArc, complementArc, drawnComplement};
+ghost use Rattle.edge_place.specs.Own.Place.{ofPoints};
+ghost use Rattle.edge_repair.specs.Own.Redrawn.{InSecond, RedrawnInto, DrawnInto, stays, isShortArc, shortRange, shortArc, complementArc, drawnComplement};
 
 // The edge with another range.
 fn with_range(edge: Edge, range: Interval) -> Edge

@@ -17,7 +17,8 @@ use Rattle.knots.specs.declared.Knots.{Knots}
 use Rattle.knots.specs.declared.Knots.the-variants.{Count, TooMany}
 use Rattle.knots.specs.Knots.{curveKnots, curveBreaks}
 use Rattle.knots.proofs.Answers.{counted, exceeded, left-fits}
-use Rattle.knots_thin.specs.Thin.{curveDeviation, curveThinned, keptBreaks, keptAnswer, keptLeft}
+use Rattle.knots_thin.specs.Own.Kept.{curveDeviation, keptAnswer, keptLeft}
+use Rattle.knots_thin.specs.Thin.{curveThinned, keptBreaks}
 
 -- ---- no knots
 either : (t : Bool) → _≡_ {A = List Float} [] (cond t [] [])

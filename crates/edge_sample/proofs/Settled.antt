@@ -14,10 +14,10 @@ use Rattle.math.specs.declared.Interval.{Interval}
 use Rattle.edge_params.specs.Params.{Sampler, evenly, fitting, walked, through, bisected, breaksAlong, floored, refined}
 use Rattle.edge_params.specs.declared.Listed.{Listed}
 use Rattle.edge_params.specs.declared.Listed.the-variants.{Count, Refused}
-use Rattle.edge_params.specs.Written.{said, ListWritten}
+use Rattle.edge_params.specs.Own.Written.{said, ListWritten}
 use Rattle.edge_params.proofs.Written.{fitting-fits, Counted, counted, held-counted, held-length, held-list}
-use Rattle.edge_sample.specs.Sample.{listOf}
-use Rattle.edge_sample.specs.Answered.{SampledInto, keptFloats}
+use Rattle.edge_sample.specs.Own.ListOf.{listOf}
+use Rattle.edge_sample.specs.Own.Answered.{SampledInto, keptFloats}
 
 refused-list : (s : Result (List Float)) → refused 8 ≡ each length s → listOf s ≡ []
 refused-list (refused n) e = refl

@@ -10,7 +10,7 @@ use lib.ListN.{length, getD, length-append, length-reverse, List·getD-append}
 use lib.Seq.{getD-at}
 use lib.Ieee.{Float, nan, lt}
 use Rattle.math.specs.declared.Interval.{Interval}
-use Rattle.edge_sample.specs.Answered.{stops}
+use Rattle.edge_sample.specs.Own.Answered.{stops}
 
 getD-reverse : (l : List Float) (i : ℕ) (d : Float) → i < length l → getD l (length l - 1 - i) d ≡ getD (reverse l) i d
 getD-reverse [] i d h = absurd (omega arith)

@@ -16,12 +16,13 @@ use Rattle.edge_params.specs.declared.Closed.the-variants.{Unknown, Segments}
 use Rattle.edge_params.specs.Params.{evenly, fitting, refined, sampleParams}
 use Rattle.edge_params.specs.declared.Listed.{Listed}
 use Rattle.edge_params.specs.declared.Listed.the-variants.{Count, Refused}
-use Rattle.edge_params.specs.Written.{said, ListWritten}
+use Rattle.edge_params.specs.Own.Written.{said, ListWritten}
 use Rattle.edge_params.proofs.Written.{fitting-fits, held-counted, held-list}
 use Rattle.edge_range.specs.Usable.{analyticSegments}
-use Rattle.edge_sample.specs.Sample.{worstMiss, sampler, sampled, listOf}
-use Rattle.edge_sample.specs.Tried.{isFormWithin, stepsOf, tried, isKept}
-use Rattle.edge_sample.specs.Answered.{SampledInto}
+use Rattle.edge_sample.specs.Own.ListOf.{listOf}
+use Rattle.edge_sample.specs.Sample.{worstMiss, sampler, sampled}
+use Rattle.edge_sample.specs.Own.Tried.{isFormWithin, stepsOf, tried, isKept}
+use Rattle.edge_sample.specs.Own.Answered.{SampledInto}
 
 -- an answer of refine, whose buffer came from another call
 pub answered-as : (w : Listed) (last : List Float) (n room : ℕ) → n ≡ room → (f : ℕ → Result (List Float)) (s : Result (List Float)) → f room ≡ s

@@ -27,8 +27,3 @@ sampler c range r = record {
 -- sample_params: the parameters, or refusal 8 where a list passes the room
 unfoldable pub sampled : ℕ → CurveTree → Interval → Resolved → Result (List Float)
 sampled room c range r = sampleParams room (sampler c range r) range
-
--- the parameters of an answer; none of a refusal
-abbrev pub listOf : Result (List Float) → List Float
-listOf (refused n) = []
-listOf (got l) = l

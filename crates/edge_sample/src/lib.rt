@@ -17,18 +17,19 @@ ghost use lib.Ieee.{nan};
 ghost use Rattle.base_lists.specs.Room.{filled};
 ghost use Rattle.brep.specs.Rows.{lent, given};
 ghost use Rattle.brep.specs.Tree.{tree};
-ghost use Rattle.curve_prepared.specs.Prepared.{preparedOf};
-ghost use Rattle.knots_sort.specs.Sort.{mostKnots};
+ghost use Rattle.curve_prepared.specs.Own.Prepared.{preparedOf};
+ghost use Rattle.knots_sort.specs.Own.Sortable.{mostKnots};
 ghost use Rattle.edge_params.specs.Params.{subdivided, unlessHi, bisected, refined};
-ghost use Rattle.edge_params.specs.Written.{ListWritten, ListAppended};
+ghost use Rattle.edge_params.specs.Own.Written.{ListWritten, ListAppended};
 ghost use Rattle.knots.specs.Knots.{curveKnots};
 ghost use Rattle.knots_thin.specs.Thin.{keptBreaks};
-ghost use Rattle.edge_subdivide.specs.Bisect.{endAt, withinBudget, limitsOf};
+ghost use Rattle.edge_subdivide.specs.Own.Limits.{limitsOf};
+ghost use Rattle.edge_subdivide.specs.Bisect.{endAt, withinBudget};
 ghost use Rattle.edge_record.specs.Chain.{width, flat};
 ghost use Rattle.edge_closed_form.specs.Located.{located};
 ghost use Rattle.edge_sample.specs.Sample.{sampler, sampled};
-ghost use Rattle.edge_sample.specs.Tried.{tried, isKept};
-ghost use Rattle.edge_sample.specs.Answered.{SampledInto, keptFloats, stops};
+ghost use Rattle.edge_sample.specs.Own.Tried.{tried, isKept};
+ghost use Rattle.edge_sample.specs.Own.Answered.{SampledInto, keptFloats, stops};
 
 // Stop number i of the walk. The breaks are read backwards where the range runs down.
 fn stop_at(range: Interval, breaks: &[f64], i: usize) -> f64

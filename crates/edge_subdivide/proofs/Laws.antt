@@ -10,9 +10,10 @@ use Rattle.arith.specs.Notation.{plusZero, one}
 use Rattle.arith.specs.Pick.{clampOf}
 use Rattle.arith_root.specs.Root.{rootOf}
 use Rattle.arith_root_limit.specs.declared.Limit.{Limit}
-use Rattle.arith_root_limit.specs.Limit.{limitOf}
+use Rattle.arith_root_limit.specs.Own.Limit.{limitOf}
 use Rattle.arith_trig.specs.Trig.{acosOf}
-use Rattle.math_chord.specs.Chord.{chordDistance, bisectionOffset, bisectionDistance}
+use Rattle.math_chord.specs.Own.Offset.{bisectionOffset}
+use Rattle.math_chord.specs.Chord.{chordDistance, bisectionDistance}
 use Rattle.math.specs.declared.Vec3.{Vec3}
 use Rattle.math.specs.declared.Direction.{Direction}
 use Rattle.math.specs.declared.Direction.the-variants.{Unit, Nothing}
@@ -21,23 +22,24 @@ use Rattle.brep.specs.Tree.{CurveTree}
 use Rattle.curve.specs.Eval.{pointAt}
 use Rattle.curve_tangent.specs.Derivative.{tangentAt}
 use Rattle.curve_prepared.specs.declared.Prepared.{Prepared}
-use Rattle.curve_prepared.specs.Prepared.{preparedOf, preparedDerivative}
+use Rattle.curve_prepared.specs.Own.Prepared.{preparedOf, preparedDerivative}
 use Rattle.curve_prepared.proofs.Laws.{prepared-derivative}
 use Rattle.options.specs.declared.Resolved.{Resolved}
 use Rattle.edge_params.specs.Params.{midpoint, subdivided}
 use Rattle.edge_params.proofs.Lists.{subdivided-zero, subdivided-within, subdivided-split}
 use Rattle.edge_params.specs.declared.Listed.{Listed}
 use Rattle.edge_params.specs.declared.Listed.the-variants.{Count}
-use Rattle.edge_params.specs.Written.{ListAppended}
+use Rattle.edge_params.specs.Own.Written.{ListAppended}
 use Rattle.edge_params.proofs.Written.{behind-none}
 use Rattle.edge_subdivide.specs.declared.End.{End}
 use Rattle.edge_subdivide.specs.declared.Split.{Split}
 use Rattle.edge_subdivide.specs.declared.Split.the-variants.{Within, At}
 use Rattle.edge_subdivide.specs.declared.Limits.{Limits}
-use Rattle.arith_turn_limit.specs.Turning.{Serves, Exceeds}
+use Rattle.arith_turn_limit.specs.Own.Limit.{Serves, Exceeds}
 use Rattle.arith_turn_limit.proofs.Bound.{serves}
 use Rattle.arith_turn_limit.proofs.Above.{exceeds}
-use Rattle.edge_subdivide.specs.Bisect.{limitsOf, endAt, sagOf, tangentTurn, isWithin, withinBudget, splitOf}
+use Rattle.edge_subdivide.specs.Own.Limits.{limitsOf, splitOf}
+use Rattle.edge_subdivide.specs.Bisect.{endAt, sagOf, tangentTurn, isWithin, withinBudget}
 
 -- ---- the curve's own tangents, where it was prepared
 module _ (c : CurveTree) (t : Float) {prepared : Prepared} (R : prepared ≡ preparedOf c) where

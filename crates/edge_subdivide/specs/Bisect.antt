@@ -12,8 +12,8 @@ use Rattle.brep.specs.Tree.{CurveTree}
 use Rattle.curve.specs.Eval.{pointAt}
 use Rattle.curve_tangent.specs.Derivative.{tangentAt}
 use Rattle.options.specs.declared.Resolved.{Resolved}
-use Rattle.arith_root_limit.specs.Limit.{limitOf}
-use Rattle.arith_turn_limit.specs.Turning.{turnCut, overCut}
+use Rattle.arith_root_limit.specs.Own.Limit.{limitOf}
+use Rattle.arith_turn_limit.specs.Own.Limit.{turnCut, overCut}
 use Rattle.math_chord.specs.Chord.{bisectionDistance}
 use Rattle.edge_params.specs.Params.{midpoint}
 use Rattle.edge_subdivide.specs.declared.End.{End}
@@ -42,15 +42,3 @@ isWithin r a b pm = le (sagOf (a .point) (b .point) pm) (r .sag) && le (tangentT
 -- the same of a curve between two parameters
 unfoldable pub withinBudget : CurveTree → Resolved → Float → Float → Bool
 withinBudget c r a b = isWithin r (endAt c a) (endAt c b) (pointAt c (midpoint a b))
-
--- subdivide up to its calls of itself
-unfoldable pub splitOf : CurveTree → Resolved → End → End → Split
-splitOf c r a b =
-    elim (isWithin r a b (pointAt c (midpoint (a .t) (b .t)))) [
-      | true ↦ Within
-      | false ↦ At (endAt c (midpoint (a .t) (b .t)))
-    ]
-
--- the limits with their cuts, for the code's own use
-unfoldable pub limitsOf : Resolved → Limits
-limitsOf r = record { sag = limitOf (r .sag); turn = turnCut (r .angle); over = overCut (r .angle) }

@@ -10,13 +10,14 @@ ghost use mathlib.Core.Bool.{true, false};
 ghost use Prim.Native.Nat.{_≤_};
 ghost use lib.ListN.{length};
 ghost use lib.Ieee.{le};
-ghost use Rattle.arith_turn_limit.specs.Turning.{Serves, Exceeds};
+ghost use Rattle.arith_turn_limit.specs.Own.Limit.{Serves, Exceeds};
 ghost use Rattle.brep.specs.Rows.{lent, given};
 ghost use Rattle.brep.specs.Tree.{tree};
-ghost use Rattle.curve_prepared.specs.Prepared.{preparedOf};
+ghost use Rattle.curve_prepared.specs.Own.Prepared.{preparedOf};
 ghost use Rattle.edge_params.specs.Params.{subdivided};
-ghost use Rattle.edge_params.specs.Written.{ListAppended};
-ghost use Rattle.edge_subdivide.specs.Bisect.{endAt, tangentTurn, isWithin, splitOf, withinBudget, limitsOf};
+ghost use Rattle.edge_params.specs.Own.Written.{ListAppended};
+ghost use Rattle.edge_subdivide.specs.Own.Limits.{splitOf, limitsOf};
+ghost use Rattle.edge_subdivide.specs.Bisect.{endAt, tangentTurn, isWithin, withinBudget};
 
 // An end of a span: its parameter, and the curve's point and tangent there.
 pub struct End {

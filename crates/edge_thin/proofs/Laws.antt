@@ -10,7 +10,7 @@ use lib.Dec.{ltb}
 use lib.Ieee.{Float, lt}
 use Rattle.arith.specs.Notation.{plusZero}
 use Rattle.base_lists.specs.Result.{Result, refused, got, each, both}
-use Rattle.base_lists.specs.Sub.{Sub, end, keep, skip}
+use Rattle.base_lists.specs.Own.Sub.{Sub, end, keep, skip}
 use Rattle.math.specs.declared.Vec3.{Vec3}
 use Rattle.edge_record.specs.declared.Sample.{Sample}
 use Rattle.edge_record.specs.Chain.{lastOf, samplePoint}

@@ -10,7 +10,8 @@ use lib.ListN.{length, getD, set, take, drop, length-append, length-set}
 use lib.Seq.{sets, take-suc, drop-cons}
 use lib.Ieee.{Float}
 use Rattle.edge_record.specs.declared.Sample.{Sample}
-use Rattle.edge_record.specs.Chain.{width, most, row, sampleAt, samples, ChainStored}
+use Rattle.edge_record.specs.Own.Stored.{ChainStored}
+use Rattle.edge_record.specs.Chain.{width, most, row, sampleAt, samples}
 use Rattle.edge_record.proofs.Compact.{Compacted, compact-start, compact-skip, compact-keep, compact-done}
 use Rattle.edge_thin_mark.specs.Spans.{marks}
 use Rattle.edge_thin.specs.Thin.{flagCount, evenAt, evens, retainedBy}

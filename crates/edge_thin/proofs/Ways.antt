@@ -15,9 +15,11 @@ use Rattle.base_lists.specs.Result.{Result, refused, got, each}
 use Rattle.edge_record.specs.declared.Sample.{Sample}
 use Rattle.edge_record.specs.declared.Counted.{Counted}
 use Rattle.edge_record.specs.declared.Counted.the-variants.{Refused, Count}
-use Rattle.edge_record.specs.Chain.{width, most, flat, pointAt, samples, samplePoint, countedOf, after, ChainStored}
+use Rattle.edge_record.specs.Own.Stored.{pointAt, countedOf, after, ChainStored}
+use Rattle.edge_record.specs.Chain.{width, most, flat, samples, samplePoint}
 use Rattle.edge_record.proofs.Laws.{samplesFrom-length, samples-own, pointOf-samples}
-use Rattle.edge_thin_mark.specs.Spans.{marks, flagged, flags}
+use Rattle.edge_thin_mark.specs.Own.Flags.{flags}
+use Rattle.edge_thin_mark.specs.Spans.{marks, flagged}
 use Rattle.edge_thin_mark.proofs.Same.{flagged-same}
 use Rattle.edge_thin.specs.Thin.{flagCount, evens, restored, withFloor, retainedBy, thinned}
 

@@ -7,8 +7,10 @@ ghost use lib.ListN.{length, replicate};
 ghost use lib.Ieee.{lt};
 ghost use Rattle.arith.specs.Notation.{plusZero};
 ghost use Rattle.base_lists.specs.Result.{each};
-ghost use Rattle.edge_record.specs.Chain.{width, most, pointAt, samples, countedOf, after, ChainStored};
-ghost use Rattle.edge_thin_mark.specs.Spans.{marks, flagged, flags};
+ghost use Rattle.edge_record.specs.Own.Stored.{pointAt, countedOf, after, ChainStored};
+ghost use Rattle.edge_record.specs.Chain.{width, most, samples};
+ghost use Rattle.edge_thin_mark.specs.Own.Flags.{flags};
+ghost use Rattle.edge_thin_mark.specs.Spans.{marks, flagged};
 ghost use Rattle.edge_thin.specs.Thin.{flagCount, evens, withFloor, retainedBy, thinned};
 
 // How many flags are set.

@@ -7,7 +7,7 @@ use native.Mathlib.Omega.{arith}
 use lib.ListN.{length, set, replicate}
 use lib.Ieee.{Float}
 use Rattle.base_lists.specs.Result.{each}
-use Rattle.edge_record.specs.Chain.{pointAt}
+use Rattle.edge_record.specs.Own.Stored.{pointAt}
 use Rattle.edge_thin_span.specs.Span.{decision}
 use Rattle.edge_thin_span.proofs.Laws.{narrow, inside}
 use Rattle.edge_thin_mark.specs.Spans.{kept, marks, flagged}

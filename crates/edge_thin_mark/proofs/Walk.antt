@@ -14,7 +14,8 @@ use borrow.Author.Tests.{leb-true, leb-false}
 use Rattle.base_lists.specs.Result.{Result, refused, got, each, both}
 use Rattle.edge_thin_span.specs.declared.Decision.{Decision}
 use Rattle.edge_thin_span.specs.declared.Decision.the-variants.{Leave, Split, Refuse}
-use Rattle.edge_thin_mark.specs.Spans.{bySplit, keptIn, kept, marks, FirstKept}
+use Rattle.edge_thin_mark.specs.Own.Flags.{FirstKept}
+use Rattle.edge_thin_mark.specs.Spans.{bySplit, keptIn, kept, marks}
 
 -- ---- answers put together
 none-left : (r : Result (List ℕ)) → both _++_ (got []) r ≡ r

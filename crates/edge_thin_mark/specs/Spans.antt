@@ -36,15 +36,3 @@ marks keep (i ∷ l) = marks (set keep i true) l
 unfoldable pub flagged : (ℕ → Vec3) → Float → Float → ℕ → Result (List Bool)
 flagged points tolerance angle n =
     each (marks (set (set (replicate n false) 0 true) (n - 1) true)) (kept (decision points tolerance angle) 0 (n - 1))
-
--- what a pass over flags answers: the flags, or refusal 9, after which the flags are of no use
-abbrev pub flags : Bool → List Bool → Result (List Bool)
-flags true keep = got keep
-flags false keep = refused 9
-
--- r is the first index from `from` on whose flag is set, or the number of flags
-pub record FirstKept (keep : List Bool) (from r : ℕ) : Type 0 where
-  pub after : from ≤ r
-  pub within : r ≤ length keep
-  pub clear : (j : ℕ) → j < r → from ≤ j → getD keep j false ≡ false
-  pub here : r < length keep → getD keep r false ≡ true

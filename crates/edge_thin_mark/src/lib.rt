@@ -5,8 +5,10 @@ ghost use mathlib.Core.Path.{_≡_};
 ghost use mathlib.Core.Bool.{false};
 ghost use Prim.Native.Nat.{_*_, _<_, _≤_};
 ghost use lib.ListN.{length, replicate};
-ghost use Rattle.edge_record.specs.Chain.{width, pointAt};
-ghost use Rattle.edge_thin_mark.specs.Spans.{flagged, flags, FirstKept};
+ghost use Rattle.edge_record.specs.Own.Stored.{pointAt};
+ghost use Rattle.edge_record.specs.Chain.{width};
+ghost use Rattle.edge_thin_mark.specs.Own.Flags.{flags, FirstKept};
+ghost use Rattle.edge_thin_mark.specs.Spans.{flagged};
 
 // The first index from `from` on whose flag is set, or the number of flags.
 fn next_kept(keep: &[bool], from: usize) -> usize

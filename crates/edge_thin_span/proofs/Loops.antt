@@ -15,7 +15,8 @@ use Rattle.math.specs.declared.Direction.the-variants.{Unit, Nothing}
 use Rattle.math.specs.Math.{vSub, vLengthSquared, vLength, tryNormalized}
 use Rattle.edge_record.specs.Chain.{lastOf}
 use Rattle.edge_record.proofs.Shorter.{last-snoc}
-use Rattle.math_chord.specs.Chord.{chordDistance, spanOffset, spanDistance}
+use Rattle.math_chord.specs.Own.Offset.{spanOffset}
+use Rattle.math_chord.specs.Chord.{chordDistance, spanDistance}
 use Rattle.edge_thin_span.specs.declared.Worst.{Worst}
 use Rattle.edge_thin_span.specs.Span.{worse, worstFrom, worstOf, joined, directions, firstIn, lastIn}
 

@@ -13,7 +13,7 @@ use Rattle.brep.specs.declared.Curve.the-variants.{Line, Circle, Ellipse, Parab
 use Rattle.brep.specs.Rows.{Tables}
 use Rattle.brep.specs.Tree.{CurveTree, segments, grown, below, segmentIn, rowIn, tree}
 use Rattle.knots.specs.Knots.{segmentKnots, curveKnots}
-use Rattle.knots.specs.Gathered.{runKnots}
+use Rattle.knots.specs.Own.Gathered.{runKnots}
 
 pub run-length : (parts : List ℕ) (ranges : List Float) (first n : ℕ) → length (runKnots parts ranges first n) ≡ 2 * n
 unfolding runKnots

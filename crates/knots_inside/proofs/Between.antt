@@ -17,11 +17,12 @@ use Rattle.arith_order.proofs.Middle.{above, under}
 use Rattle.arith_order.proofs.Lerp.{zeroF, oneF, part-finite}
 use Rattle.arith_order.proofs.Modest.{big, Modest, modest-finite, sub-finite, sub-up}
 use Rattle.arith.specs.Notation.{_⊕_, _⊖_, _⊗_, plusZero}
-use Rattle.base_lists.specs.Way.{Up}
-use Rattle.base_lists.specs.Sub.{All}
+use Rattle.base_lists.specs.Own.Way.{Up}
+use Rattle.base_lists.specs.All.{All}
 use Rattle.base_lists.proofs.Order.{sub-all, sub-pairwise}
 use Rattle.base_lists.proofs.Joined.{all-map, Within, within-none}
-use Rattle.knots_sort.specs.Sort.{sorted, Number}
+use Rattle.knots_sort.specs.Own.Sortable.{Number}
+use Rattle.knots_sort.specs.Sort.{sorted}
 use Rattle.knots_sort.proofs.Merged.{sorted-all}
 use Rattle.knots_sort.proofs.Sorted.{sorted-pairs}
 use Rattle.knots_inside.specs.Breaks.{retainedKnots, deduped, billionth, insideUpward, insideOf}

@@ -8,10 +8,11 @@ use lib.ListN.{length, take, drop, length-append, length-drop}
 use lib.Seq.{length-take-le, take-at, take-append-le}
 use lib.Ieee.{Float, lt, le}
 use Rattle.arith.specs.Notation.{_⊕_, _⊖_, _⊗_, plusZero}
-use Rattle.base_lists.specs.Sub.{All}
+use Rattle.base_lists.specs.All.{All}
 use Rattle.base_lists.specs.Room.{filled}
 use Rattle.base_lists.proofs.Joined.{all-map}
-use Rattle.knots_sort.specs.Sort.{sorted, Number}
+use Rattle.knots_sort.specs.Own.Sortable.{Number}
+use Rattle.knots_sort.specs.Sort.{sorted}
 use Rattle.knots_sort.proofs.Sorted.{sorted-length}
 use Rattle.knots_inside.specs.Breaks.{retainedKnots, deduped, billionth, insideUpward, insideOf}
 use Rattle.knots_inside.proofs.Kept.{retained-all, finite-number}

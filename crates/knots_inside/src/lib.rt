@@ -3,7 +3,7 @@ ghost use mathlib.Core.Path.{_≡_};
 ghost use Prim.Native.Nat.{_≤_};
 ghost use lib.ListN.{length, take};
 ghost use Rattle.base_lists.specs.Room.{filled};
-ghost use Rattle.knots_sort.specs.Sort.{mostKnots};
+ghost use Rattle.knots_sort.specs.Own.Sortable.{mostKnots};
 ghost use Rattle.knots_inside.specs.Breaks.{isStrict, retainedKnots, isNear, deduped, insideUpward, insideOf};
 
 // Whether x lies strictly between two bounds; such an x is finite.

@@ -10,12 +10,14 @@ use lib.Seq.{length-take-le, take-suc, drop-cons, take-at, drop-at, take-all}
 use lib.Dec.{T}
 use lib.Ieee.{Float, nan, lt, le}
 use Rattle.arith_order.proofs.Signed.{le-trans, le-refl, nlt→le}
-use Rattle.base_lists.specs.Sub.{All, none, more, Pairwise, first}
+use Rattle.base_lists.specs.All.{All, none, more}
+use Rattle.base_lists.specs.Own.Sub.{Pairwise, first}
 use Rattle.base_lists.proofs.Parts.{all-take, all-drop, all-at}
 use Rattle.base_lists.proofs.Joined.{all-map, all-join, pair-join, pair-last}
-use Rattle.base_lists.specs.Way.{Up}
-use Rattle.knots_sort.specs.Sort.{inserted, sorted, Number}
-use Rattle.knots_sort.specs.Merge.{Halves, mergedRuns}
+use Rattle.base_lists.specs.Own.Way.{Up}
+use Rattle.knots_sort.specs.Own.Sortable.{Number}
+use Rattle.knots_sort.specs.Sort.{inserted, sorted}
+use Rattle.knots_sort.specs.Own.Merge.{Halves, mergedRuns}
 use Rattle.knots_sort.proofs.Merged.{sorted-append, sorted-all}
 use Rattle.knots_sort.proofs.Sorted.{sorted-pairs, sorted-same, sorted-length}
 

@@ -5,9 +5,10 @@ use mathlib.Core.List.{List, [], _∷_, _++_}
 use lib.Dec.{T}
 use lib.Ieee.{Float, lt, le}
 use Rattle.arith_order.proofs.Signed.{le-trans, lt→le, lt→nle, nlt→le, lt-le-trans}
-use Rattle.base_lists.specs.Sub.{All, none, more}
-use Rattle.knots_sort.specs.Sort.{inserted, sorted, Number}
-use Rattle.knots_sort.specs.Merge.{before, mergedRuns}
+use Rattle.base_lists.specs.All.{All, none, more}
+use Rattle.knots_sort.specs.Own.Sortable.{Number}
+use Rattle.knots_sort.specs.Sort.{inserted, sorted}
+use Rattle.knots_sort.specs.Own.Merge.{before, mergedRuns}
 
 pub merged-nil : (l : List Float) → mergedRuns l [] ≡ l
 unfolding mergedRuns before

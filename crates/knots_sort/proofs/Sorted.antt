@@ -8,11 +8,13 @@ use lib.ListN.{length}
 use lib.Dec.{T}
 use lib.Ieee.{Float, lt, le}
 use Rattle.arith_order.proofs.Signed.{le-trans, lt→le, lt→nle, nlt→le}
-use Rattle.base_lists.specs.Sub.{All, none, more, Pairwise, empty, first}
+use Rattle.base_lists.specs.All.{All, none, more}
+use Rattle.base_lists.specs.Own.Sub.{Pairwise, empty, first}
 use Rattle.base_lists.proofs.Joined.{all-map}
-use Rattle.base_lists.specs.Way.{Up}
-use Rattle.knots_sort.specs.Sort.{inserted, sorted, Number}
-use Rattle.knots_sort.specs.Merge.{inOrder}
+use Rattle.base_lists.specs.Own.Way.{Up}
+use Rattle.knots_sort.specs.Own.Sortable.{Number}
+use Rattle.knots_sort.specs.Sort.{inserted, sorted}
+use Rattle.knots_sort.specs.Own.Merge.{inOrder}
 use Rattle.knots_sort.proofs.Merged.{is-false, put-all, sorted-all}
 
 put-pairs : (x : Float) (l : List Float) → Number x → All Number l → Pairwise Up l → Pairwise Up (inserted x l)

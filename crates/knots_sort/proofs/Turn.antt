@@ -8,7 +8,7 @@ use native.Mathlib.Omega.{arith}
 use lib.ListN.{length, getD, take, drop, set, length-set, take-append-drop, drop-of-length-le}
 use lib.Seq.{take-suc-set, take-suc, take-length, drop-set-lt, drop-cons, append-snoc}
 use lib.Ieee.{Float, nan, lt}
-use Rattle.knots_sort.specs.Merge.{inOrder, mergedRuns}
+use Rattle.knots_sort.specs.Own.Merge.{inOrder, mergedRuns}
 use Rattle.knots_sort.proofs.Merged.{merged-right, merged-left, merged-nil}
 use Rattle.knots_sort.proofs.Sorted.{order-below, order-next, order-one}
 

@@ -4,11 +4,7 @@ use mathlib.Core.List.{List, [], _∷_}
 use Prim.Native.Nat.{ℕ}
 use lib.Dec.{T}
 use lib.Ieee.{Float, lt}
-use Rattle.arith_order.specs.Number.{number}
-
--- the most floats that are sorted, and so the most knots of a curve: two a segment
-abbrev pub mostKnots : ℕ
-mostKnots = 8192
+use Rattle.arith_order.specs.Own.Number.{number}
 
 -- x put before the first that is not below it
 unfoldable pub inserted : Float → List Float → List Float
@@ -19,7 +15,3 @@ inserted x (y ∷ l) = cond (lt y x) (y ∷ inserted x l) (x ∷ y ∷ l)
 unfoldable pub sorted : List Float → List Float
 sorted [] = []
 sorted (x ∷ l) = inserted x (sorted l)
-
--- not a NaN
-abbrev pub Number : Float → Type 0
-Number x = T (number x)

@@ -2,9 +2,10 @@
 ghost use mathlib.Core.Path.{_≡_};
 ghost use Prim.Native.Nat.{_/_, _≤_};
 ghost use lib.ListN.{length, drop, take};
-ghost use Rattle.base_lists.specs.Sub.{All};
-ghost use Rattle.knots_sort.specs.Sort.{mostKnots, sorted, Number};
-ghost use Rattle.knots_sort.specs.Merge.{inOrder, mergedRuns, Halves};
+ghost use Rattle.base_lists.specs.All.{All};
+ghost use Rattle.knots_sort.specs.Own.Sortable.{mostKnots, Number};
+ghost use Rattle.knots_sort.specs.Sort.{sorted};
+ghost use Rattle.knots_sort.specs.Own.Merge.{inOrder, mergedRuns, Halves};
 
 // The most floats that are sorted, and so the most knots of a curve: two a segment.
 pub const MOST_KNOTS: usize = 8192;

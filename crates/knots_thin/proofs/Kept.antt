@@ -12,9 +12,10 @@ use Rattle.brep.specs.Tree.{CurveTree}
 use Rattle.knots.specs.declared.Knots.{Knots}
 use Rattle.knots.specs.declared.Knots.the-variants.{Count, TooMany}
 use Rattle.knots.specs.Knots.{curveKnots, curveBreaks}
-use Rattle.knots.specs.Gathered.{breaksAnswer, breaksLeft}
+use Rattle.knots.specs.Own.Gathered.{breaksAnswer, breaksLeft}
 use Rattle.knots.proofs.Answers.{answer-fits, answer-exceeds, counted, exceeded, left-fits, left-exceeds}
-use Rattle.knots_thin.specs.Thin.{curveThinned, keptBreaks, keptAnswer, keptLeft}
+use Rattle.knots_thin.specs.Own.Kept.{keptAnswer, keptLeft}
+use Rattle.knots_thin.specs.Thin.{curveThinned, keptBreaks}
 
 module _ (buffer : List Float) (curve : CurveTree) (lo hi : Float) where
   -- out is the buffer after curve_breaks, which counted n

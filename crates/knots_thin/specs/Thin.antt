@@ -7,11 +7,7 @@ use Rattle.brep.specs.Tree.{CurveTree}
 use Rattle.curve.specs.Eval.{pointAt}
 use Rattle.knots.specs.declared.Knots.{Knots}
 use Rattle.knots.specs.Knots.{curveBreaks, deviation}
-use Rattle.knots.specs.Gathered.{knotsCounted, leftOf}
-
--- deviation(&|t| curve.point_at(t), a, b)
-abbrev pub curveDeviation : CurveTree → Float → Float → Float
-curveDeviation curve a b = deviation (pointAt curve) a b
+use Rattle.knots.specs.Own.Gathered.{knotsCounted, leftOf}
 
 -- thin_breaks(breaks, lo, hi, sag, &|t| curve.point_at(t))
 abbrev pub curveThinned : CurveTree → List Float → Float → Float → Float → List Float
@@ -20,10 +16,3 @@ curveThinned curve breaks lo hi sag = thinBreaks breaks lo hi sag (deviation (po
 -- the breaks that sampling starts from: thin_breaks of curve_breaks
 abbrev pub keptBreaks : CurveTree → Float → Float → Float → List Float
 keptBreaks curve lo hi sag = curveThinned curve (curveBreaks curve lo hi) lo hi sag
-
--- how many, and what the buffer then holds, by whether the curve's knots fit it
-abbrev pub keptAnswer : ℕ → CurveTree → Float → Float → Float → Knots
-keptAnswer room curve lo hi sag = knotsCounted room curve (keptBreaks curve lo hi sag)
-
-abbrev pub keptLeft : List Float → CurveTree → Float → Float → Float → List Float
-keptLeft buffer curve lo hi sag = leftOf buffer curve (keptBreaks curve lo hi sag)

@@ -5,12 +5,13 @@ ghost use mathlib.Core.Path.{_≡_};
 ghost use Prim.Native.Nat.{_+_, _<_, _≤_};
 ghost use lib.ListN.{length, drop};
 ghost use Rattle.base_lists.specs.Room.{filled};
-ghost use Rattle.knots_sort.specs.Sort.{mostKnots};
+ghost use Rattle.knots_sort.specs.Own.Sortable.{mostKnots};
 ghost use Rattle.knots_inside.specs.Thinned.{nextOf};
 ghost use Rattle.brep.specs.Rows.{lent, given};
 ghost use Rattle.brep.specs.Tree.{tree};
 ghost use Rattle.curve.specs.Eval.{pointAt};
-ghost use Rattle.knots_thin.specs.Thin.{curveDeviation, curveThinned, keptAnswer, keptLeft};
+ghost use Rattle.knots_thin.specs.Own.Kept.{curveDeviation, keptAnswer, keptLeft};
+ghost use Rattle.knots_thin.specs.Thin.{curveThinned};
 
 // How far the curve of a row leaves the chord from a to b; pa is its point at a.
 fn deviation(

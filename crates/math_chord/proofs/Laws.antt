@@ -3,7 +3,8 @@ use mathlib.Core.Path.{_≡_, refl}
 use lib.Ieee.{Float}
 use Rattle.math.specs.declared.Vec3.{Vec3}
 use Rattle.math.specs.Math.{vLength}
-use Rattle.math_chord.specs.Chord.{chordDistance, spanOffset, spanDistance, bisectionOffset, bisectionDistance}
+use Rattle.math_chord.specs.Own.Offset.{spanOffset, bisectionOffset}
+use Rattle.math_chord.specs.Chord.{chordDistance, spanDistance, bisectionDistance}
 
 pub span-length : (pa axis : Vec3) (len2 : Float) (p : Vec3) → spanDistance pa axis len2 p ≡ vLength (spanOffset pa axis len2 p)
 unfolding chordDistance spanOffset spanDistance

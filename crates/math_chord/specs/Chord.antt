@@ -20,20 +20,12 @@ chordOffset pa axis hasLength divisor p =
 unfoldable pub chordDistance : Vec3 → Vec3 → Bool → Float → Vec3 → Float
 chordDistance pa axis hasLength divisor p = vLength (chordOffset pa axis hasLength divisor p)
 
--- deviation and thin: the chord has a length where len2, its square, is above zero; that is the divisor
-unfoldable pub spanOffset : Vec3 → Vec3 → Float → Vec3 → Vec3
-spanOffset pa axis len2 p = chordOffset pa axis (lt plusZero len2) len2 p
-
 unfoldable pub spanDistance : Vec3 → Vec3 → Float → Vec3 → Float
 spanDistance pa axis len2 p = chordDistance pa axis (lt plusZero len2) len2 p
 
 -- 1e-300
 abbrev pub shortestChord : Float
 shortestChord = bits 0x01A56E1FC2F8F359
-
--- subdivide: the chord has a length where len is above 1e-300; the divisor is len * len
-unfoldable pub bisectionOffset : Vec3 → Vec3 → Float → Vec3 → Vec3
-bisectionOffset pa chord len p = chordOffset pa chord (lt shortestChord len) (len ⊗ len) p
 
 unfoldable pub bisectionDistance : Vec3 → Vec3 → Float → Vec3 → Float
 bisectionDistance pa chord len p = chordDistance pa chord (lt shortestChord len) (len ⊗ len) p

@@ -2,7 +2,8 @@
 use math::Interval;
 use math::Vec3;
 ghost use mathlib.Core.Path.{_≡_};
-ghost use Rattle.math_chord.specs.Chord.{footOf, chordOffset, chordDistance, spanOffset, spanDistance, bisectionOffset};
+ghost use Rattle.math_chord.specs.Own.Offset.{spanOffset, bisectionOffset};
+ghost use Rattle.math_chord.specs.Chord.{footOf, chordOffset, chordDistance, spanDistance};
 
 // A chord that is not longer than this has no length for bisection.
 const SHORTEST_CHORD: f64 = 1e-300;

@@ -13,7 +13,7 @@ use lib.Seq.{drop-cons}
 use native.Mathlib.Numerals.{add-one, unary-clauses}
 use Rattle.text_format.specs.Format.{charOf, digits, widthUpTo}
 use Rattle.text_format.proofs.Digits.{first-small, width, width-is}
-use Rattle.replay_text.specs.Waiting.{Waiting, putOne, puts}
+use Rattle.replay_text.specs.Own.Waiting.{Waiting, putOne, puts}
 
 module _ (base : ℕ) (some : 1 < base) where
   -- the first of i digits, where u is what it counts

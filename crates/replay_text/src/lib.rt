@@ -5,7 +5,7 @@ ghost use mathlib.Core.List.{[], _∷_, _++_};
 ghost use Prim.Native.Nat.{_-_, _^_, _≤_, _<_};
 ghost use lib.Ieee.{binary64, toBits};
 ghost use Rattle.text_format.specs.Format.{digits, decimal, widthUpTo, hex16};
-ghost use Rattle.replay_text.specs.Waiting.{waits, putOne, puts};
+ghost use Rattle.replay_text.specs.Own.Waiting.{waits, putOne, puts};
 use libc::STDOUT_FILENO;
 
 // One byte.

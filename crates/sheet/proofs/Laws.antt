@@ -5,23 +5,24 @@ use Prim.Native.Nat.{ℕ, _*_, _-_, _<_, _≤_}
 use native.Mathlib.Omega.{arith}
 use lib.ListN.{length, take, replicate, length-append}
 use lib.Seq.{take-at}
-use Rattle.base_lists.specs.Sub.{All}
+use Rattle.base_lists.specs.All.{All}
 use Rattle.base_lists.specs.Result.{Result, refused, got}
 use Rattle.text_format.specs.Format.{_then_, _before_, as-of, lines}
 use Rattle.text_format.specs.Table.{Column, fields, line, table}
 use Rattle.text_format.proofs.Lines.{lines-long}
 use Rattle.text_format.proofs.Tables.{Good}
 use Rattle.sheet_layout.specs.Layout.{RawSheet, pointColumns, curveColumns, segmentColumns, sheet, size, readSheet, Follows}
-use Rattle.sheet_layout.specs.Letters.{padded}
+use Rattle.sheet_layout.specs.Padded.{padded}
 use Rattle.sheet_layout.proofs.Laws.{points-good, curves-good, segments-good, layout-read}
 use Rattle.sheet_row.specs.Rows.{isFloat, rawEdgeOf, rawOptionsOf}
-use Rattle.sheet_tables.specs.Room.{least, columnCount}
+use Rattle.sheet_tables.specs.Own.Room.{least, columnCount}
 use Rattle.sheet_tables.proofs.Valid.{line-long}
 use Rattle.sheet_tables.proofs.Fits.{wholes-length, floats-length}
 use Rattle.brep.specs.Rows.{Tables, tables}
 use Rattle.brep.specs.declared.Edge.{Edge}
 use Rattle.options.specs.declared.Options.{Options}
-use Rattle.sheet.specs.Sheet.{floatOf, edgeFrom, optionsFrom, answer, tablesOf, stored, left, leading}
+use Rattle.sheet.specs.Own.Leading.{leading}
+use Rattle.sheet.specs.Sheet.{floatOf, edgeFrom, optionsFrom, answer, tablesOf, stored, left}
 use Rattle.sheet.specs.declared.Sheet.the-variants.{Read, Refused}
 
 -- ---- how many rows a table has within 65,536 bytes

@@ -12,22 +12,23 @@ use Rattle.base_lists.specs.Result.{Result, refused, got as accepted}
 use Rattle.text_format.specs.Format.{Parsed, bad, got, _then_, all, whole}
 use Rattle.text_format.specs.Table.{fields, table}
 use Rattle.sheet_layout.specs.Layout.{RawSheet, pointColumns, curveColumns, segmentColumns, tablesFormat, ends, sheet, size, readSheet}
-use Rattle.sheet_layout.specs.Letters.{padded}
+use Rattle.sheet_layout.specs.Padded.{padded}
 use Rattle.sheet_layout.proofs.Laws.{tables-law, ends-law}
 use Rattle.sheet_row.specs.Rows.{floatsOf, wholesOf, rawEdgeOf, rawOptionsOf}
 use Rattle.sheet_row.specs.declared.RawEdge.{RawEdge}
 use Rattle.sheet_row.specs.declared.RawOptions.{RawOptions}
 use Rattle.text_format.proofs.Place.{Read, placed, then-bad, then-bad-on, then-read, as-bad, as-read}
-use Rattle.sheet_tables.specs.Answers.{flattened, numbersOf}
+use Rattle.sheet_tables.specs.Flattened.{flattened}
+use Rattle.sheet_tables.specs.Own.Answers.{numbersOf}
 use Rattle.sheet_tables.proofs.Stores.{numbers-got}
 use Rattle.sheet_tables.proofs.Fits.{zeros-padded}
-use Rattle.sheet_edge.specs.Answers.{parsedEnds}
+use Rattle.sheet_edge.specs.Own.Answers.{parsedEnds}
 use Rattle.sheet_edge.specs.declared.Last.the-variants.{Pair, NoPair}
 use Rattle.brep.specs.Rows.{Tables, tables as tables-of}
 use Rattle.brep.specs.declared.Edge.{Edge}
 use Rattle.options.specs.declared.Options.{Options}
 use Rattle.sheet.specs.Sheet.{floatOf, edgeFrom, optionsFrom, answer, tablesOf, noTables, stored, left}
-use Rattle.sheet.specs.Answers.{Three, parsedTables, onlyTables, TablesStored, Kept}
+use Rattle.sheet.specs.Own.Answers.{Three, parsedTables, onlyTables, TablesStored, Kept}
 use Rattle.sheet.specs.declared.Sheet.the-variants.{Read as ReadSheet, Refused}
 use Rattle.sheet.specs.declared.Counted.the-variants.{Counts, NoTables}
 

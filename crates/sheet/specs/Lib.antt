@@ -1,2 +1,2 @@
 pub mod Sheet
-pub mod Answers
+pub mod Own

@@ -6,11 +6,11 @@ use lib.Ieee.{Float, binary64, ofBits}
 use Rattle.base_lists.specs.Result.{Result, refused, got}
 use Rattle.text_format.specs.Table.{fields}
 use Rattle.sheet_layout.specs.Layout.{RawSheet, pointColumns, curveColumns, segmentColumns}
-use Rattle.sheet_layout.specs.Letters.{padded}
+use Rattle.sheet_layout.specs.Padded.{padded}
 use Rattle.sheet_row.specs.Rows.{floatsOf, wholesOf, rawEdgeOf, rawOptionsOf}
 use Rattle.sheet_row.specs.declared.RawEdge.{RawEdge}
 use Rattle.sheet_row.specs.declared.RawOptions.{RawOptions}
-use Rattle.sheet_tables.specs.Answers.{flattened}
+use Rattle.sheet_tables.specs.Flattened.{flattened}
 use Rattle.math.specs.Math.{interval}
 use Rattle.brep.specs.Rows.{Tables, tables}
 use Rattle.brep.specs.declared.Edge.{Edge}
@@ -76,9 +76,3 @@ noTables = tables [] [] [] [] []
 unfoldable pub left : Result RawSheet → Tables
 left (refused cause) = stored noTables
 left (got raw) = stored (tablesOf raw)
-
--- the leading rows of tables: so many points, curves and segments
-unfoldable pub leading : ℕ → ℕ → ℕ → Tables → Tables
-leading points curves segments t =
-    tables (take (3 * points) (t .points)) (take (3 * curves) (t .curves)) (take (2 * curves) (t .reals)) (take (2 * segments) (t .parts))
-    (take (2 * segments) (t .ranges))

@@ -5,7 +5,7 @@ ghost use lib.ListN.{length};
 ghost use Rattle.sheet_layout.specs.Layout.{size, tablesFormat, readSheet, Means};
 ghost use Rattle.brep.specs.Rows.{lent};
 ghost use Rattle.sheet.specs.Sheet.{edgeFrom, optionsFrom, answer, noTables, stored, left};
-ghost use Rattle.sheet.specs.Answers.{parsedTables, TablesStored, Kept};
+ghost use Rattle.sheet.specs.Own.Answers.{parsedTables, TablesStored, Kept};
 use brep::Edge;
 use math::Interval;
 use options::Angle;

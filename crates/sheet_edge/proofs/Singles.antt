@@ -10,13 +10,15 @@ use Rattle.text_format.specs.Format.{Format, Parsed, bad, got, plain, _and_, no
 use Rattle.text_format.specs.Table.{Field, float, whole, word, fields, behind, names, cell, line, single}
 use Rattle.text_format.proofs.Laws.{Lawful}
 use Rattle.sheet_layout.specs.Layout.{edgeColumns, optionColumns}
-use Rattle.sheet_layout.specs.Letters.{fieldOf, padded}
+use Rattle.sheet_layout.specs.Padded.{padded}
+use Rattle.sheet_layout.specs.Own.Letters.{fieldOf}
 use Rattle.sheet_layout.proofs.Laws.{edge-law, options-law}
-use Rattle.sheet_row.specs.Rows.{Narrow, rawEdgeOf, rawOptionsOf}
+use Rattle.sheet_row.specs.Own.Narrow.{Narrow}
+use Rattle.sheet_row.specs.Rows.{rawEdgeOf, rawOptionsOf}
 use Rattle.sheet_row.specs.declared.RawEdge.{RawEdge}
 use Rattle.sheet_row.specs.declared.RawOptions.{RawOptions}
 use Rattle.text_format.proofs.Place.{Read, placed}
-use Rattle.sheet_edge.specs.Answers.{singleOf, parsedAs, parsedEdge, parsedOptions, parsedEnds}
+use Rattle.sheet_edge.specs.Own.Answers.{singleOf, parsedAs, parsedEdge, parsedOptions, parsedEnds}
 use Rattle.sheet_edge.specs.declared.EdgeAt.{EdgeAt}
 use Rattle.sheet_edge.specs.declared.EdgeAt.the-variants.{Edge, NoEdge}
 use Rattle.sheet_edge.specs.declared.OptionsAt.{OptionsAt}

@@ -6,7 +6,7 @@ use borrow.Author.Tests.{eq-eqb, ne-eqb}
 use Rattle.text_format.specs.Format.{hex16, readPlain, oneOf, _ending_}
 use Rattle.text_format.specs.Table.{cell}
 use Rattle.sheet_layout.specs.Layout.{kinds}
-use Rattle.sheet_layout.specs.Letters.{fieldOf}
+use Rattle.sheet_layout.specs.Own.Letters.{fieldOf}
 
 module _ (c end : ℕ) (bs : List ℕ) where
   pub cell-f : c ≡ 102 → (hex16 ending (end ∷ [])) .read bs ≡ cell (fieldOf c) end .read bs

@@ -8,13 +8,13 @@ use native.Mathlib.Numerals.{add-one}
 use lib.ListN.{length, getD, drop, length-append, drop-of-length-le}
 use lib.Seq.{drop-cons}
 use lib.Dec.{eqb}
-use Rattle.base_lists.specs.Sub.{All, none as all-none, more}
+use Rattle.base_lists.specs.All.{All, none as all-none, more}
 use Rattle.text_format.specs.Format.{Parsed, bad, got, Format, andThen, _and_, noItems}
 use Rattle.text_format.specs.Table.{Field, float, whole, word, behind, cell, line}
 use Rattle.text_format.proofs.Laws.{Lawful}
 use Rattle.text_format.proofs.Tables.{Good, behind-no-digit, cell-law, line-law}
 use Rattle.sheet_layout.specs.Layout.{u32, u64, kind}
-use Rattle.sheet_layout.specs.Letters.{fieldOf, shapeOf}
+use Rattle.sheet_layout.specs.Own.Letters.{fieldOf, shapeOf}
 use Rattle.sheet_layout.proofs.Laws.{u32-good, u64-good, kind-good}
 use Rattle.text_format.proofs.Place.{Read}
 use Rattle.sheet_layout.proofs.Onto.{onto, onto-onto, onto-nothing, onto-one}

@@ -7,7 +7,7 @@ use native.Mathlib.Omega.{arith}
 use lib.ListN.{length}
 use lib.Dec.{leb}
 use borrow.Author.Tests.{le-leb, leb-true}
-use Rattle.base_lists.specs.Sub.{All, none, more}
+use Rattle.base_lists.specs.All.{All, none, more}
 use Rattle.base_lists.specs.Result.{Result, refused, got}
 use Rattle.text_format.specs.Bytes.{bytes}
 use Rattle.text_format.specs.Format.{Format, Parsed, bad, got as parsed, all, oneOf, _ending_, _then_, whole as whole-text}

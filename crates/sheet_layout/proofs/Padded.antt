@@ -7,7 +7,8 @@ use lib.ListN.{length, set, replicate, length-append, length-replicate}
 use lib.Seq.{sets, set-at, length-sets}
 use Rattle.text_format.specs.Format.{Parsed, bad, got}
 use Rattle.text_format.proofs.Place.{Read}
-use Rattle.sheet_layout.specs.Letters.{padded, parsedRow}
+use Rattle.sheet_layout.specs.Padded.{padded}
+use Rattle.sheet_layout.specs.Own.Letters.{parsedRow}
 use Rattle.sheet_layout.specs.declared.Row.{Row}
 
 module _ {E : Type 0} (n : ℕ) (zero : E) where

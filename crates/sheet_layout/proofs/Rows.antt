@@ -8,7 +8,8 @@ use lib.ListN.{length, drop, length-drop}
 use Rattle.text_format.specs.Format.{Parsed, bad, got, Format}
 use Rattle.text_format.proofs.Laws.{Lawful}
 use Rattle.text_format.proofs.Place.{Read, placed}
-use Rattle.sheet_layout.specs.Letters.{padded, parsedRow}
+use Rattle.sheet_layout.specs.Padded.{padded}
+use Rattle.sheet_layout.specs.Own.Letters.{parsedRow}
 use Rattle.sheet_layout.specs.declared.Row.{Row}
 
 module _ (s : List ℕ) where

@@ -5,10 +5,10 @@ use Prim.Native.Nat.{ℕ, suc, _<_}
 use lib.ListN.{length, getD, drop}
 use lib.Seq.{drop-cons}
 use Rattle.text_format.specs.Format.{Parsed, bad, got, orElse, expect, readWord}
-use Rattle.text_format.specs.Answers.{parsedAt}
+use Rattle.text_format.specs.Own.Answers.{parsedAt}
 use Rattle.text_format.specs.declared.Num.{Num}
 use Rattle.text_format.specs.declared.Num.the-variants.{Got, Bad}
-use Rattle.sheet_layout.specs.Letters.{orParsed}
+use Rattle.sheet_layout.specs.Own.Letters.{orParsed}
 
 -- the answers one after another, from the answer `first` on
 unfoldable pub tried : List ℕ → List ℕ → Num → ℕ → List (List ℕ) → Num

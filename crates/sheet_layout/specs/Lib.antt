@@ -1,2 +1,3 @@
 pub mod Layout
-pub mod Letters
+pub mod Padded
+pub mod Own

@@ -4,9 +4,9 @@ ghost use Prim.Native.Nat.{_+_, _<_, _≤_};
 ghost use lib.ListN.{length, drop};
 ghost use Rattle.text_format.specs.Format.{expect, readWord};
 ghost use Rattle.text_format.specs.Table.{behind, cell, line};
-ghost use Rattle.text_format.specs.Answers.{parsedAt};
+ghost use Rattle.text_format.specs.Own.Answers.{parsedAt};
 ghost use Rattle.sheet_layout.specs.Layout.{kinds};
-ghost use Rattle.sheet_layout.specs.Letters.{orParsed, fieldOf, shapeOf, parsedRow};
+ghost use Rattle.sheet_layout.specs.Own.Letters.{orParsed, fieldOf, shapeOf, parsedRow};
 use text_format::Num;
 
 // A line's numbers, zeros behind them, and the next place; no line where `ok` is false.

@@ -8,10 +8,10 @@ use lib.ListN.{length, getD, drop, drop-of-length-le}
 use lib.Seq.{drop-cons}
 use lib.Dec.{eqb}
 use borrow.Author.Tests.{eq-eqb, ne-eqb}
-use Rattle.base_lists.specs.Sub.{All, more}
+use Rattle.base_lists.specs.All.{All, more}
 use Rattle.text_format.specs.Table.{Field, float, whole, word}
 use Rattle.sheet_layout.specs.Layout.{u32, u64, kind}
-use Rattle.sheet_layout.specs.Letters.{fieldOf, shapeOf}
+use Rattle.sheet_layout.specs.Own.Letters.{fieldOf, shapeOf}
 use Rattle.sheet_row.specs.Rows.{isFloat, chosen}
 
 pub first-of : {A : Type 0} {P : A → Type 0} {a : A} {l : List A} → All P (a ∷ l) → P a

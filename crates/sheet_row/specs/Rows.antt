@@ -27,11 +27,6 @@ floatsOf fs row = map (ofBits binary64) (chosen isFloat fs row)
 abbrev pub wholesOf : List Field → List ℕ → List ℕ
 wholesOf fs row = chosen (λ f. not (isFloat f)) fs row
 
--- the numbers at these places of a row have 32 bits
-abbrev pub Narrow : List ℕ → List ℕ → Type 0
-Narrow row [] = Unit
-Narrow row (i ∷ is) = (getD row i 0 < 2 ^ 32) × Narrow row is
-
 -- the edge's numbers by their names
 abbrev pub rawEdgeOf : List ℕ → RawEdge
 rawEdgeOf row = record {

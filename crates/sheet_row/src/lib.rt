@@ -5,9 +5,10 @@ ghost use Prim.Native.Nat.{_+_, _^_, _≤_, _<_};
 ghost use lib.ListN.{length, replicate};
 ghost use lib.Seq.{sets};
 ghost use lib.Ieee.{binary64, ofBits};
-ghost use Rattle.base_lists.specs.Sub.{All};
-ghost use Rattle.sheet_layout.specs.Letters.{shapeOf};
-ghost use Rattle.sheet_row.specs.Rows.{floatsOf, wholesOf, Narrow, rawEdgeOf, rawOptionsOf};
+ghost use Rattle.base_lists.specs.All.{All};
+ghost use Rattle.sheet_layout.specs.Own.Letters.{shapeOf};
+ghost use Rattle.sheet_row.specs.Own.Narrow.{Narrow};
+ghost use Rattle.sheet_row.specs.Rows.{floatsOf, wholesOf, rawEdgeOf, rawOptionsOf};
 
 // The edge of a sheet; lo, hi and tolerance by their 64 bits.
 pub struct RawEdge {

@@ -8,17 +8,19 @@ use native.Mathlib.Nat.{mul-zero, mul-suc}
 use lib.ListN.{length, drop, replicate, length-append, length-drop, length-replicate, length-map}
 use lib.Seq.{sets, sets-eq}
 use lib.Ieee.{binary64, ofBits}
-use Rattle.base_lists.specs.Sub.{All, none, more}
+use Rattle.base_lists.specs.All.{All, none, more}
 use Rattle.text_format.specs.Format.{Parsed, bad, got, Format, lines, writeLines, _before_}
 use Rattle.text_format.specs.Table.{Field, line}
 use Rattle.text_format.proofs.Laws.{Lawful, before-law}
 use Rattle.text_format.proofs.Lines.{lines-law, lines-long}
 use Rattle.sheet_layout.specs.Layout.{size}
-use Rattle.sheet_layout.specs.Letters.{shapeOf, padded}
+use Rattle.sheet_layout.specs.Padded.{padded}
+use Rattle.sheet_layout.specs.Own.Letters.{shapeOf}
 use Rattle.sheet_layout.proofs.Columns.{shape-good, shape-law}
 use Rattle.sheet_row.specs.Rows.{isFloat, chosen, floatsOf, wholesOf}
-use Rattle.sheet_tables.specs.Room.{least, columnCount, Roomy}
-use Rattle.sheet_tables.specs.Answers.{tableOf, flattened, numbersOf, TableStored}
+use Rattle.sheet_tables.specs.Own.Room.{least, columnCount, Roomy}
+use Rattle.sheet_tables.specs.Flattened.{flattened}
+use Rattle.sheet_tables.specs.Own.Answers.{tableOf, numbersOf, TableStored}
 use Rattle.sheet_tables.proofs.Stores.{numbers-bad, numbers-got, stored-is}
 use Rattle.sheet_tables.proofs.Valid.{row-length, chosen-length, line-long}
 use Rattle.sheet_tables.proofs.Turns.{isWhole, shape-no-line}

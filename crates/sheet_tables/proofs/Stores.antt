@@ -7,8 +7,9 @@ use lib.ListN.{length, drop, replicate, length-append, length-replicate}
 use lib.Seq.{sets, sets-eq}
 use Rattle.text_format.specs.Format.{Parsed, bad, got}
 use Rattle.text_format.proofs.Buffer.{sets-append}
-use Rattle.sheet_layout.specs.Letters.{padded}
-use Rattle.sheet_tables.specs.Answers.{flattened, numbersOf, TableStored}
+use Rattle.sheet_layout.specs.Padded.{padded}
+use Rattle.sheet_tables.specs.Flattened.{flattened}
+use Rattle.sheet_tables.specs.Own.Answers.{numbersOf, TableStored}
 
 -- ---- more numbers behind those that are there
 pub more-stored : {E : Type 0} (before out next xs ys : List E) (k : ℕ) → k ≡ length xs → out ≡ sets before 0 xs → next ≡ sets out k ys

@@ -6,10 +6,10 @@ use native.Mathlib.Omega.{arith}
 use Rattle.text_format.specs.Bytes.{bytes}
 use Rattle.text_format.specs.Table.{fields, behind, names, table}
 use Rattle.sheet_layout.specs.Layout.{pointColumns, curveColumns, segmentColumns}
-use Rattle.sheet_layout.specs.Letters.{fieldOf}
+use Rattle.sheet_layout.specs.Own.Letters.{fieldOf}
 use Rattle.sheet_row.specs.Rows.{isFloat}
-use Rattle.sheet_tables.specs.Room.{least, columnCount, short, Roomy}
-use Rattle.sheet_tables.specs.Answers.{tableOf}
+use Rattle.sheet_tables.specs.Own.Room.{least, columnCount, short, Roomy}
+use Rattle.sheet_tables.specs.Own.Answers.{tableOf}
 
 pub points-same : tableOf (bytes "x y z\n") (bytes "fff") ≡ table pointColumns
 unfolding bytes fields behind names fieldOf

@@ -10,19 +10,20 @@ use lib.ListN.{length, getD, drop, replicate, length-append, length-drop, length
 use lib.Seq.{sets, drop-cons, length-sets}
 use lib.Ieee.{Float, binary64, ofBits}
 use borrow.Author.Tests.{eq-eqb, ne-eqb}
-use Rattle.base_lists.specs.Sub.{All}
+use Rattle.base_lists.specs.All.{All}
 use Rattle.text_format.specs.Format.{Parsed, bad, got, Format, andThen, readLines, lines}
 use Rattle.text_format.specs.Table.{Field, line}
 use Rattle.text_format.proofs.Laws.{Lawful}
 use Rattle.text_format.proofs.Lines.{NoLine, line-some, turns}
 use Rattle.text_format.proofs.Tables.{no-line}
 use Rattle.sheet_layout.specs.Layout.{size}
-use Rattle.sheet_layout.specs.Letters.{fieldOf, shapeOf, padded}
+use Rattle.sheet_layout.specs.Padded.{padded}
+use Rattle.sheet_layout.specs.Own.Letters.{fieldOf, shapeOf}
 use Rattle.sheet_row.specs.Rows.{isFloat, chosen, floatsOf, wholesOf}
 use Rattle.sheet_layout.proofs.Padded.{padded-length}
 use Rattle.text_format.proofs.Place.{Read}
-use Rattle.sheet_tables.specs.Answers.{flattened}
-use Rattle.sheet_tables.specs.Room.{least, columnCount, Roomy}
+use Rattle.sheet_tables.specs.Flattened.{flattened}
+use Rattle.sheet_tables.specs.Own.Room.{least, columnCount, Roomy}
 use Rattle.sheet_layout.proofs.Onto.{onto, onto-onto, onto-nothing, onto-one}
 use Rattle.sheet_tables.proofs.Stores.{flat-snoc, more-stored}
 use Rattle.sheet_layout.proofs.Columns.{letter-good, shape-good, shape-law}

@@ -7,16 +7,17 @@ use native.Mathlib.Omega.{arith}
 use lib.ListN.{length, getD, replicate, length-append}
 use lib.Dec.{eqb}
 use borrow.Author.Tests.{eq-eqb, ne-eqb}
-use Rattle.base_lists.specs.Sub.{All, none as all-none, more}
+use Rattle.base_lists.specs.All.{All, none as all-none, more}
 use Rattle.text_format.specs.Format.{Format, hex16, plain, oneOf, decimal, digits, _ending_, _and_, noItems, ValidCons, writeCons}
 use Rattle.text_format.specs.Table.{Field, float, whole, word, behind, cell, line}
 use Rattle.text_format.proofs.Digits.{digits-length, decimal-some}
 use Rattle.text_format.proofs.Words.{differ, differAll, differ-at, apart, and-left, no-truth}
 use Rattle.text_format.proofs.Tables.{Good}
 use Rattle.sheet_layout.specs.Layout.{kinds, u32, u64, kind}
-use Rattle.sheet_layout.specs.Letters.{fieldOf, shapeOf, padded}
+use Rattle.sheet_layout.specs.Padded.{padded}
+use Rattle.sheet_layout.specs.Own.Letters.{fieldOf, shapeOf}
 use Rattle.sheet_row.specs.Rows.{isFloat, chosen, wholesOf}
-use Rattle.sheet_tables.specs.Room.{least, columnCount, short}
+use Rattle.sheet_tables.specs.Own.Room.{least, columnCount, short}
 
 pub row-length : (fs : List Field) (row : List ℕ) → line fs .valid row → length row ≡ length fs
 unfolding line _and_ noItems ValidCons

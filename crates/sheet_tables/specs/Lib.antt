@@ -1,2 +1,2 @@
-pub mod Room
-pub mod Answers
+pub mod Flattened
+pub mod Own

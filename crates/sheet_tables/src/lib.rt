@@ -5,12 +5,14 @@ ghost use lib.ListN.{length, drop};
 ghost use lib.Ieee.{binary64, ofBits};
 ghost use Rattle.text_format.specs.Format.{lines};
 ghost use Rattle.text_format.specs.Table.{fields, line, table};
-ghost use Rattle.text_format.specs.Answers.{parsedList};
+ghost use Rattle.text_format.specs.Own.Answers.{parsedList};
 ghost use Rattle.sheet_layout.specs.Layout.{size, pointColumns, curveColumns, segmentColumns};
-ghost use Rattle.sheet_layout.specs.Letters.{shapeOf, padded};
+ghost use Rattle.sheet_layout.specs.Padded.{padded};
+ghost use Rattle.sheet_layout.specs.Own.Letters.{shapeOf};
 ghost use Rattle.sheet_row.specs.Rows.{floatsOf, wholesOf};
-ghost use Rattle.sheet_tables.specs.Room.{Roomy};
-ghost use Rattle.sheet_tables.specs.Answers.{tableOf, flattened, numbersOf, TableStored};
+ghost use Rattle.sheet_tables.specs.Own.Room.{Roomy};
+ghost use Rattle.sheet_tables.specs.Flattened.{flattened};
+ghost use Rattle.sheet_tables.specs.Own.Answers.{tableOf, numbersOf, TableStored};
 use text_format::Num;
 
 // The rows of a table, up to the empty line behind them: whole numbers into one table, floats into another.

@@ -8,7 +8,7 @@ use native.Mathlib.Nat.{mul-zero, mul-suc}
 use lib.ListN.{length, length-append}
 use lib.Dec.{eqb}
 use borrow.Author.Tests.{eqb-true, ne-eqb}
-use Rattle.base_lists.specs.Sub.{All, none, more}
+use Rattle.base_lists.specs.All.{All, none, more}
 use Rattle.text_format.specs.Format.{Parsed, bad, got, Format, andThen, writeLines, readLines, lines}
 use Rattle.text_format.proofs.Laws.{Lawful, no-got, then-got, same-got}
 

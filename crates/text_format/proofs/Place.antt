@@ -9,7 +9,7 @@ use lib.Seq.{drop-drop, drop-append-seam}
 use lib.Dec.{eqb}
 use Rattle.text_format.specs.Format.{Parsed, bad, got, Format, when, andThen, orElse, expect, _ending_, _before_, _then_, as-of}
 use Rattle.text_format.proofs.Laws.{Lawful, no-got, same-got, when-got, expect-was}
-use Rattle.text_format.specs.Answers.{parsedAt, parsedList}
+use Rattle.text_format.specs.Own.Answers.{parsedAt, parsedList}
 use Rattle.text_format.specs.declared.Num.{Num}
 use Rattle.text_format.specs.declared.Num.the-variants.{Got, Bad}
 

@@ -6,7 +6,7 @@ use Prim.Native.Nat.{ℕ, suc, _+_, _^_, _<_, _≤_}
 use native.Mathlib.Omega.{arith}
 use lib.Dec.{eqb}
 use borrow.Author.Tests.{eqb-true, eqb-false, ne-eqb}
-use Rattle.base_lists.specs.Sub.{All, none as all-none, more}
+use Rattle.base_lists.specs.All.{All, none as all-none, more}
 use Rattle.text_format.specs.Format.{Parsed, bad, got, Format, when, andThen, orElse, expect, digitOf, hex16, plain, oneOf, readDigits, readPlain, readWord, _ending_, _before_, _and_, noItems, lines}
 use Rattle.text_format.specs.Table.{Field, float, whole, word, Column, fields, behind, names, cell, line, table, single}
 use Rattle.text_format.proofs.Laws.{Lawful, ending-law, before-law, and-law, none-law}

@@ -6,7 +6,7 @@ ghost use mathlib.Core.List.{[], _∷_, _++_};
 ghost use Prim.Native.Nat.{_+_, _-_, _*_, _≤_, _<_};
 ghost use lib.ListN.{length, drop};
 ghost use Rattle.text_format.specs.Format.{digitOf, charOf, hex16, expect, readPlain, readDecimal, _ending_};
-ghost use Rattle.text_format.specs.Answers.{parsedAt};
+ghost use Rattle.text_format.specs.Own.Answers.{parsedAt};
 
 // A number and the place behind it.
 pub enum Num {

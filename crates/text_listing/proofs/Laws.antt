@@ -7,7 +7,7 @@ use native.Mathlib.Omega.{arith}
 use lib.ListN.{length, length-append}
 use lib.Dec.{ltb}
 use lib.Ieee.{Float}
-use Rattle.base_lists.specs.Sub.{All, none, more}
+use Rattle.base_lists.specs.All.{All, none, more}
 use Rattle.text_format.specs.Bytes.{bytes}
 use Rattle.text_format.specs.Format.{decimal, widthUpTo, lines, writeLines}
 use Rattle.text_format.specs.Table.{fields, behind, names, line, table}

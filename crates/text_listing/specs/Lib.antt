@@ -1,2 +1,2 @@
 pub mod Listing
-pub mod Top
+pub mod Own

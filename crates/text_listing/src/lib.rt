@@ -7,7 +7,7 @@ ghost use lib.Seq.{sets};
 ghost use Rattle.text_format.specs.Format.{digits, hex16, plain, _ending_};
 ghost use Rattle.edge_record.specs.Chain.{width, samples};
 ghost use Rattle.text_listing.specs.Listing.{bitsOr, rowOf, ownOf, lineOf, listing, refusal};
-ghost use Rattle.text_listing.specs.Top.{TopOf};
+ghost use Rattle.text_listing.specs.Own.Top.{TopOf};
 use edge_record::Sample;
 
 // The bits of a NaN that an operation makes.

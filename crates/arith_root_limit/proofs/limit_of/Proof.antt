@@ -1,5 +1,5 @@
 -- `arith_root_limit::limit_of` meets its contract. Assumes nothing.
-use Rattle.arith_root_limit.specs.Limit.{limitOf}
+use Rattle.arith_root_limit.specs.Own.Limit.{limitOf}
 use borrow.Author.Needs.{needs}
 use Rattle.arith_root_limit.proofs.limit_of.Statement.{statement}
 use Rattle.arith_root_limit.proofs.limit_of.Tie as tie

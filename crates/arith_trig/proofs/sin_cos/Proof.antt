@@ -1,6 +1,7 @@
 -- `arith_trig::sin_cos` meets its contract: k, r and k mod 4 are those of the definitions. Assumes nothing.
 use borrow.Author.Needs.{needs}
-use Rattle.arith_trig.specs.Trig.{sinCosOf, sinOf, cosOf}
+use Rattle.arith_trig.specs.Own.SinCos.{sinCosOf}
+use Rattle.arith_trig.specs.Trig.{sinOf, cosOf}
 use Rattle.arith_trig.proofs.Modulo.{below-four}
 use Rattle.arith_trig.proofs.sin_cos.Statement.{statement}
 use Rattle.arith_trig.proofs.sin_cos.Tie as tie

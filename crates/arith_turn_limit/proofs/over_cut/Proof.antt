@@ -1,6 +1,6 @@
 -- `arith_turn_limit::over_cut` meets its contract. Assumes nothing.
 use lib.Ieee.{ofBits, ofInt}
-use Rattle.arith_turn_limit.specs.Turning.{overCut}
+use Rattle.arith_turn_limit.specs.Own.Limit.{overCut}
 use borrow.Author.Needs.{needs}
 use Rattle.arith_turn_limit.proofs.over_cut.Statement.{statement}
 use Rattle.arith_turn_limit.proofs.over_cut.Tie as tie

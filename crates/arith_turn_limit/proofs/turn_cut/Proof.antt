@@ -1,6 +1,6 @@
 -- `arith_turn_limit::turn_cut` meets its contract. Assumes nothing.
 use lib.Ieee.{ofBits, ofInt}
-use Rattle.arith_turn_limit.specs.Turning.{turnCut}
+use Rattle.arith_turn_limit.specs.Own.Limit.{turnCut}
 use borrow.Author.Needs.{needs}
 use Rattle.arith_turn_limit.proofs.turn_cut.Statement.{statement}
 use Rattle.arith_turn_limit.proofs.turn_cut.Tie as tie

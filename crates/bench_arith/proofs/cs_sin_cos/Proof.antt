@@ -1,7 +1,7 @@
 -- `bench_arith::cs_sin_cos` meets its contract: what it stores are the two fields of `sin_cos`'s answer. Assumes nothing.
 use mathlib.Core.Path.{ap}
 use borrow.Author.Needs.{needs}
-use Rattle.arith_trig.specs.Trig.{sinCosOf}
+use Rattle.arith_trig.specs.Own.SinCos.{sinCosOf}
 use Rattle.arith_trig.specs.declared.SinCos.{SinCos}
 use Rattle.bench_arith.proofs.cs_sin_cos.Statement.{statement}
 use Rattle.bench_arith.proofs.cs_sin_cos.Tie as tie

@@ -3,7 +3,7 @@ use mathlib.Core.Path.{_≡_, sym}
 use Prim.Native.Nat.{_*_, _≤_, _-_}
 use native.Mathlib.Omega.{arith}
 use borrow.Author.Needs.{needs}
-use Rattle.causes_nesting.specs.Depths.{deepestOf}
+use Rattle.causes_nesting.specs.Own.Depths.{deepestOf}
 use Rattle.causes_nesting.proofs.Depths.{deepest-none, deepest-more, deepest-all, known-kept}
 use Rattle.causes_nesting.proofs.block_depth.Statement.{statement}
 use Rattle.causes_nesting.proofs.block_depth.Tie as tie

@@ -4,7 +4,7 @@ use Prim.Native.Nat.{_+_, _*_, _≤_, _-_}
 use native.Mathlib.Omega.{arith}
 use lib.ListN.{length}
 use borrow.Author.Needs.{needs}
-use Rattle.causes_nesting.specs.Depths.{deepestOf, Known}
+use Rattle.causes_nesting.specs.Own.Depths.{deepestOf, Known}
 use Rattle.causes_nesting.proofs.Depths.{deepest-none, deepest-block, deepest-all, both-small, both-kept}
 use Rattle.causes_nesting.proofs.large_depth.Statement.{statement}
 use Rattle.causes_nesting.proofs.large_depth.Tie as tie

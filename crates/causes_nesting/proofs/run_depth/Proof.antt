@@ -5,7 +5,7 @@ use native.Mathlib.Omega.{arith}
 use lib.ListN.{length}
 use borrow.Author.Tests.{leb-true}
 use borrow.Author.Needs.{needs}
-use Rattle.causes_nesting.specs.Depths.{deepestOf, Both}
+use Rattle.causes_nesting.specs.Own.Depths.{deepestOf, Both}
 use Rattle.causes_nesting.proofs.Depths.{deepest-none, deepest-more, deepest-block, deepest-all, both-small}
 use Rattle.causes_nesting.proofs.run_depth.Statement.{statement}
 use Rattle.causes_nesting.proofs.run_depth.Tie as tie

@@ -2,7 +2,7 @@
 use mathlib.Core.Path.{_≡_, refl, sym, ap, _∙_}
 use Prim.Native.Nat.{_≤_}
 use borrow.Author.Needs.{needs}
-use Rattle.curve_parameter.specs.Under.{under}
+use Rattle.curve_parameter.specs.Own.Under.{under}
 use Rattle.curve_parameter.proofs.Under.{under-falls, under-other, under-stays}
 use Rattle.curve_parameter.proofs.under_trims.Statement.{statement}
 use Rattle.curve_parameter.proofs.under_trims.Tie as tie

@@ -1,5 +1,5 @@
 use Rattle.curve_prepared.proofs.Laws.{derivative-by}
-use Rattle.curve_prepared.specs.Prepared.{preparedDerivative}
+use Rattle.curve_prepared.specs.Own.Prepared.{preparedDerivative}
 use mathlib.Core.Path.{_≡_, refl, sym, ap, _∙_}
 use borrow.Author.Needs.{needs}
 use Rattle.curve_prepared.proofs.derivative_of.Statement.{statement}

@@ -1,4 +1,4 @@
-use Rattle.curve_prepared.specs.Prepared.{preparedParabola}
+use Rattle.curve_prepared.specs.Own.Prepared.{preparedParabola}
 use mathlib.Core.Path.{_≡_, refl, sym, ap, _∙_}
 use borrow.Author.Needs.{needs}
 use Rattle.curve_prepared.proofs.parabola_point.Statement.{statement}

@@ -1,6 +1,6 @@
 use Rattle.math.specs.Math.{vAdd}
 use Rattle.curve_prepared.proofs.Laws.{point-by}
-use Rattle.curve_prepared.specs.Prepared.{preparedPoint}
+use Rattle.curve_prepared.specs.Own.Prepared.{preparedPoint}
 use mathlib.Core.Path.{_≡_, refl, sym, ap, _∙_}
 use borrow.Author.Needs.{needs}
 use Rattle.curve_prepared.proofs.point_of.Statement.{statement}

@@ -1,5 +1,5 @@
 -- `curve_prepared::prepare` meets its contract. Assumes nothing.
-use Rattle.curve_prepared.specs.Prepared.{roundOf, parabolaOf, preparedOf}
+use Rattle.curve_prepared.specs.Own.Prepared.{roundOf, parabolaOf, preparedOf}
 use Rattle.curve_parameter.proofs.Under.{under-same, under-rest}
 use Rattle.brep.proofs.ByKind.{at-line, at-circle, at-ellipse, at-parabola, at-polyline, at-composite}
 use mathlib.Core.Path.{refl, ap, _∙_}

@@ -51,7 +51,8 @@ use Rattle.brep.proofs.Segment as S
 use Rattle.brep.proofs.Segment.Laws as S′
 use Rattle.curve.specs.Eval.{pointAt}
 use Rattle.curve_segments.specs.declared.Place.{Place}
-use Rattle.curve_segments.specs.Run.{past, placeIn, alongOf, compositeOf}
+use Rattle.curve_segments.specs.Own.Places.{past, placeIn, alongOf}
+use Rattle.curve_segments.specs.Run.{compositeOf}
 use Rattle.curve_segments.proofs.Laws.{read}
 use Rattle.curve_segments.proofs.Place as P
 use Rattle.curve_segments.proofs.Place.Laws as P′

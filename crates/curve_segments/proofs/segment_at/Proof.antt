@@ -44,7 +44,7 @@ use denote.Exit.{yes}
 use Rattle.brep.specs.declared.Segment.{Segment}
 use Rattle.brep.proofs.Segment as T
 use Rattle.brep.proofs.Segment.Laws as T′
-use Rattle.curve_segments.specs.Run.{past}
+use Rattle.curve_segments.specs.Own.Places.{past}
 use Rattle.curve_segments.proofs.past_the_end as past-the-end
 use Rattle.curve_segments.proofs.past_the_end.Symbol as past-def
 use Rattle.curve_segments.proofs.past_the_end.Symbol.{name as #segments·past-the-end}

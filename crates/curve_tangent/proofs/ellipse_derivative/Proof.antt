@@ -1,5 +1,5 @@
 -- `curve_tangent::ellipse_derivative` meets its contract. Assumes nothing.
-use Rattle.arith_trig.specs.Trig.{sinCosOf}
+use Rattle.arith_trig.specs.Own.SinCos.{sinCosOf}
 use Rattle.curve_tangent.specs.Derivative.{ellipseDerivative}
 use borrow.Author.Needs.{needs}
 use Rattle.curve_tangent.proofs.ellipse_derivative.Statement.{statement}

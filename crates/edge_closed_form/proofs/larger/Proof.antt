@@ -1,5 +1,5 @@
 -- `edge_closed_form::larger` meets its contract. Assumes nothing.
-use Rattle.edge_closed_form.specs.Worst.{largerOf}
+use Rattle.edge_closed_form.specs.Own.Worst.{largerOf}
 use Rattle.edge_closed_form.proofs.larger.Statement.{statement}
 use Rattle.edge_closed_form.proofs.larger.Tie as tie
 

@@ -4,7 +4,7 @@ use Rattle.brep.specs.Rows.{tables}
 use Rattle.brep.specs.Tree.{tree}
 use Rattle.edge_params.specs.Params.{midpoint}
 use Rattle.curve_prepared.proofs.Laws.{own-point}
-use Rattle.edge_closed_form.specs.Worst.{missSquare}
+use Rattle.edge_closed_form.specs.Own.Worst.{missSquare}
 use Rattle.edge_closed_form.proofs.miss_square.Statement.{statement}
 use Rattle.edge_closed_form.proofs.miss_square.Tie as tie
 

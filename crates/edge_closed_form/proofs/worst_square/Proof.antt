@@ -12,7 +12,7 @@ use Rattle.brep.specs.Tree.{CurveTree, tree}
 use Rattle.curve.specs.Eval.{pointAt}
 use Rattle.curve_prepared.proofs.Laws.{own-point}
 use Rattle.arith.specs.Notation.{plusZero}
-use Rattle.edge_closed_form.specs.Worst.{Alike}
+use Rattle.edge_closed_form.specs.Own.Worst.{Alike}
 use Rattle.edge_closed_form.specs.Miss.{missOf}
 use Rattle.edge_closed_form.proofs.Squares.{Worst, worst-first, worst-next, miss-root}
 use Rattle.edge_closed_form.proofs.Miss.{Missing, no-params, first-param, next-param, last-param}

@@ -1,5 +1,5 @@
 -- `edge_escape::measured` meets its contract. Assumes nothing.
-use Rattle.edge_escape.specs.Best.{measured}
+use Rattle.edge_escape.specs.Own.Best.{measured}
 use borrow.Author.Needs.{needs}
 use Rattle.edge_escape.proofs.measured.Statement.{statement}
 use Rattle.edge_escape.proofs.measured.Tie as tie

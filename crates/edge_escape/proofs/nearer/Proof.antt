@@ -1,6 +1,6 @@
 -- `edge_escape::nearer` meets its contract. Assumes nothing.
 use Rattle.edge_escape.proofs.Sweep.{nearer-new, nearer-old}
-use Rattle.edge_escape.specs.Best.{nearerOf}
+use Rattle.edge_escape.specs.Own.Best.{nearerOf}
 use mathlib.Core.Path.{ap, _∙_}
 use borrow.Author.Needs.{needs}
 use Rattle.edge_escape.proofs.nearer.Statement.{statement}

@@ -1,7 +1,7 @@
 -- `edge_escape::nearest` meets its contract. The invariant: both vertices have their nearest of the parameters up to i. Assumes nothing.
 use Rattle.edge_escape.proofs.Sweep.{Swept, swept-first, swept-more, swept-all}
 use Rattle.curve.specs.Eval.{naturalRange}
-use Rattle.curve_prepared.specs.Prepared.{preparedOf}
+use Rattle.curve_prepared.specs.Own.Prepared.{preparedOf}
 use Rattle.brep.specs.Tree.{tree}
 use Rattle.brep.specs.Rows.{tables}
 use borrow.Author.Needs.{needs}

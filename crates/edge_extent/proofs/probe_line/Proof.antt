@@ -5,7 +5,7 @@ use native.Mathlib.Omega.{arith}
 use Rattle.brep.specs.Tree.{CurveTree}
 use Rattle.math.specs.Math.{vAdd}
 use Rattle.curve_prepared.specs.declared.Prepared.the-variants.{Line}
-use Rattle.curve_prepared.specs.Prepared.{preparedOf, preparedPoint}
+use Rattle.curve_prepared.specs.Own.Prepared.{preparedOf, preparedPoint}
 use Rattle.draw_spec.specs.Edge.{probed}
 use Rattle.edge_extent.proofs.Laws.{one-more, all-nine}
 use borrow.Author.Needs.{needs}

@@ -6,7 +6,7 @@ use native.Mathlib.Omega.{arith}
 use borrow.Author.Needs.{needs}
 use Rattle.edge_params.specs.declared.Listed.the-variants.{Count}
 use Rattle.edge_params.specs.Params.{steps}
-use Rattle.edge_params.specs.Written.{ListWritten}
+use Rattle.edge_params.specs.Own.Written.{ListWritten}
 use Rattle.edge_params.proofs.Written.{held-length}
 use Rattle.edge_params.proofs.Steps.{steps-none, steps-push, steps-stop, steps-done}
 use Rattle.edge_params.proofs.evenly.Statement.{statement}

@@ -1,5 +1,5 @@
 -- `param_at` meets its contract. Assumes nothing.
-use Rattle.edge_place.specs.Place.{paramAt}
+use Rattle.edge_place.specs.Own.Place.{paramAt}
 use borrow.Author.Needs.{needs}
 use Rattle.edge_place.proofs.param_at.Statement.{statement}
 use Rattle.edge_place.proofs.param_at.Tie as tie

@@ -2,7 +2,7 @@
 use Rattle.edge_repair.proofs.Buffers.{kept-second, second-is}
 use Rattle.edge_repair.proofs.Ways.{arc-kept, arc-chord}
 use Rattle.draw_spec.specs.declared.Way.the-variants.{ShortArc}
-use Rattle.edge_place.specs.Place.{ofPoints}
+use Rattle.edge_place.specs.Own.Place.{ofPoints}
 use denote.Ref.{now}
 use mathlib.Core.Path.{refl, sym, _∙_}
 use borrow.Author.Needs.{needs}

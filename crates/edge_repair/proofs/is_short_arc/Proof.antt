@@ -1,6 +1,6 @@
 -- `edge_repair::is_short_arc` meets its contract, by the test that decides it. Assumes nothing.
 use Rattle.edge_repair.proofs.Ways.{arc-outside, arc-end, arc-start}
-use Rattle.edge_place.specs.Place.{ofPoints}
+use Rattle.edge_place.specs.Own.Place.{ofPoints}
 use denote.Ref.{now}
 use borrow.Author.Needs.{needs}
 use Rattle.edge_repair.proofs.is_short_arc.Statement.{statement}

@@ -1,6 +1,6 @@
 -- `edge_repair::runaway` meets its contract. Assumes nothing.
 use Rattle.edge_repair.proofs.Buffers.{chord-second}
-use Rattle.edge_place.specs.Place.{ofPoints}
+use Rattle.edge_place.specs.Own.Place.{ofPoints}
 use denote.Ref.{now}
 use borrow.Author.Needs.{needs}
 use Rattle.edge_repair.proofs.runaway.Statement.{statement}

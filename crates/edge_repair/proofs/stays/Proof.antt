@@ -1,6 +1,6 @@
 -- `edge_repair::stays` meets its contract, by the test that decides it. Assumes nothing.
 use Rattle.edge_repair.proofs.Ways.{stays-empty, stays-inside, stays-outside}
-use Rattle.edge_place.specs.Place.{ofPoints}
+use Rattle.edge_place.specs.Own.Place.{ofPoints}
 use denote.Ref.{now}
 use borrow.Author.Needs.{needs}
 use Rattle.edge_repair.proofs.stays.Statement.{statement}

@@ -5,7 +5,7 @@ use lib.ListN.{length, take}
 use borrow.Author.Needs.{needs}
 use Rattle.base_lists.specs.Room.{filled}
 use Rattle.edge_params.specs.declared.Listed.{Listed}
-use Rattle.edge_sample.specs.Answered.{keptFloats}
+use Rattle.edge_sample.specs.Own.Answered.{keptFloats}
 use Rattle.edge_sample.proofs.settle.Statement.{statement}
 use Rattle.edge_sample.proofs.settle.Tie as tie
 

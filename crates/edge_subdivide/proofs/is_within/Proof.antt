@@ -1,6 +1,6 @@
 -- `edge_subdivide::is_within` meets its contract. Assumes nothing.
 use mathlib.Core.Path.{sym, subst, _∙_}
-use Rattle.arith_root_limit.specs.Limit.{Stands}
+use Rattle.arith_root_limit.specs.Own.Limit.{Stands}
 use Rattle.arith_root_limit.proofs.Roots.{stands}
 use Rattle.edge_subdivide.proofs.Laws.{sag-limit, turn-serves, turn-exceeds, too-sharp, sag-within, near-enough, too-far}
 use borrow.Author.Needs.{needs}

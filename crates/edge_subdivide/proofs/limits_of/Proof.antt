@@ -1,5 +1,5 @@
 -- `edge_subdivide::limits_of` meets its contract. Assumes nothing.
-use Rattle.edge_subdivide.specs.Bisect.{limitsOf}
+use Rattle.edge_subdivide.specs.Own.Limits.{limitsOf}
 use borrow.Author.Needs.{needs}
 use Rattle.edge_subdivide.proofs.limits_of.Statement.{statement}
 use Rattle.edge_subdivide.proofs.limits_of.Tie as tie

@@ -6,7 +6,7 @@ use mathlib.Core.Path.{_≡_, refl, sym, ap, _∙_}
 use mathlib.Core.Bool.{true}
 use Prim.Native.Nat.{_≤_, _<_, _+_, _-_}
 use lib.ListN.{length, length-set}
-use Rattle.edge_record.specs.Chain.{pointAt}
+use Rattle.edge_record.specs.Own.Stored.{pointAt}
 use Rattle.edge_thin_mark.specs.Spans.{flagged}
 use Rattle.edge_thin_mark.proofs.Walk.{unset, done, span, leave, refuse, split-inside, split-unset, split}
 use Rattle.edge_thin_mark.proofs.Flags.{decides, Marking, marking-none}

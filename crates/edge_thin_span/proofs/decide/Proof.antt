@@ -1,7 +1,7 @@
 -- `decide` meets its contract: each way out is a case of `decision`. Assumes nothing.
 use borrow.Author.Needs.{needs}
 use mathlib.Core.Path.{sym}
-use Rattle.edge_record.specs.Chain.{pointAt}
+use Rattle.edge_record.specs.Own.Stored.{pointAt}
 use Rattle.edge_thin_span.proofs.Laws.{narrow, refuses, splits, leaves}
 use Rattle.edge_thin_span.proofs.decide.Statement.{statement}
 use Rattle.edge_thin_span.proofs.decide.Tie as tie

@@ -7,7 +7,7 @@ use mathlib.Core.Logic.{⊎-elim}
 use Prim.Native.Nat.{_≤_, _+_, _-_}
 use Rattle.arith_root.specs.Root.{rootOf}
 use Rattle.math.specs.Math.{vSub, vLengthSquared}
-use Rattle.edge_record.specs.Chain.{pointAt}
+use Rattle.edge_record.specs.Own.Stored.{pointAt}
 use Rattle.edge_thin_span.specs.Span.{worstOf}
 use Rattle.edge_thin_span.proofs.Loops.{root-none, worstLeft, worst-new, worst-old, worst-end}
 use Rattle.edge_thin_span.proofs.find_worst.Statement.{statement}

@@ -3,7 +3,7 @@ use borrow.Author.Needs.{needs}
 use mathlib.Core.Path.{_≡_, sym, _∙_}
 use Rattle.math.specs.declared.Direction.the-variants.{Unit}
 use Rattle.math.specs.Math.{vSub, tryNormalized}
-use Rattle.edge_record.specs.Chain.{pointAt}
+use Rattle.edge_record.specs.Own.Stored.{pointAt}
 use Rattle.edge_thin_span.proofs.Laws.{no-chord, no-first, no-last, turn-is}
 use Rattle.edge_thin_span.proofs.turn.Statement.{statement}
 use Rattle.edge_thin_span.proofs.turn.Tie as tie

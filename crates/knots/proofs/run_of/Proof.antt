@@ -5,7 +5,7 @@ use Rattle.brep.specs.Rows.{tables}
 use Rattle.brep.proofs.ByKind.{at-composite}
 use Rattle.curve.proofs.Under.{under-same, under-none}
 use Rattle.knots.specs.Knots.{curveKnots}
-use Rattle.knots.specs.Gathered.{runKnots}
+use Rattle.knots.specs.Own.Gathered.{runKnots}
 use Rattle.knots.proofs.Laws.{run-knots}
 use borrow.Author.Needs.{needs}
 use Rattle.knots.proofs.run_of.Statement.{statement}

@@ -8,9 +8,9 @@ use Prim.Native.Nat.{ℕ, _/_, _<_}
 use lib.ListN.{length, length-drop}
 use lib.Seq.{length-take-le}
 use lib.Ieee.{Float}
-use Rattle.base_lists.specs.Sub.{All}
+use Rattle.base_lists.specs.All.{All}
 use Rattle.base_lists.proofs.Parts.{all-take, all-drop}
-use Rattle.knots_sort.specs.Sort.{Number}
+use Rattle.knots_sort.specs.Own.Sortable.{Number}
 use Rattle.knots_sort.proofs.Sorted.{order-sorted}
 use Rattle.knots_sort.proofs.Halves.{sorted-few, half-some, half-less, half-le, half-part, after-halves, after-whole}
 use borrow.Fn.Kinds.{In}

@@ -5,7 +5,7 @@ use native.Mathlib.Omega.{arith}
 use Rattle.text_format.specs.Bytes.{bytes}
 use Rattle.text_format.specs.Format.{_before_}
 use Rattle.text_format.specs.Table.{fields, line}
-use Rattle.sheet_layout.specs.Letters.{fieldOf, shapeOf}
+use Rattle.sheet_layout.specs.Own.Letters.{fieldOf, shapeOf}
 use Rattle.sheet_layout.proofs.Columns.{shape-law}
 use Rattle.sheet_layout.proofs.Rows.{row-read}
 use Rattle.sheet_edge.proofs.Singles.{options-narrow}

@@ -4,7 +4,7 @@ use Prim.Native.Nat.{_-_, _%_, _^_, _≤_, _<_}
 use native.Mathlib.Omega.{arith}
 use borrow.Author.Needs.{needs}
 use Rattle.text_format.specs.Format.{digits}
-use Rattle.replay_text.specs.Waiting.{waits, putOne, puts}
+use Rattle.replay_text.specs.Own.Waiting.{waits, putOne, puts}
 use Rattle.replay_text.proofs.Places.{First, first}
 use Rattle.replay_text.proofs.digits.Statement.{statement}
 use Rattle.replay_text.proofs.digits.Tie as tie

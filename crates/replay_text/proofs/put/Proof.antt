@@ -1,7 +1,7 @@
 -- `replay_text::putOne` meets its contract. Assumes nothing.
 use borrow.Author.Needs.{needs}
 use borrow.Author.Tests.{lt-ltb, le-ltb}
-use Rattle.replay_text.specs.Waiting.{putOne}
+use Rattle.replay_text.specs.Own.Waiting.{putOne}
 use Rattle.replay_text.proofs.put.Statement.{statement}
 use Rattle.replay_text.proofs.put.Tie as tie
 

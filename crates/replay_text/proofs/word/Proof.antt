@@ -5,7 +5,7 @@ use native.Mathlib.Omega.{arith}
 use lib.ListN.{length, drop}
 use lib.Seq.{drop-length}
 use borrow.Author.Needs.{needs}
-use Rattle.replay_text.specs.Waiting.{waits, puts}
+use Rattle.replay_text.specs.Own.Waiting.{waits, puts}
 use Rattle.replay_text.proofs.Places.{puts-from}
 use Rattle.replay_text.proofs.word.Statement.{statement}
 use Rattle.replay_text.proofs.word.Tie as tie

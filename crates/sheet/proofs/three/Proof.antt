@@ -8,7 +8,7 @@ use Rattle.sheet_layout.specs.Layout.{pointColumns, curveColumns, segmentColumn
 use Rattle.sheet_layout.proofs.Laws.{points-law, curves-law, segments-law}
 use Rattle.sheet_row.specs.Rows.{floatsOf, wholesOf}
 use Rattle.text_format.proofs.Place.{ReadList, read-list, read-no-list, then-bad, then-bad-on, then-read}
-use Rattle.sheet_tables.specs.Answers.{flattened}
+use Rattle.sheet_tables.specs.Flattened.{flattened}
 use Rattle.sheet.specs.Sheet.{floatOf}
 use Rattle.sheet.proofs.Parts.{held-part, parsed-no-tables, parsed-tables, held-bad, held-got, stored-is}
 use borrow.Author.Needs.{needs}

@@ -6,8 +6,10 @@ use lib.ListN.{drop}
 use Rattle.text_format.specs.Bytes.{bytes}
 use Rattle.text_format.specs.Table.{single}
 use Rattle.sheet_layout.specs.Layout.{edgeColumns}
-use Rattle.sheet_layout.specs.Letters.{padded, parsedRow}
-use Rattle.sheet_row.specs.Rows.{Narrow, rawEdgeOf}
+use Rattle.sheet_layout.specs.Padded.{padded}
+use Rattle.sheet_layout.specs.Own.Letters.{parsedRow}
+use Rattle.sheet_row.specs.Own.Narrow.{Narrow}
+use Rattle.sheet_row.specs.Rows.{rawEdgeOf}
 use Rattle.text_format.proofs.Laws.{Lawful, Was}
 use Rattle.sheet_layout.proofs.Laws.{edge-law}
 use Rattle.sheet_layout.proofs.Rows.{RowRead, row-read, no-row-read}

@@ -4,7 +4,8 @@ use mathlib.Core.List.{[], _∷_}
 use lib.ListN.{drop}
 use Rattle.text_format.specs.Format.{expect}
 use Rattle.text_format.specs.Table.{line}
-use Rattle.sheet_layout.specs.Letters.{shapeOf, padded, parsedRow}
+use Rattle.sheet_layout.specs.Padded.{padded}
+use Rattle.sheet_layout.specs.Own.Letters.{shapeOf, parsedRow}
 use Rattle.text_format.proofs.Place.{Read, names-read, names-bad, before-bad, before-is}
 use Rattle.sheet_layout.proofs.Rows.{parsed-no-row}
 use borrow.Author.Needs.{needs}

@@ -5,7 +5,7 @@ use lib.ListN.{drop}
 use Rattle.text_format.specs.Bytes.{bytes}
 use Rattle.text_format.specs.declared.Num.the-variants.{Bad}
 use Rattle.sheet_layout.specs.Layout.{kinds}
-use Rattle.sheet_layout.specs.Letters.{orParsed}
+use Rattle.sheet_layout.specs.Own.Letters.{orParsed}
 use Rattle.sheet_layout.proofs.Words.{tried, one-tried, all-tried}
 use borrow.Author.Needs.{needs}
 use Rattle.sheet_layout.proofs.kind.Statement.{statement}

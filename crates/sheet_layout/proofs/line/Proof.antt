@@ -6,8 +6,9 @@ use Prim.Native.Nat.{_+_, _-_, _≤_}
 use native.Mathlib.Omega.{arith}
 use lib.ListN.{length, drop, getD}
 use Rattle.text_format.specs.Table.{cell, line}
-use Rattle.text_format.specs.Answers.{parsedAt}
-use Rattle.sheet_layout.specs.Letters.{fieldOf, shapeOf, padded}
+use Rattle.text_format.specs.Own.Answers.{parsedAt}
+use Rattle.sheet_layout.specs.Padded.{padded}
+use Rattle.sheet_layout.specs.Own.Letters.{fieldOf, shapeOf}
 use Rattle.text_format.proofs.Place.{Read, read-at, read-bad}
 use Rattle.sheet_layout.proofs.Columns.{letter-law, column, Begun, begin, no-cell, one-cell, all-cells}
 use Rattle.sheet_layout.proofs.Padded.{padded-more}

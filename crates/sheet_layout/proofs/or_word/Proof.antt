@@ -2,8 +2,8 @@
 use mathlib.Core.Path.{_≡_, refl, sym, ap, _∙_}
 use lib.ListN.{drop}
 use Rattle.text_format.specs.Format.{expect}
-use Rattle.text_format.specs.Answers.{parsedAt}
-use Rattle.sheet_layout.specs.Letters.{orParsed}
+use Rattle.text_format.specs.Own.Answers.{parsedAt}
+use Rattle.sheet_layout.specs.Own.Letters.{orParsed}
 use borrow.Author.Needs.{needs}
 use Rattle.sheet_layout.proofs.or_word.Statement.{statement}
 use Rattle.sheet_layout.proofs.or_word.Tie as tie

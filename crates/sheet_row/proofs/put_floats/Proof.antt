@@ -7,7 +7,7 @@ use native.Mathlib.Omega.{arith}
 use lib.ListN.{length, drop, getD}
 use lib.Ieee.{binary64, ofBits}
 use Rattle.text_format.proofs.Buffer.{Part, none-written, all-written, as-left, one-fits, one-written}
-use Rattle.sheet_layout.specs.Letters.{shapeOf}
+use Rattle.sheet_layout.specs.Own.Letters.{shapeOf}
 use Rattle.sheet_row.specs.Rows.{isFloat, floatsOf}
 use Rattle.sheet_row.proofs.Chosen.{letter-float, letter-whole, is-chosen, is-passed, none-left}
 use borrow.Author.Needs.{needs}

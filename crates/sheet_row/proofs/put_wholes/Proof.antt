@@ -6,9 +6,9 @@ use mathlib.Core.List.{[], _∷_}
 use Prim.Native.Nat.{_+_, _-_, _^_, _<_, _≤_}
 use native.Mathlib.Omega.{arith}
 use lib.ListN.{length, drop, getD}
-use Rattle.base_lists.specs.Sub.{All}
+use Rattle.base_lists.specs.All.{All}
 use Rattle.text_format.proofs.Buffer.{Part, none-written, all-written, as-left, one-fits, one-written}
-use Rattle.sheet_layout.specs.Letters.{shapeOf}
+use Rattle.sheet_layout.specs.Own.Letters.{shapeOf}
 use Rattle.sheet_row.specs.Rows.{isFloat, wholesOf}
 use Rattle.sheet_row.proofs.Chosen.{first-of, others-of, letter-float, letter-whole, is-chosen, is-passed, none-left}
 use borrow.Author.Needs.{needs}

@@ -5,10 +5,11 @@ use Prim.Native.Nat.{ℕ}
 use native.Mathlib.Omega.{arith}
 use lib.ListN.{length, drop, replicate}
 use lib.Ieee.{binary64, ofBits}
-use Rattle.sheet_layout.specs.Letters.{shapeOf}
+use Rattle.sheet_layout.specs.Own.Letters.{shapeOf}
 use Rattle.sheet_row.specs.Rows.{floatsOf, wholesOf}
-use Rattle.sheet_tables.specs.Answers.{tableOf, flattened}
-use Rattle.sheet_tables.specs.Room.{Roomy}
+use Rattle.sheet_tables.specs.Flattened.{flattened}
+use Rattle.sheet_tables.specs.Own.Answers.{tableOf}
+use Rattle.sheet_tables.specs.Own.Room.{Roomy}
 use Rattle.text_format.proofs.Place.{ReadList, read-list, read-no-list}
 use Rattle.sheet_tables.proofs.Fits.{roomy-same, table-law, wholes-fit, floats-fit, table-none, table-is}
 use borrow.Author.Needs.{needs}

@@ -7,9 +7,10 @@ use native.Mathlib.Omega.{arith}
 use lib.ListN.{length, drop, getD}
 use Rattle.text_format.specs.Format.{lines}
 use Rattle.text_format.specs.Table.{line}
-use Rattle.sheet_layout.specs.Letters.{shapeOf, padded}
+use Rattle.sheet_layout.specs.Padded.{padded}
+use Rattle.sheet_layout.specs.Own.Letters.{shapeOf}
 use Rattle.sheet_row.specs.Rows.{floatsOf, wholesOf}
-use Rattle.sheet_tables.specs.Answers.{flattened}
+use Rattle.sheet_tables.specs.Flattened.{flattened}
 use Rattle.text_format.proofs.Place.{Read, parsed-list, parsed-no-list}
 use Rattle.sheet_layout.proofs.Columns.{shape-law}
 use Rattle.sheet_layout.proofs.Padded.{padded-length}

@@ -3,10 +3,11 @@ use mathlib.Core.Path.{_≡_, refl, sym, ap, _∙_}
 use lib.ListN.{length, drop}
 use Rattle.text_format.specs.Format.{expect, lines}
 use Rattle.text_format.specs.Table.{line}
-use Rattle.text_format.specs.Answers.{parsedList}
-use Rattle.sheet_layout.specs.Letters.{shapeOf}
+use Rattle.text_format.specs.Own.Answers.{parsedList}
+use Rattle.sheet_layout.specs.Own.Letters.{shapeOf}
 use Rattle.sheet_row.specs.Rows.{floatsOf, wholesOf}
-use Rattle.sheet_tables.specs.Answers.{tableOf, flattened}
+use Rattle.sheet_tables.specs.Flattened.{flattened}
+use Rattle.sheet_tables.specs.Own.Answers.{tableOf}
 use Rattle.text_format.proofs.Place.{Read, parsed-no-list, names-read, names-bad, before-bad, before-is}
 use Rattle.sheet_tables.proofs.Stores.{stored-bad, stored-same}
 use borrow.Author.Needs.{needs}

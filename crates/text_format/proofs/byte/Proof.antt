@@ -3,7 +3,7 @@ use mathlib.Core.Path.{_≡_, refl, sym, ap, _∙_}
 use mathlib.Core.List.{[], _∷_}
 use Prim.Native.Nat.{_+_}
 use native.Mathlib.Omega.{arith}
-use Rattle.text_format.specs.Answers.{parsedAt}
+use Rattle.text_format.specs.Own.Answers.{parsedAt}
 use Rattle.text_format.proofs.Place.{parsed-at, parsed-bad}
 use Rattle.text_format.proofs.Leaf.{word-end, byte-stop, byte-done}
 use borrow.Author.Needs.{needs}

@@ -1,7 +1,7 @@
 -- `text_format::decimal` meets its contract. Assumes nothing.
 use mathlib.Core.Path.{_≡_, refl, sym, ap, _∙_}
 use native.Mathlib.Omega.{arith}
-use Rattle.text_format.specs.Answers.{parsedAt}
+use Rattle.text_format.specs.Own.Answers.{parsedAt}
 use Rattle.text_format.proofs.Place.{parsed-bad}
 use Rattle.text_format.proofs.Leaf.{plain-end, plain-stop, plain-zero, plain-more}
 use borrow.Author.Needs.{needs}

@@ -5,7 +5,7 @@ use Prim.Native.Nat.{_+_, _-_, _≤_}
 use native.Mathlib.Omega.{arith}
 use lib.ListN.{length, drop}
 use Rattle.text_format.specs.Format.{readDecimal}
-use Rattle.text_format.specs.Answers.{parsedAt}
+use Rattle.text_format.specs.Own.Answers.{parsedAt}
 use Rattle.text_format.proofs.Place.{parsed-at, parsed-bad}
 use Rattle.text_format.proofs.Leaf.{dec-end, dec-done, dec-stop, dec-over, dec-turn, over, under}
 use borrow.Author.Needs.{needs}

@@ -4,7 +4,7 @@ use mathlib.Core.List.{[], _∷_}
 use Rattle.text_format.specs.Format.{hex16}
 use Rattle.text_format.proofs.Laws.{Lawful}
 use Rattle.text_format.proofs.Digits.{hex16-law}
-use Rattle.text_format.specs.Answers.{parsedAt}
+use Rattle.text_format.specs.Own.Answers.{parsedAt}
 use Rattle.text_format.proofs.Place.{parsed-bad, read-at, read-bad, ending-is, ending-bad}
 use borrow.Author.Needs.{needs}
 use Rattle.text_format.proofs.hex_then.Statement.{statement}

@@ -1,0 +1,61 @@
+-- A curve prepared for many points, and its points and derivatives: laws beside it say that they are those of eval/curve.rs.
+-- Definitions only.
+use lib.Ieee.{Float, neg}
+use Rattle.arith.specs.Notation.{_⊗_, two}
+use Rattle.arith_trig.specs.Trig.{sinOf, cosOf}
+use Rattle.math.specs.declared.Vec3.{Vec3}
+use Rattle.math.specs.declared.Frame.{Frame}
+use Rattle.math.specs.Math.{vAdd, vScale, yDir}
+use Rattle.brep.specs.Tree.{CurveTree, line, circle, ellipse, parabola, polyline, trimmed, composite}
+use Rattle.curve_point.specs.Point.{pointAt}
+use Rattle.curve_tangent.specs.Derivative.{derivativeAt}
+use Rattle.curve_prepared.specs.declared.Prepared.{Prepared}
+use Rattle.curve_prepared.specs.declared.Prepared.the-variants.{Line, Round, Parabola, Other}
+
+-- an ellipse, or a circle as one of equal axes, with its frame's second axis worked out
+abbrev pub roundOf : Frame → Float → Float → Prepared
+roundOf f major minor = Round (f .origin) (f .«ref_dir») (yDir f) major minor
+
+-- a parabola, likewise
+abbrev pub parabolaOf : Frame → Float → Prepared
+parabolaOf f focal = Parabola (f .origin) (f .«ref_dir») (yDir f) focal
+
+-- trims taken off; a polyline or a composite stays to be looked up
+unfoldable pub preparedOf : CurveTree → Prepared
+preparedOf (line origin direction) = Line origin direction
+preparedOf (circle f r) = roundOf f r r
+preparedOf (ellipse f major minor) = roundOf f major minor
+preparedOf (parabola f focal) = parabolaOf f focal
+preparedOf (polyline points) = Other
+preparedOf (trimmed base range) = preparedOf base
+preparedOf (composite segments) = Other
+
+-- O + x (a cos t) + y (b sin t)
+unfoldable pub roundPoint : Vec3 → Vec3 → Vec3 → Float → Float → Float → Vec3
+roundPoint origin x y major minor t = vAdd (vAdd origin (vScale x (major ⊗ cosOf t))) (vScale y (minor ⊗ sinOf t))
+
+-- O + x (F t t) + y (2 F t)
+unfoldable pub preparedParabola : Vec3 → Vec3 → Vec3 → Float → Float → Vec3
+preparedParabola origin x y focal t = vAdd (vAdd origin (vScale x (focal ⊗ t ⊗ t))) (vScale y (two ⊗ focal ⊗ t))
+
+-- the point at t of a curve that was prepared
+unfoldable pub preparedPoint : Prepared → CurveTree → Float → Vec3
+preparedPoint (Line origin direction) c t = vAdd origin (vScale direction t)
+preparedPoint (Round origin x y major minor) c t = roundPoint origin x y major minor t
+preparedPoint (Parabola origin x y focal) c t = preparedParabola origin x y focal t
+preparedPoint Other c t = pointAt c t
+
+-- x (-a sin t) + y (b cos t)
+unfoldable pub roundDerivative : Vec3 → Vec3 → Float → Float → Float → Vec3
+roundDerivative x y major minor t = vAdd (vScale x (neg major ⊗ sinOf t)) (vScale y (minor ⊗ cosOf t))
+
+-- x (2 F t) + y (2 F)
+unfoldable pub parabolaSlope : Vec3 → Vec3 → Float → Float → Vec3
+parabolaSlope x y focal t = vAdd (vScale x (two ⊗ focal ⊗ t)) (vScale y (two ⊗ focal))
+
+-- the derivative at t of a curve that was prepared
+unfoldable pub preparedDerivative : Prepared → CurveTree → Float → Vec3
+preparedDerivative (Line origin direction) c t = direction
+preparedDerivative (Round origin x y major minor) c t = roundDerivative x y major minor t
+preparedDerivative (Parabola origin x y focal) c t = parabolaSlope x y focal t
+preparedDerivative Other c t = derivativeAt c t
