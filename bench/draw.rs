@@ -1,6 +1,6 @@
 // Times drawing: the library, the oracle (fixed steps) and the original (native functions), in one run.
 //
-// The library draws under its C names: by cs_draw, which checks tables, edge and options, and by cs_draw_over, whose tables
+// The library draws under its C names: by cs_flat_draw, which checks tables, edge and options, and by cs_flat_draw_over, whose tables
 // were checked once before and which checks edge and options. For each case all draw the same edge from the same tables into
 // buffers that just hold the chain. Before anything is timed the library's and the oracle's answers and both buffers are
 // compared bit for bit. The functions take turns, and each figure is the least of many rounds, so that a busy machine does
@@ -47,7 +47,7 @@ fn answer(refusal: u32, way: u32, count: usize) -> Answer {
 fn ours(t: &OwnedTables, e: &Edge, o: &Options, first: &mut [f64], second: &mut [f64]) -> Answer {
     let (mut way, mut count) = (0, 0);
     let (a, m, b, n) = (first.as_mut_ptr(), first.len(), second.as_mut_ptr(), second.len());
-    let refusal = unsafe { raw::call!(cs_draw, t, e, o, o.angle, a, m, b, n, &mut way, &mut count) };
+    let refusal = unsafe { raw::call!(cs_flat_draw, t, e, o, o.angle, a, m, b, n, &mut way, &mut count) };
     answer(refusal, way, count)
 }
 
@@ -55,18 +55,18 @@ fn ours(t: &OwnedTables, e: &Edge, o: &Options, first: &mut [f64], second: &mut 
 fn ours_over(t: &OwnedTables, e: &Edge, o: &Options, first: &mut [f64], second: &mut [f64]) -> Answer {
     let (mut way, mut count) = (0, 0);
     let (a, m, b, n) = (first.as_mut_ptr(), first.len(), second.as_mut_ptr(), second.len());
-    let refusal = unsafe { raw::call!(cs_draw_over, t, e, o, o.angle, a, m, b, n, &mut way, &mut count) };
+    let refusal = unsafe { raw::call!(cs_flat_draw_over, t, e, o, o.angle, a, m, b, n, &mut way, &mut count) };
     answer(refusal, way, count)
 }
 
 fn check(t: &OwnedTables, e: &Edge, o: &Options) -> u32 {
-    unsafe { raw::call!(cs_check, t, e, o, o.angle) }
+    unsafe { raw::call!(cs_flat_check, t, e, o, o.angle) }
 }
 
 /// Stops unless the tables are accepted.
 fn check_tables(t: &OwnedTables) {
     let refusal = unsafe {
-        raw::cs_check_tables(
+        raw::cs_flat_check_tables(
             t.points.as_ptr(), t.points.len(), t.curves.as_ptr(), t.curves.len(), t.reals.as_ptr(), t.reals.len(),
             t.parts.as_ptr(), t.parts.len(), t.ranges.as_ptr(), t.ranges.len(),
         )

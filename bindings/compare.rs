@@ -168,12 +168,12 @@ fn compare_over(
     buffers: (&[f64], &[f64]),
 ) {
     let tables = sheet.tables.lent();
-    let checked = ours(&tables).check();
+    let checked = cs::check_tables(&ours(&tables));
     assert_eq!(checked.err().map(cs::Refusal::number), tables_cause(&tables), "tables:\n{sheet:?}");
     let Ok(checked) = checked else { return };
     let (m, n) = (buffers.0.len(), buffers.1.len());
     let (mut first, mut second) = (vec![MARK; m], vec![MARK; n]);
-    let got = checked.draw(&our_edge(&sheet.edge), &our_options(&sheet.options), &mut first, &mut second);
+    let got = cs::draw_over(&checked, &our_edge(&sheet.edge), &our_options(&sheet.options), &mut first, &mut second);
     assert_eq!(got.map(|chain| (chain.way(), chain.len())), answer, "over, buffers {m} {n}:\n{sheet:?}");
     assert!(same(&first, buffers.0) && same(&second, buffers.1), "other floats over, buffers {m} {n}:\n{sheet:?}");
     seen.over += 1;

@@ -112,8 +112,8 @@ static void answer(double *first, size_t m, double *second, size_t n) {
     for (size_t i = 0; i < n; i++) second[i] = of_bits(mark);
     uint32_t way = 99;
     size_t count = 99;
-    const uint32_t refusal = cs_draw_edge(&tables, &edge, &options, first, m, second, n, &way, &count);
-    const uint32_t checked = cs_check_edge(&tables, &edge, &options);
+    const uint32_t refusal = cs_draw(&tables, &edge, &options, first, m, second, n, &way, &count);
+    const uint32_t checked = cs_check(&tables, &edge, &options);
     demand(checked == (refusal <= 6 ? refusal : 0), "check and draw differ");
     if (refusal != CS_DRAWN) {
         const uint64_t left = refusal <= 7 ? mark : 0;

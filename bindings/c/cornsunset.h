@@ -125,13 +125,14 @@ static inline const char *cs_sentence(uint32_t refusal) {
     }
 }
 
-/* ---- the functions over numbers: cs_draw_edge and the others below call them with the fields in order */
+/* ---- the library's own functions, over plain numbers: cs_draw, cs_draw_over, cs_check and cs_check_tables below hand them the
+ * fields of the structs in order */
 
 /* Draws an edge into the two chain buffers: 0, or the number of the refusal that applies, the lowest from 1 to 7, else 8 or 9
  * as drawing meets it. *way is the way in which the chain was got (0 for a refusal) and *count how many points it has (0).
  * A chain is four doubles a point, x y z t, from the start of the buffer that its way names; every other double of both
  * buffers is then +0.0. Refusals 1 to 7 leave both buffers as they were; 8 and 9 leave them all +0.0. */
-uint32_t cs_draw(
+uint32_t cs_flat_draw(
     const double *points, size_t points_len, const uint32_t *curves, size_t curves_len, const double *reals, size_t reals_len,
     const uint32_t *parts, size_t parts_len, const double *ranges, size_t ranges_len,
     uint32_t curve, uint32_t start, uint32_t end, uint32_t sense, double lo, double hi, double tolerance, uint32_t low, uint32_t high,
@@ -139,21 +140,21 @@ uint32_t cs_draw(
     double *first, size_t first_len, double *second, size_t second_len, uint32_t *way, size_t *count);
 
 /* The lowest of the refusals 1 to 6 that applies, or 0. */
-uint32_t cs_check(
+uint32_t cs_flat_check(
     const double *points, size_t points_len, const uint32_t *curves, size_t curves_len, const double *reals, size_t reals_len,
     const uint32_t *parts, size_t parts_len, const double *ranges, size_t ranges_len,
     uint32_t curve, uint32_t start, uint32_t end, uint32_t sense, double lo, double hi, double tolerance, uint32_t low, uint32_t high,
     double deflection, double radians, uint32_t relative, uint64_t segments, uint32_t depth, double scale);
 
 /* The lowest of the refusals 1 to 5 that the tables alone have, or 0. */
-uint32_t cs_check_tables(
+uint32_t cs_flat_check_tables(
     const double *points, size_t points_len, const uint32_t *curves, size_t curves_len, const double *reals, size_t reals_len,
     const uint32_t *parts, size_t parts_len, const double *ranges, size_t ranges_len);
 
-/* As cs_draw, with the same answer, for many edges over one set of tables, which are not checked again; the edge, the options
- * and the buffers are (refusals 2, 3 and 6 to 9). The caller owes that cs_check_tables returned 0 for these very tables and
+/* As cs_flat_draw, with the same answer, for many edges over one set of tables, which are not checked again; the edge, the options
+ * and the buffers are (refusals 2, 3 and 6 to 9). The caller owes that cs_flat_check_tables returned 0 for these very tables and
  * that nothing in them changed since. Otherwise nothing is promised, as with a pointer that is wrong. */
-uint32_t cs_draw_over(
+uint32_t cs_flat_draw_over(
     const double *points, size_t points_len, const uint32_t *curves, size_t curves_len, const double *reals, size_t reals_len,
     const uint32_t *parts, size_t parts_len, const double *ranges, size_t ranges_len,
     uint32_t curve, uint32_t start, uint32_t end, uint32_t sense, double lo, double hi, double tolerance, uint32_t low, uint32_t high,
@@ -162,9 +163,9 @@ uint32_t cs_draw_over(
 
 /* The options of a preset, the angle in radians: 0.0004 of the scale and 8 degrees; 0.01 and 35, for a quick preview; 0.0001
  * and 4, for close inspection. Each is relative, with 1 segment, depth 12 and no scale: set the scale before drawing. */
-void cs_default(double *deflection, double *radians, uint32_t *relative, uint64_t *segments, uint32_t *depth, double *scale);
-void cs_draft(double *deflection, double *radians, uint32_t *relative, uint64_t *segments, uint32_t *depth, double *scale);
-void cs_fine(double *deflection, double *radians, uint32_t *relative, uint64_t *segments, uint32_t *depth, double *scale);
+void cs_flat_default(double *deflection, double *radians, uint32_t *relative, uint64_t *segments, uint32_t *depth, double *scale);
+void cs_flat_draft(double *deflection, double *radians, uint32_t *relative, uint64_t *segments, uint32_t *depth, double *scale);
+void cs_flat_fine(double *deflection, double *radians, uint32_t *relative, uint64_t *segments, uint32_t *depth, double *scale);
 
 /* ---- walking a chain; chain_len counts doubles, and only whole points are walked */
 
@@ -174,7 +175,7 @@ size_t cs_start(const double *chain, size_t chain_len, bool forward);
 /* A step from *at: 1, the point that it passed as x y z t, and *at behind it; or 0 where none is left, with nothing changed. */
 uint32_t cs_step(const double *chain, size_t chain_len, bool forward, size_t *at, double point[4]);
 
-/* ---- the same over the structs */
+/* ---- drawing and checking */
 
 #define CS_TABLES(t) \
     (t)->points, (t)->points_len, (t)->curves, (t)->curves_len, (t)->reals, (t)->reals_len, (t)->parts, (t)->parts_len, \
@@ -182,21 +183,25 @@ uint32_t cs_step(const double *chain, size_t chain_len, bool forward, size_t *at
 #define CS_EDGE(e) (e)->curve, (e)->start, (e)->end, (e)->sense, (e)->lo, (e)->hi, (e)->tolerance, (e)->low, (e)->high
 #define CS_OPTIONS(o) (o)->deflection, (o)->angle.radians, (o)->relative, (o)->segments, (o)->depth, (o)->scale
 
-static inline uint32_t cs_draw_edge(const cs_tables *t, const cs_edge *e, const cs_options *o, double *first, size_t first_len,
-                                    double *second, size_t second_len, uint32_t *way, size_t *count) {
-    return cs_draw(CS_TABLES(t), CS_EDGE(e), CS_OPTIONS(o), first, first_len, second, second_len, way, count);
+/* Checks everything and draws: as cs_flat_draw. */
+static inline uint32_t cs_draw(const cs_tables *t, const cs_edge *e, const cs_options *o, double *first, size_t first_len,
+                               double *second, size_t second_len, uint32_t *way, size_t *count) {
+    return cs_flat_draw(CS_TABLES(t), CS_EDGE(e), CS_OPTIONS(o), first, first_len, second, second_len, way, count);
 }
 
-static inline uint32_t cs_check_edge(const cs_tables *t, const cs_edge *e, const cs_options *o) {
-    return cs_check(CS_TABLES(t), CS_EDGE(e), CS_OPTIONS(o));
+/* Checks tables, edge and options: as cs_flat_check. */
+static inline uint32_t cs_check(const cs_tables *t, const cs_edge *e, const cs_options *o) {
+    return cs_flat_check(CS_TABLES(t), CS_EDGE(e), CS_OPTIONS(o));
 }
 
-static inline uint32_t cs_tables_check(const cs_tables *t) { return cs_check_tables(CS_TABLES(t)); }
+/* Checks the tables alone: as cs_flat_check_tables. */
+static inline uint32_t cs_check_tables(const cs_tables *t) { return cs_flat_check_tables(CS_TABLES(t)); }
 
-/* The caller owes that cs_tables_check returned 0 for these tables, and that nothing in them changed since. */
-static inline uint32_t cs_draw_edge_over(const cs_tables *t, const cs_edge *e, const cs_options *o, double *first,
-                                         size_t first_len, double *second, size_t second_len, uint32_t *way, size_t *count) {
-    return cs_draw_over(CS_TABLES(t), CS_EDGE(e), CS_OPTIONS(o), first, first_len, second, second_len, way, count);
+/* Draws over tables that are not checked again: as cs_flat_draw_over. The caller owes that cs_check_tables returned 0 for these
+ * tables, and that nothing in them changed since. */
+static inline uint32_t cs_draw_over(const cs_tables *t, const cs_edge *e, const cs_options *o, double *first,
+                                    size_t first_len, double *second, size_t second_len, uint32_t *way, size_t *count) {
+    return cs_flat_draw_over(CS_TABLES(t), CS_EDGE(e), CS_OPTIONS(o), first, first_len, second, second_len, way, count);
 }
 
 #undef CS_TABLES
@@ -208,19 +213,19 @@ static inline double *cs_chain(uint32_t way, double *first, double *second) { re
 
 static inline cs_options cs_options_default(void) {
     cs_options o;
-    cs_default(&o.deflection, &o.angle.radians, &o.relative, &o.segments, &o.depth, &o.scale);
+    cs_flat_default(&o.deflection, &o.angle.radians, &o.relative, &o.segments, &o.depth, &o.scale);
     return o;
 }
 
 static inline cs_options cs_options_draft(void) {
     cs_options o;
-    cs_draft(&o.deflection, &o.angle.radians, &o.relative, &o.segments, &o.depth, &o.scale);
+    cs_flat_draft(&o.deflection, &o.angle.radians, &o.relative, &o.segments, &o.depth, &o.scale);
     return o;
 }
 
 static inline cs_options cs_options_fine(void) {
     cs_options o;
-    cs_fine(&o.deflection, &o.angle.radians, &o.relative, &o.segments, &o.depth, &o.scale);
+    cs_flat_fine(&o.deflection, &o.angle.radians, &o.relative, &o.segments, &o.depth, &o.scale);
     return o;
 }
 

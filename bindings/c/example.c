@@ -19,7 +19,7 @@ int main(void) {
     double first[4 * 256], second[4 * 256];
     uint32_t way;
     size_t count;
-    const uint32_t refusal = cs_draw_edge(&tables, &edge, &options, first, 4 * 256, second, 4 * 256, &way, &count);
+    const uint32_t refusal = cs_draw(&tables, &edge, &options, first, 4 * 256, second, 4 * 256, &way, &count);
     if (refusal != CS_DRAWN) {
         puts(cs_sentence(refusal));
         return 1;

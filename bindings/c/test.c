@@ -37,7 +37,7 @@ static bool all(const double *floats, size_t n, double value) {
 /* The refusal. The buffers' floats are as it should leave them, and those behind the lent ones as they were. */
 static uint32_t draw(cs_tables t, cs_edge e, cs_options o, size_t m, size_t n) {
     for (size_t i = 0; i < LENGTH; i++) first[i] = second[i] = -7;
-    const uint32_t refusal = cs_draw_edge(&t, &e, &o, first, m, second, n, &way, &count);
+    const uint32_t refusal = cs_draw(&t, &e, &o, first, m, second, n, &way, &count);
     if (refusal != 0) {
         const double left = refusal <= 7 ? -7.0 : 0.0;
         EXPECT(all(first, m, left) && all(second, n, left) && way == CS_NO_CHAIN && count == 0);
@@ -46,13 +46,13 @@ static uint32_t draw(cs_tables t, cs_edge e, cs_options o, size_t m, size_t n) {
     return refusal;
 }
 
-/* The same over tables that were accepted, and that all is as by cs_draw_edge. */
+/* The same over tables that were accepted, and that all is as by cs_draw. */
 static uint32_t draw_over(cs_tables t, cs_edge e, cs_options o, size_t m, size_t n) {
-    EXPECT(cs_tables_check(&t) == CS_DRAWN);
+    EXPECT(cs_check_tables(&t) == CS_DRAWN);
     for (size_t i = 0; i < LENGTH; i++) third[i] = fourth[i] = -7;
     uint32_t its_way = 99;
     size_t its_count = 99;
-    const uint32_t refusal = cs_draw_edge_over(&t, &e, &o, third, m, fourth, n, &its_way, &its_count);
+    const uint32_t refusal = cs_draw_over(&t, &e, &o, third, m, fourth, n, &its_way, &its_count);
     EXPECT(refusal == draw(t, e, o, m, n) && its_way == way && its_count == count);
     EXPECT(memcmp(first, third, sizeof first) == 0 && memcmp(second, fourth, sizeof second) == 0);
     return refusal;
@@ -82,7 +82,7 @@ static void tables(void) {
     t = LINE, t.reals_len = 1, EXPECT(refusal_of(t) == CS_ILL_FORMED);
     t = LINE, t.ranges_len = 1, EXPECT(refusal_of(t) == CS_ILL_FORMED);
     t = LINE, t.curves_len = t.reals_len = 0, EXPECT(refusal_of(t) == CS_MISSING);
-    EXPECT(cs_check_edge(&t, &EDGE, &OPTIONS) == CS_MISSING && cs_check_edge(&LINE, &EDGE, &OPTIONS) == 0);
+    EXPECT(cs_check(&t, &EDGE, &OPTIONS) == CS_MISSING && cs_check(&LINE, &EDGE, &OPTIONS) == 0);
 }
 
 static void buffers(void) {
@@ -100,10 +100,10 @@ static void buffers(void) {
 
 static void once(void) {
     cs_tables t = LINE;
-    t.points_len = 3 * 65536 + 1, EXPECT(cs_tables_check(&t) == CS_OVERSIZE);
-    t = LINE, t.points_len = 8, EXPECT(cs_tables_check(&t) == CS_ILL_FORMED);
-    t = LINE, points[0] = 2e9, EXPECT(cs_tables_check(&t) == CS_UNBOUNDED), points[0] = 0;
-    t = LINE, curves[0] = 6, curves[2] = 1, EXPECT(cs_tables_check(&t) == CS_UNORDERED), curves[0] = 1, curves[2] = 2;
+    t.points_len = 3 * 65536 + 1, EXPECT(cs_check_tables(&t) == CS_OVERSIZE);
+    t = LINE, t.points_len = 8, EXPECT(cs_check_tables(&t) == CS_ILL_FORMED);
+    t = LINE, points[0] = 2e9, EXPECT(cs_check_tables(&t) == CS_UNBOUNDED), points[0] = 0;
+    t = LINE, curves[0] = 6, curves[2] = 1, EXPECT(cs_check_tables(&t) == CS_UNORDERED), curves[0] = 1, curves[2] = 2;
     t = LINE, t.curves_len = t.reals_len = 0, EXPECT(draw_over(t, EDGE, OPTIONS, 400, 400) == CS_MISSING);
     EXPECT(draw_over(LINE, EDGE, OPTIONS, 400, 401) == CS_DRAWN && count == 5);
     cs_edge e = EDGE;

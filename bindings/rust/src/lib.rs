@@ -127,19 +127,19 @@ impl Options {
 
     /// For a quick preview: 0.01 of the scale and 35 degrees.
     pub fn draft() -> Options {
-        Options::preset(raw::cs_draft)
+        Options::preset(raw::cs_flat_draft)
     }
 
     /// For close inspection: 0.0001 of the scale and 4 degrees.
     pub fn fine() -> Options {
-        Options::preset(raw::cs_fine)
+        Options::preset(raw::cs_flat_fine)
     }
 }
 
 /// 0.0004 of the scale and 8 degrees.
 impl Default for Options {
     fn default() -> Options {
-        Options::preset(raw::cs_default)
+        Options::preset(raw::cs_flat_default)
     }
 }
 
@@ -335,7 +335,7 @@ pub fn draw<'b>(
     drawn(first, second, |first, m, second, n, way, count| {
         // SAFETY: slices are lent for the call; those that are written are borrowed alone. The function is proved to write
         // nothing else, whatever it is handed.
-        unsafe { raw::call!(cs_draw, tables, edge, options, options.angle.0, first, m, second, n, way, count) }
+        unsafe { raw::call!(cs_flat_draw, tables, edge, options, options.angle.0, first, m, second, n, way, count) }
     })
 }
 
@@ -357,7 +357,7 @@ fn drawn<'b>(
 /// The lowest of the refusals 1 to 6 that applies to an edge: what drawing it looks at before it looks at its buffers.
 pub fn check(tables: &Tables, edge: &Edge, options: &Options) -> Result<(), Refusal> {
     // SAFETY: slices are lent for the call.
-    accepted(unsafe { raw::call!(cs_check, tables, edge, options, options.angle.0) })
+    accepted(unsafe { raw::call!(cs_flat_check, tables, edge, options, options.angle.0) })
 }
 
 /// The refusal of this number; 0 is none.
@@ -368,18 +368,18 @@ fn accepted(number: u32) -> Result<(), Refusal> {
     }
 }
 
-/// Tables that [`Tables::check`] accepted, for many edges over them: drawing does not check the tables again.
+/// Tables that [`check_tables`] accepted, for many edges over them: drawing does not check the tables again.
 ///
 /// ```
-/// # use cornsunset::{draw, Edge, Options, Refusal, Tables};
+/// # use cornsunset::{check_tables, draw_over, Edge, Options, Refusal, Tables};
 /// # let points = [0., 0., 0., 2., 0., 0., 10., 0., 0.];
 /// # let tables = Tables { points: &points, curves: &[1, 0, 2], reals: &[0.0; 2], parts: &[], ranges: &[] };
 /// # let edge = Edge { curve: 0, start: 0, end: 2, sense: 1, lo: 0.0, hi: 5.0, tolerance: 0.0, low: 0, high: 2 };
 /// # let edges = [edge, Edge { sense: 0, start: 2, end: 0, ..edge }, Edge { curve: 1, ..edge }];
 /// # let (mut first, mut second, mut total) = ([0.0; 64], [0.0; 64], 0);
-/// let checked = tables.check()?;
+/// let checked = check_tables(&tables)?;
 /// for edge in &edges {
-///     match checked.draw(edge, &Options::default(), &mut first, &mut second) {
+///     match draw_over(&checked, edge, &Options::default(), &mut first, &mut second) {
 ///         Ok(chain) => total += chain.len(),
 ///         Err(refusal) => assert_eq!(refusal, Refusal::Missing),
 ///     }
@@ -396,7 +396,8 @@ fn accepted(number: u32) -> Result<(), Refusal> {
 ///
 /// ```compile_fail,E0506
 /// let mut points = [0.0; 9];
-/// let checked = cornsunset::Tables { points: &points, ..Default::default() }.check().unwrap();
+/// let tables = cornsunset::Tables { points: &points, ..Default::default() };
+/// let checked = cornsunset::check_tables(&tables).unwrap();
 /// points[0] = f64::NAN;
 /// let tables = checked.tables();
 /// ```
@@ -405,49 +406,46 @@ pub struct Checked<'a> {
     tables: Tables<'a>,
 }
 
-impl<'a> Tables<'a> {
-    /// The lowest of the refusals 1 to 5 that the tables have, whatever the edge; or the tables, checked.
-    pub fn check(&self) -> Result<Checked<'a>, Refusal> {
-        let Tables { points, curves, reals, parts, ranges } = *self;
-        // SAFETY: slices are lent for the call.
-        accepted(unsafe {
-            raw::cs_check_tables(
-                points.as_ptr(),
-                points.len(),
-                curves.as_ptr(),
-                curves.len(),
-                reals.as_ptr(),
-                reals.len(),
-                parts.as_ptr(),
-                parts.len(),
-                ranges.as_ptr(),
-                ranges.len(),
-            )
-        })?;
-        Ok(Checked { tables: *self })
-    }
+/// The lowest of the refusals 1 to 5 that the tables have, whatever the edge; or the tables, checked.
+pub fn check_tables<'a>(tables: &Tables<'a>) -> Result<Checked<'a>, Refusal> {
+    let Tables { points, curves, reals, parts, ranges } = *tables;
+    // SAFETY: slices are lent for the call.
+    accepted(unsafe {
+        raw::cs_flat_check_tables(
+            points.as_ptr(),
+            points.len(),
+            curves.as_ptr(),
+            curves.len(),
+            reals.as_ptr(),
+            reals.len(),
+            parts.as_ptr(),
+            parts.len(),
+            ranges.as_ptr(),
+            ranges.len(),
+        )
+    })?;
+    Ok(Checked { tables: *tables })
+}
+
+/// Draws an edge over tables that [`check_tables`] accepted, as [`draw`] does and with the same answer; only the edge, the
+/// options and the buffers are checked, so that it is refused with 2, 3 or 6 to 9 alone.
+pub fn draw_over<'b>(
+    checked: &Checked,
+    edge: &Edge,
+    options: &Options,
+    first: &'b mut [f64],
+    second: &'b mut [f64],
+) -> Result<Chain<'b>, Refusal> {
+    let tables = &checked.tables;
+    drawn(first, second, |first, m, second, n, way, count| {
+        // SAFETY: as in `draw`. That the tables were accepted is all that the function asks for, and they have been lent since.
+        unsafe { raw::call!(cs_flat_draw_over, tables, edge, options, options.angle.0, first, m, second, n, way, count) }
+    })
 }
 
 impl<'a> Checked<'a> {
     /// The tables.
     pub fn tables(&self) -> Tables<'a> {
         self.tables
-    }
-
-    /// Draws an edge over the tables as [`draw`] does, with the same answer; only the edge, the options and the buffers are
-    /// checked, so that it is refused with 2, 3 or 6 to 9 alone.
-    pub fn draw<'b>(
-        &self,
-        edge: &Edge,
-        options: &Options,
-        first: &'b mut [f64],
-        second: &'b mut [f64],
-    ) -> Result<Chain<'b>, Refusal> {
-        let tables = &self.tables;
-        drawn(first, second, |first, m, second, n, way, count| {
-            // SAFETY: as in `draw`. That the tables were accepted is all that the function asks for, and they have been lent
-            // since.
-            unsafe { raw::call!(cs_draw_over, tables, edge, options, options.angle.0, first, m, second, n, way, count) }
-        })
     }
 }

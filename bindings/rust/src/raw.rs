@@ -29,9 +29,9 @@ macro_rules! call {
 pub(crate) use call;
 
 edge_functions! {
-    cs_check();
-    cs_draw(first: *mut f64, first_len: usize, second: *mut f64, second_len: usize, way: &mut u32, count: &mut usize);
-    cs_draw_over(first: *mut f64, first_len: usize, second: *mut f64, second_len: usize, way: &mut u32, count: &mut usize);
+    cs_flat_check();
+    cs_flat_draw(first: *mut f64, first_len: usize, second: *mut f64, second_len: usize, way: &mut u32, count: &mut usize);
+    cs_flat_draw_over(first: *mut f64, first_len: usize, second: *mut f64, second_len: usize, way: &mut u32, count: &mut usize);
 }
 
 /// A function that stores a preset's numbers.
@@ -48,10 +48,10 @@ macro_rules! presets {
     };
 }
 
-presets!(cs_default, cs_draft, cs_fine);
+presets!(cs_flat_default, cs_flat_draft, cs_flat_fine);
 
 unsafe extern "C" {
-    pub fn cs_check_tables(
+    pub fn cs_flat_check_tables(
         points: *const f64,
         points_len: usize,
         curves: *const u32,

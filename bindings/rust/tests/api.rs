@@ -1,5 +1,5 @@
 //! The safe API by itself: refusals, buffers, tables that are checked once, NaN parameters, walks, angles and presets.
-use cornsunset::{check, draw, Angle, Edge, Options, Refusal, Tables, Walk, Way};
+use cornsunset::{check, check_tables, draw, draw_over, Angle, Edge, Options, Refusal, Tables, Walk, Way};
 
 /// What no drawing writes.
 const MARK: f64 = f64::from_bits(0x7ff4_dead_0000_beef);
@@ -78,7 +78,7 @@ fn each_refusal_has_its_number_and_leaves_the_buffers() {
 
 #[test]
 fn tables_are_refused_whatever_the_edge() {
-    let number = |tables: Tables| tables.check().unwrap_err().number();
+    let number = |tables: Tables| check_tables(&tables).unwrap_err().number();
     let floats = vec![0.0; 3 * 65_536 + 1];
     assert_eq!(number(Tables { points: &floats, ..LINE }), 1);
     assert_eq!(number(Tables { points: &[f64::NAN; 9], ..LINE }), 2);
@@ -88,8 +88,8 @@ fn tables_are_refused_whatever_the_edge() {
     let curves: Vec<u32> = [[1, 0, 2]].into_iter().chain((0..9).map(|i| [6, i, 1])).flatten().collect();
     let reals: Vec<f64> = [[0.0; 2]].into_iter().chain([[0.0, 5.0]; 9]).flatten().collect();
     assert_eq!(number(Tables { curves: &curves, reals: &reals, ..LINE }), 5);
-    assert!(Tables { curves: &curves[..27], reals: &reals[..18], ..LINE }.check().is_ok());
-    assert!(Tables::default().check().is_ok());
+    assert!(check_tables(&Tables { curves: &curves[..27], reals: &reals[..18], ..LINE }).is_ok());
+    assert!(check_tables(&Tables::default()).is_ok());
 }
 
 #[test]
@@ -102,7 +102,7 @@ fn tables_at_their_size_are_accepted() {
     let edge = Edge { curve: 4_095, ..EDGE };
     let (mut first, mut second) = ([MARK; 30], [MARK; 41]);
     assert_eq!(draw(&tables, &edge, &options(), &mut first, &mut second).unwrap().len(), 5);
-    assert_eq!(tables.check().unwrap().draw(&edge, &options(), &mut first, &mut second).unwrap().len(), 5);
+    assert_eq!(draw_over(&check_tables(&tables).unwrap(), &edge, &options(), &mut first, &mut second).unwrap().len(), 5);
     assert_eq!(refused(&tables, &Edge { curve: 4_096, ..EDGE }, &options(), (80, 80)), 6);
 }
 
@@ -128,8 +128,8 @@ fn over_checked_tables_an_edge_is_drawn_as_by_itself() {
         let (mut first, mut second) = (vec![MARK; m], vec![MARK; n]);
         let expected = draw(&tables, &edge, &options, &mut first, &mut second).map(|c| (c.way(), c.len()));
         let (mut third, mut fourth) = (vec![MARK; m], vec![MARK; n]);
-        let checked = tables.check().unwrap();
-        let got = checked.draw(&edge, &options, &mut third, &mut fourth).map(|c| (c.way(), c.len()));
+        let checked = check_tables(&tables).unwrap();
+        let got = draw_over(&checked, &edge, &options, &mut third, &mut fourth).map(|c| (c.way(), c.len()));
         assert_eq!(got, expected);
         assert_eq!(got.err().map_or(0, Refusal::number), number);
         assert!(same(&first, &third) && same(&second, &fourth));

@@ -74,7 +74,7 @@ pub fn check_tables(
 }
 
 // The lowest of the causes 2, 3 and 6 that the edge and the options have. No table is gone through.
-pub fn check_edge(
+pub fn check_over(
     points: &[f64],
     curves: &[u32],
     reals: &[f64],
@@ -123,6 +123,6 @@ pub fn check(
     ensures { λ r. ⌜ r ≡ verdict (given points curves reals parts ranges) edge options ⌝ }
 {
     let of_tables = check_tables(points, curves, reals, parts, ranges);
-    let of_edge = check_edge(points, curves, reals, parts, ranges, edge, options);
+    let of_edge = check_over(points, curves, reals, parts, ranges, edge, options);
     lower(of_tables, of_edge)
 }

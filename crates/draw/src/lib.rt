@@ -186,7 +186,7 @@ pub fn draw_over(
     requires { ⌜ tablesVerdict (lent points curves reals parts ranges) ≡ Accepted ⌝ }
     ensures { λ r. ⌜ Outcome (given points curves reals parts ranges) edge options (now (first .entry)) (now (second .entry)) r (now (first .exit)) (now (second .exit)) ⌝ }
 {
-    let verdict = causes::check_edge(points, curves, reals, parts, ranges, edge, options);
+    let verdict = causes::check_over(points, curves, reals, parts, ranges, edge, options);
     match verdict {
         Verdict::Refused(cause) => Drawn::Refused(cause),
         Verdict::Accepted => draw_checked(

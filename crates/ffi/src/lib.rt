@@ -1,5 +1,5 @@
 // Drawing, walking, presets and angles under C names, over numbers and slices alone. A slice is a pointer and a length, an
-// out value a pointer. Only cs_draw_over has a requires, and cs_check_tables says whether it is met: nothing else that another
+// out value a pointer. Only cs_flat_draw_over has a requires, and cs_flat_check_tables says whether it is met: nothing else that another
 // language hands over is outside a contract.
 use options::Angle;
 use options::Options;
@@ -14,7 +14,7 @@ ghost use Rattle.ffi.specs.Numbered.{NumberedOutcome};
 
 // Draws an edge: 0, or the refusal's number.
 #[no_mangle]
-pub extern "C" fn cs_draw(
+pub extern "C" fn cs_flat_draw(
     points: &[f64],
     curves: &[u32],
     reals: &[f64],
@@ -61,10 +61,10 @@ pub extern "C" fn cs_draw(
     codes.refusal
 }
 
-// The same over tables that cs_check_tables has accepted, and that are still the same: for many edges they are checked once.
+// The same over tables that cs_flat_check_tables has accepted, and that are still the same: for many edges they are checked once.
 // A caller that is not Rattle owes that.
 #[no_mangle]
-pub extern "C" fn cs_draw_over(
+pub extern "C" fn cs_flat_draw_over(
     points: &[f64],
     curves: &[u32],
     reals: &[f64],
@@ -112,7 +112,7 @@ pub extern "C" fn cs_draw_over(
 
 // The lowest of the causes 1 to 6 that applies, or 0.
 #[no_mangle]
-pub extern "C" fn cs_check(
+pub extern "C" fn cs_flat_check(
     points: &[f64],
     curves: &[u32],
     reals: &[f64],
@@ -143,7 +143,7 @@ pub extern "C" fn cs_check(
 
 // The lowest of the causes 1 to 5 that the tables alone have, or 0.
 #[no_mangle]
-pub extern "C" fn cs_check_tables(
+pub extern "C" fn cs_flat_check_tables(
     points: &[f64],
     curves: &[u32],
     reals: &[f64],
@@ -179,7 +179,7 @@ pub extern "C" fn cs_step(chain: &[f64], forward: bool, at: &mut usize, point: &
 }
 
 #[no_mangle]
-pub extern "C" fn cs_default(
+pub extern "C" fn cs_flat_default(
     deflection: &mut f64,
     angle: &mut f64,
     relative: &mut u32,
@@ -200,7 +200,7 @@ pub extern "C" fn cs_default(
 
 // For a quick preview.
 #[no_mangle]
-pub extern "C" fn cs_draft(
+pub extern "C" fn cs_flat_draft(
     deflection: &mut f64,
     angle: &mut f64,
     relative: &mut u32,
@@ -221,7 +221,7 @@ pub extern "C" fn cs_draft(
 
 // For close inspection.
 #[no_mangle]
-pub extern "C" fn cs_fine(
+pub extern "C" fn cs_flat_fine(
     deflection: &mut f64,
     angle: &mut f64,
     relative: &mut u32,

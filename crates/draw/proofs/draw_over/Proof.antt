@@ -8,10 +8,10 @@ use Rattle.draw.proofs.draw_over.Statement.{statement}
 use Rattle.draw.proofs.draw_over.Tie as tie
 
 draw-checked-requires : tie.Need-draw-checked-requires
-draw-checked-requires c κs = verdict-edge _ _ _ (c .before .before .before .before .before .before .before .before .before .before .before .before .pre) ∙ sym (c .before .before .before .before .check-edge .ensures) ∙ c .before .before .enum-told .given .1
+draw-checked-requires c κs = verdict-edge _ _ _ (c .before .before .before .before .before .before .before .before .before .before .before .before .pre) ∙ sym (c .before .before .before .before .check-over .ensures) ∙ c .before .before .enum-told .given .1
 
 returns : tie.Need-returns
-returns c = let a = c .before .before .before .before .before .before .before .before .before .before .before .args in by-verdict (lent (a .points) (a .curves) (a .reals) (a .parts) (a .ranges)) (a .edge) (a .options) (a .first .now) (a .second .now) _ (verdict-edge (lent (a .points) (a .curves) (a .reals) (a .parts) (a .ranges)) (a .edge) (a .options) (c .before .before .before .before .before .before .before .before .before .before .before .pre) ∙ sym (c .before .before .before .check-edge .ensures) ∙ c .before .verdict .given .1)
+returns c = let a = c .before .before .before .before .before .before .before .before .before .before .before .args in by-verdict (lent (a .points) (a .curves) (a .reals) (a .parts) (a .ranges)) (a .edge) (a .options) (a .first .now) (a .second .now) _ (verdict-edge (lent (a .points) (a .curves) (a .reals) (a .parts) (a .ranges)) (a .edge) (a .options) (c .before .before .before .before .before .before .before .before .before .before .before .pre) ∙ sym (c .before .before .before .check-over .ensures) ∙ c .before .verdict .given .1)
 
 pub draw-over-spec : {M : Type 1} → statement M
 draw-over-spec =

@@ -1,12 +1,12 @@
--- `ffi::cs_check` meets its contract. Assumes nothing.
+-- `ffi::cs_flat_check` meets its contract. Assumes nothing.
 use borrow.Author.Needs.{needs}
-use Rattle.ffi.proofs.cs_check.Statement.{statement}
-use Rattle.ffi.proofs.cs_check.Tie as tie
+use Rattle.ffi.proofs.cs_flat_check.Statement.{statement}
+use Rattle.ffi.proofs.cs_flat_check.Tie as tie
 
 returns : tie.Need-returns
 returns c = rw (c .cause-of .ensures, c .before .check .ensures, c .before .before .options-of .ensures, c .before .before .before .edge-of .ensures)
 
-pub cs-check-spec : {M : Type 1} → statement M
-cs-check-spec =
+pub cs-flat-check-spec : {M : Type 1} → statement M
+cs-flat-check-spec =
     tie.close
     (tie.spec (λ c κs. search needs) (λ c κs. search needs) (λ c κs. search needs) (λ c κs. search needs) returns)

@@ -1,9 +1,9 @@
--- `causes::check_edge` meets its contract. Assumes nothing.
+-- `causes::check_over` meets its contract. Assumes nothing.
 use Rattle.causes.specs.Causes.{missing, edgeVerdict}
 use mathlib.Core.Path.{sym, _∙_}
 use borrow.Author.Needs.{needs}
-use Rattle.causes.proofs.check_edge.Statement.{statement}
-use Rattle.causes.proofs.check_edge.Tie as tie
+use Rattle.causes.proofs.check_over.Statement.{statement}
+use Rattle.causes.proofs.check_over.Tie as tie
 
 returns : tie.Need-returns
 unfolding edgeVerdict
@@ -21,8 +21,8 @@ returns-4 : tie.Need-returns-4
 unfolding edgeVerdict missing
 returns-4 c = rw (sym (c .before .before .before .before .before .unbounded-edge .ensures) ∙ c .before .before .before .before .if1 .left, sym (c .before .before .before .ill-formed-edge .ensures) ∙ c .before .before .if2 .left, sym (c .before .missing .ensures) ∙ c .if3 .left)
 
-pub check-edge-spec : {M : Type 1} → statement M
-check-edge-spec =
+pub check-over-spec : {M : Type 1} → statement M
+check-over-spec =
     tie.close
     (tie.spec
     (λ c κs. search needs)
