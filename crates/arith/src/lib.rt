@@ -88,7 +88,7 @@ pub fn floor(x: f64) -> f64
     floor_far(x)
 }
 
-// The same, more slowly, by |x| without its fraction. From 2^52 on every float is whole.
+// The floor, more slowly, by |x| without its fraction. From 2^52 on every float is whole.
 fn floor_far(x: f64) -> f64
     ensures { λ r. ⌜ r ≡ floorOf x ⌝ }
 {

@@ -28,7 +28,7 @@ fn quarter(k: f64) -> u64
     quarter_far(k)
 }
 
-// The same for every k, more slowly. From 2^64 on every float is a multiple of 4.
+// k mod 4 for every k, more slowly. From 2^64 on every float is a multiple of 4.
 fn quarter_far(k: f64) -> u64
     ensures { λ r. ⌜ r ≡ quarter k ⌝ }
 {
@@ -108,12 +108,14 @@ pub fn sin_cos(t: f64) -> SinCos
     both(reduced(t, k), quarter(k))
 }
 
+// The sine of t, by the fixed steps.
 pub fn sin(t: f64) -> f64
     ensures { λ s. ⌜ s ≡ sinOf t ⌝ }
 {
     sin_cos(t).sin
 }
 
+// The cosine of t, by the fixed steps.
 pub fn cos(t: f64) -> f64
     ensures { λ s. ⌜ s ≡ cosOf t ⌝ }
 {
@@ -150,7 +152,7 @@ fn angle(y: f64) -> f64
     arc(halved(halved(halved(y))))
 }
 
-// The same, by 1 / y where y is above 1.
+// The angle whose half has the tangent y, by 1 / y where y is above 1.
 fn acos_by(y: f64) -> f64
     ensures { λ r. ⌜ r ≡ acosBy y ⌝ }
 {

@@ -69,12 +69,14 @@ pub struct Edge {
     pub high: u32,
 }
 
+// A whole number of a table; 0 past its end.
 pub fn int_at(s: &[u32], i: usize) -> u32
     ensures { λ r. ⌜ r ≡ getD (now (s .entry)) i 0 ⌝ }
 {
     if i < s.len() { s[i] } else { 0 }
 }
 
+// A float of a table; NaN past its end.
 pub fn float_at(s: &[f64], i: usize) -> f64
     ensures { λ r. ⌜ r ≡ getD (now (s .entry)) i nan ⌝ }
 {

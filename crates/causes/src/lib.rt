@@ -7,6 +7,7 @@ ghost use Rattle.brep.specs.Rows.{given};
 ghost use Rattle.causes.specs.Own.Lowest.{lowestOf};
 ghost use Rattle.causes.specs.Causes.{oversize, missingFrom, verdict, tablesVerdict, edgeVerdict};
 
+// What the checks come to: nothing turns the edge away, or the lowest cause that does.
 pub enum Verdict {
     Accepted,
     Refused(u32),

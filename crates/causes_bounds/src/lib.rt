@@ -13,6 +13,7 @@ pub fn either(a: bool, b: bool) -> bool
     a || b
 }
 
+// `a && b`, with both worked out.
 pub fn both(a: bool, b: bool) -> bool
     ensures { λ r. ⌜ r ≡ a && b ⌝ }
 {

@@ -52,7 +52,7 @@ fn block_depth(parts: &[u32], depths: &[u32], blocks: &mut [u32], row: u32, b: u
     depth
 }
 
-// The same of 256 segments, sixteen of those blocks.
+// The depth of a block of 256 segments, of its sixteen blocks of 16.
 fn large_depth(
     parts: &[u32],
     depths: &[u32],

@@ -39,6 +39,7 @@ fn range_at(reals: &[f64], row: u32) -> Interval
     }
 }
 
+// Curve::natural_range: the range over which the curve of a row is defined.
 pub fn natural_range(
     points: &[f64],
     curves: &[u32],
@@ -72,6 +73,7 @@ pub fn natural_range(
     }
 }
 
+// Curve::is_closed: whether the curve of a row ends where it starts.
 pub fn is_closed(
     points: &[f64],
     curves: &[u32],
@@ -132,6 +134,7 @@ fn polyline_period(points: &[f64], first: u32, count: u32) -> Repeats
     Repeats::Never
 }
 
+// Curve::period: what the parameter of a closed curve repeats by.
 pub fn period(
     points: &[f64],
     curves: &[u32],

@@ -48,6 +48,7 @@ pub fn index_in(last: u32, t: f64) -> u32
     if k < last as u64 { k as u32 } else { last }
 }
 
+// A polyline's parameter, in its range: a closed one wraps, an open one is clamped.
 pub fn polyline_parameter(points: &[f64], first: u32, count: u32, t: f64) -> f64
     ensures { λ r. ⌜ r ≡ polylineParameter (run (now (points .entry)) first count) t ⌝ }
 {

@@ -58,6 +58,7 @@ fn turn_at(curves: &[u32], row: u32, t: f64) -> SinCos
     }
 }
 
+// Curve::point_at: the point at t of the curve of a row.
 pub fn point_at(
     points: &[f64],
     curves: &[u32],

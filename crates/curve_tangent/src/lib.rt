@@ -53,6 +53,7 @@ fn parabola_derivative(points: &[f64], first: u32, focal_dist: f64, t: f64) -> V
     x.add(y)
 }
 
+// Curve::derivative_at: the derivative at t of the curve of a row.
 pub fn derivative_at(
     points: &[f64],
     curves: &[u32],
@@ -119,6 +120,7 @@ fn composite_derivative(
     Vec3::ZERO.scale(k)
 }
 
+// Curve::tangent_at: the derivative's direction, where it has one.
 pub fn tangent_at(
     points: &[f64],
     curves: &[u32],

@@ -60,6 +60,7 @@ fn is_no_range(range: Interval) -> bool
     true
 }
 
+// usable_range: the edge's own range, where a curve can be drawn over it; else the curve's natural one, where that is short enough.
 pub fn usable_range(
     points: &[f64],
     curves: &[u32],

@@ -133,6 +133,7 @@ fn is_split(chain: &[f64], distance: f64, tolerance: f64, angle: f64, a: usize, 
     turn(chain, a, b) > angle
 }
 
+// What becomes of the span from a to b: kept as it is, split at its worst point, or refused.
 pub fn decide(chain: &[f64], tolerance: f64, angle: f64, a: usize, b: usize) -> Decision
     requires { ⌜ (a < b) × (width * b + width ≤ length (now chain)) ⌝ }
     ensures { λ r. ⌜ r ≡ decision (pointAt (now (chain .entry))) tolerance angle a b ⌝ }

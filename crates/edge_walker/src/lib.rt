@@ -5,6 +5,7 @@ ghost use mathlib.Core.Path.{_≡_};
 ghost use Prim.Native.Nat.{min};
 ghost use Rattle.edge_walker.specs.Walk.{startOf, started, stepped, next, moved};
 
+// A walk over the caller's chain: its place lies between two points and counts those before it.
 pub struct Walker<'a> {
     pub chain: &'a [f64],
     pub at: usize,

@@ -61,7 +61,7 @@ pub extern "C" fn cs_flat_draw(
     codes.refusal
 }
 
-// The same over tables that cs_flat_check_tables has accepted, and that are still the same: for many edges they are checked once.
+// Draws over tables that cs_flat_check_tables has accepted, and that have not changed since: for many edges they are checked once.
 // A caller that is not Rattle owes that.
 #[no_mangle]
 pub extern "C" fn cs_flat_draw_over(
@@ -178,6 +178,7 @@ pub extern "C" fn cs_step(chain: &[f64], forward: bool, at: &mut usize, point: &
     ffi_numbers::has_passed(step)
 }
 
+// The options that the Rust has by default, the angle in radians.
 #[no_mangle]
 pub extern "C" fn cs_flat_default(
     deflection: &mut f64,

@@ -10,6 +10,7 @@ use options::Options;
 ghost use mathlib.Core.Path.{_≡_};
 ghost use Rattle.ffi_numbers.specs.Numbers.{edgeOf, optionsOf, causeOf, numberOf, codesOf, passed, pointAfter};
 
+// An edge by its nine numbers.
 pub fn edge_of(
     curve: u32,
     start: u32,
@@ -35,6 +36,7 @@ pub fn edge_of(
     }
 }
 
+// Options by their six numbers, the angle in radians.
 pub fn options_of(
     deflection: f64,
     angle: f64,
@@ -84,6 +86,7 @@ pub struct Codes {
     pub count: usize,
 }
 
+// The numbers of an answer: its refusal, or its way and how many points it has.
 pub fn codes_of(drawn: Drawn) -> Codes
     ensures { λ r. ⌜ r ≡ codesOf drawn ⌝ }
 {

@@ -4,6 +4,7 @@ ghost use Rattle.math.specs.Math.{vAdd, vSub, vScale, vDot, vCross, vLen
 ghost use Rattle.math.specs.Math.{tryNormalized, vLerp, vMin, vMax, vFinite, yDir};
 ghost use Rattle.math.specs.Math.{emptyBox, isEmpty, addPoint, boxSize, centre, diagonal, spanOf, at};
 
+// A point or a vector of space.
 pub struct Vec3 {
     pub x: f64,
     pub y: f64,
@@ -39,18 +40,21 @@ pub struct Interval {
 const SHORTEST: f64 = 1.4916681462400413e-154;
 
 impl Vec3 {
+    // The origin.
     pub const ZERO: Vec3 = Vec3 {
         x: 0.0,
         y: 0.0,
         z: 0.0,
     };
 
+    // The scalar product.
     pub fn dot(self, o: Vec3) -> f64
         ensures { λ r. ⌜ r ≡ vDot self o ⌝ }
     {
         self.x * o.x + self.y * o.y + self.z * o.z
     }
 
+    // The vector product.
     fn cross(self, o: Vec3) -> Vec3
         ensures { λ r. ⌜ r ≡ vCross self o ⌝ }
     {
@@ -61,18 +65,21 @@ impl Vec3 {
         }
     }
 
+    // The length: the root of its square.
     pub fn length(self) -> f64
         ensures { λ r. ⌜ r ≡ vLength self ⌝ }
     {
         arith_root::root(self.dot(self))
     }
 
+    // The square of the length.
     pub fn length_squared(self) -> f64
         ensures { λ r. ⌜ r ≡ vLengthSquared self ⌝ }
     {
         self.dot(self)
     }
 
+    // The unit vector of this direction; none where the length is not finite, or so short that its square would not be normal.
     pub fn try_normalized(self) -> Direction
         ensures { λ r. ⌜ r ≡ tryNormalized self ⌝ }
     {
@@ -85,12 +92,14 @@ impl Vec3 {
         Direction::Nothing
     }
 
+    // The point at t on the way from this to o.
     pub fn lerp(self, o: Vec3, t: f64) -> Vec3
         ensures { λ r. ⌜ r ≡ vLerp self o t ⌝ }
     {
         self.add(o.sub(self).scale(t))
     }
 
+    // The lesser of each coordinate.
     fn min(self, o: Vec3) -> Vec3
         ensures { λ r. ⌜ r ≡ vMin self o ⌝ }
     {
@@ -101,6 +110,7 @@ impl Vec3 {
         }
     }
 
+    // The greater of each coordinate.
     fn max(self, o: Vec3) -> Vec3
         ensures { λ r. ⌜ r ≡ vMax self o ⌝ }
     {
@@ -111,12 +121,14 @@ impl Vec3 {
         }
     }
 
+    // Whether each coordinate is finite.
     pub fn is_finite(self) -> bool
         ensures { λ r. ⌜ r ≡ vFinite self ⌝ }
     {
         arith::is_finite(self.x) && (arith::is_finite(self.y) && arith::is_finite(self.z))
     }
 
+    // The sum, by coordinates.
     pub fn add(self, o: Vec3) -> Vec3
         ensures { λ r. ⌜ r ≡ vAdd self o ⌝ }
     {
@@ -127,6 +139,7 @@ impl Vec3 {
         }
     }
 
+    // The difference, by coordinates.
     pub fn sub(self, o: Vec3) -> Vec3
         ensures { λ r. ⌜ r ≡ vSub self o ⌝ }
     {
@@ -186,12 +199,14 @@ impl Aabb {
         }
     }
 
+    // Whether the box holds nothing: its least corner is above its greatest on some axis.
     pub fn is_empty(self) -> bool
         ensures { λ r. ⌜ r ≡ isEmpty self ⌝ }
     {
         self.min.x > self.max.x || (self.min.y > self.max.y || self.min.z > self.max.z)
     }
 
+    // The box with p in it.
     pub fn add_point(self, p: Vec3) -> Aabb
         ensures { λ r. ⌜ r ≡ addPoint self p ⌝ }
     {
@@ -201,6 +216,7 @@ impl Aabb {
         }
     }
 
+    // The lengths of its sides; of the empty box, none.
     pub fn size(self) -> Vec3
         ensures { λ r. ⌜ r ≡ boxSize self ⌝ }
     {
@@ -211,6 +227,7 @@ impl Aabb {
         }
     }
 
+    // Its middle.
     pub fn centre(self) -> Vec3
         ensures { λ r. ⌜ r ≡ centre self ⌝ }
     {
@@ -221,6 +238,7 @@ impl Aabb {
         }
     }
 
+    // The length from its least corner to its greatest.
     pub fn diagonal(self) -> f64
         ensures { λ r. ⌜ r ≡ diagonal self ⌝ }
     {
@@ -229,14 +247,17 @@ impl Aabb {
 }
 
 impl Interval {
+    // From 0 to 1.
     pub const UNIT: Interval = Interval { lo: 0.0, hi: 1.0 };
 
+    // From its lower end to its upper; below zero where they are exchanged.
     pub fn span(self) -> f64
         ensures { λ r. ⌜ r ≡ spanOf self ⌝ }
     {
         self.hi - self.lo
     }
 
+    // The number at t on the way from its lower end to its upper.
     pub fn at(self, t: f64) -> f64
         ensures { λ r. ⌜ r ≡ at self t ⌝ }
     {

@@ -44,6 +44,7 @@ pub fn span_offset(pa: Vec3, axis: Vec3, len2: f64, p: Vec3) -> Vec3
     chord_offset(pa, axis, 0.0 < len2, len2, p)
 }
 
+// The distance of p to a chord, whose squared length is the divisor.
 pub fn span_distance(pa: Vec3, axis: Vec3, len2: f64, p: Vec3) -> f64
     ensures { λ r. ⌜ r ≡ spanDistance pa axis len2 p ⌝ }
 {

@@ -18,12 +18,14 @@ const LEAST_STEP: f64 = 1e-3;
 pub struct Angle(f64);
 
 impl Angle {
+    // An angle of x radians.
     pub fn radians(x: f64) -> Angle
         ensures { λ r. ⌜ r ≡ radians x ⌝ }
     {
         Angle(x)
     }
 
+    // An angle of x degrees: times π / 180.
     pub fn degrees(x: f64) -> Angle
         ensures { λ r. ⌜ r ≡ degrees x ⌝ }
     {
@@ -81,6 +83,7 @@ impl Options {
         }
     }
 
+    // The Rust's own options: 0.0004 of the scale, and 8 degrees.
     pub fn default() -> Options
         ensures { λ r. ⌜ r ≡ defaultOptions ⌝ }
     {
@@ -136,6 +139,7 @@ impl Options {
         }
     }
 
+    // Options::resolve: against the scale, angle and depth clamped, at least one segment.
     pub fn resolve(self) -> Resolved
         ensures { λ r. ⌜ r ≡ resolve self ⌝ }
     {
@@ -176,6 +180,7 @@ impl Resolved {
         0.0 < self.relative && (0.0 < self.model && (0.0 < extent && arith::is_finite(extent)))
     }
 
+    // Resolved::sag_for: the sag for an edge of this extent.
     pub fn sag_for(self, extent: f64) -> f64
         ensures { λ r. ⌜ r ≡ sagFor self extent ⌝ }
     {
@@ -186,6 +191,7 @@ impl Resolved {
         self.sag
     }
 
+    // Resolved::for_extent: the sag changes, and nothing else.
     pub fn for_extent(self, extent: f64) -> Resolved
         ensures { λ r. ⌜ r ≡ forExtent self extent ⌝ }
     {
@@ -210,6 +216,7 @@ impl Resolved {
         }
     }
 
+    // Resolved::angle_step_for_radius: the largest step on a circle of this radius that sag and angle allow.
     pub fn angle_step_for_radius(self, radius: f64) -> f64
         ensures { λ r. ⌜ r ≡ angleStep self radius ⌝ }
     {
@@ -217,6 +224,7 @@ impl Resolved {
         arith::max(arith::min(by_sag, self.angle), LEAST_STEP)
     }
 
+    // Resolved::segments_for_arc: how many such steps an arc of `total` radians takes.
     pub fn segments_for_arc(self, radius: f64, total: f64) -> u64
         ensures { λ r. ⌜ r ≡ segmentsForArc self radius total ⌝ }
     {

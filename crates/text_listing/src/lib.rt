@@ -108,7 +108,7 @@ pub fn write_chain(chain: &[f64], n: usize, first: u64, last: u64, out: &mut [u8
     at
 }
 
-// The same of n, which has at most ten digits.
+// How many digits n has in plain decimal, at most ten, and the power of ten of its first.
 fn top_of(n: u64) -> Top
     requires { ⌜ n < 10 ^ 10 ⌝ }
     ensures { λ r. ⌜ TopOf n r ⌝ }
