@@ -1,3 +1,4 @@
 pub mod Notation
 pub mod Pick
 pub mod Floor
+pub mod Constants

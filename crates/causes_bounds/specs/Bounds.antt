@@ -3,14 +3,14 @@ use mathlib.Core.Bool.{Bool, not, _&&_, _||_}
 use mathlib.Core.List.{List}
 use lib.Ieee.{Float, le, neg}
 use lib.Ieee.Scale.{finite}
-use Rattle.arith.specs.Notation.{bits}
+use Rattle.arith.specs.Constants.{billion}
 use Rattle.brep.specs.declared.Edge.{Edge}
 use Rattle.options.specs.declared.Options.{Options}
 use Rattle.causes_bounds.specs.Some.{some}
 
 -- 1e9
 abbrev pub largest : Float
-largest = bits 0x41CDCD6500000000
+largest = billion
 
 -- at most 1e9 in magnitude: no NaN and no infinity is
 unfoldable pub within : Float → Bool

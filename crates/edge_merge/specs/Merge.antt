@@ -4,7 +4,8 @@ use mathlib.Core.List.{List, [], _∷_, _++_, dropLast}
 use lib.ListN.{length}
 use lib.Dec.{T, ltb}
 use lib.Ieee.{Float, lt, le}
-use Rattle.arith.specs.Notation.{_⊗_, bits, plusZero, half}
+use Rattle.arith.specs.Notation.{_⊗_, plusZero, half}
+use Rattle.arith.specs.Constants.{four}
 use Rattle.arith.specs.Pick.{minOf, maxOf}
 use Rattle.math.specs.declared.Vec3.{Vec3}
 use Rattle.math.specs.Math.{distance}
@@ -13,7 +14,7 @@ use Rattle.edge_record.specs.Chain.{lastOf}
 
 -- MERGE_TOLERANCES, MERGE_SAG
 abbrev pub mergeTolerances : Float
-mergeTolerances = bits 0x4010000000000000
+mergeTolerances = four
 
 abbrev pub mergeSag : Float
 mergeSag = half

@@ -2,7 +2,8 @@
 use mathlib.Core.Bool.{Bool, true, false, cond, _&&_, _||_}
 use lib.Ieee.{Float, inf, lt, le, neg}
 use lib.Ieee.Scale.{finite}
-use Rattle.arith.specs.Notation.{_⊕_, _⊖_, _⊗_, _⊘_, bits, plusZero, half, one}
+use Rattle.arith.specs.Notation.{_⊕_, _⊖_, _⊗_, _⊘_, plusZero, half, one}
+use Rattle.arith.specs.Constants.{twoToMinus511}
 use Rattle.arith.specs.Pick.{minOf, maxOf}
 use Rattle.arith_root.specs.Root.{rootOf}
 use Rattle.arith_trig.specs.Trig.{sinOf, cosOf}
@@ -52,7 +53,7 @@ distance a b = vLength (vSub a b)
 
 -- 2^-511, the root of the least normal number
 abbrev pub shortest : Float
-shortest = bits 0x2000000000000000
+shortest = twoToMinus511
 
 -- Vec3::try_normalized: none unless the length is finite and above 2^-511
 unfoldable pub tryNormalized : Vec3 → Direction

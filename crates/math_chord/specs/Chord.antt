@@ -2,7 +2,8 @@
 -- Definitions only.
 use mathlib.Core.Bool.{Bool, cond}
 use lib.Ieee.{Float, lt}
-use Rattle.arith.specs.Notation.{_⊗_, _⊘_, bits, plusZero, one}
+use Rattle.arith.specs.Notation.{_⊗_, _⊘_, plusZero, one}
+use Rattle.arith.specs.Constants.{tenToMinus300}
 use Rattle.arith.specs.Pick.{clampOf}
 use Rattle.math.specs.declared.Vec3.{Vec3}
 use Rattle.math.specs.Math.{vAdd, vSub, vScale, vDot, vLength}
@@ -25,7 +26,7 @@ spanDistance pa axis len2 p = chordDistance pa axis (lt plusZero len2) len2 p
 
 -- 1e-300
 abbrev pub shortestChord : Float
-shortestChord = bits 0x01A56E1FC2F8F359
+shortestChord = tenToMinus300
 
 unfoldable pub bisectionDistance : Vec3 → Vec3 → Float → Vec3 → Float
 bisectionDistance pa chord len p = chordDistance pa chord (lt shortestChord len) (len ⊗ len) p

@@ -1,9 +1,15 @@
--- An angle counts as clamped exactly where `resolve` changes it. Assumes nothing.
+-- A degree in radians; an angle counts as clamped exactly where `resolve` changes it. Assumes nothing.
 use mathlib.Core.Path.{_≡_, refl, sym, ap, _∙_}
 use mathlib.Core.Bool.{Bool, true, false, cond, _||_, false≢true}
-use lib.Ieee.{lt, ofBits}
+use lib.Ieee.{lt, div, ofBits, ofInt}
+use Rattle.arith.specs.Notation.{_⊘_, count}
+use Rattle.arith_trig.specs.Trig.{pi}
 use Rattle.options.specs.declared.Options.{Options}
-use Rattle.options.specs.Options.{leastAngle, largestAngle, isClamped, resolve}
+use Rattle.options.specs.Options.{degree, leastAngle, largestAngle, isClamped, resolve}
+
+pub one-degree : degree ≡ pi ⊘ count 180
+unfolding div ofBits ofInt
+one-degree = refl
 
 -- neither limit is below itself
 least-not-below : lt leastAngle leastAngle ≡ false

@@ -5,6 +5,7 @@ use lib.Dec.{eqb}
 use lib.Ieee.{Float, lt, neg, toUnsigned}
 use lib.Ieee.Scale.{finite}
 use Rattle.arith.specs.Notation.{_⊖_, _⊗_, _⊘_, bits, plusZero, half, one, two}
+use Rattle.arith.specs.Constants.{four, eight, thirtyFive, hundredth, thousandth, fourTenThousandths, tenThousandth, leastNormal}
 use Rattle.arith.specs.Pick.{absOf, minOf, maxOf, clampOf}
 use Rattle.arith.specs.Floor.{ceilOf}
 use Rattle.arith_trig.specs.Trig.{acosOf, pi}
@@ -16,13 +17,17 @@ use Rattle.options.specs.declared.Resolved.{Resolved}
 abbrev pub radians : Float → Angle
 radians x = record { 0 = x }
 
--- an angle in degrees, by f64::to_radians: times π / 180
+-- π / 180, divided in binary64 (`one-degree` in proofs/Laws.antt)
+abbrev pub degree : Float
+degree = bits 0x3F91DF46A2529D39
+
+-- an angle in degrees, by f64::to_radians
 abbrev pub degrees : Float → Angle
-degrees x = radians (x ⊗ bits 0x3F91DF46A2529D39)
+degrees x = radians (x ⊗ degree)
 
 -- the least and the largest angle that `resolve` lets pass: 1e-4 and π
 abbrev pub leastAngle : Float
-leastAngle = bits 0x3F1A36E2EB1C432D
+leastAngle = tenThousandth
 
 abbrev pub largestAngle : Float
 largestAngle = pi
@@ -37,15 +42,15 @@ preset d a = record { deflection = d; angle = a; relative = 1; segments = 1; dep
 
 -- Options::default: 0.0004 and 8 degrees
 abbrev pub defaultOptions : Options
-defaultOptions = preset (bits 0x3F3A36E2EB1C432D) (degrees (bits 0x4020000000000000))
+defaultOptions = preset fourTenThousandths (degrees eight)
 
 -- Options::draft: 0.01 and 35 degrees
 abbrev pub draftOptions : Options
-draftOptions = preset (bits 0x3F847AE147AE147B) (degrees (bits 0x4041800000000000))
+draftOptions = preset hundredth (degrees thirtyFive)
 
 -- Options::fine: 0.0001 and 4 degrees
 abbrev pub fineOptions : Options
-fineOptions = preset (bits 0x3F1A36E2EB1C432D) (degrees (bits 0x4010000000000000))
+fineOptions = preset tenThousandth (degrees four)
 
 -- relative is true
 abbrev pub isRelative : Options → Bool
@@ -57,7 +62,7 @@ hasScale o = finite (o .scale) && lt plusZero (o .scale)
 
 -- f64::MIN_POSITIVE
 abbrev pub leastPositive : Float
-leastPositive = bits 0x0010000000000000
+leastPositive = leastNormal
 
 -- the deflection, or that times the scale where it is relative and there is a scale
 abbrev pub absoluteDeflection : Options → Float
@@ -94,7 +99,7 @@ isRelativeTo r extent = lt plusZero (r .relative) && (lt plusZero (r .model) && 
 unfoldable pub sagFor : Resolved → Float → Float
 sagFor r extent =
     cond (isRelativeTo r extent)
-    (maxOf (clampOf (r .model ⊘ (two ⊗ extent)) half two ⊗ extent ⊗ r .relative) (r .sag ⊘ bits 0x4020000000000000))
+    (maxOf (clampOf (r .model ⊘ (two ⊗ extent)) half two ⊗ extent ⊗ r .relative) (r .sag ⊘ eight))
     (r .sag)
 
 -- Resolved::for_extent: the sag alone changes
@@ -115,7 +120,7 @@ stepBySag r radius =
 
 -- Resolved::angle_step_for_radius: at least 1e-3
 unfoldable pub angleStep : Resolved → Float → Float
-angleStep r radius = maxOf (minOf (stepBySag r (absOf radius)) (r .angle)) (bits 0x3F50624DD2F1A9FC)
+angleStep r radius = maxOf (minOf (stepBySag r (absOf radius)) (r .angle)) thousandth
 
 -- Resolved::segments_for_arc: segments that sweep `total` radians on a radius
 unfoldable pub segmentsForArc : Resolved → Float → Float → ℕ
