@@ -336,12 +336,12 @@ class Library {
     Library(const Library &) = delete;
 
     void check() {
-        if (cs_tables_check(&tables) != 0) {
+        if (cs_check_tables(&tables) != 0) {
             stop("the tables are refused");
         }
     }
     uint32_t draw(size_t e) {
-        return cs_draw_edge(&tables, &edges[e], &absolute, first.data(), first.size(), second.data(), second.size(), &way, &count);
+        return cs_draw(&tables, &edges[e], &absolute, first.data(), first.size(), second.data(), second.size(), &way, &count);
     }
     // check() has accepted the tables.
     uint32_t draw_over(size_t e) { return draw_over(e, absolute); }
@@ -369,7 +369,7 @@ class Library {
 
   private:
     uint32_t draw_over(size_t e, const cs_options &options) {
-        return cs_draw_edge_over(&tables, &edges[e], &options, first.data(), first.size(), second.data(), second.size(), &way, &count);
+        return cs_draw_over(&tables, &edges[e], &options, first.data(), first.size(), second.data(), second.size(), &way, &count);
     }
     uint32_t add_point(Vec p) {
         points.insert(points.end(), {p.x, p.y, p.z});
