@@ -20,7 +20,8 @@ use Rattle.curve_prepared.specs.declared.Prepared.{Prepared}
 use Rattle.curve_prepared.specs.Own.Prepared.{preparedOf, preparedPoint}
 use Rattle.curve_prepared.proofs.Laws.{point-by, prepared-point}
 use Rattle.edge_record.specs.declared.Sample.{Sample}
-use Rattle.edge_record.specs.Chain.{width, row, flat, lastOf, pointAt as inChain}
+use Rattle.edge_record.specs.Chain.{width, row, flat, lastOf}
+use Rattle.edge_record.specs.Own.Stored.{pointAt as inChain}
 use Rattle.edge_closed_form.proofs.Located.{on, located-length, located-at}
 use Rattle.edge_record.proofs.Laws.{push, sampleAt-behind}
 use Rattle.draw_spec.specs.Edge.{edgeCurve, edgeStart, edgeEnd, located, degenerateEnds, isReversed, oriented, movedTo, lastPinned, pinned, placed}

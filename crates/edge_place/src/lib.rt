@@ -12,7 +12,8 @@ ghost use lib.Seq.{sets};
 ghost use Rattle.brep.specs.Rows.{lent, given};
 ghost use Rattle.curve_prepared.specs.Own.Prepared.{preparedOf};
 ghost use Rattle.curve.specs.Eval.{pointAt as onCurve};
-ghost use Rattle.edge_record.specs.Chain.{width, flat, pointAt as inChain};
+ghost use Rattle.edge_record.specs.Chain.{width, flat};
+ghost use Rattle.edge_record.specs.Own.Stored.{pointAt as inChain};
 ghost use Rattle.draw_spec.specs.Edge.{edgeCurve, degenerateEnds, placed};
 ghost use Rattle.edge_place.specs.Own.Place.{ofPoints, runsBack, paramAt, recordAt, PointsKnown};
 

@@ -11,7 +11,7 @@ use Rattle.brep.specs.Rows.{Tables, tables}
 use Rattle.brep.specs.Tree.{CurveTree}
 use Rattle.curve.specs.Eval.{pointAt}
 use Rattle.edge_record.specs.declared.Sample.{Sample}
-use Rattle.edge_record.specs.Chain.{pointAt as inChain}
+use Rattle.edge_record.specs.Own.Stored.{pointAt as inChain}
 use Rattle.draw_spec.specs.Edge.{edgeCurve, edgeStart, edgeEnd, isReversed}
 
 -- the points alone, which is all that a vertex needs
