@@ -1,8 +1,9 @@
 // What bench/draw.rs times beside drawing and has no C name in ffi: a point of a curve, sorting breaks, clearing a buffer.
 ghost use mathlib.Core.Path.{_≡_};
 ghost use mathlib.Core.List.{[]};
-ghost use Prim.Native.Nat.{_≤_};
+ghost use mathlib.Core.Bool.{cond};
 ghost use lib.ListN.{length};
+ghost use lib.Dec.{leb};
 ghost use Rattle.base_lists.specs.Room.{filled};
 ghost use Rattle.knots_sort.specs.Own.Sortable.{mostKnots};
 ghost use Rattle.knots_inside.specs.Breaks.{insideOf};
@@ -32,13 +33,16 @@ pub extern "C" fn cs_point_at(
     *z = p.z;
 }
 
-// The breaks inside a range, of knots in any order.
+// The breaks inside a range, of knots in any order; none, and the knots as before, where there are more than can be sorted.
 #[no_mangle]
 pub extern "C" fn cs_breaks(knots: &mut [f64], lo: f64, hi: f64) -> usize
-    requires { ⌜ length (now knots) ≤ mostKnots ⌝ }
-    ensures { λ r. ⌜ (r ≡ length (insideOf (now (knots .entry)) lo hi)) × (now (knots .exit) ≡ filled (length (now (knots .entry))) (insideOf (now (knots .entry)) lo hi)) ⌝ }
+    ensures { λ r. ⌜ (r ≡ cond (leb (length (now (knots .entry))) mostKnots) (length (insideOf (now (knots .entry)) lo hi)) 0)
+        × (now (knots .exit) ≡ cond (leb (length (now (knots .entry))) mostKnots) (filled (length (now (knots .entry))) (insideOf (now (knots .entry)) lo hi)) (now (knots .entry))) ⌝ }
 {
-    knots_inside::inside(knots, lo, hi)
+    if knots.len() <= knots_sort::MOST_KNOTS {
+        return knots_inside::inside(knots, lo, hi);
+    }
+    0
 }
 
 // +0.0 in all of a buffer, as drawing does it.
