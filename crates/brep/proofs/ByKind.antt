@@ -1,14 +1,18 @@
 -- A row by its kind's number, for callers that read a row's numbers one by one. Assumes nothing.
 use mathlib.Core.Path.{_≡_, refl, sym, _∙_, subst}
+use mathlib.Core.Bool.{Bool, true, false, cond}
 use mathlib.Core.List.{List, []}
 use Prim.Native.Nat.{ℕ, _+_, _*_}
 use lib.ListN.{getD}
+use lib.Dec.{eqb}
 use lib.Ieee.{Float, nan}
-use borrow.Author.Tests.{ne-eqb}
+use borrow.Author.Tests.{eqb-true, ne-eqb}
+use Rattle.math.specs.declared.Vec3.{Vec3}
 use Rattle.math.specs.Math.{interval}
+use Rattle.brep.specs.declared.Curve.{Curve}
 use Rattle.brep.specs.declared.Curve.the-variants.{Line, Circle, Ellipse, Parabola, Polyline, Trimmed, Composite}
 use Rattle.brep.specs.Rows.{Tables, pointOf, frameOf, kindOf, curveOf}
-use Rattle.brep.specs.Tree.{CurveTree, line, circle, ellipse, parabola, polyline, trimmed, composite, run, segments, rowIn, grown, below, tree}
+use Rattle.brep.specs.Tree.{Analytic, CurveTree, analytic, line, circle, ellipse, parabola, polyline, trimmed, composite, run, segments, rowIn, grown, below, tree}
 use Rattle.brep.proofs.Laws.{at-row}
 
 -- a row's five numbers
@@ -31,6 +35,13 @@ qIn T row = getD (T .reals) (row * 2 + 1) nan
 abbrev pub Unknown : ℕ → Type 0
 Unknown k =
     ((((((Unit {0} × (k ≡ 1 → ⊥)) × (k ≡ 2 → ⊥)) × (k ≡ 3 → ⊥)) × (k ≡ 4 → ⊥)) × (k ≡ 5 → ⊥)) × (k ≡ 6 → ⊥)) × (k ≡ 7 → ⊥)
+
+-- none of them but a trim's
+abbrev pub Left : ℕ → Type 0
+Left k = (((((Unit {0} × (k ≡ 1 → ⊥)) × (k ≡ 2 → ⊥)) × (k ≡ 3 → ⊥)) × (k ≡ 4 → ⊥)) × (k ≡ 5 → ⊥)) × (k ≡ 7 → ⊥)
+
+pub left-unknown : {k : ℕ} → Left k → (k ≡ 6 → ⊥) → Unknown k
+left-unknown n m = ((n .0, m), n .1)
 
 -- THE LAW OF KINDS: what a row is, by its kind's number
 module _ (T : Tables) (row : ℕ) where
@@ -69,21 +80,68 @@ module _ (T : Tables) (row : ℕ) where
       let k = kindIn T row in
       simp (ne-eqb k 1 (n .0 .0 .0 .0 .0 .0 .1), ne-eqb k 2 (n .0 .0 .0 .0 .0 .1), ne-eqb k 3 (n .0 .0 .0 .0 .1), ne-eqb k 4 (n .0 .0 .0 .1), ne-eqb k 5 (n .0 .0 .1), ne-eqb k 6 (n .0 .1), ne-eqb k 7 (n .1))
 
+-- a curve's number among the kinds
+abbrev pub numberOf : Curve → ℕ
+numberOf (Line origin direction) = 1
+numberOf (Circle frame radius) = 2
+numberOf (Ellipse frame major minor) = 3
+numberOf (Parabola frame focal) = 4
+numberOf (Polyline first count) = 5
+numberOf (Trimmed base range) = 6
+numberOf (Composite first count) = 7
+
+module _ (T : Tables) (row : ℕ) where
+  -- one test of a row's number
+  test : (Q : Curve → Type 0) (k : ℕ) {x y : Curve} → (kindIn T row ≡ k → Q x) → Q y → Q (cond (eqb (kindIn T row) k) x y)
+  test Q k {x} {y} h l = go (eqb (kindIn T row) k) refl
+    where
+      go : (b : Bool) → eqb (kindIn T row) k ≡ b → Q (cond b x y)
+      go true e = h (eqb-true (kindIn T row) k e)
+      go false e = l
+
+  -- the number of a row that is read as any kind but a polyline, which stands for unknown numbers too
+  pub number : {c : Curve} → rowIn T row ≡ c → (numberOf c ≡ 5 → ⊥) → kindIn T row ≡ numberOf c
+  unfolding curveOf kindOf
+  number e =
+      let Q : Curve → Type 0 = λ c. (numberOf c ≡ 5 → ⊥) → kindIn T row ≡ numberOf c in
+      subst Q e
+      (test Q 1 (λ k h. k)
+      (test Q 2 (λ k h. k)
+      (test Q 3 (λ k h. k)
+      (test Q 4 (λ k h. k)
+      (test Q 5 (λ k h. k)
+      (test Q 6 (λ k h. k)
+      (test Q 7 (λ k h. k) (λ h. absurd (h refl)))))))))
+
+  -- a row that is no trim and no composite: what is so of every analytic curve and of every polyline is so of it, whatever f gives
+  pub row-leaf : (f : ℕ → CurveTree) (P : CurveTree → Type 0) → ((c : Analytic) → P (analytic c)) → ((ps : List Vec3) → P (polyline ps))
+      → (kindIn T row ≡ 6 → ⊥) → (kindIn T row ≡ 7 → ⊥) → P (grown T f (rowIn T row))
+  unfolding curveOf kindOf grown
+  row-leaf f P a p m n =
+      let Q : Curve → Type 0 = λ c. P (grown T f c) in
+      test Q 1 (λ k. a _)
+      (test Q 2 (λ k. a _)
+      (test Q 3 (λ k. a _)
+      (test Q 4 (λ k. a _)
+      (test Q 5 (λ k. p _)
+      (test Q 6 (λ k. absurd (m k))
+      (test Q 7 (λ k. absurd (n k)) (p _)))))))
+
 -- how an evaluator F uses it: at a row whose numbers are kind, first, count, p and q
 module _ {A : Type 0} (F : CurveTree → A) (T : Tables) (row : ℕ) {kind : ℕ} (e : kind ≡ kindIn T row) where
-  pub at-line : kind ≡ 1 → {first : ℕ} → first ≡ firstIn T row → F (line (pointOf (T .points) first) (pointOf (T .points) (first + 1))) ≡ F (tree T row)
+  pub at-line : kind ≡ 1 → {first : ℕ} → first ≡ firstIn T row → F (analytic (line (pointOf (T .points) first) (pointOf (T .points) (first + 1)))) ≡ F (tree T row)
   unfolding grown
   at-line k f = rw f (at-row F T row refl (row-line T row (sym e ∙ k)))
 
-  pub at-circle : kind ≡ 2 → {first : ℕ} {p : Float} → first ≡ firstIn T row → p ≡ pIn T row → F (circle (frameOf (T .points) first) p) ≡ F (tree T row)
+  pub at-circle : kind ≡ 2 → {first : ℕ} {p : Float} → first ≡ firstIn T row → p ≡ pIn T row → F (analytic (circle (frameOf (T .points) first) p)) ≡ F (tree T row)
   unfolding grown
   at-circle k f g = rw (f, g) (at-row F T row refl (row-circle T row (sym e ∙ k)))
 
-  pub at-ellipse : kind ≡ 3 → {first : ℕ} {p q : Float} → first ≡ firstIn T row → p ≡ pIn T row → q ≡ qIn T row → F (ellipse (frameOf (T .points) first) p q) ≡ F (tree T row)
+  pub at-ellipse : kind ≡ 3 → {first : ℕ} {p q : Float} → first ≡ firstIn T row → p ≡ pIn T row → q ≡ qIn T row → F (analytic (ellipse (frameOf (T .points) first) p q)) ≡ F (tree T row)
   unfolding grown
   at-ellipse k f g h = rw (f, g, h) (at-row F T row refl (row-ellipse T row (sym e ∙ k)))
 
-  pub at-parabola : kind ≡ 4 → {first : ℕ} {p : Float} → first ≡ firstIn T row → p ≡ pIn T row → F (parabola (frameOf (T .points) first) p) ≡ F (tree T row)
+  pub at-parabola : kind ≡ 4 → {first : ℕ} {p : Float} → first ≡ firstIn T row → p ≡ pIn T row → F (analytic (parabola (frameOf (T .points) first) p)) ≡ F (tree T row)
   unfolding grown
   at-parabola k f g = rw (f, g) (at-row F T row refl (row-parabola T row (sym e ∙ k)))
 
@@ -102,3 +160,8 @@ module _ {A : Type 0} (F : CurveTree → A) (T : Tables) (row : ℕ) {kind : ℕ
   pub at-unknown : Unknown kind → F (polyline []) ≡ F (tree T row)
   unfolding grown run
   at-unknown n = at-row F T row refl (row-unknown T row (subst Unknown e n))
+
+  -- an F that is v of every analytic curve and of every polyline, at a row that is no trim and no composite
+  pub at-leaf : (v : A) → ((c : Analytic) → v ≡ F (analytic c)) → ((ps : List Vec3) → v ≡ F (polyline ps)) → (kind ≡ 6 → ⊥) → (kind ≡ 7 → ⊥) → v ≡ F (tree T row)
+  unfolding tree
+  at-leaf v a p m n = row-leaf T row (below T row) (λ c. v ≡ F c) a p (λ k. m (e ∙ k)) (λ k. n (e ∙ k))

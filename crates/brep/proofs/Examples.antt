@@ -10,7 +10,7 @@ use Rattle.math.specs.declared.Vec3.{Vec3}
 use Rattle.math.specs.declared.Frame.{Frame}
 use Rattle.math.specs.Math.{vec, interval}
 use Rattle.brep.specs.Rows.{Tables, tables, pointOf, frameOf, segmentOf, kindOf, curveOf}
-use Rattle.brep.specs.Tree.{CurveTree, line, circle, ellipse, parabola, polyline, trimmed, composite, none, segment, run, segments, grown, below, tree}
+use Rattle.brep.specs.Tree.{CurveTree, analytic, line, circle, ellipse, parabola, polyline, trimmed, composite, none, segment, run, segments, grown, below, tree}
 
 -- a small whole number as a float
 abbrev f : ℕ → Float
@@ -63,24 +63,24 @@ placed = record { origin = p₀; axis = p₁; «ref_dir» = p₂ }
 -- what each row is read as
 trees : List CurveTree
 trees =
-    line p₀ p₁
-    ∷ circle placed (f 10)
-    ∷ ellipse placed (f 11) (f 12)
-    ∷ parabola placed (f 13)
+    analytic (line p₀ p₁)
+    ∷ analytic (circle placed (f 10))
+    ∷ analytic (ellipse placed (f 11) (f 12))
+    ∷ analytic (parabola placed (f 13))
     ∷ polyline (p₁ ∷ p₂ ∷ [])
-    ∷ trimmed (line p₀ p₁) (interval (f 14) (f 15))
+    ∷ trimmed (analytic (line p₀ p₁)) (interval (f 14) (f 15))
     ∷ composite
-    (segment (trimmed (line p₀ p₁) (interval (f 14) (f 15))) (interval (f 20) (f 21)) true
-    (segment (circle placed (f 10)) (interval (f 22) (f 23)) false none))
+    (segment (trimmed (analytic (line p₀ p₁)) (interval (f 14) (f 15))) (interval (f 20) (f 21)) true
+    (segment (analytic (circle placed (f 10))) (interval (f 22) (f 23)) false none))
     -- a run of points past the end
     ∷ polyline (p₂ ∷ p₃ ∷ [])
     -- a trim of its own row
     ∷ trimmed (polyline []) (interval (f 16) (f 17))
     -- a run of segments past the end, and a segment whose curve is the composite's own row
     ∷ composite
-    (segment (circle placed (f 10)) (interval (f 22) (f 23)) false
+    (segment (analytic (circle placed (f 10))) (interval (f 22) (f 23)) false
     (segment (polyline []) (interval (f 24) (f 25)) true
-    (segment (line p₀ p₁) (interval nan nan) false none)))
+    (segment (analytic (line p₀ p₁)) (interval nan nan) false none)))
     -- an unknown kind, and a row past the end
     ∷ polyline []
     ∷ polyline []

@@ -12,17 +12,21 @@ use Rattle.brep.specs.declared.Curve.{Curve}
 use Rattle.brep.specs.declared.Curve.the-variants.{Line, Circle, Ellipse, Parabola, Polyline, Trimmed, Composite}
 use Rattle.brep.specs.Rows.{Tables, pointOf, segmentOf, curveOf}
 
--- Curve and Vec<CompositeSegment> of brep.rs, the kinds that are kept
+-- the analytic curves of brep.rs' Curve that are kept
+pub data Analytic : Type 0 where
+  -- origin, direction
+  line : Vec3 → Vec3 → Analytic
+  -- frame, radius
+  circle : Frame → Float → Analytic
+  -- frame, semi_major, semi_minor
+  ellipse : Frame → Float → Float → Analytic
+  -- frame, focal_dist
+  parabola : Frame → Float → Analytic
+
+-- Curve and Vec<CompositeSegment> of brep.rs, the kinds that are kept; the analytic ones in one case, for what is the same for all of them
 mutual
   pub data CurveTree : Type 0 where
-    -- origin, direction
-    line : Vec3 → Vec3 → CurveTree
-    -- frame, radius
-    circle : Frame → Float → CurveTree
-    -- frame, semi_major, semi_minor
-    ellipse : Frame → Float → Float → CurveTree
-    -- frame, focal_dist
-    parabola : Frame → Float → CurveTree
+    analytic : Analytic → CurveTree
     -- points
     polyline : List Vec3 → CurveTree
     -- base, range
@@ -56,10 +60,10 @@ segments T f first (suc n) =
 
 -- a row as a tree, where f gives the tree of each row that it refers to
 unfoldable pub grown : Tables → (ℕ → CurveTree) → Curve → CurveTree
-grown T f (Line origin direction) = line origin direction
-grown T f (Circle frame radius) = circle frame radius
-grown T f (Ellipse frame major minor) = ellipse frame major minor
-grown T f (Parabola frame focal) = parabola frame focal
+grown T f (Line origin direction) = analytic (line origin direction)
+grown T f (Circle frame radius) = analytic (circle frame radius)
+grown T f (Ellipse frame major minor) = analytic (ellipse frame major minor)
+grown T f (Parabola frame focal) = analytic (parabola frame focal)
 grown T f (Polyline first count) = polyline (run (T .points) first count)
 grown T f (Trimmed base range) = trimmed (f base) range
 grown T f (Composite first count) = composite (segments T f first count)

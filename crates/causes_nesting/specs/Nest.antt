@@ -5,7 +5,7 @@ use lib.Dec.{ltb, leb}
 use Rattle.brep.specs.declared.Curve.{Curve}
 use Rattle.brep.specs.declared.Curve.the-variants.{Line, Circle, Ellipse, Parabola, Polyline, Trimmed, Composite}
 use Rattle.brep.specs.Rows.{Tables}
-use Rattle.brep.specs.Tree.{CurveTree, line, circle, ellipse, parabola, polyline, trimmed, composite, Segments, none, segment, segmentIn, rowIn, tree}
+use Rattle.brep.specs.Tree.{CurveTree, analytic, polyline, trimmed, composite, Segments, none, segment, segmentIn, rowIn, tree}
 use Rattle.causes_bounds.specs.Some.{someBelow}
 use Rattle.causes_form.specs.Forms.{curveCount, malformedRow}
 
@@ -31,13 +31,10 @@ unorderedRow T row = notLower T row (rowIn T row)
 abbrev pub unordered : Tables → Bool
 unordered T = someBelow (curveCount T) (unorderedRow T)
 
--- 0 for kinds 1 to 5, one more than its base for a trim, one more than its deepest segment for a composite
+-- 0 for an analytic curve or a polyline, one more than its base for a trim, one more than its deepest segment for a composite
 unfoldable mutual
   pub nesting : CurveTree → ℕ
-  nesting (line origin direction) = 0
-  nesting (circle frame radius) = 0
-  nesting (ellipse frame major minor) = 0
-  nesting (parabola frame focal) = 0
+  nesting (analytic c) = 0
   nesting (polyline points) = 0
   nesting (trimmed base range) = suc (nesting base)
   nesting (composite ss) = suc (deepest ss)

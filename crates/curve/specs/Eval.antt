@@ -9,7 +9,7 @@ use Rattle.arith.specs.Notation.{_⊖_, bits, count, plusZero}
 use Rattle.arith.specs.Pick.{absOf}
 use Rattle.math.specs.declared.Interval.{Interval}
 use Rattle.math.specs.Math.{interval, spanOf}
-use Rattle.brep.specs.Tree.{CurveTree, line, circle, ellipse, parabola, polyline, trimmed, composite}
+use Rattle.brep.specs.Tree.{CurveTree, analytic, line, circle, ellipse, parabola, polyline, trimmed, composite}
 use Rattle.curve.specs.declared.Repeats.{Repeats}
 use Rattle.curve.specs.declared.Repeats.the-variants.{Every, Never}
 pub use Rattle.curve_parameter.specs.Run.{indexIn, clampedTo, segmentIndex, segmentLocal}
@@ -24,20 +24,20 @@ tau = bits 0x401921FB54442D18
 
 -- Curve::natural_range: a line's is ±1e12, a parabola's ±1e6
 unfoldable pub naturalRange : CurveTree → Interval
-naturalRange (line o d) = interval (neg (bits 0x426D1A94A2000000)) (bits 0x426D1A94A2000000)
-naturalRange (circle f r) = interval plusZero tau
-naturalRange (ellipse f a b) = interval plusZero tau
-naturalRange (parabola f d) = interval (neg (bits 0x412E848000000000)) (bits 0x412E848000000000)
+naturalRange (analytic (line o d)) = interval (neg (bits 0x426D1A94A2000000)) (bits 0x426D1A94A2000000)
+naturalRange (analytic (circle f r)) = interval plusZero tau
+naturalRange (analytic (ellipse f a b)) = interval plusZero tau
+naturalRange (analytic (parabola f d)) = interval (neg (bits 0x412E848000000000)) (bits 0x412E848000000000)
 naturalRange (polyline ps) = interval plusZero (count (length ps - 1))
 naturalRange (trimmed base range) = range
 naturalRange (composite ss) = interval plusZero (count (runLength ss))
 
 -- Curve::is_closed: a trim of a closed curve is, if its span is within 1e-9 of the curve's own
 unfoldable pub isClosed : CurveTree → Bool
-isClosed (line o d) = false
-isClosed (circle f r) = true
-isClosed (ellipse f a b) = true
-isClosed (parabola f d) = false
+isClosed (analytic (line o d)) = false
+isClosed (analytic (circle f r)) = true
+isClosed (analytic (ellipse f a b)) = true
+isClosed (analytic (parabola f d)) = false
 isClosed (polyline ps) = closes ps
 isClosed (trimmed base range) =
     isClosed base && lt (absOf (absOf (spanOf range) ⊖ spanOf (naturalRange base))) (bits 0x3E112E0BE826D695)
@@ -49,20 +49,17 @@ everySpan span = cond (lt plusZero span && finite span) (Every span) Never
 
 -- Curve::period
 unfoldable pub period : CurveTree → Repeats
-period (line o d) = Never
-period (circle f r) = Every tau
-period (ellipse f a b) = Every tau
-period (parabola f d) = Never
+period (analytic (line o d)) = Never
+period (analytic (circle f r)) = Every tau
+period (analytic (ellipse f a b)) = Every tau
+period (analytic (parabola f d)) = Never
 period (polyline ps) = cond (closes ps) (everySpan (spanOf (naturalRange (polyline ps)))) Never
 period (trimmed base range) = period base
 period (composite ss) = Never
 
 -- is_sampled of edge.rs: a polyline, or a trim of one
 unfoldable pub isSampled : CurveTree → Bool
-isSampled (line o d) = false
-isSampled (circle f r) = false
-isSampled (ellipse f a b) = false
-isSampled (parabola f d) = false
+isSampled (analytic c) = false
 isSampled (polyline ps) = true
 isSampled (trimmed base range) = isSampled base
 isSampled (composite ss) = false

@@ -14,7 +14,7 @@ use Rattle.arith_trig.specs.Trig.{sinOf, cosOf}
 use Rattle.math.specs.declared.Vec3.{Vec3}
 use Rattle.math.specs.declared.Frame.{Frame}
 use Rattle.math.specs.Math.{vZero, vAdd, vSub, vScale, vLerp, vCross, yDir, polar, vec}
-use Rattle.brep.specs.Tree.{line, circle, ellipse, parabola, polyline}
+use Rattle.brep.specs.Tree.{analytic, line, circle, ellipse, parabola, polyline}
 use Rattle.curve.specs.Eval.{pointAt, ellipsePoint, parabolaPoint, polylineParameter, polylinePoint, indexIn, alongFrom}
 use Rattle.curve_iso.specs.Iso.{Expr, value, exact, rounded, roundedVector, isoLine, rustLine, isoCircle, rustCircle, isoEllipse, rustEllipse, isoParabola, rustParabola, isoPolyline, isoPolylineFromOne, rustPolyline, crossPart, one, _+_ as _plus_}
 
@@ -99,22 +99,22 @@ module _ {ℓ} {A : Type ℓ} (K : CommRing A) where
   polyline-from-one-exact P next i u = rw (add-sub-add-right-eq-sub group (exact K u) (exact K i) (K .one)) (weights (exact K P) (exact K next) (exact K i) (exact K u))
 
 -- (b) the rounded meaning: x is ref_dir, y the computed axis × ref_dir, cos u and sin u the fixed steps for them
-pub line-rounded : (o d : Vec3) (t : Float) → pointAt (line o d) t ≡ roundedVector (λ part. rustLine (part o) (part d) (value t))
+pub line-rounded : (o d : Vec3) (t : Float) → pointAt (analytic (line o d)) t ≡ roundedVector (λ part. rustLine (part o) (part d) (value t))
 unfolding pointAt vAdd vScale roundedVector rounded rustLine
 line-rounded o d t = refl
 
 pub circle-rounded : (f : Frame) (r t : Float) →
-    pointAt (circle f r) t ≡ roundedVector (λ part. rustCircle (part (f .origin)) (value r) (part (f .«ref_dir»)) (part (yDir f)) (value (cosOf t)) (value (sinOf t)))
+    pointAt (analytic (circle f r)) t ≡ roundedVector (λ part. rustCircle (part (f .origin)) (value r) (part (f .«ref_dir»)) (part (yDir f)) (value (cosOf t)) (value (sinOf t)))
 unfolding pointAt polar vAdd vScale roundedVector rounded rustCircle
 circle-rounded f r t = refl
 
 pub ellipse-rounded : (f : Frame) (a b t : Float) →
-    pointAt (ellipse f a b) t ≡ roundedVector (λ part. rustEllipse (part (f .origin)) (value a) (value b) (part (f .«ref_dir»)) (part (yDir f)) (value (cosOf t)) (value (sinOf t)))
+    pointAt (analytic (ellipse f a b)) t ≡ roundedVector (λ part. rustEllipse (part (f .origin)) (value a) (value b) (part (f .«ref_dir»)) (part (yDir f)) (value (cosOf t)) (value (sinOf t)))
 unfolding pointAt ellipsePoint vAdd vScale roundedVector rounded rustEllipse
 ellipse-rounded f a b t = refl
 
 pub parabola-rounded : (f : Frame) (d t : Float) →
-    pointAt (parabola f d) t ≡ roundedVector (λ part. rustParabola (part (f .origin)) (value d) (part (f .«ref_dir»)) (part (yDir f)) (value t))
+    pointAt (analytic (parabola f d)) t ≡ roundedVector (λ part. rustParabola (part (f .origin)) (value d) (part (f .«ref_dir»)) (part (yDir f)) (value t))
 unfolding pointAt parabolaPoint vAdd vScale roundedVector rounded rustParabola
 parabola-rounded f d t = refl
 

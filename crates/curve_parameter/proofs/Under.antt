@@ -6,15 +6,13 @@ use Prim.Native.Nat.{ℕ, zero, suc, _+_, _*_, _<_, _≤_}
 use native.Mathlib.Omega.{arith}
 use lib.ListN.{getD}
 use lib.Dec.{eqb, ltb}
-use lib.Ieee.{Float}
 use borrow.Author.Tests.{eqb-true, eqb-false, eq-eqb, ne-eqb, ltb-true, ltb-false, lt-ltb, le-ltb}
 use Rattle.math.specs.declared.Vec3.{Vec3}
-use Rattle.math.specs.declared.Frame.{Frame}
 use Rattle.math.specs.declared.Interval.{Interval}
 use Rattle.brep.specs.Rows.{Tables}
-use Rattle.brep.specs.Tree.{CurveTree, line, circle, ellipse, parabola, polyline, trimmed, tree}
+use Rattle.brep.specs.Tree.{Analytic, CurveTree, analytic, polyline, trimmed, tree}
 use Rattle.brep.proofs.Laws.{at-lower, at-high}
-use Rattle.brep.proofs.ByKind.{kindIn, firstIn, at-line, at-circle, at-ellipse, at-parabola, at-polyline, at-trim, at-unknown}
+use Rattle.brep.proofs.ByKind.{kindIn, firstIn, Left, left-unknown, at-leaf, at-trim, at-unknown}
 use Rattle.curve_parameter.specs.Own.Under.{descends, downBy, under}
 
 module _ (curves : List ℕ) where
@@ -115,10 +113,6 @@ module _ (curves : List ℕ) where
       go true b k h = h
       go false b k h = cc
 
--- none of the numbers but a trim's, as a match's last arm has it
-abbrev pub Left : ℕ → Type 0
-Left k = (((((Unit {0} × (k ≡ 1 → ⊥)) × (k ≡ 2 → ⊥)) × (k ≡ 3 → ⊥)) × (k ≡ 4 → ⊥)) × (k ≡ 5 → ⊥)) × (k ≡ 7 → ⊥)
-
 -- an evaluator F that looks through trims has one value at both rows
 module _ {A : Type 0} (F : CurveTree → A) (through : (b : CurveTree) (r : Interval) → F (trimmed b r) ≡ F b) (T : Tables) where
   same : (n row : ℕ) → F (tree T (downBy n (T .curves) row)) ≡ F (tree T row)
@@ -136,39 +130,23 @@ module _ {A : Type 0} (F : CurveTree → A) (through : (b : CurveTree) (r : Inte
   pub under-same : (row : ℕ) {r : ℕ} → r ≡ under (T .curves) row → F (tree T r) ≡ F (tree T row)
   under-same row e = ap (λ (i : ℕ). F (tree T i)) e ∙ same row row
 
-  -- the kinds that are left: a trim that stays where it is, and an unknown one
+  -- a trim that stays where it is reads as the empty polyline
+  pub empty-trim : (row : ℕ) {r kind : ℕ} → r ≡ under (T .curves) row → kind ≡ kindIn T r → kind ≡ 6 → F (polyline []) ≡ F (tree T row)
+  empty-trim row {r} e k six =
+      at-high F T r (under-trim (T .curves) row e (sym k ∙ six)) ∙ sym (through _ _) ∙ at-trim F T r k six refl refl refl ∙ under-same row e
+
+  -- the kinds that are left: such a trim, and an unknown one
   pub under-rest : (row : ℕ) {r kind : ℕ} → r ≡ under (T .curves) row → kind ≡ kindIn T r → Left kind → F (polyline []) ≡ F (tree T row)
-  under-rest row {r} {kind} e k n = go (eqb kind 6) refl ∙ under-same row e
+  under-rest row {r} {kind} e k n = go (eqb kind 6) refl
     where
-      go : (v : Bool) → eqb kind 6 ≡ v → F (polyline []) ≡ F (tree T r)
-      go true h =
-          let six = eqb-true kind 6 h in
-          at-high F T r (under-trim (T .curves) row e (sym k ∙ six)) ∙ sym (through _ _) ∙ at-trim F T r k six refl refl refl
-      go false h = at-unknown F T r k ((n .0, eqb-false kind 6 h), n .1)
+      go : (v : Bool) → eqb kind 6 ≡ v → F (polyline []) ≡ F (tree T row)
+      go true h = empty-trim row e k (eqb-true kind 6 h)
+      go false h = at-unknown F T r k (left-unknown n (eqb-false kind 6 h)) ∙ under-same row e
 
-  -- an F that is v of all but composites
-  module _ (v : A) (l : (o d : Vec3) → v ≡ F (line o d)) (c : (f : Frame) (r : Float) → v ≡ F (circle f r)) (e : (f : Frame) (a b : Float) → v ≡ F (ellipse f a b))
-      (p : (f : Frame) (d : Float) → v ≡ F (parabola f d)) (s : (ps : List Vec3) → v ≡ F (polyline ps)) where
-    pub under-none : (row : ℕ) {r kind : ℕ} → r ≡ under (T .curves) row → kind ≡ kindIn T r → (kind ≡ 7 → ⊥) → v ≡ F (tree T row)
-    under-none row {r} {kind} u k n = one (eqb kind 1) refl
-      where
-        five : (b : Bool) → eqb kind 5 ≡ b → eqb kind 1 ≡ false → eqb kind 2 ≡ false → eqb kind 3 ≡ false → eqb kind 4 ≡ false → v ≡ F (tree T row)
-        five true h h1 h2 h3 h4 = s _ ∙ at-polyline F T r k (eqb-true kind 5 h) refl refl ∙ under-same row u
-        five false h h1 h2 h3 h4 =
-            s [] ∙ under-rest row u k ((((((tt, eqb-false kind 1 h1), eqb-false kind 2 h2), eqb-false kind 3 h3), eqb-false kind 4 h4), eqb-false kind 5 h), n)
-
-        four : (b : Bool) → eqb kind 4 ≡ b → eqb kind 1 ≡ false → eqb kind 2 ≡ false → eqb kind 3 ≡ false → v ≡ F (tree T row)
-        four true h h1 h2 h3 = p _ _ ∙ at-parabola F T r k (eqb-true kind 4 h) refl refl ∙ under-same row u
-        four false h h1 h2 h3 = five (eqb kind 5) refl h1 h2 h3 h
-
-        three : (b : Bool) → eqb kind 3 ≡ b → eqb kind 1 ≡ false → eqb kind 2 ≡ false → v ≡ F (tree T row)
-        three true h h1 h2 = e _ _ _ ∙ at-ellipse F T r k (eqb-true kind 3 h) refl refl refl ∙ under-same row u
-        three false h h1 h2 = four (eqb kind 4) refl h1 h2 h
-
-        two : (b : Bool) → eqb kind 2 ≡ b → eqb kind 1 ≡ false → v ≡ F (tree T row)
-        two true h h1 = c _ _ ∙ at-circle F T r k (eqb-true kind 2 h) refl refl ∙ under-same row u
-        two false h h1 = three (eqb kind 3) refl h1 h
-
-        one : (b : Bool) → eqb kind 1 ≡ b → v ≡ F (tree T row)
-        one true h = l _ _ ∙ at-line F T r k (eqb-true kind 1 h) refl ∙ under-same row u
-        one false h = two (eqb kind 2) refl h
+  -- an F that is v of every analytic curve and of every polyline is v of all but composites
+  pub under-none : (v : A) → ((c : Analytic) → v ≡ F (analytic c)) → ((ps : List Vec3) → v ≡ F (polyline ps)) → (row : ℕ) {r kind : ℕ} → r ≡ under (T .curves) row → kind ≡ kindIn T r → (kind ≡ 7 → ⊥) → v ≡ F (tree T row)
+  under-none v a p row {r} {kind} e k n = go (eqb kind 6) refl
+    where
+      go : (b : Bool) → eqb kind 6 ≡ b → v ≡ F (tree T row)
+      go true h = p [] ∙ empty-trim row e k (eqb-true kind 6 h)
+      go false h = at-leaf F T r k v a p (eqb-false kind 6 h) n ∙ under-same row e

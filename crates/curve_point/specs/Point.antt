@@ -11,7 +11,7 @@ use Rattle.arith_trig.specs.Trig.{sinOf, cosOf}
 use Rattle.math.specs.declared.Vec3.{Vec3}
 use Rattle.math.specs.declared.Frame.{Frame}
 use Rattle.math.specs.Math.{vZero, vAdd, vScale, vLerp, yDir, polar}
-use Rattle.brep.specs.Tree.{CurveTree, line, circle, ellipse, parabola, polyline, trimmed, composite, Segments, none, segment}
+use Rattle.brep.specs.Tree.{CurveTree, analytic, line, circle, ellipse, parabola, polyline, trimmed, composite, Segments, none, segment}
 use Rattle.curve_parameter.specs.Run.{runLength, indexIn, polylineParameter, segmentIndex, segmentLocal, ownParameter}
 
 -- from point i towards the next, by what t has above i
@@ -37,10 +37,10 @@ parabolaPoint f d t = vAdd (vAdd (f .origin) (vScale (f .«ref_dir») (d ⊗ t �
 -- Curve::point_at
 unfoldable mutual
   pub pointAt : CurveTree → Float → Vec3
-  pointAt (line o d) t = vAdd o (vScale d t)
-  pointAt (circle f r) t = polar f r t
-  pointAt (ellipse f a b) t = ellipsePoint f a b t
-  pointAt (parabola f d) t = parabolaPoint f d t
+  pointAt (analytic (line o d)) t = vAdd o (vScale d t)
+  pointAt (analytic (circle f r)) t = polar f r t
+  pointAt (analytic (ellipse f a b)) t = ellipsePoint f a b t
+  pointAt (analytic (parabola f d)) t = parabolaPoint f d t
   pointAt (polyline ps) t = polylinePoint ps t
   pointAt (trimmed base range) t = pointAt base t
   pointAt (composite ss) t = segmentPoint ss (segmentIndex (runLength ss) t) (segmentLocal (runLength ss) t)

@@ -3,7 +3,7 @@ use mathlib.Core.Path.{_≡_, refl, sym, ap, _∙_}
 use lib.Ieee.{Float}
 use Rattle.math.specs.declared.Vec3.{Vec3}
 use Rattle.math.specs.Math.{polar}
-use Rattle.brep.specs.Tree.{CurveTree, line, circle, ellipse, parabola, polyline, trimmed, composite}
+use Rattle.brep.specs.Tree.{CurveTree, analytic, line, circle, ellipse, parabola, polyline, trimmed, composite}
 use Rattle.curve_point.specs.Point as curves
 use Rattle.curve_tangent.specs.Derivative as derivatives
 use Rattle.curve_prepared.specs.declared.Prepared.{Prepared}
@@ -12,10 +12,10 @@ use Rattle.curve_prepared.specs.Own.Prepared.{preparedOf, roundPoint, pr
 -- of a curve c that has the points of b, which is c with trims taken off
 points-of : (b c : CurveTree) (t : Float) → curves.pointAt c t ≡ curves.pointAt b t → preparedPoint (preparedOf b) c t ≡ curves.pointAt b t
 unfolding preparedPoint preparedOf roundPoint preparedParabola curves.pointAt curves.ellipsePoint curves.parabolaPoint polar
-points-of (line o d) c t e = refl
-points-of (circle f r) c t e = refl
-points-of (ellipse f a b) c t e = refl
-points-of (parabola f d) c t e = refl
+points-of (analytic (line o d)) c t e = refl
+points-of (analytic (circle f r)) c t e = refl
+points-of (analytic (ellipse f a b)) c t e = refl
+points-of (analytic (parabola f d)) c t e = refl
 points-of (polyline ps) c t e = e
 points-of (trimmed base range) c t e = points-of base c t e
 points-of (composite ss) c t e = e
@@ -26,10 +26,10 @@ prepared-point c t = points-of c c t refl
 -- the same of derivatives
 derivatives-of : (b c : CurveTree) (t : Float) → derivatives.derivativeAt c t ≡ derivatives.derivativeAt b t → preparedDerivative (preparedOf b) c t ≡ derivatives.derivativeAt b t
 unfolding preparedDerivative preparedOf roundDerivative parabolaSlope derivatives.derivativeAt derivatives.ellipseDerivative derivatives.parabolaDerivative
-derivatives-of (line o d) c t e = refl
-derivatives-of (circle f r) c t e = refl
-derivatives-of (ellipse f a b) c t e = refl
-derivatives-of (parabola f d) c t e = refl
+derivatives-of (analytic (line o d)) c t e = refl
+derivatives-of (analytic (circle f r)) c t e = refl
+derivatives-of (analytic (ellipse f a b)) c t e = refl
+derivatives-of (analytic (parabola f d)) c t e = refl
 derivatives-of (polyline ps) c t e = e
 derivatives-of (trimmed base range) c t e = derivatives-of base c t e
 derivatives-of (composite ss) c t e = e

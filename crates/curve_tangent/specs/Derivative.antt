@@ -12,7 +12,7 @@ use Rattle.math.specs.declared.Frame.{Frame}
 use Rattle.math.specs.declared.Direction.{Direction}
 use Rattle.math.specs.declared.Interval.{Interval}
 use Rattle.math.specs.Math.{vZero, vAdd, vSub, vScale, yDir, tryNormalized, spanOf}
-use Rattle.brep.specs.Tree.{CurveTree, line, circle, ellipse, parabola, polyline, trimmed, composite, Segments, none, segment}
+use Rattle.brep.specs.Tree.{CurveTree, analytic, line, circle, ellipse, parabola, polyline, trimmed, composite, Segments, none, segment}
 use Rattle.curve_parameter.specs.Run.{runLength, indexIn, polylineParameter, segmentIndex, segmentLocal, ownParameter}
 
 -- polyline_derivative: the segment's own vector
@@ -37,10 +37,10 @@ parabolaDerivative f d t = vAdd (vScale (f .«ref_dir») (two ⊗ d ⊗ t)) (vSc
 -- Curve::derivative_at
 unfoldable mutual
   pub derivativeAt : CurveTree → Float → Vec3
-  derivativeAt (line o d) t = d
-  derivativeAt (circle f r) t = ellipseDerivative f r r t
-  derivativeAt (ellipse f a b) t = ellipseDerivative f a b t
-  derivativeAt (parabola f d) t = parabolaDerivative f d t
+  derivativeAt (analytic (line o d)) t = d
+  derivativeAt (analytic (circle f r)) t = ellipseDerivative f r r t
+  derivativeAt (analytic (ellipse f a b)) t = ellipseDerivative f a b t
+  derivativeAt (analytic (parabola f d)) t = parabolaDerivative f d t
   derivativeAt (polyline ps) t = polylineDerivative ps t
   derivativeAt (trimmed base range) t = derivativeAt base t
   derivativeAt (composite ss) t = segmentDerivative ss (segmentIndex (runLength ss) t) (segmentLocal (runLength ss) t)

@@ -10,7 +10,7 @@ use lib.Ieee.{Float}
 use borrow.Author.Tests.{ltb-true}
 use Rattle.base_lists.specs.Result.{Result, refused, got, bind}
 use Rattle.math.specs.declared.Interval.{Interval}
-use Rattle.brep.specs.Tree.{CurveTree, line, circle, ellipse, parabola, polyline, trimmed, composite}
+use Rattle.brep.specs.Tree.{CurveTree, analytic, line, circle, ellipse, parabola, polyline, trimmed, composite}
 use Rattle.options.specs.declared.Resolved.{Resolved}
 use Rattle.options.specs.Options.{segmentsForArc}
 use Rattle.edge_params.specs.declared.Closed.{Closed}
@@ -30,10 +30,10 @@ formless n e = let z : _≡_ {A = ℕ} 0 1 = cc in absurd (omega arith)
 
 form-some : (c : CurveTree) (range : Interval) (r : Resolved) (n : ℕ) → analyticSegments c range r ≡ Segments n → 1 ≤ n
 unfolding analyticSegments segmentsForArc
-form-some (line o d) range r n e = at-least _ n e
-form-some (circle f radius) range r n e = at-least _ n e
-form-some (ellipse f major minor) range r n e = at-least _ n e
-form-some (parabola f d) range r n e = formless n e
+form-some (analytic (line o d)) range r n e = at-least _ n e
+form-some (analytic (circle f radius)) range r n e = at-least _ n e
+form-some (analytic (ellipse f major minor)) range r n e = at-least _ n e
+form-some (analytic (parabola f d)) range r n e = formless n e
 form-some (polyline ps) range r n e = formless n e
 form-some (trimmed base own) range r n e = form-some base range r n e
 form-some (composite ss) range r n e = formless n e

@@ -1,6 +1,6 @@
 -- What callers use: how many knots a run has, that a composite's knots are its run's, and that they fit where every composite is short enough.
 -- Assumes nothing.
-use mathlib.Core.Path.{_≡_, refl, ap}
+use mathlib.Core.Path.{_≡_, refl, sym, ap}
 use mathlib.Core.Bool.{Bool, true, false}
 use mathlib.Core.List.{List, _∷_}
 use Prim.Native.Nat.{ℕ, zero, suc, _*_, _≤_}
@@ -8,10 +8,11 @@ use native.Mathlib.Omega.{arith}
 use lib.ListN.{length}
 use lib.Dec.{eqb}
 use lib.Ieee.{Float}
-use Rattle.brep.specs.declared.Curve.{Curve}
-use Rattle.brep.specs.declared.Curve.the-variants.{Line, Circle, Ellipse, Parabola, Polyline, Trimmed, Composite}
+use borrow.Author.Tests.{eqb-true, eqb-false}
+use Rattle.brep.specs.declared.Curve.the-variants.{Composite}
 use Rattle.brep.specs.Rows.{Tables}
 use Rattle.brep.specs.Tree.{CurveTree, segments, grown, below, segmentIn, rowIn, tree}
+use Rattle.brep.proofs.ByKind.{kindIn, firstIn, countIn, row-trim, row-composite, row-leaf}
 use Rattle.knots.specs.Knots.{segmentKnots, curveKnots}
 use Rattle.knots.specs.Own.Gathered.{runKnots}
 
@@ -29,16 +30,17 @@ run-knots T f first (suc n) = ap (λ (l : List Float). segmentIn T first .range 
 module _ (T : Tables) (n : ℕ) (short : (i first count : ℕ) → rowIn T i ≡ Composite first count → count ≤ n) where
   few-grown : (f : ℕ → CurveTree) → ((i : ℕ) → length (curveKnots (f i)) ≤ 2 * n) → (row : ℕ) → length (curveKnots (grown T f (rowIn T row))) ≤ 2 * n
   unfolding curveKnots grown
-  few-grown f h row = go (rowIn T row) refl
+  few-grown f h row = go (eqb (kindIn T row) 6) (eqb (kindIn T row) 7) refl refl
     where
-      go : (c : Curve) → rowIn T row ≡ c → length (curveKnots (grown T f c)) ≤ 2 * n
-      go (Line o d) e = omega arith
-      go (Circle g r) e = omega arith
-      go (Ellipse g a b) e = omega arith
-      go (Parabola g d) e = omega arith
-      go (Polyline first count) e = omega arith
-      go (Trimmed base range) e = h base
-      go (Composite first count) e = omega (arith, short row first count e, ap length (run-knots T f first count), run-length (T .parts) (T .ranges) first count)
+      go : (a b : Bool) → eqb (kindIn T row) 6 ≡ a → eqb (kindIn T row) 7 ≡ b → length (curveKnots (grown T f (rowIn T row))) ≤ 2 * n
+      go true b e g = rw (← row-trim T row (eqb-true (kindIn T row) 6 e)) (h (firstIn T row))
+      go false true e g =
+          let r = row-composite T row (eqb-true (kindIn T row) 7 g) in
+          let l = run-knots T f (firstIn T row) (countIn T row) in
+          rw (← r) (omega (arith, short row _ _ (sym r), ap length l, run-length (T .parts) (T .ranges) (firstIn T row) (countIn T row)))
+      go false false e g =
+          row-leaf T row f (λ c. length (curveKnots c) ≤ 2 * n) (λ c. omega arith) (λ ps. omega arith)
+          (eqb-false (kindIn T row) 6 e) (eqb-false (kindIn T row) 7 g)
 
   few-below : (k i : ℕ) → length (curveKnots (below T k i)) ≤ 2 * n
   unfolding curveKnots below

@@ -6,7 +6,7 @@ use Rattle.arith.specs.Notation.{_⊕_, _⊖_, _⊗_, _⊘_, bits, count, plusZ
 use Rattle.arith.specs.Pick.{maxOf}
 use Rattle.math.specs.declared.Vec3.{Vec3}
 use Rattle.math.specs.Math.{vSub, vLengthSquared}
-use Rattle.brep.specs.Tree.{CurveTree, line, circle, ellipse, parabola, polyline, trimmed, composite, Segments, none, segment}
+use Rattle.brep.specs.Tree.{CurveTree, analytic, polyline, trimmed, composite, Segments, none, segment}
 use Rattle.knots_inside.specs.Breaks.{insideOf}
 use Rattle.math_chord.specs.Chord.{spanDistance}
 
@@ -17,10 +17,7 @@ segmentKnots (segment curve range same rest) = range .lo ∷ range .hi ∷ segme
 
 -- curve_knots
 unfoldable pub curveKnots : CurveTree → List Float
-curveKnots (line o d) = []
-curveKnots (circle f r) = []
-curveKnots (ellipse f a b) = []
-curveKnots (parabola f d) = []
+curveKnots (analytic c) = []
 curveKnots (polyline ps) = []
 curveKnots (trimmed base range) = curveKnots base
 curveKnots (composite ss) = segmentKnots ss

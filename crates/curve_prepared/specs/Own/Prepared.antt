@@ -6,7 +6,7 @@ use Rattle.arith_trig.specs.Trig.{sinOf, cosOf}
 use Rattle.math.specs.declared.Vec3.{Vec3}
 use Rattle.math.specs.declared.Frame.{Frame}
 use Rattle.math.specs.Math.{vAdd, vScale, yDir}
-use Rattle.brep.specs.Tree.{CurveTree, line, circle, ellipse, parabola, polyline, trimmed, composite}
+use Rattle.brep.specs.Tree.{CurveTree, analytic, line, circle, ellipse, parabola, polyline, trimmed, composite}
 use Rattle.curve_point.specs.Point.{pointAt}
 use Rattle.curve_tangent.specs.Derivative.{derivativeAt}
 use Rattle.curve_prepared.specs.declared.Prepared.{Prepared}
@@ -22,10 +22,10 @@ parabolaOf f focal = Parabola (f .origin) (f .«ref_dir») (yDir f) focal
 
 -- trims taken off; a polyline or a composite stays to be looked up
 unfoldable pub preparedOf : CurveTree → Prepared
-preparedOf (line origin direction) = Line origin direction
-preparedOf (circle f r) = roundOf f r r
-preparedOf (ellipse f major minor) = roundOf f major minor
-preparedOf (parabola f focal) = parabolaOf f focal
+preparedOf (analytic (line origin direction)) = Line origin direction
+preparedOf (analytic (circle f r)) = roundOf f r r
+preparedOf (analytic (ellipse f major minor)) = roundOf f major minor
+preparedOf (analytic (parabola f focal)) = parabolaOf f focal
 preparedOf (polyline points) = Other
 preparedOf (trimmed base range) = preparedOf base
 preparedOf (composite segments) = Other

@@ -17,7 +17,7 @@ returns c parts ranges = let a = c .before .before .before .before .before .befo
 
 returns-2 : tie.Need-returns-2
 unfolding curveKnots runKnots
-returns-2 c parts ranges = let a = c .before .before .before .before .before .before .args in under-none curveKnots (λ b r. refl) (tables (a .points .now) (a .curves .now) (a .reals .now) parts ranges) [] (λ o d. refl) (λ f r. refl) (λ f a b. refl) (λ f d. refl) (λ ps. refl) (a .row) (c .before .before .under-trims .ensures) (c .before .int-at .ensures) (c .if1 .left)
+returns-2 c parts ranges = let a = c .before .before .before .before .before .before .args in under-none curveKnots (λ b r. refl) (tables (a .points .now) (a .curves .now) (a .reals .now) parts ranges) [] (λ c. refl) (λ ps. refl) (a .row) (c .before .before .under-trims .ensures) (c .before .int-at .ensures) (c .if1 .left)
 
 pub run-of-spec : {M : Type 1} → statement M
 run-of-spec =
