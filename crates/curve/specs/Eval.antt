@@ -6,6 +6,7 @@ use lib.ListN.{length}
 use lib.Ieee.{Float, neg, lt}
 use lib.Ieee.Scale.{finite}
 use Rattle.arith.specs.Notation.{_⊖_, bits, count, plusZero}
+use Rattle.arith.specs.Constants.{million, trillion, billionth}
 use Rattle.arith.specs.Pick.{absOf}
 use Rattle.math.specs.declared.Interval.{Interval}
 use Rattle.math.specs.Math.{interval, spanOf}
@@ -24,10 +25,10 @@ tau = bits 0x401921FB54442D18
 
 -- Curve::natural_range: a line's is ±1e12, a parabola's ±1e6
 unfoldable pub naturalRange : CurveTree → Interval
-naturalRange (analytic (line o d)) = interval (neg (bits 0x426D1A94A2000000)) (bits 0x426D1A94A2000000)
+naturalRange (analytic (line o d)) = interval (neg trillion) trillion
 naturalRange (analytic (circle f r)) = interval plusZero tau
 naturalRange (analytic (ellipse f a b)) = interval plusZero tau
-naturalRange (analytic (parabola f d)) = interval (neg (bits 0x412E848000000000)) (bits 0x412E848000000000)
+naturalRange (analytic (parabola f d)) = interval (neg million) million
 naturalRange (polyline ps) = interval plusZero (count (length ps - 1))
 naturalRange (trimmed base range) = range
 naturalRange (composite ss) = interval plusZero (count (runLength ss))
@@ -40,7 +41,7 @@ isClosed (analytic (ellipse f a b)) = true
 isClosed (analytic (parabola f d)) = false
 isClosed (polyline ps) = closes ps
 isClosed (trimmed base range) =
-    isClosed base && lt (absOf (absOf (spanOf range) ⊖ spanOf (naturalRange base))) (bits 0x3E112E0BE826D695)
+    isClosed base && lt (absOf (absOf (spanOf range) ⊖ spanOf (naturalRange base))) billionth
 isClosed (composite ss) = false
 
 -- a span that is above zero and finite

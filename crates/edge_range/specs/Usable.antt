@@ -3,7 +3,8 @@ use mathlib.Core.Bool.{Bool, cond, not, _&&_, _||_}
 use Prim.Native.Nat.{max}
 use lib.Ieee.{Float, lt, le}
 use lib.Ieee.Scale.{finite}
-use Rattle.arith.specs.Notation.{_⊕_, _⊖_, _⊗_, _⊘_, bits, plusZero}
+use Rattle.arith.specs.Notation.{_⊕_, _⊖_, _⊗_, _⊘_, plusZero}
+use Rattle.arith.specs.Constants.{billion, billionth}
 use Rattle.arith.specs.Pick.{absOf, minOf, maxOf}
 use Rattle.math.specs.declared.Interval.{Interval}
 use Rattle.math.specs.Math.{interval, spanOf}
@@ -22,12 +23,12 @@ use Rattle.edge_range.specs.declared.Usable.the-variants.{Range, Unusabl
 -- the curve's own range, where that spans under 1e9
 unfoldable pub ownRange : Interval → Usable
 ownRange natural =
-    cond (finite (spanOf natural) && lt (absOf (spanOf natural)) (bits 0x41CDCD6500000000)) (Range natural) Unusable
+    cond (finite (spanOf natural) && lt (absOf (spanOf natural)) billion) (Range natural) Unusable
 
 -- the edge's range, held to the curve's own with a slack of 1e-9 of its span
 unfoldable pub heldTo : Interval → Interval → Interval
 heldTo natural range =
-    let slack = absOf (spanOf natural) ⊗ bits 0x3E112E0BE826D695 in
+    let slack = absOf (spanOf natural) ⊗ billionth in
     interval (maxOf (range .lo) (natural .lo ⊖ slack)) (minOf (range .hi) (natural .hi ⊕ slack))
 
 -- a periodic curve may run past its own range

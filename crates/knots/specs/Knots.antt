@@ -2,7 +2,8 @@
 use mathlib.Core.List.{List, [], _∷_}
 use Prim.Native.Nat.{ℕ}
 use lib.Ieee.{Float}
-use Rattle.arith.specs.Notation.{_⊕_, _⊖_, _⊗_, _⊘_, bits, count, plusZero}
+use Rattle.arith.specs.Notation.{_⊕_, _⊖_, _⊗_, _⊘_, count, plusZero}
+use Rattle.arith.specs.Constants.{four}
 use Rattle.arith.specs.Pick.{maxOf}
 use Rattle.math.specs.declared.Vec3.{Vec3}
 use Rattle.math.specs.Math.{vSub, vLengthSquared}
@@ -28,7 +29,7 @@ curveBreaks curve lo hi = insideOf (curveKnots curve) lo hi
 
 -- at(a + (b - a) * t), with t = k as f64 / 4.0
 abbrev pub innerAt : (Float → Vec3) → Float → Float → ℕ → Vec3
-innerAt at a b k = at (a ⊕ (b ⊖ a) ⊗ (count k ⊘ bits 0x4010000000000000))
+innerAt at a b k = at (a ⊕ (b ⊖ a) ⊗ (count k ⊘ four))
 
 -- the largest distance of three points to the chord from pa to pb
 unfoldable pub worstOfThree : Vec3 → Vec3 → Vec3 → Vec3 → Vec3 → Float

@@ -25,7 +25,8 @@ use Rattle.knots_sort.specs.Own.Sortable.{Number}
 use Rattle.knots_sort.specs.Sort.{sorted}
 use Rattle.knots_sort.proofs.Merged.{sorted-all}
 use Rattle.knots_sort.proofs.Sorted.{sorted-pairs}
-use Rattle.knots_inside.specs.Breaks.{retainedKnots, deduped, billionth, insideUpward, insideOf}
+use Rattle.arith.specs.Constants.{billionth}
+use Rattle.knots_inside.specs.Breaks.{retainedKnots, deduped, insideUpward, insideOf}
 use Rattle.knots_inside.proofs.Kept.{Strict, retained-all, finite-number, deduped-sub}
 
 -- ---- a + e is not below a, b - e not above b, for an e that is not negative

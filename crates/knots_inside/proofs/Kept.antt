@@ -12,7 +12,8 @@ use Rattle.base_lists.proofs.Order.{sub-all}
 use Rattle.knots_sort.specs.Own.Sortable.{Number}
 use Rattle.knots_sort.specs.Sort.{sorted}
 use Rattle.knots_sort.proofs.Merged.{sorted-all}
-use Rattle.knots_inside.specs.Breaks.{isStrict, retainedKnots, isNear, apart, deduped, billionth, insideUpward, insideOf}
+use Rattle.arith.specs.Constants.{billionth}
+use Rattle.knots_inside.specs.Breaks.{isStrict, retainedKnots, isNear, apart, deduped, insideUpward, insideOf}
 
 -- ---- retain
 pub record Strict (above below k : Float) : Type 0 where

@@ -14,7 +14,8 @@ use Rattle.base_lists.proofs.Joined.{all-map}
 use Rattle.knots_sort.specs.Own.Sortable.{Number}
 use Rattle.knots_sort.specs.Sort.{sorted}
 use Rattle.knots_sort.proofs.Sorted.{sorted-length}
-use Rattle.knots_inside.specs.Breaks.{retainedKnots, deduped, billionth, insideUpward, insideOf}
+use Rattle.arith.specs.Constants.{billionth}
+use Rattle.knots_inside.specs.Breaks.{retainedKnots, deduped, insideUpward, insideOf}
 use Rattle.knots_inside.proofs.Kept.{retained-all, finite-number}
 
 -- k: the knots; r: after retain, which answered n

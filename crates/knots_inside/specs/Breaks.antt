@@ -3,7 +3,8 @@ use mathlib.Core.Bool.{Bool, true, false, cond, _&&_}
 use mathlib.Core.List.{List, [], _∷_}
 use lib.Ieee.{Float, lt, le}
 use lib.Ieee.Scale.{finite}
-use Rattle.arith.specs.Notation.{_⊕_, _⊖_, _⊗_, bits, plusZero}
+use Rattle.arith.specs.Notation.{_⊕_, _⊖_, _⊗_, plusZero}
+use Rattle.arith.specs.Constants.{billionth}
 use Rattle.arith.specs.Pick.{absOf}
 use Rattle.knots_sort.specs.Sort.{sorted}
 
@@ -31,10 +32,6 @@ apart epsilon last (k ∷ l) =
 unfoldable pub deduped : Float → List Float → List Float
 deduped epsilon [] = []
 deduped epsilon (k ∷ l) = k ∷ apart epsilon k l
-
--- 1e-9
-abbrev pub billionth : Float
-billionth = bits 0x3E112E0BE826D695
 
 -- inside, where lo is at most hi
 unfoldable pub insideUpward : List Float → Float → Float → List Float

@@ -6,7 +6,7 @@ use lib.ListN.{length}
 use lib.Ieee.{Float}
 use Rattle.arith.specs.Notation.{_⊕_, _⊖_, _⊗_}
 use Rattle.base_lists.specs.Room.{filled}
-use Rattle.knots_inside.specs.Breaks.{billionth}
+use Rattle.arith.specs.Constants.{billionth}
 use Rattle.knots_inside.proofs.Steps.{Retained, part-length, part-numbers, sorted-part-length, kept-room, kept-count, kept-floats, some-between, none-between}
 use borrow.Author.Needs.{needs}
 use Rattle.knots_inside.proofs.ascending.Statement.{statement}
