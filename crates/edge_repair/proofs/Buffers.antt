@@ -20,7 +20,7 @@ use Rattle.edge_record.specs.declared.Sample.{Sample}
 use Rattle.edge_record.specs.declared.Counted.{Counted}
 use Rattle.edge_record.specs.declared.Counted.the-variants as counts
 use Rattle.edge_record.specs.Chain.{width, flat, samples}
-use Rattle.edge_record.specs.Chain.{countedOf as counted}
+use Rattle.edge_record.specs.Own.Stored.{countedOf as counted}
 use Rattle.edge_record.proofs.Laws.{length-flat, reads, samplesFrom-length}
 use Rattle.draw_spec.specs.declared.Way.{Way}
 use Rattle.draw_spec.specs.declared.Drawn.{Drawn}
