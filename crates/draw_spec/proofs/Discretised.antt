@@ -31,7 +31,7 @@ use Rattle.edge_range.specs.declared.Usable.{Usable}
 use Rattle.edge_range.specs.declared.Usable.the-variants.{Range, Unusable}
 use Rattle.edge_range.specs.Usable.{usableRange}
 use Rattle.edge_sample.specs.Sample.{sampler, sampled}
-use Rattle.draw_spec.specs.Edge.{edgeCurve, thinnedIf, chordOf, atLeastTwo, placed, finished, discretised}
+use Rattle.draw_spec.specs.Edge.{edgeCurve, thinnedIf, chordOf, atLeastTwo, placed, finished, overRange, discretised}
 use Rattle.draw_spec.specs.Draw.{Sound}
 use Rattle.draw_spec.proofs.Tame.{Tame}
 use Rattle.draw_spec.proofs.Ranges.{Ends, Goods, usable-goods}
@@ -160,7 +160,7 @@ module _ (range : Interval) where
 -- ---- discretise
 module _ (H : Type 0) (t : Tables) (e : Edge) (tame : H → Tame (edgeCurve t e)) (ends : H → Ends (e .range)) (room : ℕ) (fine : Room room) (r : Resolved) where
   sampled-outcome : (range : Interval) → (H → Goods range)
-      → Outcome (Chained H t e (floorOf t e r) room) (bind (sampled room (edgeCurve t e) range r) (λ params. finished t e r (atLeastTwo range params)))
+      → Outcome (Chained H t e (floorOf t e r) room) (overRange room t e r range)
   unfolding sampled sampler curveBreaks
   sampled-outcome range g = go (sampled room (edgeCurve t e) range r) refl
     where
@@ -185,7 +185,7 @@ module _ (H : Type 0) (t : Tables) (e : Edge) (tame : H → Tame (edgeCurve t e)
       go : (u : Usable) → usableRange (edgeCurve t e) (e .range) ≡ u
           → Outcome (Chained H t e (mergeFloor (e .tolerance) (r .sag)) room) (elim u [
             | Unusable ↦ got (chordOf t e (e .range .lo) (e .range .hi))
-            | Range range ↦ bind (sampled room (edgeCurve t e) range r) (λ params. finished t e r (atLeastTwo range params))
+            | Range range ↦ overRange room t e r range
           ])
       go Unusable q = answer (chord-chained H t e (mergeFloor (e .tolerance) (r .sag)) room (fine .least) (e .range .lo) (e .range .hi))
       go (Range range) q = sampled-outcome range (λ x. usable-goods (edgeCurve t e) (tame x) range (e .range) (ends x) q)

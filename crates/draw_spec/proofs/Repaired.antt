@@ -1,20 +1,20 @@
 -- Demand 3 of every chain that `repair_runaway` leaves or puts in another's place. Assumes nothing.
 use mathlib.Core.Path.{_≡_, refl}
-use mathlib.Core.Bool.{Bool, true, false, cond, not, _&&_, _||_}
+use mathlib.Core.Bool.{Bool, true, false, cond}
 use mathlib.Core.List.{List}
 use Prim.Native.Nat.{ℕ}
 use lib.Dec.{T}
 use lib.Ieee.{Float, lt}
 use lib.Ieee.Scale.{finite}
-use Rattle.arith.specs.Notation.{_⊕_, plusZero}
+use Rattle.arith.specs.Notation.{plusZero}
 use Rattle.base_lists.specs.Result.{Result, got, bind}
 use Rattle.math.specs.declared.Interval.{Interval}
-use Rattle.math.specs.Math.{interval, spanOf, isEmpty, diagonal}
+use Rattle.math.specs.Math.{spanOf}
 use Rattle.brep.specs.declared.Edge.{Edge}
 use Rattle.brep.specs.Rows.{Tables}
 use Rattle.curve.specs.declared.Repeats.{Repeats}
 use Rattle.curve.specs.declared.Repeats.the-variants.{Every, Never}
-use Rattle.curve.specs.Eval.{naturalRange, period}
+use Rattle.curve.specs.Eval.{period}
 use Rattle.options.specs.declared.Resolved.{Resolved}
 use Rattle.edge_params.proofs.Ends.{Size}
 use Rattle.edge_record.specs.declared.Sample.{Sample}
@@ -22,7 +22,7 @@ use Rattle.edge_merge.specs.Merge.{mergeFloor}
 use Rattle.edge_range.specs.Usable.{usableRange}
 use Rattle.draw_spec.specs.declared.Way.the-variants.{Complement, ShortArc}
 use Rattle.draw_spec.specs.Edge.{edgeCurve, edgeStart, edgeEnd, discretised}
-use Rattle.draw_spec.specs.Repair.{Got, by, withRange, reference, escapes, reaches, nearest, orderedInterval, runaway, arcOrChord, byShortArc, byComplement, byPeriod, repaired}
+use Rattle.draw_spec.specs.Repair.{Got, by, withRange, reference, escapes, runaway, serves, arcOrChord, shortRange, hasShortArc, byShortArc, complementOrShort, complementRange, byComplement, byPeriod, stays, repaired}
 use Rattle.draw_spec.specs.Draw.{firstWay, drawnIn}
 use Rattle.draw_spec.proofs.Tame.{Tame}
 use Rattle.draw_spec.proofs.Ranges.{Ends, goods-ends, complement-ends, short-goods}
@@ -57,7 +57,7 @@ module _ (H : Type 0) (t : Tables) (e : Edge) (tame : H → Tame (edgeCurve t e)
 
   arc-fine : (arc : List Sample) → Chained H t e (mergeFloor (e .tolerance) (r .sag)) room arc → Outcome Fine (got (arcOrChord t e r arc))
   unfolding arcOrChord
-  arc-fine arc c = go (not (escapes (reference t e) r arc) && (reaches e r (edgeStart t e) arc && reaches e r (edgeEnd t e) arc))
+  arc-fine arc c = go (serves t e r arc)
     where
       go : (b : Bool) → Outcome Fine (got (cond b (by ShortArc arc) (runaway t e)))
       go true = answer c
@@ -65,24 +65,21 @@ module _ (H : Type 0) (t : Tables) (e : Edge) (tame : H → Tame (edgeCurve t e)
 
   short-outcome : Outcome Fine (byShortArc room t e r)
   unfolding byShortArc
-  short-outcome =
-      let natural = naturalRange (edgeCurve t e) in
-      let short = orderedInterval (nearest (edgeCurve t e) (edgeStart t e)) (nearest (edgeCurve t e) (edgeEnd t e)) in
-      go (finite (spanOf natural) && (lt plusZero (spanOf natural) && lt plusZero (spanOf short)))
+  short-outcome = go (hasShortArc t e)
     where
       go : (b : Bool) → Outcome Fine (elim b [
-        | true ↦ bind (discretised room t (withRange e (orderedInterval (nearest (edgeCurve t e) (edgeStart t e)) (nearest (edgeCurve t e) (edgeEnd t e)))) r) (λ arc. got (arcOrChord t e r arc))
+        | true ↦ bind (discretised room t (withRange e (shortRange t e)) r) (λ arc. got (arcOrChord t e r arc))
         | false ↦ got (runaway t e)
       ])
       go true =
-          redrawn (orderedInterval (nearest (edgeCurve t e) (edgeStart t e)) (nearest (edgeCurve t e) (edgeEnd t e)))
+          redrawn (shortRange t e)
           (λ x. goods-ends (short-goods (edgeCurve t e) (tame x) (edgeStart t e) (edgeEnd t e)))
           (λ arc. got (arcOrChord t e r arc)) arc-fine
       go false = runaway-fine
 
   complement-outcome : (p : Float) → (H → Size 40 p) → Outcome Fine (byComplement room t e r p)
   unfolding byComplement
-  complement-outcome p s = go (lt plusZero (spanOf (interval (e .range .hi) (e .range .lo ⊕ p))))
+  complement-outcome p s = go (lt plusZero (spanOf (complementRange e p)))
     where
       kept : (arc : List Sample) → Chained H t e (mergeFloor (e .tolerance) (r .sag)) room arc → (b : Bool)
           → Outcome Fine (elim b [ true ↦ byShortArc room t e r | false ↦ got (by Complement arc) ])
@@ -90,14 +87,13 @@ module _ (H : Type 0) (t : Tables) (e : Edge) (tame : H → Tame (edgeCurve t e)
       kept arc c false = answer c
 
       go : (b : Bool) → Outcome Fine (elim b [
-        | true ↦ bind (discretised room t (withRange e (interval (e .range .hi) (e .range .lo ⊕ p))) r)
-            (λ arc. elim (escapes (reference t e) r arc) [ true ↦ byShortArc room t e r | false ↦ got (by Complement arc) ])
+        | true ↦ bind (discretised room t (withRange e (complementRange e p)) r) (complementOrShort room t e r)
         | false ↦ byShortArc room t e r
       ])
       go true =
-          redrawn (interval (e .range .hi) (e .range .lo ⊕ p))
+          redrawn (complementRange e p)
           (λ x. complement-ends (e .range) p (own x .ends) (own x .low) (s x))
-          (λ arc. elim (escapes (reference t e) r arc) [ true ↦ byShortArc room t e r | false ↦ got (by Complement arc) ])
+          (complementOrShort room t e r)
           (λ arc c. kept arc c (escapes (reference t e) r arc))
       go false = short-outcome
 
@@ -108,7 +104,7 @@ module _ (H : Type 0) (t : Tables) (e : Edge) (tame : H → Tame (edgeCurve t e)
 
   repaired-outcome : (g : Got) → Fine g → Outcome Fine (repaired room t e r g)
   unfolding repaired
-  repaired-outcome g c = go (isEmpty (reference t e) || (not (lt plusZero (diagonal (reference t e))) || not (escapes (reference t e) r (g .chain))))
+  repaired-outcome g c = go (stays t e r (g .chain))
     where
       go : (b : Bool) → Outcome Fine (elim b [ true ↦ got g | false ↦ byPeriod room t e r (period (edgeCurve t e)) ])
       go true = answer c

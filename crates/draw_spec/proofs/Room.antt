@@ -1,23 +1,22 @@
 -- The room only refuses: a chain that drawing answers with is the same in a larger room. Assumes nothing.
 use mathlib.Core.Path.{_≡_, refl}
-use mathlib.Core.Bool.{Bool, true, false, not, _&&_, _||_}
+use mathlib.Core.Bool.{Bool, true, false}
 use mathlib.Core.List.{List}
 use Prim.Native.Nat.{ℕ, _-_, _≤_}
 use native.Mathlib.Omega.{arith}
 use lib.ListN.{length}
 use lib.Dec.{leb, ltb}
 use lib.Ieee.{Float, lt}
-use lib.Ieee.Scale.{finite}
 use borrow.Author.Tests.{leb-true, ltb-false, le-leb, le-ltb}
-use Rattle.arith.specs.Notation.{_⊕_, plusZero}
+use Rattle.arith.specs.Notation.{plusZero}
 use Rattle.base_lists.specs.Result.{Result, refused, got, bind}
 use Rattle.math.specs.declared.Interval.{Interval}
-use Rattle.math.specs.Math.{interval, spanOf, isEmpty, diagonal}
+use Rattle.math.specs.Math.{spanOf}
 use Rattle.brep.specs.declared.Edge.{Edge}
 use Rattle.brep.specs.Rows.{Tables}
 use Rattle.curve.specs.declared.Repeats.{Repeats}
 use Rattle.curve.specs.declared.Repeats.the-variants.{Every, Never}
-use Rattle.curve.specs.Eval.{naturalRange, period}
+use Rattle.curve.specs.Eval.{period}
 use Rattle.options.specs.declared.Options.{Options}
 use Rattle.options.specs.declared.Resolved.{Resolved}
 use Rattle.causes_bounds.proofs.Laws.{neither}
@@ -31,8 +30,8 @@ use Rattle.edge_range.specs.Usable.{usableRange}
 use Rattle.edge_sample.specs.Sample.{sampler, sampled}
 use Rattle.draw_spec.specs.declared.Way.{Way}
 use Rattle.draw_spec.specs.declared.Way.the-variants.{Complement}
-use Rattle.draw_spec.specs.Edge.{edgeCurve, edgeStart, edgeEnd, chordOf, atLeastTwo, finished, discretised}
-use Rattle.draw_spec.specs.Repair.{Got, by, withRange, reference, escapes, nearest, orderedInterval, runaway, arcOrChord, byShortArc, byComplement, byPeriod, repaired}
+use Rattle.draw_spec.specs.Edge.{edgeCurve, chordOf, atLeastTwo, finished, overRange, discretised}
+use Rattle.draw_spec.specs.Repair.{Got, by, withRange, reference, escapes, runaway, arcOrChord, shortRange, hasShortArc, byShortArc, complementOrShort, complementRange, byComplement, byPeriod, stays, repaired}
 use Rattle.draw_spec.specs.Draw.{localOptions, firstWay, drawnIn, roomOf, tooShort, drawn}
 use Rattle.draw_spec.proofs.Accepted.{accepts, accepted-so}
 
@@ -65,9 +64,6 @@ closedOr s range room l = elim (s .meets l) [ true ↦ got l | false ↦ refined
 
 abbrev afterParams : Tables → Edge → Resolved → Interval → List Float → Result (List Sample)
 afterParams t e r range params = finished t e r (atLeastTwo range params)
-
-abbrev arcOrShort : Tables → Edge → Resolved → ℕ → List Sample → Result Got
-arcOrShort t e r room arc = elim (escapes (reference t e) r arc) [ true ↦ byShortArc room t e r | false ↦ got (by Complement arc) ]
 
 abbrev repairedAs : Tables → Edge → Resolved → Way → ℕ → List Sample → Result Got
 repairedAs t e r way room chain = repaired room t e r (by way chain)
@@ -110,10 +106,10 @@ module _ (room room' : ℕ) (more : room ≤ room') where
     where
       go : (u : Usable) → Kept {A = List Sample} (elim u [
         | Unusable ↦ got (chordOf t e (e .range .lo) (e .range .hi))
-        | Range range ↦ bind (sampled room (edgeCurve t e) range r) (afterParams t e r range)
+        | Range range ↦ overRange room t e r range
       ]) (elim u [
         | Unusable ↦ got (chordOf t e (e .range .lo) (e .range .hi))
-        | Range range ↦ bind (sampled room' (edgeCurve t e) range r) (afterParams t e r range)
+        | Range range ↦ overRange room' t e r range
       ])
       go Unusable = answer
       go (Range range) =
@@ -125,19 +121,16 @@ module _ (room room' : ℕ) (more : room ≤ room') where
     short-kept : Kept (byShortArc room t e r) (byShortArc room' t e r)
     unfolding byShortArc
     short-kept =
-        let natural = naturalRange (edgeCurve t e) in
-        let short = orderedInterval (nearest (edgeCurve t e) (edgeStart t e)) (nearest (edgeCurve t e) (edgeEnd t e)) in
         let arc : List Sample → Result Got = λ l. got (arcOrChord t e r l) in
-        kept-either (finite (spanOf natural) && (lt plusZero (spanOf natural) && lt plusZero (spanOf short)))
-        (kept-bind arc arc (discretised-kept t (withRange e short) r) (λ l. kept-same (arc l)))
+        kept-either (hasShortArc t e)
+        (kept-bind arc arc (discretised-kept t (withRange e (shortRange t e)) r) (λ l. kept-same (arc l)))
         (kept-same (got (runaway t e)))
 
     complement-kept : (p : Float) → Kept (byComplement room t e r p) (byComplement room' t e r p)
     unfolding byComplement
     complement-kept p =
-        let complement = interval (e .range .hi) (e .range .lo ⊕ p) in
-        kept-either (lt plusZero (spanOf complement))
-        (kept-bind (arcOrShort t e r room) (arcOrShort t e r room') (discretised-kept t (withRange e complement) r)
+        kept-either (lt plusZero (spanOf (complementRange e p)))
+        (kept-bind (complementOrShort room t e r) (complementOrShort room' t e r) (discretised-kept t (withRange e (complementRange e p)) r)
         (λ arc. kept-either (escapes (reference t e) r arc) short-kept (kept-same (got (by Complement arc)))))
         short-kept
 
@@ -148,10 +141,7 @@ module _ (room room' : ℕ) (more : room ≤ room') where
 
     repaired-kept : (g : Got) → Kept (repaired room t e r g) (repaired room' t e r g)
     unfolding repaired
-    repaired-kept g =
-        let box = reference t e in
-        kept-either (isEmpty box || (not (lt plusZero (diagonal box)) || not (escapes box r (g .chain))))
-        (kept-same (got g)) (period-kept (period (edgeCurve t e)))
+    repaired-kept g = kept-either (stays t e r (g .chain)) (kept-same (got g)) (period-kept (period (edgeCurve t e)))
 
     drawn-kept : Kept (drawnIn room t e r) (drawnIn room' t e r)
     unfolding drawnIn

@@ -1,16 +1,16 @@
 -- edge.rs: edge_extent and discretise. Definitions only.
-use mathlib.Core.Bool.{Bool, true, false, cond, not, _&&_}
+use mathlib.Core.Bool.{Bool, true, false, cond, not}
 use mathlib.Core.List.{List, [], _∷_, reverse}
 use Prim.Native.Nat.{ℕ, zero, suc, _+_}
-use lib.Dec.{eqb, ltb}
+use lib.Dec.{eqb}
 use lib.Ieee.{Float, lt, le}
-use Rattle.base_lists.specs.Result.{Result, refused, got, bind, each}
+use Rattle.base_lists.specs.Result.{Result, got, bind, each}
 use Rattle.arith.specs.Notation.{_⊗_, _⊘_, bits, count}
 use Rattle.arith.specs.Pick.{maxOf}
 use Rattle.math.specs.declared.Vec3.{Vec3}
 use Rattle.math.specs.declared.Aabb.{Aabb}
 use Rattle.math.specs.declared.Interval.{Interval}
-use Rattle.math.specs.Math.{vSub, vLengthSquared, vFinite, emptyBox, addPoint, boxSize, interval, at}
+use Rattle.math.specs.Math.{vSub, vLengthSquared, vFinite, emptyBox, addPoint, boxSize, at}
 use Rattle.brep.specs.declared.Edge.{Edge}
 use Rattle.brep.specs.Rows.{Tables, pointOf}
 use Rattle.brep.specs.Tree.{CurveTree, tree}
@@ -112,15 +112,22 @@ atLeastTwo range (t ∷ u ∷ l) = t ∷ u ∷ l
 unfoldable pub placed : Tables → Edge → List Float → List Sample
 placed T e params = pinned (edgeStart T e) (edgeEnd T e) (oriented T e (located (edgeCurve T e) params))
 
--- the same, thinned and merged
+-- a placed chain, thinned and merged
+abbrev pub thinnedMerged : Tables → Edge → Resolved → List Sample → Result (List Sample)
+thinnedMerged T e r l = each (merged (mergeFloor (e .tolerance) (r .sag))) (thinnedIf (isSampled (edgeCurve T e)) r l)
+
+-- the parameters' chain
 unfoldable pub finished : Tables → Edge → Resolved → List Float → Result (List Sample)
-finished T e r params =
-    each (merged (mergeFloor (e .tolerance) (r .sag))) (thinnedIf (isSampled (edgeCurve T e)) r (placed T e params))
+finished T e r params = thinnedMerged T e r (placed T e params)
+
+-- the chain over a usable range
+abbrev pub overRange : ℕ → Tables → Edge → Resolved → Interval → Result (List Sample)
+overRange room T e r range = bind (sampled room (edgeCurve T e) range r) (λ params. finished T e r (atLeastTwo range params))
 
 -- discretise
 unfoldable pub discretised : ℕ → Tables → Edge → Resolved → Result (List Sample)
 discretised room T e r =
     elim (usableRange (edgeCurve T e) (e .range)) [
       | Unusable ↦ got (chordOf T e (e .range .lo) (e .range .hi))
-      | Range range ↦ bind (sampled room (edgeCurve T e) range r) (λ params. finished T e r (atLeastTwo range params))
+      | Range range ↦ overRange room T e r range
     ]

@@ -4,7 +4,7 @@ use mathlib.Core.List.{List, [], _∷_}
 use Prim.Native.Nat.{ℕ, zero, suc}
 use lib.Ieee.{Float, lt, le}
 use lib.Ieee.Scale.{finite}
-use Rattle.base_lists.specs.Result.{Result, refused, got, bind}
+use Rattle.base_lists.specs.Result.{Result, got, bind}
 use Rattle.arith.specs.Notation.{_⊕_, _⊗_, _⊘_, bits, count, plusZero}
 use Rattle.arith.specs.Pick.{maxOf}
 use Rattle.math.specs.declared.Vec3.{Vec3}
@@ -21,7 +21,7 @@ use Rattle.options.specs.declared.Resolved.{Resolved}
 use Rattle.edge_record.specs.declared.Sample.{Sample}
 use Rattle.draw_spec.specs.Edge.{edgeCurve, edgeStart, edgeEnd, chordOf, discretised}
 use Rattle.draw_spec.specs.declared.Way.{Way}
-use Rattle.draw_spec.specs.declared.Way.the-variants.{AsDrawn, Chord, Complement, ShortArc, Runaway}
+use Rattle.draw_spec.specs.declared.Way.the-variants.{Complement, ShortArc, Runaway}
 
 -- a chain, and the way that it was got
 pub record Got : Type 0 where
@@ -87,29 +87,44 @@ orderedInterval a b = cond (le a b) (interval a b) (interval b a)
 abbrev pub runaway : Tables → Edge → Got
 runaway T e = by Runaway (chordOf T e (e .range .lo) (e .range .lo))
 
--- the short arc, where it stays inside and reaches both vertices
+-- the short arc serves where it stays inside and reaches both vertices
+abbrev pub serves : Tables → Edge → Resolved → List Sample → Bool
+serves T e r arc =
+    not (escapes (reference T e) r arc) && (reaches e r (edgeStart T e) arc && reaches e r (edgeEnd T e) arc)
+
 unfoldable pub arcOrChord : Tables → Edge → Resolved → List Sample → Got
-arcOrChord T e r arc =
-    cond (not (escapes (reference T e) r arc) && (reaches e r (edgeStart T e) arc && reaches e r (edgeEnd T e) arc))
-    (by ShortArc arc)
-    (runaway T e)
+arcOrChord T e r arc = cond (serves T e r arc) (by ShortArc arc) (runaway T e)
+
+-- its range: from the parameter nearest to one vertex to that nearest to the other
+abbrev pub shortRange : Tables → Edge → Interval
+shortRange T e = orderedInterval (nearest (edgeCurve T e) (edgeStart T e)) (nearest (edgeCurve T e) (edgeEnd T e))
+
+-- it is drawn where the curve's natural range is finite, and neither range is empty
+abbrev pub hasShortArc : Tables → Edge → Bool
+hasShortArc T e =
+    let natural = naturalRange (edgeCurve T e) in
+    finite (spanOf natural) && (lt plusZero (spanOf natural) && lt plusZero (spanOf (shortRange T e)))
 
 unfoldable pub byShortArc : ℕ → Tables → Edge → Resolved → Result Got
 byShortArc room T e r =
-    let natural = naturalRange (edgeCurve T e) in
-    let short = orderedInterval (nearest (edgeCurve T e) (edgeStart T e)) (nearest (edgeCurve T e) (edgeEnd T e)) in
-    elim (finite (spanOf natural) && (lt plusZero (spanOf natural) && lt plusZero (spanOf short))) [
-      | true ↦ bind (discretised room T (withRange e short) r) (λ arc. got (arcOrChord T e r arc))
+    elim (hasShortArc T e) [
+      | true ↦ bind (discretised room T (withRange e (shortRange T e)) r) (λ arc. got (arcOrChord T e r arc))
       | false ↦ got (runaway T e)
     ]
 
--- the complementary arc of a periodic curve, where it stays inside
+-- the complementary arc, where it stays inside
+abbrev pub complementOrShort : ℕ → Tables → Edge → Resolved → List Sample → Result Got
+complementOrShort room T e r arc =
+    elim (escapes (reference T e) r arc) [ true ↦ byShortArc room T e r | false ↦ got (by Complement arc) ]
+
+-- its range: from where the edge's range ends back round to where it began, on a curve of period p
+abbrev pub complementRange : Edge → Float → Interval
+complementRange e p = interval (e .range .hi) (e .range .lo ⊕ p)
+
 unfoldable pub byComplement : ℕ → Tables → Edge → Resolved → Float → Result Got
 byComplement room T e r p =
-    let complement = interval (e .range .hi) (e .range .lo ⊕ p) in
-    elim (lt plusZero (spanOf complement)) [
-      | true ↦ bind (discretised room T (withRange e complement) r)
-          (λ arc. elim (escapes (reference T e) r arc) [ true ↦ byShortArc room T e r | false ↦ got (by Complement arc) ])
+    elim (lt plusZero (spanOf (complementRange e p))) [
+      | true ↦ bind (discretised room T (withRange e (complementRange e p)) r) (λ arc. complementOrShort room T e r arc)
       | false ↦ byShortArc room T e r
     ]
 
@@ -117,11 +132,13 @@ unfoldable pub byPeriod : ℕ → Tables → Edge → Resolved → Repeats → R
 byPeriod room T e r (Every p) = byComplement room T e r p
 byPeriod room T e r Never = byShortArc room T e r
 
--- repair_runaway: a chain stays where the box has no extent or holds it
+-- a chain stays where the box has no extent or holds it
+abbrev pub stays : Tables → Edge → Resolved → List Sample → Bool
+stays T e r chain =
+    let box = reference T e in
+    isEmpty box || (not (lt plusZero (diagonal box)) || not (escapes box r chain))
+
+-- repair_runaway
 unfoldable pub repaired : ℕ → Tables → Edge → Resolved → Got → Result Got
 repaired room T e r g =
-    let box = reference T e in
-    elim (isEmpty box || (not (lt plusZero (diagonal box)) || not (escapes box r (g .chain)))) [
-      | true ↦ got g
-      | false ↦ byPeriod room T e r (period (edgeCurve T e))
-    ]
+    elim (stays T e r (g .chain)) [ true ↦ got g | false ↦ byPeriod room T e r (period (edgeCurve T e)) ]

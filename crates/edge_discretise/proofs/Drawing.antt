@@ -36,11 +36,11 @@ use Rattle.edge_sample.proofs.Laws.{sampled-two, sampled-room}
 use Rattle.edge_sample.proofs.Ways.{tried-sampled}
 use Rattle.edge_closed_form.specs.Located.{located}
 use Rattle.edge_closed_form.proofs.Located.{located-length, located-at}
-use Rattle.draw_spec.specs.Edge.{edgeCurve, atLeastTwo, chordOf, placed, finished, discretised}
+use Rattle.draw_spec.specs.Edge.{edgeCurve, atLeastTwo, chordOf, placed, thinnedMerged, finished, overRange, discretised}
 use Rattle.draw_spec.specs.Draw.{roomOf}
 use Rattle.edge_place.specs.Own.Place.{PointsKnown}
 use Rattle.edge_place.proofs.Laws.{placed-length}
-use Rattle.edge_discretise.specs.Own.Discretised.{chainOf, thinnedMerged, overRange, ChainInto}
+use Rattle.edge_discretise.specs.Own.Discretised.{chainOf, ChainInto}
 use Rattle.edge_discretise.proofs.Thinning.{read-back}
 
 drew : (n m : ℕ) (D E : Result (List Sample)) {w : Counted} {g : List Float} → n ≡ m → D ≡ E → ChainInto n D w g → ChainInto m E w g

@@ -20,10 +20,10 @@ ghost use Rattle.knots.specs.Knots.{curveKnots};
 ghost use Rattle.edge_range.specs.Usable.{usableRange};
 ghost use Rattle.edge_record.specs.Own.Stored.{countedOf, after};
 ghost use Rattle.edge_record.specs.Chain.{width, shortest, most, flat, samples};
-ghost use Rattle.draw_spec.specs.Edge.{thinnedIf, chordOf, discretised};
+ghost use Rattle.draw_spec.specs.Edge.{thinnedIf, chordOf, thinnedMerged, overRange, discretised};
 ghost use Rattle.draw_spec.specs.Draw.{roomOf};
 ghost use Rattle.edge_place.specs.Own.Place.{ofPoints};
-ghost use Rattle.edge_discretise.specs.Own.Discretised.{thinnedMerged, overRange, ChainInto, DiscretisedInto};
+ghost use Rattle.edge_discretise.specs.Own.Discretised.{ChainInto, DiscretisedInto};
 
 // The smaller of two.
 fn least(a: usize, b: usize) -> usize

@@ -32,7 +32,7 @@ use Rattle.draw_spec.specs.Draw.{roomOf, answerOf, inFirst, firstAfter, secondA
 use Rattle.draw_spec.proofs.Outcome.{outcome-refused}
 use Rattle.draw_spec.proofs.Discretised.{Room, discretised-outcome}
 use Rattle.edge_discretise.specs.Own.Discretised.{chainOf, DiscretisedInto}
-use Rattle.edge_repair.specs.Own.Redrawn.{heldFirst, heldSecond, RedrawnInto, DrawnInto, InSecond}
+use Rattle.edge_repair.specs.Own.Redrawn.{heldFirst, heldSecond, Redrew, RedrawnInto, DrawnInto, InSecond}
 
 -- ---- `discretise` into the second buffer
 room-swap : (a b : ℕ) → roomOf a b ≡ roomOf b a
@@ -47,13 +47,6 @@ discretised-late : (T : Tables) (e : Edge) (r : Resolved) (a b n : ℕ) → 8 �
 discretised-late T e r a b n h k q =
     ⊎-elim (λ (z : n ≡ 8). omega arith) (λ (z : n ≡ 9). omega arith)
     (outcome-refused n (discretised-outcome ⊥ T e (λ x. absurd x) (λ x. absurd x) (roomOf a b) (enough a b h k) r) q)
-
--- a chain that is drawn into the second buffer, with the first as scratch; no refusal is below 8
-pub record Redrew (X : Result (List Sample)) (first second : List Float) (answer : Counted) (first' second' : List Float) : Type 0 where
-  pub answered : answer ≡ counted X
-  pub firstHolds : first' ≡ filled (length first) []
-  pub secondHolds : second' ≡ filled (length second) (flat (chainOf X))
-  pub late : (n : ℕ) → answer ≡ counts.Refused n → 7 < n
 
 pub redrew : (T : Tables) (e d : Edge) (r : Resolved) {first second : List Float} {w : Counted} {first' second' : List Float} → 8 ≤ length first → 8 ≤ length second → e ≡ d
     → DiscretisedInto (λ room. discretised room T e r) second first w second' first'

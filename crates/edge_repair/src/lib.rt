@@ -3,7 +3,6 @@ use brep::Edge;
 use curve::Repeats;
 use draw_spec::Drawn;
 use draw_spec::Way;
-use edge_range::Usable;
 use edge_record::Counted;
 use math::Aabb;
 use math::Interval;
@@ -19,10 +18,11 @@ ghost use Rattle.brep.specs.Tree.{tree};
 ghost use Rattle.knots_sort.specs.Own.Sortable.{mostKnots};
 ghost use Rattle.knots.specs.Knots.{curveKnots};
 ghost use Rattle.edge_record.specs.Chain.{width, shortest, flat, samples};
-ghost use Rattle.draw_spec.specs.Repair.{by, withRange, reference, runaway, arcOrChord, byShortArc, repaired};
+ghost use Rattle.draw_spec.specs.Edge.{discretised};
+ghost use Rattle.draw_spec.specs.Repair.{by, withRange, reference, runaway, serves, arcOrChord, shortRange, hasShortArc, byShortArc, byComplement, stays, repaired};
 ghost use Rattle.draw_spec.specs.Draw.{roomOf, inFirst};
 ghost use Rattle.edge_place.specs.Own.Place.{ofPoints};
-ghost use Rattle.edge_repair.specs.Own.Redrawn.{InSecond, RedrawnInto, DrawnInto, stays, isShortArc, shortRange, shortArc, complementArc, drawnComplement};
+ghost use Rattle.edge_repair.specs.Own.Redrawn.{Redrew, InSecond, RedrawnInto, DrawnInto};
 
 // The edge with another range.
 fn with_range(edge: Edge, range: Interval) -> Edge
@@ -60,9 +60,9 @@ fn runaway(points: &[f64], edge: Edge, second: &mut [f64]) -> Drawn
 }
 
 // Whether an arc stays inside and reaches both vertices.
-fn is_short_arc(points: &[f64], edge: Edge, r: Resolved, chain: &[f64], n: usize) -> bool
+fn serves(points: &[f64], edge: Edge, r: Resolved, chain: &[f64], n: usize) -> bool
     requires { ⌜ width * n ≤ length (now chain) ⌝ }
-    ensures { λ b. ⌜ b ≡ isShortArc (ofPoints (now (points .entry))) edge r (samples n (now (chain .entry))) ⌝ }
+    ensures { λ b. ⌜ b ≡ serves (ofPoints (now (points .entry))) edge r (samples n (now (chain .entry))) ⌝ }
 {
     if edge_escape::escapes(reference(points, edge), r, chain, n) {
         return false;
@@ -77,7 +77,7 @@ fn arc_or_chord(points: &[f64], edge: Edge, r: Resolved, second: &mut [f64], n: 
     requires { ⌜ (shortest ≤ length (now second)) × (width * n ≤ length (now second)) × (now second ≡ filled (length (now second)) (flat (samples n (now second)))) ⌝ }
     ensures { λ w. ⌜ InSecond (arcOrChord (ofPoints (now (points .entry))) edge r (samples n (now (second .entry)))) (length (now (second .entry))) w (now (second .exit)) ⌝ }
 {
-    if is_short_arc(points, edge, r, second, n) {
+    if serves(points, edge, r, second, n) {
         return Drawn::Chain(Way::ShortArc, n);
     }
     runaway(points, edge, second)
@@ -109,29 +109,62 @@ fn short_range(
     }
 }
 
-// The range of the arc between the parameters at which the vertices sit, where there is one.
-fn short_arc(
+// Draws the edge over another range, into the second buffer, and clears the first.
+fn redraw(
     points: &[f64],
     curves: &[u32],
     reals: &[f64],
     parts: &[u32],
     ranges: &[f64],
     edge: Edge,
-) -> Usable
-    ensures { λ u. ⌜ u ≡ shortArc (given points curves reals parts ranges) edge ⌝ }
+    range: Interval,
+    r: Resolved,
+    first: &mut [f64],
+    second: &mut [f64],
+) -> Counted
+    requires { ⌜ (shortest ≤ length (now first)) × (shortest ≤ length (now second)) × (length (curveKnots (tree (lent points curves reals parts ranges) (edge .curve))) ≤ mostKnots) ⌝ }
+    ensures { λ w. ⌜ Redrew (discretised (roomOf (length (now (first .entry))) (length (now (second .entry)))) (given points curves reals parts ranges) (withRange edge range) r) (now (first .entry)) (now (second .entry)) w (now (first .exit)) (now (second .exit)) ⌝ }
 {
-    let natural = curve::natural_range(points, curves, reals, parts, ranges, edge.curve);
-    let span = natural.span();
-    if arith::is_finite(span) && 0.0 < span {
-        let short = short_range(points, curves, reals, parts, ranges, edge);
-        if 0.0 < short.span() {
-            return Usable::Range(short);
-        }
-    }
-    Usable::Unusable
+    let d = with_range(edge, range);
+    edge_discretise::discretise(points, curves, reals, parts, ranges, d, r, second, first)
 }
 
-// Where the range itself ran away: the short arc, drawn and tried, else the chord.
+// The short arc, whose range is known, drawn and tried; else the chord.
+fn draw_short(
+    points: &[f64],
+    curves: &[u32],
+    reals: &[f64],
+    parts: &[u32],
+    ranges: &[f64],
+    edge: Edge,
+    short: Interval,
+    r: Resolved,
+    first: &mut [f64],
+    second: &mut [f64],
+) -> Drawn
+    requires { ⌜ (shortest ≤ length (now first)) × (shortest ≤ length (now second)) × (length (curveKnots (tree (lent points curves reals parts ranges) (edge .curve))) ≤ mostKnots)
+        × (hasShortArc (lent points curves reals parts ranges) edge ≡ true) × (short ≡ shortRange (lent points curves reals parts ranges) edge) ⌝ }
+    ensures { λ w. ⌜ RedrawnInto (λ room. byShortArc room (given points curves reals parts ranges) edge r) (now (first .entry)) (now (second .entry)) w (now (first .exit)) (now (second .exit)) ⌝ }
+{
+    let drawn = redraw(
+        points,
+        curves,
+        reals,
+        parts,
+        ranges,
+        edge,
+        short,
+        r,
+        first,
+        second,
+    );
+    match drawn {
+        Counted::Refused(cause) => Drawn::Refused(cause),
+        Counted::Count(n) => arc_or_chord(points, edge, r, second, n),
+    }
+}
+
+// Where the range itself ran away: the arc between the parameters at which the vertices sit, else the chord.
 fn by_short_arc(
     points: &[f64],
     curves: &[u32],
@@ -146,31 +179,32 @@ fn by_short_arc(
     requires { ⌜ (shortest ≤ length (now first)) × (shortest ≤ length (now second)) × (length (curveKnots (tree (lent points curves reals parts ranges) (edge .curve))) ≤ mostKnots) ⌝ }
     ensures { λ w. ⌜ RedrawnInto (λ room. byShortArc room (given points curves reals parts ranges) edge r) (now (first .entry)) (now (second .entry)) w (now (first .exit)) (now (second .exit)) ⌝ }
 {
-    let arc = short_arc(points, curves, reals, parts, ranges, edge);
-    let Usable::Range(short) = arc else {
-        base_lists::clear_from(first, 0);
-        return runaway(points, edge, second);
-    };
-    let d = with_range(edge, short);
-    let drawn = edge_discretise::discretise(
-        points,
-        curves,
-        reals,
-        parts,
-        ranges,
-        d,
-        r,
-        second,
-        first,
-    );
-    match drawn {
-        Counted::Refused(cause) => Drawn::Refused(cause),
-        Counted::Count(n) => arc_or_chord(points, edge, r, second, n),
+    let natural = curve::natural_range(points, curves, reals, parts, ranges, edge.curve);
+    let span = natural.span();
+    if arith::is_finite(span) && 0.0 < span {
+        let short = short_range(points, curves, reals, parts, ranges, edge);
+        if 0.0 < short.span() {
+            return draw_short(
+                points,
+                curves,
+                reals,
+                parts,
+                ranges,
+                edge,
+                short,
+                r,
+                first,
+                second,
+            );
+        }
     }
+    base_lists::clear_from(first, 0);
+    runaway(points, edge, second)
 }
 
-// The complementary arc, drawn and tried; where it escapes too, the short arc.
-fn draw_complement(
+// The complementary arc of a curve of period p, from where the range ends back round to where it began, drawn and tried;
+// where there is none, or it escapes too, the short arc.
+fn by_complement(
     points: &[f64],
     curves: &[u32],
     reals: &[f64],
@@ -178,24 +212,31 @@ fn draw_complement(
     ranges: &[f64],
     edge: Edge,
     r: Resolved,
-    complement: Interval,
+    p: f64,
     first: &mut [f64],
     second: &mut [f64],
 ) -> Drawn
     requires { ⌜ (shortest ≤ length (now first)) × (shortest ≤ length (now second)) × (length (curveKnots (tree (lent points curves reals parts ranges) (edge .curve))) ≤ mostKnots) ⌝ }
-    ensures { λ w. ⌜ RedrawnInto (drawnComplement (given points curves reals parts ranges) edge r complement) (now (first .entry)) (now (second .entry)) w (now (first .exit)) (now (second .exit)) ⌝ }
+    ensures { λ w. ⌜ RedrawnInto (λ room. byComplement room (given points curves reals parts ranges) edge r p) (now (first .entry)) (now (second .entry)) w (now (first .exit)) (now (second .exit)) ⌝ }
 {
-    let d = with_range(edge, complement);
-    let drawn = edge_discretise::discretise(
+    let complement = Interval {
+        lo: edge.range.hi,
+        hi: edge.range.lo + p,
+    };
+    if !(0.0 < complement.span()) {
+        return by_short_arc(points, curves, reals, parts, ranges, edge, r, first, second);
+    }
+    let drawn = redraw(
         points,
         curves,
         reals,
         parts,
         ranges,
-        d,
+        edge,
+        complement,
         r,
-        second,
         first,
+        second,
     );
     match drawn {
         Counted::Refused(cause) => Drawn::Refused(cause),
@@ -206,32 +247,6 @@ fn draw_complement(
             Drawn::Chain(Way::Complement, n)
         }
     }
-}
-
-// The range of the complementary arc, where there is one: it runs from where the arc ends back round to where it began, on
-// a periodic curve.
-fn complement_arc(
-    points: &[f64],
-    curves: &[u32],
-    reals: &[f64],
-    parts: &[u32],
-    ranges: &[f64],
-    edge: Edge,
-) -> Usable
-    ensures { λ u. ⌜ u ≡ complementArc (given points curves reals parts ranges) edge ⌝ }
-{
-    let period = curve::period(points, curves, reals, parts, ranges, edge.curve);
-    let Repeats::Every(p) = period else {
-        return Usable::Unusable;
-    };
-    let complement = Interval {
-        lo: edge.range.hi,
-        hi: edge.range.lo + p,
-    };
-    if 0.0 < complement.span() {
-        return Usable::Range(complement);
-    }
-    Usable::Unusable
 }
 
 // Whether a chain stays: a box of no extent cannot say that anything ran away from it.
@@ -271,11 +286,11 @@ pub fn repair_runaway(
     if stays(points, edge, r, first, n) {
         return Drawn::Chain(way, n);
     }
-    let arc = complement_arc(points, curves, reals, parts, ranges, edge);
-    let Usable::Range(complement) = arc else {
+    let period = curve::period(points, curves, reals, parts, ranges, edge.curve);
+    let Repeats::Every(p) = period else {
         return by_short_arc(points, curves, reals, parts, ranges, edge, r, first, second);
     };
-    draw_complement(
+    by_complement(
         points,
         curves,
         reals,
@@ -283,7 +298,7 @@ pub fn repair_runaway(
         ranges,
         edge,
         r,
-        complement,
+        p,
         first,
         second,
     )

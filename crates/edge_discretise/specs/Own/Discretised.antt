@@ -4,20 +4,12 @@ use mathlib.Core.List.{List, []}
 use Prim.Native.Nat.{ℕ}
 use lib.ListN.{length}
 use lib.Ieee.{Float}
-use Rattle.base_lists.specs.Result.{Result, refused, got, bind, each}
+use Rattle.base_lists.specs.Result.{Result, refused, got}
 use Rattle.base_lists.specs.Room.{filled}
-use Rattle.math.specs.declared.Interval.{Interval}
-use Rattle.brep.specs.declared.Edge.{Edge}
-use Rattle.brep.specs.Rows.{Tables}
-use Rattle.curve.specs.Eval.{isSampled}
-use Rattle.options.specs.declared.Resolved.{Resolved}
 use Rattle.edge_record.specs.declared.Sample.{Sample}
 use Rattle.edge_record.specs.declared.Counted.{Counted}
 use Rattle.edge_record.specs.Own.Stored.{countedOf}
 use Rattle.edge_record.specs.Chain.{flat}
-use Rattle.edge_merge.specs.Merge.{mergeFloor, merged}
-use Rattle.edge_sample.specs.Sample.{sampled}
-use Rattle.draw_spec.specs.Edge.{edgeCurve, thinnedIf, atLeastTwo, finished}
 use Rattle.draw_spec.specs.Draw.{roomOf}
 
 -- the chain that an answer holds; none in a refusal
@@ -25,20 +17,12 @@ abbrev pub chainOf : Result (List Sample) → List Sample
 chainOf (refused n) = []
 chainOf (got l) = l
 
--- a placed chain, thinned and merged
-abbrev pub thinnedMerged : Tables → Edge → Resolved → List Sample → Result (List Sample)
-thinnedMerged T e r l = each (merged (mergeFloor (e .tolerance) (r .sag))) (thinnedIf (isSampled (edgeCurve T e)) r l)
-
--- the chain over a usable range
-abbrev pub overRange : ℕ → Tables → Edge → Resolved → Interval → Result (List Sample)
-overRange room T e r range = bind (sampled room (edgeCurve T e) range r) (λ params. finished T e r (atLeastTwo range params))
-
 -- what is answered of D, and what a chain buffer of n floats then holds: its chain, if any, and +0.0 behind it
 pub record ChainInto (n : ℕ) (D : Result (List Sample)) (answer : Counted) (chain : List Float) : Type 0 where
   pub answered : answer ≡ countedOf D
   pub holds : chain ≡ filled n (flat (chainOf D))
 
--- the same of a D that depends on the room of both buffers, with +0.0 in all of scratch
+-- of a D that depends on the room of both buffers, with +0.0 in all of scratch
 pub record DiscretisedInto (D : ℕ → Result (List Sample)) (chain scratch : List Float) (answer : Counted) (chain' scratch' : List Float) : Type 0 where
   pub drew : ChainInto (length chain) (D (roomOf (length chain) (length scratch))) answer chain'
   pub cleared : scratch' ≡ filled (length scratch) []

@@ -14,14 +14,14 @@ returns c =
     let s = c .before .before .before .before .before in
     let a = s .args in
     second-is (kept-second ShortArc (a .n) (now (a .second)) refl (s .pre .2))
-    _ (arc-kept (ofPoints (now (a .points))) (a .edge) (a .r) _ (sym (c .before .is-short-arc .ensures) ∙ c .if1 .taken))
+    _ (arc-kept (ofPoints (now (a .points))) (a .edge) (a .r) _ (sym (c .before .serves .ensures) ∙ c .if1 .taken))
 
 returns-2 : tie.Need-returns-2
 returns-2 c =
     let f = c .before .before .before .before in
     let a = f .before .before .before .before .before .args in
     second-is (c .before .before .runaway .ensures)
-    _ (arc-chord (ofPoints (now (a .points))) (a .edge) (a .r) _ (sym (f .before .is-short-arc .ensures) ∙ f .if1 .left))
+    _ (arc-chord (ofPoints (now (a .points))) (a .edge) (a .r) _ (sym (f .before .serves .ensures) ∙ f .if1 .left))
 
 pub arc-or-chord-spec : {M : Type 1} → statement M
 arc-or-chord-spec =

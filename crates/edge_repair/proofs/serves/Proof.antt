@@ -1,10 +1,10 @@
--- `edge_repair::is_short_arc` meets its contract, by the test that decides it. Assumes nothing.
+-- `edge_repair::serves` meets its contract, by the test that decides it. Assumes nothing.
 use Rattle.edge_repair.proofs.Ways.{arc-outside, arc-end, arc-start}
 use Rattle.edge_place.specs.Own.Place.{ofPoints}
 use denote.Ref.{now}
 use borrow.Author.Needs.{needs}
-use Rattle.edge_repair.proofs.is_short_arc.Statement.{statement}
-use Rattle.edge_repair.proofs.is_short_arc.Tie as tie
+use Rattle.edge_repair.proofs.serves.Statement.{statement}
+use Rattle.edge_repair.proofs.serves.Tie as tie
 
 returns : tie.Need-returns
 returns c =
@@ -26,8 +26,8 @@ returns-3 c =
     arc-start (ofPoints (now (a .points))) (a .edge) (a .r) _ (f .before .before .reference .ensures) (f .before .escapes .ensures) (c .before .before .before .point .ensures)
     (c .before .reaches .ensures) (f .if1 .left) (c .if2 .left)
 
-pub is-short-arc-spec : {M : Type 1} → statement M
-is-short-arc-spec =
+pub serves-spec : {M : Type 1} → statement M
+serves-spec =
     tie.close
     (tie.spec
     (λ c κs. search needs)
