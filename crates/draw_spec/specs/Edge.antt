@@ -5,7 +5,8 @@ use Prim.Native.Nat.{ℕ, zero, suc, _+_}
 use lib.Dec.{eqb}
 use lib.Ieee.{Float, lt, le}
 use Rattle.base_lists.specs.Result.{Result, got, bind, each}
-use Rattle.arith.specs.Notation.{_⊗_, _⊘_, bits, count}
+use Rattle.arith.specs.Notation.{_⊗_, _⊘_, count}
+use Rattle.arith.specs.Constants.{eight, ten, hundredth}
 use Rattle.arith.specs.Pick.{maxOf}
 use Rattle.math.specs.declared.Vec3.{Vec3}
 use Rattle.math.specs.declared.Aabb.{Aabb}
@@ -44,7 +45,7 @@ sameSense e = not (eqb (e .sense) 0)
 unfoldable pub probed : CurveTree → Interval → Aabb → ℕ → Aabb
 probed c range b zero = b
 probed c range b (suc n) =
-    let p = pointAt c (at range (count n ⊘ bits 0x4020000000000000)) in
+    let p = pointAt c (at range (count n ⊘ eight)) in
     cond (vFinite p) (addPoint (probed c range b n) p) (probed c range b n)
 
 -- with the probes of a usable range
@@ -64,7 +65,7 @@ edgeExtent T e =
 
 -- (edge.tolerance * 10.0).powi(2)
 abbrev pub nearSquared : Float → Float
-nearSquared tolerance = tolerance ⊗ bits 0x4024000000000000 ⊗ (tolerance ⊗ bits 0x4024000000000000)
+nearSquared tolerance = tolerance ⊗ ten ⊗ (tolerance ⊗ ten)
 
 -- the vertices are too near each other to tell the direction
 unfoldable pub degenerateEnds : Tables → Edge → Bool
@@ -95,7 +96,7 @@ pinned start end (s ∷ l) = lastPinned end (movedTo start s) l
 
 -- thinned where the curve is a polyline or a trim of one
 unfoldable pub thinnedIf : Bool → Resolved → List Sample → Result (List Sample)
-thinnedIf true r l = thinned (r .sag ⊗ bits 0x3F847AE147AE147B) (r .angle) (r .segments + 1) l
+thinnedIf true r l = thinned (r .sag ⊗ hundredth) (r .angle) (r .segments + 1) l
 thinnedIf false r l = got l
 
 -- the two-vertex chord with two parameters

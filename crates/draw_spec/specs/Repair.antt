@@ -5,7 +5,8 @@ use Prim.Native.Nat.{ℕ, zero, suc}
 use lib.Ieee.{Float, lt, le}
 use lib.Ieee.Scale.{finite}
 use Rattle.base_lists.specs.Result.{Result, got, bind}
-use Rattle.arith.specs.Notation.{_⊕_, _⊗_, _⊘_, bits, count, plusZero}
+use Rattle.arith.specs.Notation.{_⊕_, _⊗_, _⊘_, count, plusZero}
+use Rattle.arith.specs.Constants.{ten, sixteen, fiveTwelve}
 use Rattle.arith.specs.Pick.{maxOf}
 use Rattle.math.specs.declared.Vec3.{Vec3}
 use Rattle.math.specs.declared.Aabb.{Aabb}
@@ -50,7 +51,7 @@ reference T e = record { min = pointOf (T .points) (e .low); max = pointOf (T .p
 
 -- reference.diagonal() + options.sag * 16.0
 abbrev pub escapeLimit : Aabb → Resolved → Float
-escapeLimit box r = diagonal box ⊕ r .sag ⊗ bits 0x4030000000000000
+escapeLimit box r = diagonal box ⊕ r .sag ⊗ sixteen
 
 -- escapes: some point lies further than the limit from the box's centre
 unfoldable pub escapes : Aabb → Resolved → List Sample → Bool
@@ -61,11 +62,11 @@ escapes box r (s ∷ l) = lt (escapeLimit box r) (distance (s .point) (centre bo
 unfoldable pub reaches : Edge → Resolved → Vec3 → List Sample → Bool
 reaches e r p [] = false
 reaches e r p (s ∷ l) =
-    le (distance (s .point) p) (maxOf (r .sag) (e .tolerance ⊗ bits 0x4024000000000000)) || reaches e r p l
+    le (distance (s .point) p) (maxOf (r .sag) (e .tolerance ⊗ ten)) || reaches e r p l
 
 -- natural.at(i as f64 / steps as f64), with 512 steps
 abbrev pub sweepAt : Interval → ℕ → Float
-sweepAt natural i = at natural (count i ⊘ bits 0x4080000000000000)
+sweepAt natural i = at natural (count i ⊘ fiveTwelve)
 
 -- nearest: of the first n + 1 of these the one whose point is nearest to the target, the first of equals
 unfoldable pub nearestOf : CurveTree → Interval → Vec3 → ℕ → Float

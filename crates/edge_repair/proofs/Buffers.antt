@@ -32,7 +32,7 @@ use Rattle.draw_spec.specs.Draw.{roomOf, answerOf, inFirst, firstAfter, secondA
 use Rattle.draw_spec.proofs.Outcome.{outcome-refused}
 use Rattle.draw_spec.proofs.Discretised.{Room, discretised-outcome}
 use Rattle.edge_discretise.specs.Own.Discretised.{chainOf, DiscretisedInto}
-use Rattle.edge_repair.specs.Own.Redrawn.{heldFirst, heldSecond, Redrew, RedrawnInto, DrawnInto, InSecond}
+use Rattle.edge_repair.specs.Own.Redrawn.{heldFirst, heldSecond, RedrawnChain, RedrawnInto, DrawnInto, InSecond}
 
 -- ---- `discretise` into the second buffer
 room-swap : (a b : ℕ) → roomOf a b ≡ roomOf b a
@@ -50,7 +50,7 @@ discretised-late T e r a b n h k q =
 
 pub redrew : (T : Tables) (e d : Edge) (r : Resolved) {first second : List Float} {w : Counted} {first' second' : List Float} → 8 ≤ length first → 8 ≤ length second → e ≡ d
     → DiscretisedInto (λ room. discretised room T e r) second first w second' first'
-    → Redrew (discretised (roomOf (length first) (length second)) T d r) first second w first' second'
+    → RedrawnChain (discretised (roomOf (length first) (length second)) T d r) first second w first' second'
 redrew T e d r {first} {second} h k s p =
     let q : discretised (roomOf (length second) (length first)) T e r ≡ discretised (roomOf (length first) (length second)) T d r =
     rw (s, room-swap (length second) (length first)) in
@@ -73,7 +73,7 @@ pub record Drew (X : Result (List Sample)) (n : ℕ) (c : List Float) : Type 0 w
   pub size : n ≡ length chain
   pub floats : c ≡ filled (length c) (flat chain)
 
-module _ {X : Result (List Sample)} {first second : List Float} {w : Counted} {first' second' : List Float} (d : Redrew X first second w first' second') where
+module _ {X : Result (List Sample)} {first second : List Float} {w : Counted} {first' second' : List Float} (d : RedrawnChain X first second w first' second') where
   pub drew : (n : ℕ) → w ≡ counts.Count n → length second' ≡ length second → Drew X n second'
   drew n t e = go X (sym t ∙ d .answered) (d .secondHolds)
     where

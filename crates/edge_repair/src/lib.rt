@@ -22,7 +22,7 @@ ghost use Rattle.draw_spec.specs.Edge.{discretised};
 ghost use Rattle.draw_spec.specs.Repair.{by, withRange, reference, runaway, serves, arcOrChord, shortRange, hasShortArc, byShortArc, byComplement, stays, repaired};
 ghost use Rattle.draw_spec.specs.Draw.{roomOf, inFirst};
 ghost use Rattle.edge_place.specs.Own.Place.{ofPoints};
-ghost use Rattle.edge_repair.specs.Own.Redrawn.{Redrew, InSecond, RedrawnInto, DrawnInto};
+ghost use Rattle.edge_repair.specs.Own.Redrawn.{RedrawnChain, InSecond, RedrawnInto, DrawnInto};
 
 // The edge with another range.
 fn with_range(edge: Edge, range: Interval) -> Edge
@@ -123,7 +123,7 @@ fn redraw(
     second: &mut [f64],
 ) -> Counted
     requires { ⌜ (shortest ≤ length (now first)) × (shortest ≤ length (now second)) × (length (curveKnots (tree (lent points curves reals parts ranges) (edge .curve))) ≤ mostKnots) ⌝ }
-    ensures { λ w. ⌜ Redrew (discretised (roomOf (length (now (first .entry))) (length (now (second .entry)))) (given points curves reals parts ranges) (withRange edge range) r) (now (first .entry)) (now (second .entry)) w (now (first .exit)) (now (second .exit)) ⌝ }
+    ensures { λ w. ⌜ RedrawnChain (discretised (roomOf (length (now (first .entry))) (length (now (second .entry)))) (given points curves reals parts ranges) (withRange edge range) r) (now (first .entry)) (now (second .entry)) w (now (first .exit)) (now (second .exit)) ⌝ }
 {
     let d = with_range(edge, range);
     edge_discretise::discretise(points, curves, reals, parts, ranges, d, r, second, first)

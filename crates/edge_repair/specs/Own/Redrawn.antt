@@ -28,7 +28,7 @@ heldSecond (refused n) = []
 heldSecond (got g) = cond (inFirst (g .way)) [] (flat (g .chain))
 
 -- a chain X that is drawn into the second buffer, with the first as scratch; no refusal is below 8
-pub record Redrew (X : Result (List Sample)) (first second : List Float) (answer : Counted) (first' second' : List Float) : Type 0 where
+pub record RedrawnChain (X : Result (List Sample)) (first second : List Float) (answer : Counted) (first' second' : List Float) : Type 0 where
   pub answered : answer ≡ countedOf X
   pub firstHolds : first' ≡ filled (length first) []
   pub secondHolds : second' ≡ filled (length second) (flat (chainOf X))
