@@ -9,8 +9,7 @@ use lib.Seq.{sets}
 use lib.Ieee.{Float, binary64, ofBits}
 use Rattle.base_lists.specs.Result.{Result, refused, got}
 use Rattle.base_lists.specs.Room.{filled}
-use Rattle.sheet_layout.specs.Layout.{RawSheet, readSheet}
-use Rattle.sheet_row.specs.Rows.{rawEdgeOf}
+use Rattle.sheet_layout.specs.Layout.{readSheet}
 use Rattle.sheet.specs.Own.Leading.{leading}
 use Rattle.sheet.proofs.Laws.{SheetRead}
 use Rattle.brep.specs.Rows.{Tables}

@@ -9,12 +9,9 @@ use Rattle.base_lists.specs.Result.{Result, refused, got}
 use Rattle.sheet_layout.specs.Layout.{RawSheet, readSheet}
 use Rattle.sheet_row.specs.Rows.{rawEdgeOf, rawOptionsOf}
 use Rattle.sheet.specs.Sheet.{edgeFrom, optionsFrom, tablesOf}
-use Rattle.edge_record.specs.declared.Sample.{Sample}
 use Rattle.text_listing.specs.Listing.{listing, refusal}
 use Rattle.draw_spec.specs.declared.Way.{Way}
 use Rattle.draw_spec.specs.declared.Way.the-variants.{AsDrawn, Chord, Complement, ShortArc, Runaway}
-use Rattle.draw_spec.specs.declared.Drawn.{Drawn}
-use Rattle.draw_spec.specs.declared.Drawn.the-variants.{Refused, Chain}
 use Rattle.draw_spec.specs.Repair.{Got}
 use Rattle.draw_spec.specs.Draw.{drawn, firstAfter, secondAfter}
 

@@ -6,7 +6,7 @@ use mathlib.Core.List.{List, []}
 use Prim.Native.Nat.{ℕ, _*_, _-_, _<_, _≤_}
 use native.Mathlib.Omega.{arith}
 use lib.ListN.{length, replicate, take}
-use lib.Dec.{ltb, leb}
+use lib.Dec.{ltb}
 use lib.Ieee.{Float, binary64, ofBits}
 use borrow.Author.Tests.{lt-ltb, le-ltb, le-leb, lt-leb}
 use Rattle.base_lists.specs.Result.{Result, refused, got}
@@ -28,7 +28,6 @@ use Rattle.edge_record.specs.declared.Counted.the-variants as counted
 use Rattle.edge_record.specs.Own.Stored.{countedOf}
 use Rattle.edge_record.specs.Chain.{width, flat, samples}
 use Rattle.edge_record.proofs.Laws.{length-flat, reads}
-use Rattle.edge_merge.specs.Merge.{mergeFloor}
 use Rattle.draw_spec.specs.declared.Way.{Way}
 use Rattle.draw_spec.specs.declared.Drawn.{Drawn}
 use Rattle.draw_spec.specs.declared.Drawn.the-variants.{Refused, Chain}
@@ -37,7 +36,7 @@ use Rattle.draw_spec.specs.Repair.{Got, by, repaired}
 use Rattle.draw_spec.specs.Draw as draw
 use Rattle.draw_spec.specs.Draw.{firstWay, localOptions, drawnIn, roomOf, tooShort, drawn, Lowest, Outcome, inFirst, afterRefusal, firstAfter, secondAfter}
 use Rattle.draw_spec.proofs.Outcome.{outcome-got, outcome-refused}
-use Rattle.draw_spec.proofs.Discretised.{Chained, Room, discretised-outcome}
+use Rattle.draw_spec.proofs.Discretised.{Room, discretised-outcome}
 use Rattle.draw_spec.proofs.Repaired.{drawn-in-outcome}
 use Rattle.draw_spec.proofs.Sound.{Binary}
 use Rattle.draw_spec.proofs.Accepted.{given, by-tables, by-buffers, refused-so}

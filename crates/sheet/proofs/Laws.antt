@@ -18,7 +18,7 @@ use Rattle.sheet_row.specs.Rows.{isFloat, rawEdgeOf, rawOptionsOf}
 use Rattle.sheet_tables.specs.Own.Room.{least, columnCount}
 use Rattle.sheet_tables.proofs.Valid.{line-long}
 use Rattle.sheet_tables.proofs.Fits.{wholes-length, floats-length}
-use Rattle.brep.specs.Rows.{Tables, tables}
+use Rattle.brep.specs.Rows.{Tables}
 use Rattle.brep.specs.declared.Edge.{Edge}
 use Rattle.options.specs.declared.Options.{Options}
 use Rattle.sheet.specs.Own.Leading.{leading}

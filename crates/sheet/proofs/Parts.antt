@@ -1,16 +1,16 @@
 -- The parts of the reader: what is told of the three tables and held of them, and the sheet that its tables and its ends make. Assumes nothing.
 use mathlib.Core.Path.{_≡_, refl, sym, ap, subst, _∙_}
-use mathlib.Core.List.{List}
+use mathlib.Core.List.{List, []}
 use Prim.Native.Nat.{ℕ, _-_, _<_, _≤_}
 use native.Mathlib.Numerals.{lt-of-le-of-ne}
 use native.Mathlib.Omega.{arith}
-use lib.ListN.{length, drop, replicate, length-drop, drop-of-length-le}
+use lib.ListN.{length, drop, length-drop, drop-of-length-le}
 use lib.Seq.{drop-cons}
 use lib.Ieee.{Float}
 use borrow.Author.Tests.{le-leb, lt-leb}
 use Rattle.base_lists.specs.Result.{Result, refused, got as accepted}
 use Rattle.text_format.specs.Format.{Parsed, bad, got, _then_, all, whole}
-use Rattle.text_format.specs.Table.{fields, table}
+use Rattle.text_format.specs.Table.{fields}
 use Rattle.sheet_layout.specs.Layout.{RawSheet, pointColumns, curveColumns, segmentColumns, tablesFormat, ends, sheet, size, readSheet}
 use Rattle.sheet_layout.specs.Padded.{padded}
 use Rattle.sheet_layout.proofs.Laws.{tables-law, ends-law}
@@ -19,9 +19,8 @@ use Rattle.sheet_row.specs.declared.RawEdge.{RawEdge}
 use Rattle.sheet_row.specs.declared.RawOptions.{RawOptions}
 use Rattle.text_format.proofs.Place.{Read, placed, then-bad, then-bad-on, then-read, as-bad, as-read}
 use Rattle.sheet_tables.specs.Flattened.{flattened}
-use Rattle.sheet_tables.specs.Own.Answers.{numbersOf}
-use Rattle.sheet_tables.proofs.Stores.{numbers-got}
-use Rattle.sheet_tables.proofs.Fits.{zeros-padded}
+use Rattle.sheet_tables.specs.Own.Answers.{TableStored}
+use Rattle.sheet_tables.proofs.Stores.{stored-is as table-is}
 use Rattle.sheet_edge.specs.Own.Answers.{parsedEnds}
 use Rattle.sheet_edge.specs.declared.Last.the-variants.{Pair, NoPair}
 use Rattle.brep.specs.Rows.{Tables, tables as tables-of}
@@ -34,8 +33,8 @@ use Rattle.sheet.specs.declared.Counted.the-variants.{Counts, NoTables}
 
 -- ---- a table of n places that was read
 pub held-part : {A E : Type 0} (numbers : A → List E) (z : E) (n : ℕ) (q : Parsed A) (l : A) (rest : List ℕ) (old new : List E) → length old ≡ n
-    → q ≡ got l rest → new ≡ padded (length old) z (numbersOf numbers q) → new ≡ padded n z (numbers l)
-held-part numbers z n q l rest old new e f g = g ∙ ap (λ k. padded k z (numbersOf numbers q)) e ∙ ap (padded n z) (numbers-got numbers q l rest f)
+    → q ≡ got l rest → TableStored numbers z q (length old) new → new ≡ padded n z (numbers l)
+held-part numbers z n q l rest old new e f g = rw (← e) (table-is numbers z q (length old) new l rest f g)
 
 -- ---- the three tables
 module _ (s : List ℕ) (q : Parsed Three) where
@@ -75,11 +74,10 @@ unfolding stored tablesOf
 stored-is a b c points curves reals parts ranges d e f g h = rw (d, e, f, g, h)
 
 pub cleared : (points : List Float) (curves : List ℕ) (reals : List Float) (parts : List ℕ) (ranges : List Float)
-    → points ≡ replicate 3855 (floatOf 0) → curves ≡ replicate 4914 0 → reals ≡ replicate 3276 (floatOf 0) → parts ≡ replicate 3448 0
-    → ranges ≡ replicate 3448 (floatOf 0) → tables-of points curves reals parts ranges ≡ stored noTables
+    → points ≡ padded 3855 (floatOf 0) [] → curves ≡ padded 4914 0 [] → reals ≡ padded 3276 (floatOf 0) [] → parts ≡ padded 3448 0 []
+    → ranges ≡ padded 3448 (floatOf 0) [] → tables-of points curves reals parts ranges ≡ stored noTables
 unfolding stored
-cleared points curves reals parts ranges d e f g h =
-    rw (d ∙ zeros-padded (floatOf 0) 3855, e ∙ zeros-padded 0 4914, f ∙ zeros-padded (floatOf 0) 3276, g ∙ zeros-padded 0 3448, h ∙ zeros-padded (floatOf 0) 3448)
+cleared points curves reals parts ranges d e f g h = rw (d, e, f, g, h)
 
 -- ---- what was read of them, by what was told
 pub record TablesRead (s : List ℕ) (n m k p : ℕ) : Type 0 where

@@ -1,7 +1,7 @@
 -- What the reader of a sheet answers, and what its tables hold afterwards.
 use mathlib.Core.List.{[]}
-use Prim.Native.Nat.{ℕ, _*_}
-use lib.ListN.{length, take}
+use Prim.Native.Nat.{ℕ}
+use lib.ListN.{length}
 use lib.Ieee.{Float, binary64, ofBits}
 use Rattle.base_lists.specs.Result.{Result, refused, got}
 use Rattle.text_format.specs.Table.{fields}

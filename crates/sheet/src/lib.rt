@@ -152,11 +152,11 @@ fn clear(
 )
     ensures { λ _. ⌜ lent (points .exit) (curves .exit) (reals .exit) (parts .exit) (ranges .exit) ≡ stored noTables ⌝ }
 {
-    sheet_row::clear_floats(points);
-    sheet_row::clear_wholes(curves);
-    sheet_row::clear_floats(reals);
-    sheet_row::clear_wholes(parts);
-    sheet_row::clear_floats(ranges);
+    base_lists::clear_from(points, 0);
+    sheet_row::clear_wholes(curves, 0);
+    base_lists::clear_from(reals, 0);
+    sheet_row::clear_wholes(parts, 0);
+    base_lists::clear_from(ranges, 0);
 }
 
 // The sheet that the text stands for: its numbers in the tables, zeros behind them. Zeros alone, and cause 10, where it

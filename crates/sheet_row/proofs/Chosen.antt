@@ -1,7 +1,7 @@
 -- A row's numbers, column by column: one is chosen or passed over. Assumes nothing.
 use mathlib.Core.Path.{_≡_, refl, sym, ap, _∙_}
-use mathlib.Core.Bool.{Bool, true, false, cond, not}
-use mathlib.Core.List.{List, [], _∷_, map}
+use mathlib.Core.Bool.{Bool, true, false, cond}
+use mathlib.Core.List.{List, [], _∷_}
 use Prim.Native.Nat.{ℕ, suc, _+_, _<_, _≤_}
 use native.Mathlib.Numerals.{add-one}
 use lib.ListN.{length, getD, drop, drop-of-length-le}
@@ -9,7 +9,7 @@ use lib.Seq.{drop-cons}
 use lib.Dec.{eqb}
 use borrow.Author.Tests.{eq-eqb, ne-eqb}
 use Rattle.base_lists.specs.All.{All, more}
-use Rattle.text_format.specs.Table.{Field, float, whole, word}
+use Rattle.text_format.specs.Table.{Field}
 use Rattle.sheet_layout.specs.Layout.{u32, u64, kind}
 use Rattle.sheet_layout.specs.Own.Letters.{fieldOf, shapeOf}
 use Rattle.sheet_row.specs.Rows.{isFloat, chosen}

@@ -1,23 +1,29 @@
--- A table is filled with one value, one store a turn. Assumes nothing.
-use mathlib.Core.Path.{_≡_, refl, sym, ap, _∙_}
-use mathlib.Core.List.{List, [], _∷_, _++_, append-nil}
-use Prim.Native.Nat.{ℕ, zero, suc, _+_, _<_, _≤_}
-use native.Mathlib.Omega.{arith}
+-- A table is cleared from a place on, one store a turn: what stands, then zeros for what is left, is the whole. Assumes nothing.
+use mathlib.Core.Path.{_≡_, sym, ap, _∙_}
+use mathlib.Core.List.{List, _++_, append-nil}
+use Prim.Native.Nat.{ℕ, suc, _+_, _-_, _<_, _≤_}
 use native.Mathlib.Numerals.{add-one}
-use lib.ListN.{length, set, drop, replicate, length-replicate, drop-of-length-le}
-use lib.Seq.{drop-cons, set-at}
+use native.Mathlib.Omega.{arith}
+use lib.ListN.{length, take, set, replicate}
+use lib.Seq.{length-take-le, take-suc-set, take-all, append-snoc}
+use Rattle.sheet_layout.specs.Padded.{padded}
 
-module _ {E : Type 0} where
-  one-more : (n : ℕ) (v : E) (l : List E) → replicate n v ++ v ∷ l ≡ replicate (suc n) v ++ l
-  one-more zero v l = refl
-  one-more (suc n) v l = ap (λ t. v ∷ t) (one-more n v l)
+module _ {E : Type 0} (zero : E) (n : ℕ) where
+  -- what stands up to i, and zeros for the rest
+  abbrev pub clearedFrom : List E → ℕ → List E
+  clearedFrom a i = take i a ++ replicate (n - i) zero
 
-  -- zeros up to n, and one more
-  pub fill-more : (n : ℕ) (v : E) (d : List E) → n < length d → set (replicate n v ++ drop n d) n v ≡ replicate (n + 1) v ++ drop (n + 1) d
-  fill-more n v d l =
-      ap (λ t. set (replicate n v ++ t) n v) (drop-cons d n v l) ∙ set-at (replicate n v) _ (drop (suc n) d) v n (length-replicate n v)
-      ∙ one-more n v (drop (suc n) d) ∙ ap (λ k. replicate k v ++ drop k d) (sym (add-one n))
+  pub one-cleared : (a : List E) (i : ℕ) → i < length a → i < n → clearedFrom (set a i zero) (i + 1) ≡ clearedFrom a i
+  one-cleared a i h k =
+      let m : suc (n - (i + 1)) ≡ n - i = omega arith in
+      ap (λ j. take j (set a i zero) ++ replicate (n - (i + 1)) zero) (add-one i)
+      ∙ ap (λ l. l ++ replicate (n - (i + 1)) zero) (take-suc-set a i zero h) ∙ append-snoc (take i a) zero (replicate (n - (i + 1)) zero)
+      ∙ ap (λ j. take i a ++ replicate j zero) m
 
-  pub filled : (n : ℕ) (v : E) (d out : List E) → n ≡ length d → out ≡ replicate n v ++ drop n d → out ≡ replicate (length d) v
-  filled n v d out e f =
-      f ∙ ap (λ t. replicate n v ++ t) (drop-of-length-le d {i = n} (omega arith)) ∙ append-nil (replicate n v) ∙ ap (λ k. replicate k v) e
+  pub all-cleared : (before a : List E) (from i : ℕ) → from ≤ length before → length a ≤ i → n ≤ i → clearedFrom a i ≡ clearedFrom before from
+      → a ≡ padded n zero (take from before)
+  unfolding padded
+  all-cleared before a from i f h k e =
+      let m : n - i ≡ 0 = omega arith in
+      sym (ap (λ j. take i a ++ replicate j zero) m ∙ append-nil (take i a) ∙ take-all i a h) ∙ e
+      ∙ ap (λ j. take from before ++ replicate (n - j) zero) (sym (length-take-le from before f))

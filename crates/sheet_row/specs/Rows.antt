@@ -1,7 +1,7 @@
 -- What becomes of a row's numbers.
 use mathlib.Core.Bool.{Bool, true, false, cond, not}
 use mathlib.Core.List.{List, [], _∷_, map}
-use Prim.Native.Nat.{ℕ, _^_, _<_}
+use Prim.Native.Nat.{ℕ}
 use lib.ListN.{getD}
 use lib.Ieee.{Float, binary64, ofBits}
 use Rattle.text_format.specs.Table.{Field, float, whole, word}

@@ -2,10 +2,11 @@
 ghost use mathlib.Core.Path.{_≡_};
 ghost use mathlib.Core.List.{[], _∷_};
 ghost use Prim.Native.Nat.{_+_, _^_, _≤_, _<_};
-ghost use lib.ListN.{length, replicate};
+ghost use lib.ListN.{length, take};
 ghost use lib.Seq.{sets};
 ghost use lib.Ieee.{binary64, ofBits};
 ghost use Rattle.base_lists.specs.All.{All};
+ghost use Rattle.sheet_layout.specs.Padded.{padded};
 ghost use Rattle.sheet_layout.specs.Own.Letters.{shapeOf};
 ghost use Rattle.sheet_row.specs.Own.Narrow.{Narrow};
 ghost use Rattle.sheet_row.specs.Rows.{floatsOf, wholesOf, rawEdgeOf, rawOptionsOf};
@@ -85,21 +86,12 @@ pub fn put_wholes(shape: &[u8], row: &[u64], out: &mut [u32], at: usize) -> usiz
     k
 }
 
-// Zeros in a table of floats, and in one of whole numbers.
-pub fn clear_floats(out: &mut [f64])
-    ensures { λ _. ⌜ now (out .exit) ≡ replicate (length (now (out .entry))) (ofBits binary64 0) ⌝ }
+// Zeros in a table of whole numbers, from number `from` on.
+pub fn clear_wholes(out: &mut [u32], from: usize)
+    requires { ⌜ from ≤ length (now out) ⌝ }
+    ensures { λ _. ⌜ now (out .exit) ≡ padded (length (now (out .entry))) 0 (take from (now (out .entry))) ⌝ }
 {
-    let mut i = 0usize;
-    while i < out.len() {
-        out[i] = 0.0;
-        i += 1;
-    }
-}
-
-pub fn clear_wholes(out: &mut [u32])
-    ensures { λ _. ⌜ now (out .exit) ≡ replicate (length (now (out .entry))) 0 ⌝ }
-{
-    let mut i = 0usize;
+    let mut i = from;
     while i < out.len() {
         out[i] = 0;
         i += 1;

@@ -1,15 +1,15 @@
 -- What a table holds: one more number, one more row; what was read is stored. Assumes nothing.
-use mathlib.Core.Path.{_≡_, refl, sym, ap, subst, _∙_}
+use mathlib.Core.Path.{_≡_, sym, ap, subst, _∙_}
 use mathlib.Core.List.{List, [], _∷_, _++_, append-assoc, append-nil}
-use Prim.Native.Nat.{ℕ, suc, _+_, _-_, _≤_}
+use Prim.Native.Nat.{ℕ, _+_, _≤_}
 use native.Mathlib.Omega.{arith}
-use lib.ListN.{length, drop, replicate, length-append, length-replicate}
-use lib.Seq.{sets, sets-eq}
+use lib.ListN.{length, take, drop}
+use lib.Seq.{sets, sets-eq, length-sets, take-at}
 use Rattle.text_format.specs.Format.{Parsed, bad, got}
 use Rattle.text_format.proofs.Buffer.{sets-append}
 use Rattle.sheet_layout.specs.Padded.{padded}
 use Rattle.sheet_tables.specs.Flattened.{flattened}
-use Rattle.sheet_tables.specs.Own.Answers.{numbersOf, TableStored}
+use Rattle.sheet_tables.specs.Own.Answers.{TableStored}
 
 -- ---- more numbers behind those that are there
 pub more-stored : {E : Type 0} (before out next xs ys : List E) (k : ℕ) → k ≡ length xs → out ≡ sets before 0 xs → next ≡ sets out k ys
@@ -25,30 +25,27 @@ module _ {A E : Type 0} (row : A → List E) where
   flat-snoc [] a = append-nil (row a)
   flat-snoc (b ∷ l) a = ap (λ z. row b ++ z) (flat-snoc l a) ∙ sym (append-assoc (row b) (flattened row l) (row a))
 
-  -- ---- what was read
-  pub stored-bad : (q : Parsed A) (before after : List E) → q ≡ bad → TableStored row q before after
+-- ---- zeros behind them, from number k on
+pub cleared-behind : {E : Type 0} (zero : E) (before out after xs : List E) (k : ℕ) → k ≡ length xs → k ≤ length before → out ≡ sets before 0 xs
+    → after ≡ padded (length out) zero (take k out) → after ≡ padded (length before) zero xs
+cleared-behind zero before out after xs k e h f g =
+    g ∙ ap (λ n. padded n zero (take k out)) (ap length f ∙ length-sets before 0 xs)
+    ∙ ap (λ o. padded (length before) zero (take k o)) (f ∙ sets-eq xs before 0 (omega arith))
+    ∙ ap (padded (length before) zero) (take-at xs (drop (0 + length xs) before) k (sym e))
+
+-- ---- what was read
+module _ {A E : Type 0} (row : A → List E) (zero : E) (q : Parsed A) (n : ℕ) (after : List E) where
+  pub stored-bad : q ≡ bad → TableStored row zero q n after
   unfolding TableStored
-  stored-bad q before after e = rw (e, TableStored) tt
+  stored-bad e = rw (e, TableStored) tt
 
-  pub stored-got : (q : Parsed A) (a : A) (rest : List ℕ) (before after : List E) → q ≡ got a rest → after ≡ sets before 0 (row a) → TableStored row q before after
+  pub stored-got : (a : A) (rest : List ℕ) → q ≡ got a rest → after ≡ padded n zero (row a) → TableStored row zero q n after
   unfolding TableStored
-  stored-got q a rest before after e f = rw (e, TableStored) f
+  stored-got a rest e f = rw (e, TableStored) f
 
-  pub stored-is : (q : Parsed A) (a : A) (rest : List ℕ) (before after : List E) → q ≡ got a rest → TableStored row q before after → after ≡ sets before 0 (row a)
+  pub stored-same : (r : Parsed A) → q ≡ r → TableStored row zero q n after → TableStored row zero r n after
+  stored-same r e t = subst (λ z. TableStored row zero z n after) e t
+
+  pub stored-is : (a : A) (rest : List ℕ) → q ≡ got a rest → TableStored row zero q n after → after ≡ padded n zero (row a)
   unfolding TableStored
-  stored-is q a rest before after e t = subst (λ z. TableStored row z before after) e t
-
-  pub stored-same : (q r : Parsed A) (before after : List E) → q ≡ r → TableStored row q before after → TableStored row r before after
-  stored-same q r before after e t = subst (λ z. TableStored row z before after) e t
-
-  -- ---- in a table that was zeros
-  pub numbers-bad : (q : Parsed A) → q ≡ bad → numbersOf row q ≡ []
-  unfolding numbersOf
-  numbers-bad q e = rw e
-
-  pub numbers-got : (q : Parsed A) (a : A) (rest : List ℕ) → q ≡ got a rest → numbersOf row q ≡ row a
-  unfolding numbersOf
-  numbers-got q a rest e = rw e
-
-  pub numbers-same : (q r : Parsed A) → q ≡ r → numbersOf row q ≡ numbersOf row r
-  numbers-same q r e = ap (numbersOf row) e
+  stored-is a rest e t = stored-same (got a rest) e t

@@ -1,12 +1,12 @@
 -- The loop over the rows of a table. Assumes nothing.
 use mathlib.Core.Path.{_≡_, refl, sym, ap, _∙_}
-use mathlib.Core.Bool.{Bool, true, false, cond, not}
+use mathlib.Core.Bool.{Bool, not}
 use mathlib.Core.List.{List, [], _∷_, _++_, map, append-nil}
-use Prim.Native.Nat.{ℕ, zero, suc, _+_, _-_, _*_, _^_, _<_, _≤_}
+use Prim.Native.Nat.{ℕ, suc, _+_, _-_, _*_, _^_, _<_, _≤_}
 use native.Mathlib.Omega.{arith}
 use native.Mathlib.Numerals.{add-one}
 use native.Mathlib.Nat.{mul-zero, mul-suc}
-use lib.ListN.{length, getD, drop, replicate, length-append, length-drop, length-map, drop-of-length-le}
+use lib.ListN.{length, getD, drop, length-append, length-drop, length-map, drop-of-length-le}
 use lib.Seq.{sets, drop-cons, length-sets}
 use lib.Ieee.{Float, binary64, ofBits}
 use borrow.Author.Tests.{eq-eqb, ne-eqb}
@@ -94,6 +94,8 @@ module _ (s shape : List ℕ) (at : ℕ) (wholes₀ : List ℕ) (floats₀ : Lis
     pub taken : List (List ℕ)
     pub count : length taken ≡ n
     pub whole : onto taken (lines (line fs) .read (drop p s)) ≡ lines (line fs) .read (drop at s)
+    pub w-fits : w ≤ length wholes₀
+    pub f-fits : f ≤ length floats₀
     pub w-place : w ≡ length (flattened (wholesOf fs) taken)
     pub f-place : f ≡ length (flattened (floatsOf fs) taken)
     pub wholes-are : wholes ≡ sets wholes₀ 0 (flattened (wholesOf fs) taken)
@@ -124,6 +126,8 @@ module _ (s shape : List ℕ) (at : ℕ) (wholes₀ : List ℕ) (floats₀ : Lis
     taken = [];
     count = refl;
     whole = onto-nothing (lines (line fs) .read (drop at s));
+    w-fits = omega arith;
+    f-fits = omega arith;
     w-place = refl;
     f-place = refl;
     wholes-are = refl;
@@ -246,6 +250,8 @@ module _ (s shape : List ℕ) (at : ℕ) (wholes₀ : List ℕ) (floats₀ : Lis
             whole =
                 onto-onto (r .taken) (l ∷ []) (lines F .read (drop q s))
                 ∙ ap (onto (r .taken)) (sym (lines-turn F (shape-law shape) no-row s p h e l q (was .is))) ∙ r .whole;
+            w-fits = let a = w-fit in let b = r .wholes-same in omega arith;
+            f-fits = let a = f-fit in let b = r .floats-same in omega arith;
             w-place = let c = r .w-place in omega (arith, wp, ap length w-flat ∙ length-append (flattened (wholesOf fs) (r .taken)) (wholesOf fs row));
             f-place = let c = r .f-place in omega (arith, fp, ap length f-flat ∙ length-append (flattened (floatsOf fs) (r .taken)) (floatsOf fs row));
             wholes-are = more-stored wholes₀ wholes wholes′ (flattened (wholesOf fs) (r .taken)) (wholesOf fs row) w (r .w-place) (r .wholes-are) ws ∙ ap (sets wholes₀ 0) (sym w-flat);

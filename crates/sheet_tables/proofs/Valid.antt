@@ -1,14 +1,13 @@
 -- A valid row: as many numbers as columns, within their widths; and how long its line is at least. Assumes nothing.
-use mathlib.Core.Path.{_≡_, refl, sym, ap, subst, _∙_}
+use mathlib.Core.Path.{_≡_, refl, sym, ap}
 use mathlib.Core.Bool.{Bool, true, false, cond, not}
-use mathlib.Core.List.{List, [], _∷_, _++_, map}
-use Prim.Native.Nat.{ℕ, zero, suc, _+_, _-_, _^_, _<_, _≤_}
+use mathlib.Core.List.{List, [], _∷_, _++_}
+use Prim.Native.Nat.{ℕ, suc, _+_, _-_, _^_, _<_, _≤_}
 use native.Mathlib.Omega.{arith}
 use lib.ListN.{length, getD, replicate, length-append}
 use lib.Dec.{eqb}
-use borrow.Author.Tests.{eq-eqb, ne-eqb}
 use Rattle.base_lists.specs.All.{All, none as all-none, more}
-use Rattle.text_format.specs.Format.{Format, hex16, plain, oneOf, decimal, digits, _ending_, _and_, noItems, ValidCons, writeCons}
+use Rattle.text_format.specs.Format.{_ending_, _and_, noItems, ValidCons, writeCons}
 use Rattle.text_format.specs.Table.{Field, float, whole, word, behind, cell, line}
 use Rattle.text_format.proofs.Digits.{digits-length, decimal-some}
 use Rattle.text_format.proofs.Words.{differ, differAll, differ-at, apart, and-left, no-truth}

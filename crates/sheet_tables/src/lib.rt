@@ -7,20 +7,20 @@ ghost use Rattle.text_format.specs.Format.{lines};
 ghost use Rattle.text_format.specs.Table.{fields, line, table};
 ghost use Rattle.text_format.specs.Own.Answers.{parsedList};
 ghost use Rattle.sheet_layout.specs.Layout.{size, pointColumns, curveColumns, segmentColumns};
-ghost use Rattle.sheet_layout.specs.Padded.{padded};
 ghost use Rattle.sheet_layout.specs.Own.Letters.{shapeOf};
 ghost use Rattle.sheet_row.specs.Rows.{floatsOf, wholesOf};
 ghost use Rattle.sheet_tables.specs.Own.Room.{Roomy};
 ghost use Rattle.sheet_tables.specs.Flattened.{flattened};
-ghost use Rattle.sheet_tables.specs.Own.Answers.{tableOf, numbersOf, TableStored};
+ghost use Rattle.sheet_tables.specs.Own.Answers.{tableOf, TableStored};
 use text_format::Num;
 
-// The rows of a table, up to the empty line behind them: whole numbers into one table, floats into another.
+// The rows of a table, up to the empty line behind them: whole numbers into one table, floats into another, zeros behind
+// them. Where they cannot be read, the tables hold whatever was read before.
 fn rows(s: &[u8], at: usize, shape: &[u8], wholes: &mut [u32], floats: &mut [f64]) -> Num
     requires { ⌜ (at ≤ length (now s)) × (length (now s) ≤ size) × Roomy (now shape) (length (now wholes)) (length (now floats)) ⌝ }
     ensures { λ r. ⌜ (r ≡ parsedList (now (s .entry)) (lines (line (shapeOf (now (shape .entry)))) .read (drop at (now (s .entry)))))
-        × TableStored (flattened (wholesOf (shapeOf (now (shape .entry))))) (lines (line (shapeOf (now (shape .entry)))) .read (drop at (now (s .entry)))) (now (wholes .entry)) (now (wholes .exit))
-        × TableStored (flattened (floatsOf (shapeOf (now (shape .entry))))) (lines (line (shapeOf (now (shape .entry)))) .read (drop at (now (s .entry)))) (now (floats .entry)) (now (floats .exit)) ⌝ }
+        × TableStored (flattened (wholesOf (shapeOf (now (shape .entry))))) 0 (lines (line (shapeOf (now (shape .entry)))) .read (drop at (now (s .entry)))) (length (now (wholes .entry))) (now (wholes .exit))
+        × TableStored (flattened (floatsOf (shapeOf (now (shape .entry))))) (ofBits binary64 0) (lines (line (shapeOf (now (shape .entry)))) .read (drop at (now (s .entry)))) (length (now (floats .entry))) (now (floats .exit)) ⌝ }
 {
     let mut p = at;
     let mut n = 0usize;
@@ -28,6 +28,8 @@ fn rows(s: &[u8], at: usize, shape: &[u8], wholes: &mut [u32], floats: &mut [f64
     let mut f = 0usize;
     while p < s.len() {
         if s[p] == b'\n' {
+            sheet_row::clear_wholes(wholes, w);
+            base_lists::clear_from(floats, f);
             return Num::Got(n as u64, p + 1);
         }
         let row = sheet_layout::line(s, p, shape);
@@ -55,8 +57,8 @@ fn table(
 ) -> Num
     requires { ⌜ (at ≤ length (now s)) × (length (now s) ≤ size) × Roomy (now shape) (length (now wholes)) (length (now floats)) ⌝ }
     ensures { λ r. ⌜ (r ≡ parsedList (now (s .entry)) (tableOf (now (names .entry)) (now (shape .entry)) .read (drop at (now (s .entry)))))
-        × TableStored (flattened (wholesOf (shapeOf (now (shape .entry))))) (tableOf (now (names .entry)) (now (shape .entry)) .read (drop at (now (s .entry)))) (now (wholes .entry)) (now (wholes .exit))
-        × TableStored (flattened (floatsOf (shapeOf (now (shape .entry))))) (tableOf (now (names .entry)) (now (shape .entry)) .read (drop at (now (s .entry)))) (now (floats .entry)) (now (floats .exit)) ⌝ }
+        × TableStored (flattened (wholesOf (shapeOf (now (shape .entry))))) 0 (tableOf (now (names .entry)) (now (shape .entry)) .read (drop at (now (s .entry)))) (length (now (wholes .entry))) (now (wholes .exit))
+        × TableStored (flattened (floatsOf (shapeOf (now (shape .entry))))) (ofBits binary64 0) (tableOf (now (names .entry)) (now (shape .entry)) .read (drop at (now (s .entry)))) (length (now (floats .entry))) (now (floats .exit)) ⌝ }
 {
     match text_format::word(s, at, names, 0) {
         Num::Got(_, p) => rows(s, p, shape, wholes, floats),
@@ -64,58 +66,32 @@ fn table(
     }
 }
 
-// A table whose two parts hold nothing else: zeros behind its numbers, and zeros alone where it cannot be read.
-fn block(
-    s: &[u8],
-    at: usize,
-    names: &[u8],
-    shape: &[u8],
-    wholes: &mut [u32],
-    floats: &mut [f64],
-) -> Num
-    requires { ⌜ (at ≤ length (now s)) × (length (now s) ≤ size) × Roomy (now shape) (length (now wholes)) (length (now floats)) ⌝ }
-    ensures { λ r. ⌜ (r ≡ parsedList (now (s .entry)) (tableOf (now (names .entry)) (now (shape .entry)) .read (drop at (now (s .entry)))))
-        × (now (wholes .exit) ≡ padded (length (now (wholes .entry))) 0 (numbersOf (flattened (wholesOf (shapeOf (now (shape .entry))))) (tableOf (now (names .entry)) (now (shape .entry)) .read (drop at (now (s .entry))))))
-        × (now (floats .exit) ≡ padded (length (now (floats .entry))) (ofBits binary64 0) (numbersOf (flattened (floatsOf (shapeOf (now (shape .entry))))) (tableOf (now (names .entry)) (now (shape .entry)) .read (drop at (now (s .entry)))))) ⌝ }
-{
-    sheet_row::clear_wholes(wholes);
-    sheet_row::clear_floats(floats);
-    match table(s, at, names, shape, wholes, floats) {
-        Num::Got(n, p) => Num::Got(n, p),
-        Num::Bad => {
-            sheet_row::clear_wholes(wholes);
-            sheet_row::clear_floats(floats);
-            Num::Bad
-        }
-    }
-}
-
 // The points' block: x y z.
 pub fn points(s: &[u8], at: usize, floats: &mut [f64]) -> Num
     requires { ⌜ (at ≤ length (now s)) × (length (now s) ≤ size) × (3 * 1285 ≤ length (now floats)) ⌝ }
     ensures { λ r. ⌜ (r ≡ parsedList (now (s .entry)) (table pointColumns .read (drop at (now (s .entry)))))
-        × (now (floats .exit) ≡ padded (length (now (floats .entry))) (ofBits binary64 0) (numbersOf (flattened (floatsOf (fields pointColumns))) (table pointColumns .read (drop at (now (s .entry)))))) ⌝ }
+        × TableStored (flattened (floatsOf (fields pointColumns))) (ofBits binary64 0) (table pointColumns .read (drop at (now (s .entry)))) (length (now (floats .entry))) (now (floats .exit)) ⌝ }
 {
     let mut wholes = [0u32; 1];
-    block(s, at, b"x y z\n", b"fff", &mut wholes, floats)
+    table(s, at, b"x y z\n", b"fff", &mut wholes, floats)
 }
 
 // The curves' block: kind first count, and p q.
 pub fn curves(s: &[u8], at: usize, wholes: &mut [u32], floats: &mut [f64]) -> Num
     requires { ⌜ (at ≤ length (now s)) × (length (now s) ≤ size) × (3 * 1638 ≤ length (now wholes)) × (2 * 1638 ≤ length (now floats)) ⌝ }
     ensures { λ r. ⌜ (r ≡ parsedList (now (s .entry)) (table curveColumns .read (drop at (now (s .entry)))))
-        × (now (wholes .exit) ≡ padded (length (now (wholes .entry))) 0 (numbersOf (flattened (wholesOf (fields curveColumns))) (table curveColumns .read (drop at (now (s .entry))))))
-        × (now (floats .exit) ≡ padded (length (now (floats .entry))) (ofBits binary64 0) (numbersOf (flattened (floatsOf (fields curveColumns))) (table curveColumns .read (drop at (now (s .entry)))))) ⌝ }
+        × TableStored (flattened (wholesOf (fields curveColumns))) 0 (table curveColumns .read (drop at (now (s .entry)))) (length (now (wholes .entry))) (now (wholes .exit))
+        × TableStored (flattened (floatsOf (fields curveColumns))) (ofBits binary64 0) (table curveColumns .read (drop at (now (s .entry)))) (length (now (floats .entry))) (now (floats .exit)) ⌝ }
 {
-    block(s, at, b"kind first count p q\n", b"kwwff", wholes, floats)
+    table(s, at, b"kind first count p q\n", b"kwwff", wholes, floats)
 }
 
 // The segments' block: curve sense, and lo hi.
 pub fn segments(s: &[u8], at: usize, wholes: &mut [u32], floats: &mut [f64]) -> Num
     requires { ⌜ (at ≤ length (now s)) × (length (now s) ≤ size) × (2 * 1724 ≤ length (now wholes)) × (2 * 1724 ≤ length (now floats)) ⌝ }
     ensures { λ r. ⌜ (r ≡ parsedList (now (s .entry)) (table segmentColumns .read (drop at (now (s .entry)))))
-        × (now (wholes .exit) ≡ padded (length (now (wholes .entry))) 0 (numbersOf (flattened (wholesOf (fields segmentColumns))) (table segmentColumns .read (drop at (now (s .entry))))))
-        × (now (floats .exit) ≡ padded (length (now (floats .entry))) (ofBits binary64 0) (numbersOf (flattened (floatsOf (fields segmentColumns))) (table segmentColumns .read (drop at (now (s .entry)))))) ⌝ }
+        × TableStored (flattened (wholesOf (fields segmentColumns))) 0 (table segmentColumns .read (drop at (now (s .entry)))) (length (now (wholes .entry))) (now (wholes .exit))
+        × TableStored (flattened (floatsOf (fields segmentColumns))) (ofBits binary64 0) (table segmentColumns .read (drop at (now (s .entry)))) (length (now (floats .entry))) (now (floats .exit)) ⌝ }
 {
-    block(s, at, b"curve lo hi sense\n", b"wffw", wholes, floats)
+    table(s, at, b"curve lo hi sense\n", b"wffw", wholes, floats)
 }

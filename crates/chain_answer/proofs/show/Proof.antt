@@ -1,8 +1,6 @@
 -- `chain_answer::show` meets its contract: one listing for each way. Assumes nothing.
-use mathlib.Core.Path.{_≡_, ap, _∙_}
-use Prim.Native.Nat.{_*_}
+use mathlib.Core.Path.{ap, _∙_}
 use native.Mathlib.Omega.{arith}
-use Rattle.edge_record.specs.Chain.{width}
 use Rattle.draw_spec.specs.declared.Way.{Way}
 use Rattle.draw_spec.specs.declared.Way.the-variants.{AsDrawn, Chord, Complement, ShortArc, Runaway}
 use Rattle.draw_spec.specs.declared.Drawn.the-variants.{Chain}

@@ -1,10 +1,10 @@
 -- `sheet::three` meets its contract. Assumes nothing.
-use mathlib.Core.Path.{_≡_, sym, _∙_}
+use mathlib.Core.Path.{sym, _∙_}
 use native.Mathlib.Omega.{arith}
-use lib.ListN.{length, drop}
+use lib.ListN.{drop}
 use Rattle.text_format.specs.Format.{_then_}
 use Rattle.text_format.specs.Table.{fields, table}
-use Rattle.sheet_layout.specs.Layout.{pointColumns, curveColumns, segmentColumns, tablesFormat}
+use Rattle.sheet_layout.specs.Layout.{pointColumns, curveColumns, segmentColumns}
 use Rattle.sheet_layout.proofs.Laws.{points-law, curves-law, segments-law}
 use Rattle.sheet_row.specs.Rows.{floatsOf, wholesOf}
 use Rattle.text_format.proofs.Place.{ReadList, read-list, read-no-list, then-bad, then-bad-on, then-read}
@@ -28,22 +28,6 @@ curves-read : (c : tie.After-known-told2)
 curves-read c =
     let k = c .before .m .given in
     read-list (c .before .before .before .before .before .before .before .before .before .before .before .before .args .text .now) (table curveColumns) curves-law _ (k .0 .0) (k .0 .1 .0) (points-read (c .before .before .before .before .before .before) .is .within) (sym (k .1) ∙ c .before .before .before .curves .ensures .0)
-
--- the tables' sizes
-points-length : (c : tie.After-points-arg) → length (c .before .before .args .points .now) ≡ 3855
-points-length c = search needs
-
-curves-length : (c : tie.After-curves-arg) → length (c .before .before .before .before .before .before .before .args .curves .now) ≡ 4914
-curves-length c = search needs
-
-reals-length : (c : tie.After-curves-arg2) → length (c .before .before .before .before .before .before .before .before .args .reals .now) ≡ 3276
-reals-length c = search needs
-
-parts-length : (c : tie.After-segments-arg) → length (c .before .before .before .before .before .before .before .before .before .before .before .before .before .args .parts .now) ≡ 3448
-parts-length c = search needs
-
-ranges-length : (c : tie.After-segments-arg2) → length (c .before .before .before .before .before .before .before .before .before .before .before .before .before .before .args .ranges .now) ≡ 3448
-ranges-length c = search needs
 
 returns : tie.Need-returns
 returns c =
@@ -88,11 +72,11 @@ returns-4 c =
       parsed-tables s _ (l .list) (m .list) (k .list) _ _ _ _ (l .count) (m .count) (k .count) r,
       held-got s _ (l .list, (m .list, k .list)) _ _ (r .is)
           (stored-is (l .list) (m .list) (k .list) _ _ _ _ _
-          (held-part (flattened (floatsOf (fields pointColumns))) (floatOf 0) 3855 _ (l .list) _ (a .points .now) _ (points-length (c .before .before .before .before .before .before .before .before .before .before .before .before .before .before .before .before)) (l .is .is) (c .before .before .before .before .before .before .before .before .before .before .before .before .before .before .before .points .ensures .1))
-          (held-part (flattened (wholesOf (fields curveColumns))) 0 4914 _ (m .list) _ (a .curves .now) _ (curves-length (c .before .before .before .before .before .before .before .before .before .before .before)) (m .is .is) (c .before .before .before .before .before .before .before .before .before .curves .ensures .1))
-          (held-part (flattened (floatsOf (fields curveColumns))) (floatOf 0) 3276 _ (m .list) _ (a .reals .now) _ (reals-length (c .before .before .before .before .before .before .before .before .before .before)) (m .is .is) (c .before .before .before .before .before .before .before .before .before .curves .ensures .2))
-          (held-part (flattened (wholesOf (fields segmentColumns))) 0 3448 _ (k .list) _ (a .parts .now) _ (parts-length (c .before .before .before .before .before)) (k .is .is) (c .before .before .before .segments .ensures .1))
-          (held-part (flattened (floatsOf (fields segmentColumns))) (floatOf 0) 3448 _ (k .list) _ (a .ranges .now) _ (ranges-length (c .before .before .before .before)) (k .is .is) (c .before .before .before .segments .ensures .2))),
+          (held-part (flattened (floatsOf (fields pointColumns))) (floatOf 0) 3855 _ (l .list) _ (a .points .now) _ (c .before .before .before .before .before .before .before .before .before .before .before .before .before .before .before .before .points-arg .given .0 .1) (l .is .is) (c .before .before .before .before .before .before .before .before .before .before .before .before .before .before .before .points .ensures .1))
+          (held-part (flattened (wholesOf (fields curveColumns))) 0 4914 _ (m .list) _ (a .curves .now) _ (c .before .before .before .before .before .before .before .before .before .before .before .curves-arg .given .0 .1) (m .is .is) (c .before .before .before .before .before .before .before .before .before .curves .ensures .1))
+          (held-part (flattened (floatsOf (fields curveColumns))) (floatOf 0) 3276 _ (m .list) _ (a .reals .now) _ (c .before .before .before .before .before .before .before .before .before .before .curves-arg2 .given .0 .1) (m .is .is) (c .before .before .before .before .before .before .before .before .before .curves .ensures .2))
+          (held-part (flattened (wholesOf (fields segmentColumns))) 0 3448 _ (k .list) _ (a .parts .now) _ (c .before .before .before .before .before .segments-arg .given .0 .1) (k .is .is) (c .before .before .before .segments .ensures .1))
+          (held-part (flattened (floatsOf (fields segmentColumns))) (floatOf 0) 3448 _ (k .list) _ (a .ranges .now) _ (c .before .before .before .before .segments-arg2 .given .0 .1) (k .is .is) (c .before .before .before .segments .ensures .2))),
     )
 
 pub three-spec : {M : Type 1} → statement M

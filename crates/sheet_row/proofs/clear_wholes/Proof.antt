@@ -1,47 +1,35 @@
--- `sheet_row::clear_wholes` meets its contract. The loop's invariant: zeros up to i, and the rest as it was. Assumes nothing.
-use mathlib.Core.Path.{_≡_, refl, sym, ap, _∙_}
-use mathlib.Core.List.{[], _++_}
-use Prim.Native.Nat.{_+_, _-_, _≤_}
+-- `sheet_row::clear_wholes` meets its contract. The loop's invariant: zeros up to i and then to the end are what is to be left. Assumes nothing.
+use mathlib.Core.Path.{_≡_, refl, _∙_}
+use Prim.Native.Nat.{_-_, _≤_}
 use native.Mathlib.Omega.{arith}
-use lib.ListN.{length, drop, set, replicate, length-set}
-use Rattle.sheet_row.proofs.Fill.{fill-more, filled}
+use lib.ListN.{length, length-set}
+use Rattle.sheet_row.proofs.Fill.{clearedFrom, one-cleared, all-cleared}
 use borrow.Author.Needs.{needs}
 use Rattle.sheet_row.proofs.clear_wholes.Statement.{statement}
 use Rattle.sheet_row.proofs.clear_wholes.Tie as tie
 
 abbrev Inv-loop : tie.InvT-loop
-Inv-loop out₀ i₀ out i =
-    (i ≤ length out₀) × (length out ≡ length out₀) × (out ≡ replicate i 0 ++ drop i out₀)
+Inv-loop out₀ from i₀ out i =
+    (from ≤ i) × (i ≤ length out₀) × (length out ≡ length out₀) × (clearedFrom 0 (length out₀) out i ≡ clearedFrom 0 (length out₀) out₀ from)
 
 abbrev μ-loop : tie.MeasureT-loop
-μ-loop out₀ i₀ out i = length out₀ - i
+μ-loop out₀ from i₀ out i = length out₀ - i
 
 loop-holds : tie.Need-loop-holds Inv-loop μ-loop
-loop-holds c = (omega arith, refl, refl)
-
-mul-out : tie.Need-mul-out Inv-loop μ-loop
-mul-out c = let r = c .before .loop .inv .1 in omega arith
-
-slice-write-out : tie.Need-slice-write-out Inv-loop μ-loop
-slice-write-out c = let r = c .before .loop .inv .1 in omega arith
-
-add-i : tie.Need-add-i Inv-loop μ-loop
-add-i c = let r = c .before .loop .inv .1 in omega arith
+loop-holds c = (omega arith, c .pre, refl, refl)
 
 loop-again : tie.Need-loop-again Inv-loop μ-loop
 loop-again c =
     let l = c .before .loop in
-    let o = c .before .before .args .out .now in
-    (omega (arith, l .inv .1), simp length-set (l .inv .1), ap (λ x. set x (l .i) 0) (l .inv .2) ∙ fill-more (l .i) 0 o (omega (arith, l .inv .1)))
-
-same-length : tie.Need-same-length Inv-loop μ-loop
-same-length c = c .before .loop .inv .1
+    let n = l .inv .2 in
+    (omega arith, omega arith, simp length-set n, one-cleared 0 _ (l .out) (l .i) (omega arith) (omega arith) ∙ l .inv .3)
 
 returns : tie.Need-returns Inv-loop μ-loop
 returns c =
+    let st = c .before .before in
     let l = c .before .loop in
-    let o = c .before .before .args .out .now in
-    filled (l .i) 0 o (l .out) (omega (arith, l .inv .1)) (l .inv .2)
+    let n = l .inv .2 in
+    all-cleared 0 _ (st .args .out .now) (l .out) (st .args .from) (l .i) (st .pre) (omega arith) (omega arith) (l .inv .3)
 
 pub clear-wholes-spec : {M : Type 1} → statement M
 clear-wholes-spec =
@@ -50,10 +38,10 @@ clear-wholes-spec =
     Inv-loop
     μ-loop
     loop-holds
-    mul-out
-    slice-write-out
-    add-i
+    (λ c. search needs)
+    (λ c. search needs)
+    (λ c. search needs)
     (λ c. search needs)
     loop-again
-    same-length
+    (λ c. search needs)
     returns)

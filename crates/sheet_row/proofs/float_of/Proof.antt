@@ -1,5 +1,4 @@
 -- `sheet_row::float_of` meets its contract. Assumes nothing.
-use mathlib.Core.Path.{_≡_, refl, sym, ap, _∙_}
 use lib.Ieee.{div, ofBits}
 use Rattle.sheet_row.proofs.Patterns.{nan-pattern, other-pattern}
 use borrow.Author.Needs.{needs}

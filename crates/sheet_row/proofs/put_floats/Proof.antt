@@ -1,10 +1,10 @@
 -- `sheet_row::put_floats` meets its contract. The loop's invariant: the floats of the columns from i on are left to be
 -- written at k. Assumes nothing.
-use mathlib.Core.Path.{_≡_, refl, sym, ap, _∙_}
-use mathlib.Core.List.{[], _∷_, map}
+use mathlib.Core.Path.{_≡_, sym, ap, _∙_}
+use mathlib.Core.List.{_∷_, map}
 use Prim.Native.Nat.{_+_, _-_, _<_, _≤_}
 use native.Mathlib.Omega.{arith}
-use lib.ListN.{length, drop, getD}
+use lib.ListN.{length, drop}
 use lib.Ieee.{binary64, ofBits}
 use Rattle.text_format.proofs.Buffer.{Part, none-written, all-written, as-left, one-fits, one-written}
 use Rattle.sheet_layout.specs.Own.Letters.{shapeOf}

@@ -1,8 +1,8 @@
 -- `sheet_row::put_wholes` meets its contract. The loop's invariant: the whole numbers of the columns from i on, each of 32
 -- bits, are left to be written at k. Assumes nothing.
-use mathlib.Core.Path.{_≡_, refl, sym, ap, _∙_}
-use mathlib.Core.Bool.{true, false, not}
-use mathlib.Core.List.{[], _∷_}
+use mathlib.Core.Path.{_≡_, ap}
+use mathlib.Core.Bool.{not}
+use mathlib.Core.List.{_∷_}
 use Prim.Native.Nat.{_+_, _-_, _^_, _<_, _≤_}
 use native.Mathlib.Omega.{arith}
 use lib.ListN.{length, drop, getD}

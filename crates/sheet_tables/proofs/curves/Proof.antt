@@ -1,35 +1,20 @@
 -- `sheet_tables::curves` meets its contract. Assumes nothing.
-use mathlib.Core.Path.{_≡_, refl, sym, ap, _∙_}
-use mathlib.Core.List.{[], _∷_}
-use lib.ListN.{length, drop}
-use lib.Ieee.{binary64, ofBits}
 use Rattle.text_format.specs.Bytes.{bytes}
-use Rattle.text_format.specs.Table.{fields, table}
-use Rattle.text_format.specs.Own.Answers.{parsedList}
-use Rattle.sheet_layout.specs.Layout.{curveColumns}
-use Rattle.sheet_layout.specs.Padded.{padded}
+use Rattle.text_format.specs.Table.{fields, behind, names}
 use Rattle.sheet_layout.specs.Own.Letters.{fieldOf}
-use Rattle.sheet_row.specs.Rows.{floatsOf, wholesOf}
-use Rattle.sheet_tables.specs.Flattened.{flattened}
-use Rattle.sheet_tables.specs.Own.Answers.{numbersOf}
-use Rattle.sheet_tables.proofs.Tables.{curves-same, curves-room}
+use Rattle.sheet_tables.proofs.Tables.{curves-room}
 use borrow.Author.Needs.{needs}
 use Rattle.sheet_tables.proofs.curves.Statement.{statement}
 use Rattle.sheet_tables.proofs.curves.Tie as tie
 
-block-requires : tie.Need-block-requires
+table-requires : tie.Need-table-requires
 unfolding bytes
-block-requires c κs =
+table-requires c κs =
     (c .before .before .before .before .before .before .before .pre .0, c .before .before .before .before .before .before .before .pre .1, curves-room _ _ (c .before .before .before .before .before .before .before .pre .2) (c .before .before .before .before .before .before .before .pre .3))
 
 returns : tie.Need-returns
-unfolding bytes fields fieldOf
-returns c =
-    let a = c .before .before .before .before .before .before .before .before .before .before .before .before .args in (
-      c .before .before .before .before .block .ensures .0 ∙ ap (λ F. parsedList (a .s .now) (F .read (drop (a .at) (a .s .now)))) curves-same,
-      c .before .before .before .before .block .ensures .1 ∙ ap (λ F. padded (length (a .wholes .now)) 0 (numbersOf (flattened (wholesOf (fields curveColumns))) (F .read (drop (a .at) (a .s .now))))) curves-same,
-      c .before .before .before .before .block .ensures .2 ∙ ap (λ F. padded (length (a .floats .now)) (ofBits binary64 0) (numbersOf (flattened (floatsOf (fields curveColumns))) (F .read (drop (a .at) (a .s .now))))) curves-same,
-    )
+unfolding bytes fields behind names fieldOf
+returns c = c .before .before .before .before .table .ensures
 
 pub curves-spec : {M : Type 1} → statement M
 curves-spec =
@@ -37,7 +22,7 @@ curves-spec =
     (tie.spec
     (λ c. search needs)
     (λ c. search needs)
-    block-requires
+    table-requires
     (λ c. search needs)
     (λ c. search needs)
     returns)

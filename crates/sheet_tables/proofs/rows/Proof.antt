@@ -1,11 +1,11 @@
 -- `sheet_tables::rows` meets its contract. The loop's invariant is `Rows`: the rows that were read, in front of what is left
 -- to be read at p, are the whole; the tables hold them, and have room for more. Assumes nothing.
-use mathlib.Core.Path.{_≡_, refl, sym, ap, _∙_}
-use mathlib.Core.List.{List}
-use Prim.Native.Nat.{ℕ, _+_, _-_}
+use mathlib.Core.Path.{_≡_, sym, _∙_}
+use Prim.Native.Nat.{_+_, _-_}
 use native.Mathlib.Omega.{arith}
-use lib.ListN.{length, drop, getD}
-use Rattle.text_format.specs.Format.{lines}
+use lib.ListN.{length, drop}
+use lib.Ieee.{binary64, ofBits}
+use Rattle.text_format.specs.Format.{bad, lines}
 use Rattle.text_format.specs.Table.{line}
 use Rattle.sheet_layout.specs.Padded.{padded}
 use Rattle.sheet_layout.specs.Own.Letters.{shapeOf}
@@ -13,9 +13,8 @@ use Rattle.sheet_row.specs.Rows.{floatsOf, wholesOf}
 use Rattle.sheet_tables.specs.Flattened.{flattened}
 use Rattle.text_format.proofs.Place.{Read, parsed-list, parsed-no-list}
 use Rattle.sheet_layout.proofs.Columns.{shape-law}
-use Rattle.sheet_layout.proofs.Padded.{padded-length}
 use Rattle.sheet_layout.proofs.Rows.{RowRead, row-read, no-row-read}
-use Rattle.sheet_tables.proofs.Stores.{stored-bad, stored-got}
+use Rattle.sheet_tables.proofs.Stores.{cleared-behind, stored-bad, stored-got}
 use Rattle.sheet_tables.proofs.Turns.{Rows, Next, no-rows, rows-end, rows-bad, all-rows, next-row}
 use borrow.Author.Needs.{needs}
 use Rattle.sheet_tables.proofs.rows.Statement.{statement}
@@ -59,22 +58,30 @@ loop-holds c =
     let a = c .before .before .before .before .args in
     no-rows (a .s .now) (a .shape .now) (a .at) (a .wholes .now) (a .floats .now) (c .before .before .before .before .pre .0)
 
+clear-wholes-requires : tie.Need-clear-wholes-requires Inv-loop μ-loop
+clear-wholes-requires c κs = let i = c .before .before .before .before .loop .inv in let h = i .w-fits in let e = i .wholes-same in omega arith
+
+clear-from-requires : tie.Need-clear-from-requires Inv-loop μ-loop
+clear-from-requires c κs = let i = c .before .before .before .before .before .before .before .before .loop .inv in let h = i .f-fits in let e = i .floats-same in omega arith
+
 same-length : tie.Need-same-length Inv-loop μ-loop
-same-length c = c .before .before .before .loop .inv .wholes-same
+same-length c = c .before .before .before .before .before .wholes .given ∙ c .before .before .before .before .before .before .before .before .before .before .before .loop .inv .wholes-same
 
 same-length-2 : tie.Need-same-length-2 Inv-loop μ-loop
-same-length-2 c = c .before .before .before .loop .inv .floats-same
+same-length-2 c = c .before .floats .given ∙ c .before .before .before .before .before .before .before .before .before .before .before .loop .inv .floats-same
 
 returns : tie.Need-returns Inv-loop μ-loop
+unfolding padded
 returns c =
-    let a = c .before .before .before .before .before .before .before .before .args in
-    let l = c .before .before .before .loop in
+    let a = c .before .before .before .before .before .before .before .before .before .before .before .before .before .before .before .before .args in
+    let l = c .before .before .before .before .before .before .before .before .before .before .before .loop in
     let i = l .inv in
-    let all = all-rows (a .s .now) (a .shape .now) (a .at) (a .wholes .now) (a .floats .now) (c .before .before .before .before .before .before .before .before .pre .2) (l .wholes) (l .floats) (l .p) (l .n) (l .w) (l .f) (l .inv) (omega arith) (c .if1 .taken) in
-    let r : Read (a .s .now) (lines (line (shapeOf (a .shape .now))) .read (drop (a .at) (a .s .now))) (i .taken) (l .p + 1) = record { within = omega arith; is = all } in (
-      parsed-list (a .s .now) (lines (line (shapeOf (a .shape .now))) .read (drop (a .at) (a .s .now))) (i .taken) (l .n) (l .p + 1) (sym (i .count)) r,
-      stored-got (flattened (wholesOf (shapeOf (a .shape .now)))) (lines (line (shapeOf (a .shape .now))) .read (drop (a .at) (a .s .now))) (i .taken) _ (a .wholes .now) (l .wholes) all (i .wholes-are),
-      stored-got (flattened (floatsOf (shapeOf (a .shape .now)))) (lines (line (shapeOf (a .shape .now))) .read (drop (a .at) (a .s .now))) (i .taken) _ (a .floats .now) (l .floats) all (i .floats-are),
+    let q = lines (line (shapeOf (a .shape .now))) .read (drop (a .at) (a .s .now)) in
+    let all = all-rows (a .s .now) (a .shape .now) (a .at) (a .wholes .now) (a .floats .now) (c .before .before .before .before .before .before .before .before .before .before .before .before .before .before .before .before .pre .2) (l .wholes) (l .floats) (l .p) (l .n) (l .w) (l .f) i (omega arith) (c .before .before .before .before .before .before .before .before .if1 .taken) in
+    let r : Read (a .s .now) q (i .taken) (l .p + 1) = record { within = omega arith; is = all } in (
+      parsed-list (a .s .now) q (i .taken) (l .n) (l .p + 1) (sym (i .count)) r,
+      stored-got _ _ q _ _ (i .taken) _ all (cleared-behind 0 (a .wholes .now) (l .wholes) _ (flattened (wholesOf (shapeOf (a .shape .now))) (i .taken)) (l .w) (i .w-place) (i .w-fits) (i .wholes-are) (c .before .before .before .before .before .before .clear-wholes .ensures)),
+      stored-got _ _ q _ _ (i .taken) _ all (cleared-behind (ofBits binary64 0) (a .floats .now) (l .floats) _ (flattened (floatsOf (shapeOf (a .shape .now))) (i .taken)) (l .f) (i .f-place) (i .f-fits) (i .floats-are) (c .before .before .clear-from .ensures)),
     )
 
 line-requires : tie.Need-line-requires Inv-loop μ-loop
@@ -120,11 +127,9 @@ returns-2 c =
     let a = c .before .before .before .before .before .before .before .before .before .before .args in
     let l = c .before .before .before .before .before .loop in
     let line-bad = no-row-read (a .s .now) _ (c .before .line .result) (c .before .line .ensures) (c .if2 .left) in
-    let none = rows-bad (a .s .now) (a .shape .now) (a .at) (a .wholes .now) (a .floats .now) (c .before .before .before .before .before .before .before .before .before .before .pre .2) (l .wholes) (l .floats) (l .p) (l .n) (l .w) (l .f) (l .inv) (omega arith) (c .before .before .if1 .left) line-bad in (
-      parsed-no-list (a .s .now) (lines (line (shapeOf (a .shape .now))) .read (drop (a .at) (a .s .now))) none,
-      stored-bad (flattened (wholesOf (shapeOf (a .shape .now)))) (lines (line (shapeOf (a .shape .now))) .read (drop (a .at) (a .s .now))) (a .wholes .now) (l .wholes) none,
-      stored-bad (flattened (floatsOf (shapeOf (a .shape .now)))) (lines (line (shapeOf (a .shape .now))) .read (drop (a .at) (a .s .now))) (a .floats .now) (l .floats) none,
-    )
+    let q = lines (line (shapeOf (a .shape .now))) .read (drop (a .at) (a .s .now)) in
+    let none : q ≡ bad = rows-bad (a .s .now) (a .shape .now) (a .at) (a .wholes .now) (a .floats .now) (c .before .before .before .before .before .before .before .before .before .before .pre .2) (l .wholes) (l .floats) (l .p) (l .n) (l .w) (l .f) (l .inv) (omega arith) (c .before .before .if1 .left) line-bad in
+    (parsed-no-list (a .s .now) q none, stored-bad _ _ q _ _ none, stored-bad _ _ q _ _ none)
 
 same-length-5 : tie.Need-same-length-5 Inv-loop μ-loop
 same-length-5 c = c .before .loop .inv .wholes-same
@@ -136,11 +141,9 @@ returns-3 : tie.Need-returns-3 Inv-loop μ-loop
 returns-3 c =
     let a = c .before .before .before .before .before .before .args in
     let l = c .before .loop in
-    let none = rows-end (a .s .now) (a .shape .now) (a .at) (a .wholes .now) (a .floats .now) (c .before .before .before .before .before .before .pre .2) (l .wholes) (l .floats) (l .p) (l .n) (l .w) (l .f) (l .inv) (omega arith) in (
-      parsed-no-list (a .s .now) (lines (line (shapeOf (a .shape .now))) .read (drop (a .at) (a .s .now))) none,
-      stored-bad (flattened (wholesOf (shapeOf (a .shape .now)))) (lines (line (shapeOf (a .shape .now))) .read (drop (a .at) (a .s .now))) (a .wholes .now) (l .wholes) none,
-      stored-bad (flattened (floatsOf (shapeOf (a .shape .now)))) (lines (line (shapeOf (a .shape .now))) .read (drop (a .at) (a .s .now))) (a .floats .now) (l .floats) none,
-    )
+    let q = lines (line (shapeOf (a .shape .now))) .read (drop (a .at) (a .s .now)) in
+    let none : q ≡ bad = rows-end (a .s .now) (a .shape .now) (a .at) (a .wholes .now) (a .floats .now) (c .before .before .before .before .before .before .pre .2) (l .wholes) (l .floats) (l .p) (l .n) (l .w) (l .f) (l .inv) (omega arith) in
+    (parsed-no-list (a .s .now) q none, stored-bad _ _ q _ _ none, stored-bad _ _ q _ _ none)
 
 pub rows-spec : {M : Type 1} → statement M
 rows-spec =
@@ -150,6 +153,8 @@ rows-spec =
     μ-loop
     loop-holds
     (λ c. search needs)
+    clear-wholes-requires
+    clear-from-requires
     (λ c. search needs)
     same-length
     same-length-2

@@ -1,6 +1,7 @@
 -- `sheet_tables::table` meets its contract. Assumes nothing.
-use mathlib.Core.Path.{_≡_, refl, sym, ap, _∙_}
-use lib.ListN.{length, drop}
+use mathlib.Core.Path.{sym, ap, _∙_}
+use lib.ListN.{drop}
+use lib.Ieee.{binary64, ofBits}
 use Rattle.text_format.specs.Format.{expect, lines}
 use Rattle.text_format.specs.Table.{line}
 use Rattle.text_format.specs.Own.Answers.{parsedList}
@@ -32,8 +33,8 @@ returns c =
     let q = tableOf (a .names .now) (a .shape .now) .read (drop (a .at) (a .s .now)) in
     let same = sym (before-is (a .s .now) (a .names .now) (lines (line (shapeOf (a .shape .now)))) (a .at) (c .before .before .before .before .before .before .before .before .p .given .0 .1 .0) (named (c .before .before .before .before .before .before .before))) in (
       c .before .before .before .before .rows .ensures .0 ∙ ap (parsedList (a .s .now)) same,
-      stored-same (flattened (wholesOf (shapeOf (a .shape .now)))) _ q (a .wholes .now) _ same (c .before .before .before .before .rows .ensures .1),
-      stored-same (flattened (floatsOf (shapeOf (a .shape .now)))) _ q (a .floats .now) _ same (c .before .before .before .before .rows .ensures .2),
+      stored-same (flattened (wholesOf (shapeOf (a .shape .now)))) 0 _ _ _ q same (c .before .before .before .before .rows .ensures .1),
+      stored-same (flattened (floatsOf (shapeOf (a .shape .now)))) (ofBits binary64 0) _ _ _ q same (c .before .before .before .before .rows .ensures .2),
     )
 
 returns-2 : tie.Need-returns-2
@@ -44,8 +45,8 @@ returns-2 c =
     let no-names = names-bad (a .s .now) (a .names .now) 0 (a .at) (sym (c .enum-told .given .1) ∙ c .before .before .word .ensures) in
     let none = before-bad (a .s .now) (a .names .now) F (a .at) no-names in (
       parsed-no-list (a .s .now) q none,
-      stored-bad (flattened (wholesOf (shapeOf (a .shape .now)))) q (a .wholes .now) (a .wholes .now) none,
-      stored-bad (flattened (floatsOf (shapeOf (a .shape .now)))) q (a .floats .now) (a .floats .now) none,
+      stored-bad _ _ q _ _ none,
+      stored-bad _ _ q _ _ none,
     )
 
 pub table-spec : {M : Type 1} → statement M
