@@ -2,9 +2,10 @@
 use mathlib.Core.Path.{_≡_}
 use mathlib.Core.List.{List, [], _∷_, map}
 use Prim.Native.Nat.{ℕ, _+_}
-use lib.Ieee.{Float}
+use lib.Ieee.{Float, neg}
 use Rattle.base_lists.specs.Result.{Result, refused, got, each}
-use Rattle.arith.specs.Notation.{bits, plusZero, half, one, two}
+use Rattle.arith.specs.Notation.{bits, plusZero, half, one, two, count}
+use Rattle.arith.specs.Constants.{nearest, ten, million, billion, hundredth}
 use Rattle.math.specs.declared.Vec3.{Vec3}
 use Rattle.math.specs.declared.Interval.{Interval}
 use Rattle.math.specs.Math.{vec, interval}
@@ -57,16 +58,13 @@ ExampleHolds (refuses T e o n) = each outlineOf (drawn T e o programFloats progr
 
 -- ---- numbers
 abbrev three : Float
-three = bits 0x4008000000000000
+three = count 3
 
 abbrev five : Float
-five = bits 0x4014000000000000
-
-abbrev ten : Float
-ten = bits 0x4024000000000000
+five = count 5
 
 abbrev hundred : Float
-hundred = bits 0x4059000000000000
+hundred = count 100
 
 -- 6e8 plus so many times 2^-23
 abbrev far : ℕ → Float
@@ -104,12 +102,12 @@ absolute deflection angle segments depth = record {
 -- 2^-10 of 1024
 abbrev ofScale : Options
 ofScale = record {
-  deflection = bits 0x3F50000000000000;
+  deflection = nearest 1 1024;
   angle = radians one;
   relative = 1;
   segments = 1;
   depth = 12;
-  scale = bits 0x4090000000000000;
+  scale = count 1024;
 }
 
 -- the line from 0 with direction (2,0,0), its points x = 0 and x = 10 being 0 and 2
@@ -126,14 +124,14 @@ parabola = oneRow (plusZero ∷ plusZero ∷ plusZero ∷ plusZero ∷ plusZero 
 
 -- x = 1e9, then 0.1
 abbrev farApart : Tables
-farApart = oneRow (bits 0x41CDCD6500000000 ∷ plusZero ∷ plusZero ∷ bits 0x3FB999999999999A ∷ plusZero ∷ plusZero ∷ []) 5 2 plusZero
+farApart = oneRow (billion ∷ plusZero ∷ plusZero ∷ nearest 1 10 ∷ plusZero ∷ plusZero ∷ []) 5 2 plusZero
 
 -- (0,0,0), (1,0,0), (1,1,0), and the edge over it with tolerance 0.25
 abbrev corner : Tables
 corner = oneRow (plusZero ∷ plusZero ∷ plusZero ∷ one ∷ plusZero ∷ plusZero ∷ one ∷ one ∷ plusZero ∷ []) 5 3 plusZero
 
 abbrev round : Edge
-round = rowEdge 0 2 plusZero two (bits 0x3FD0000000000000) 0 2
+round = rowEdge 0 2 plusZero two (nearest 1 4) 0 2
 
 -- a line with direction (1,0,0), the point x = 100, and a box from 0 to 1 on each axis
 abbrev pub boxed : Tables
@@ -150,7 +148,7 @@ escaping = rowEdge 0 2 plusZero hundred plusZero 3 4
 
 -- an absolute sag of 0.01
 abbrev pub close : Options
-close = absolute (bits 0x3F847AE147AE147B) one 1 12
+close = absolute hundredth one 1 12
 
 -- a corner so small and so far out that no distance in it is above zero
 abbrev tinyCorner : Tables
@@ -159,25 +157,25 @@ tinyCorner =
 
 -- 0.14
 abbrev narrow : Float
-narrow = bits 0x3FC1EB851EB851EC
+narrow = nearest 14 100
 
 -- ---- the list, in the scope's order
 abbrev pub examples : List Example
 examples =
-    sag ofScale (bits 0x4090000000000000) one
-    ∷ sag ofScale (bits 0x4060000000000000) half
-    ∷ sag ofScale (bits 0x4030000000000000) (bits 0x3FC0000000000000)
+    sag ofScale (count 1024) one
+    ∷ sag ofScale (count 128) half
+    ∷ sag ofScale (count 16) (nearest 1 8)
     ∷ draws straight (along plusZero five) (absolute one one 1 12) AsDrawn (plusZero ∷ five ∷ [])
     ∷ draws straight (along plusZero five) (absolute one one 4 12) AsDrawn
-    (plusZero ∷ bits 0x3FF4000000000000 ∷ bits 0x4004000000000000 ∷ bits 0x400E000000000000 ∷ five ∷ [])
+    (plusZero ∷ nearest 5 4 ∷ nearest 5 2 ∷ nearest 15 4 ∷ five ∷ [])
     ∷ draws straight (rowEdge 2 0 plusZero five plusZero 0 2) (absolute one one 1 12) AsDrawn (five ∷ plusZero ∷ [])
     ∷ draws straight (along three three) (absolute one one 1 12) Chord (three ∷ three ∷ [])
     ∷ draws straight (along five two) (absolute one one 1 12) Chord (five ∷ two ∷ [])
-    ∷ usable parabola (interval one one) (interval (bits 0xC12E848000000000) (bits 0x412E848000000000))
+    ∷ usable parabola (interval one one) (interval (neg million) million)
     -- 838861 / 8388608
-    ∷ point farApart one (vec (bits 0x3FB9999A00000000) plusZero plusZero)
+    ∷ point farApart one (vec (nearest 838861 8388608) plusZero plusZero)
     ∷ draws corner round (absolute one narrow 1 1) AsDrawn (plusZero ∷ one ∷ two ∷ [])
-    ∷ floor (bits 0x3FD0000000000000) two one
+    ∷ floor (nearest 1 4) two one
     ∷ draws corner round (absolute two narrow 1 1) AsDrawn (plusZero ∷ two ∷ [])
     ∷ draws boxed escaping close Runaway (plusZero ∷ plusZero ∷ [])
     ∷ refuses tinyCorner (rowEdge 0 2 plusZero two plusZero 0 2) (absolute one narrow 1 1) 9
