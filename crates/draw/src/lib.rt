@@ -47,7 +47,7 @@ fn fitting(s: &[f64])
     }
 }
 
-// The same of a range's ends.
+// Both ends of a range are binary64. Nothing is done: that they are handed over says it of them.
 fn fitting_ends(range: Interval)
     ensures { λ _. ⌜ T (fits binary64 (range .lo)) × T (fits binary64 (range .hi)) ⌝ }
 {}
@@ -203,7 +203,7 @@ pub fn draw_over(
     }
 }
 
-// THE ENTRY POINT.
+// THE ENTRY POINT: looks at the tables, the edge and the options, and draws the edge's chain into one of the buffers.
 pub fn draw(
     points: &[f64],
     curves: &[u32],
@@ -234,6 +234,7 @@ pub fn draw(
     }
 }
 
+// Whether a chain that was got in this way lies in the first buffer.
 fn is_in_first(way: Way) -> bool
     ensures { λ b. ⌜ b ≡ inFirst way ⌝ }
 {

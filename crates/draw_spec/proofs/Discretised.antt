@@ -1,4 +1,4 @@
--- Demand 3 of every chain that `discretise` gives, of a range that can be sampled. Assumes nothing.
+-- The five clauses of every chain that `discretise` gives, of a range that can be sampled. Assumes nothing.
 use mathlib.Core.Path.{_≡_, refl, ap, subst, _∙_}
 use mathlib.Core.Bool.{Bool, true, false}
 use mathlib.Core.List.{List, [], _∷_}

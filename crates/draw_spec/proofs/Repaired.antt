@@ -1,4 +1,4 @@
--- Demand 3 of every chain that `repair_runaway` leaves or puts in another's place. Assumes nothing.
+-- The five clauses of every chain that `repair_runaway` leaves or puts in another's place. Assumes nothing.
 use mathlib.Core.Path.{_≡_, refl}
 use mathlib.Core.Bool.{Bool, true, false, cond}
 use mathlib.Core.List.{List}

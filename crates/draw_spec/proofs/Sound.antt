@@ -1,4 +1,4 @@
--- Demand 3 of every chain that drawing answers with. Assumes nothing but what its statements say.
+-- The five clauses of every chain that drawing answers with. Assumes nothing but what its statements say.
 use mathlib.Core.Path.{_≡_}
 use mathlib.Core.Logic.{_⊎_, inl, inr}
 use mathlib.Core.Bool.{false}

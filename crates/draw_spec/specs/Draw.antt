@@ -88,11 +88,12 @@ inFirst Complement = false
 inFirst ShortArc = false
 inFirst Runaway = false
 
--- the same of an answer, the empty chain of a refusal counting as lying in the first; and how many floats its chain has
+-- an answer's chain lies in the first buffer; the empty chain of a refusal counts as lying there
 abbrev pub liesInFirst : Drawn → Bool
 liesInFirst (Refused n) = true
 liesInFirst (Chain way n) = inFirst way
 
+-- how many floats an answer's chain has
 abbrev pub chainFloats : Drawn → ℕ
 chainFloats (Refused n) = 0
 chainFloats (Chain way n) = width * n

@@ -61,7 +61,7 @@ edgeExtent T e =
     maxOf (maxOf (size .x) (size .y)) (size .z)
 
 -- ---- discretise
--- the curve's points at the parameters are `located` of the crate closed
+-- the curve's points at the parameters are `located` of edge_closed_form
 
 -- (edge.tolerance * 10.0).powi(2)
 abbrev pub nearSquared : Float → Float

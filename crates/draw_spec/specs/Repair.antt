@@ -88,14 +88,7 @@ orderedInterval a b = cond (le a b) (interval a b) (interval b a)
 abbrev pub runaway : Tables → Edge → Got
 runaway T e = by Runaway (chordOf T e (e .range .lo) (e .range .lo))
 
--- the short arc serves where it stays inside and reaches both vertices
-abbrev pub serves : Tables → Edge → Resolved → List Sample → Bool
-serves T e r arc =
-    not (escapes (reference T e) r arc) && (reaches e r (edgeStart T e) arc && reaches e r (edgeEnd T e) arc)
-
-unfoldable pub arcOrChord : Tables → Edge → Resolved → List Sample → Got
-arcOrChord T e r arc = cond (serves T e r arc) (by ShortArc arc) (runaway T e)
-
+-- ---- the short arc
 -- its range: from the parameter nearest to one vertex to that nearest to the other
 abbrev pub shortRange : Tables → Edge → Interval
 shortRange T e = orderedInterval (nearest (edgeCurve T e) (edgeStart T e)) (nearest (edgeCurve T e) (edgeEnd T e))
@@ -106,6 +99,16 @@ hasShortArc T e =
     let natural = naturalRange (edgeCurve T e) in
     finite (spanOf natural) && (lt plusZero (spanOf natural) && lt plusZero (spanOf (shortRange T e)))
 
+-- it serves where it stays inside and reaches both vertices
+abbrev pub serves : Tables → Edge → Resolved → List Sample → Bool
+serves T e r arc =
+    not (escapes (reference T e) r arc) && (reaches e r (edgeStart T e) arc && reaches e r (edgeEnd T e) arc)
+
+-- the arc where it serves, else the chord
+unfoldable pub arcOrChord : Tables → Edge → Resolved → List Sample → Got
+arcOrChord T e r arc = cond (serves T e r arc) (by ShortArc arc) (runaway T e)
+
+-- drawn and tried, else the chord
 unfoldable pub byShortArc : ℕ → Tables → Edge → Resolved → Result Got
 byShortArc room T e r =
     elim (hasShortArc T e) [
@@ -113,15 +116,17 @@ byShortArc room T e r =
       | false ↦ got (runaway T e)
     ]
 
--- the complementary arc, where it stays inside
+-- ---- the complementary arc of a periodic curve
+-- its range: from where the edge's range ends back round to where it began
+abbrev pub complementRange : Edge → Float → Interval
+complementRange e p = interval (e .range .hi) (e .range .lo ⊕ p)
+
+-- the arc where it stays inside, else the short arc
 abbrev pub complementOrShort : ℕ → Tables → Edge → Resolved → List Sample → Result Got
 complementOrShort room T e r arc =
     elim (escapes (reference T e) r arc) [ true ↦ byShortArc room T e r | false ↦ got (by Complement arc) ]
 
--- its range: from where the edge's range ends back round to where it began, on a curve of period p
-abbrev pub complementRange : Edge → Float → Interval
-complementRange e p = interval (e .range .hi) (e .range .lo ⊕ p)
-
+-- drawn and tried where its range is not empty, else the short arc
 unfoldable pub byComplement : ℕ → Tables → Edge → Resolved → Float → Result Got
 byComplement room T e r p =
     elim (lt plusZero (spanOf (complementRange e p))) [
@@ -129,6 +134,8 @@ byComplement room T e r p =
       | false ↦ byShortArc room T e r
     ]
 
+-- ---- repair_runaway
+-- the complementary arc where the curve has a period, else the short arc
 unfoldable pub byPeriod : ℕ → Tables → Edge → Resolved → Repeats → Result Got
 byPeriod room T e r (Every p) = byComplement room T e r p
 byPeriod room T e r Never = byShortArc room T e r
@@ -139,7 +146,7 @@ stays T e r chain =
     let box = reference T e in
     isEmpty box || (not (lt plusZero (diagonal box)) || not (escapes box r chain))
 
--- repair_runaway
+-- a chain that stays, or what is drawn in its place
 unfoldable pub repaired : ℕ → Tables → Edge → Resolved → Got → Result Got
 repaired room T e r g =
     elim (stays T e r (g .chain)) [ true ↦ got g | false ↦ byPeriod room T e r (period (edgeCurve T e)) ]

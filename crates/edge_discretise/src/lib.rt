@@ -186,8 +186,8 @@ fn draw_range(
     finish(points, curves, reals, parts, ranges, edge, r, chain, n)
 }
 
-// The edge's chain, from the start of chain, and +0.0 behind it, or everywhere where it is refused; +0.0 in all of scratch. The
-// usable range is known.
+// The edge's chain over its usable range, which is known, from the start of chain, and +0.0 behind it, or everywhere where
+// it is refused; +0.0 in all of scratch.
 pub fn discretise_usable(
     points: &[f64],
     curves: &[u32],
@@ -227,7 +227,8 @@ pub fn discretise_usable(
     drawn
 }
 
-// The same of an edge alone.
+// The edge's chain from the start of chain, and +0.0 behind it, or everywhere where it is refused; +0.0 in all of scratch.
+// The usable range is worked out first.
 pub fn discretise(
     points: &[f64],
     curves: &[u32],

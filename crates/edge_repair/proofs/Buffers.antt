@@ -32,7 +32,7 @@ use Rattle.draw_spec.specs.Draw.{roomOf, answerOf, inFirst, firstAfter, secondA
 use Rattle.draw_spec.proofs.Outcome.{outcome-refused}
 use Rattle.draw_spec.proofs.Discretised.{Room, discretised-outcome}
 use Rattle.edge_discretise.specs.Own.Discretised.{chainOf, DiscretisedInto}
-use Rattle.edge_repair.specs.Own.Redrawn.{heldFirst, heldSecond, RedrawnChain, RedrawnInto, DrawnInto, InSecond}
+use Rattle.edge_repair.specs.Own.Redrawn.{RedrawnChain, RedrawnInto, DrawnInto, InSecond}
 
 -- ---- `discretise` into the second buffer
 room-swap : (a b : ℕ) → roomOf a b ≡ roomOf b a
@@ -66,6 +66,14 @@ redrew T e d r {first} {second} h k s p =
     go n (refused m) f e = f (cc)
     go n (got l) f e = absurd (let z : _≡_ {A = ℕ} 0 1 = cc in omega arith)
 
+-- ---- no refusal leaves a buffer as before
+above : (n : ℕ) → 7 < n → leb n 7 ≡ false
+above n h = go (leb n 7) refl
+  where
+    go : (b : Bool) → leb n 7 ≡ b → leb n 7 ≡ false
+    go true q = absurd (omega (arith, leb-true n 7 q))
+    go false q = q
+
 -- ---- a chain that was drawn
 pub record Drew (X : Result (List Sample)) (n : ℕ) (c : List Float) : Type 0 where
   pub chain : List Sample
@@ -84,16 +92,14 @@ module _ {X : Result (List Sample)} {first second : List Float} {w : Counted} {f
   -- a refusal is carried on
   pub redrawn-refused : (D : ℕ → Result Got) (f : List Sample → Result Got) (n : ℕ) → w ≡ counts.Refused n
       → D (roomOf (length first) (length second)) ≡ bind X f → RedrawnInto D first second (Refused n) first' second'
-  unfolding answerOf heldFirst heldSecond flat
+  unfolding answerOf firstAfter secondAfter flat
   redrawn-refused D f n t q = go X (sym t ∙ d .answered) (d .secondHolds) q
     where
       go : (Y : Result (List Sample)) → counts.Refused n ≡ counted Y → second' ≡ filled (length second) (flat (chainOf Y)) → D (roomOf (length first) (length second)) ≡ bind Y f → RedrawnInto D first second (Refused n) first' second'
-      go (refused m) a b q = let z : n ≡ m = cc in record {
-        answered = rw (q, z);
-        firstHolds = rw q (d .firstHolds);
-        secondHolds = rw q b;
-        late = λ k u. let v : n ≡ k = cc in rw (sym v) (d .late n t);
-      }
+      go (refused m) a b q =
+          let z : n ≡ m = cc in
+          let l = above m (omega (arith, d .late n t)) in
+          record { drawn = rw q (record { answered = ap Refused z; firstHolds = rw l (d .firstHolds); secondHolds = rw l b }); late = λ k u. let v : n ≡ k = cc in rw (sym v) (d .late n t) }
       go (got l) a b q = absurd (let z : _≡_ {A = ℕ} 0 1 = cc in omega arith)
 
 module _ {X : Result (List Sample)} {n : ℕ} {c : List Float} (d : Drew X n c) where
@@ -133,57 +139,28 @@ module _ {g : Got} {n : ℕ} {w : Drawn} {second' : List Float} (i : InSecond g 
   -- with the first buffer cleared it is a repair's answer
   pub redrawn-second : (D : ℕ → Result Got) (first second first' : List Float) → n ≡ length second → first' ≡ filled (length first) []
       → got g ≡ D (roomOf (length first) (length second)) → RedrawnInto D first second w first' second'
-  unfolding answerOf heldFirst heldSecond
+  unfolding answerOf firstAfter secondAfter
   redrawn-second D first second first' m p q = record {
-    answered = i .answered ∙ ap answerOf q;
-    firstHolds = rw (← q, i .there) p;
-    secondHolds = rw (← q, i .there) (i .holds ∙ ap (λ (k : ℕ). filled k (flat (g .chain))) m);
+    drawn = rw (← q) (record { answered = i .answered; firstHolds = rw (i .there) p; secondHolds = rw (i .there) (i .holds ∙ ap (λ (k : ℕ). filled k (flat (g .chain))) m) });
     late = λ k t. absurd (let a = i .answered in let z : _≡_ {A = ℕ} 0 1 = cc in omega arith);
   }
-
-above : (n : ℕ) → 7 < n → leb n 7 ≡ false
-above n h = go (leb n 7) refl
-  where
-    go : (b : Bool) → leb n 7 ≡ b → leb n 7 ≡ false
-    go true q = absurd (omega (arith, leb-true n 7 q))
-    go false q = q
 
 -- ---- another name for the answer, and buffers that were as long
 module _ {D : ℕ → Result Got} {first second : List Float} {w : Drawn} {first' second' : List Float} (d : RedrawnInto D first second w first' second') where
   pub redrawn-is : (E : ℕ → Result Got) → D (roomOf (length first) (length second)) ≡ E (roomOf (length first) (length second)) → RedrawnInto E first second w first' second'
-  redrawn-is E q = record {
-    answered = d .answered ∙ ap answerOf q;
-    firstHolds = d .firstHolds ∙ ap (λ (x : Result Got). filled (length first) (heldFirst x)) q;
-    secondHolds = d .secondHolds ∙ ap (λ (x : Result Got). filled (length second) (heldSecond x)) q;
-    late = d .late;
-  }
+  redrawn-is E q = record { drawn = rw (← q) (d .drawn); late = d .late }
 
   pub redrawn-from : (a b : List Float) → length first ≡ length a → length second ≡ length b → RedrawnInto D a b w first' second'
+  unfolding answerOf firstAfter secondAfter
   redrawn-from a b e f =
       let q : roomOf (length first) (length second) ≡ roomOf (length a) (length b) = rw (e, f) in
-      record {
-        answered = d .answered ∙ ap (λ (k : ℕ). answerOf (D k)) q;
-        firstHolds = d .firstHolds ∙ ap (λ (k : ℕ). filled (length first) (heldFirst (D k))) q ∙ ap (λ (n : ℕ). filled n (heldFirst (D (roomOf (length a) (length b))))) e;
-        secondHolds = d .secondHolds ∙ ap (λ (k : ℕ). filled (length second) (heldSecond (D k))) q ∙ ap (λ (n : ℕ). filled n (heldSecond (D (roomOf (length a) (length b))))) f;
-        late = d .late;
-      }
-
-  -- no refusal leaves a buffer as before
-  pub redrawn-after : DrawnInto (D (roomOf (length first) (length second))) first second w first' second'
-  unfolding answerOf heldFirst heldSecond firstAfter secondAfter
-  redrawn-after = record {
-    answered = d .answered;
-    firstHolds = go (D (roomOf (length first) (length second))) (d .answered) (d .firstHolds);
-    secondHolds = to (D (roomOf (length first) (length second))) (d .answered) (d .secondHolds);
-  }
+      record { drawn = rw (← q) (go (D (roomOf (length first) (length second))) (d .drawn)); late = d .late }
     where
-      go : (X : Result Got) → w ≡ answerOf X → first' ≡ filled (length first) (heldFirst X) → first' ≡ firstAfter first X
-      go (refused n) a b = let z = above n (d .late n a) in rw z b
-      go (got g) a b = b
-
-      to : (X : Result Got) → w ≡ answerOf X → second' ≡ filled (length second) (heldSecond X) → second' ≡ secondAfter second X
-      to (refused n) a b = let z = above n (d .late n a) in rw z b
-      to (got g) a b = b
+      go : (X : Result Got) → DrawnInto X first second w first' second' → DrawnInto X a b w first' second'
+      go (refused n) x =
+          let l = above n (d .late n (x .answered)) in
+          record { answered = x .answered; firstHolds = rw (l, ← e) (rw l at (x .firstHolds)); secondHolds = rw (l, ← f) (rw l at (x .secondHolds)) }
+      go (got g) x = record { answered = x .answered; firstHolds = rw (← e) (x .firstHolds); secondHolds = rw (← f) (x .secondHolds) }
 
 -- ---- a chain that stays in the first
 pub kept-after : (D : Result Got) (way : Way) (n : ℕ) (first second : List Float) → D ≡ got (by way (samples n first)) → inFirst way ≡ true

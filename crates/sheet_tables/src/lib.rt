@@ -1,4 +1,5 @@
-// The sheet's three tables: points, curves and segments. Whole numbers go into one table, floats into another.
+// The sheet's three tables: points, curves and segments. Whole numbers go into one table, floats into another, zeros behind
+// them. Where a table cannot be read, what was read of it stays, for the caller to clear.
 ghost use mathlib.Core.Path.{_≡_};
 ghost use Prim.Native.Nat.{_*_, _≤_};
 ghost use lib.ListN.{length, drop};
@@ -14,8 +15,7 @@ ghost use Rattle.sheet_tables.specs.Flattened.{flattened};
 ghost use Rattle.sheet_tables.specs.Own.Answers.{tableOf, TableStored};
 use text_format::Num;
 
-// The rows of a table, up to the empty line behind them: whole numbers into one table, floats into another, zeros behind
-// them. Where they cannot be read, the tables hold whatever was read before.
+// The rows of a table, up to the empty line behind them.
 fn rows(s: &[u8], at: usize, shape: &[u8], wholes: &mut [u32], floats: &mut [f64]) -> Num
     requires { ⌜ (at ≤ length (now s)) × (length (now s) ≤ size) × Roomy (now shape) (length (now wholes)) (length (now floats)) ⌝ }
     ensures { λ r. ⌜ (r ≡ parsedList (now (s .entry)) (lines (line (shapeOf (now (shape .entry)))) .read (drop at (now (s .entry)))))
