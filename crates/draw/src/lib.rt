@@ -71,7 +71,8 @@ fn local_options(
         let extent = edge_extent::extent_usable(points, curves, reals, parts, ranges, edge, usable);
         return r.for_extent(extent);
     }
-    // No extent changes these.
+    // No extent changes these, so that none is worked out. (A curve whose evaluation can be refused will have to be probed all
+    // the same: its probes can refuse.)
     r
 }
 

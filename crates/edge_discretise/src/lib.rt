@@ -108,7 +108,7 @@ fn finish(
 
 // The two-vertex chord with the parameters a and b, and +0.0 behind it.
 pub fn chord(points: &[f64], edge: Edge, a: f64, b: f64, chain: &mut [f64])
-    requires { ⌜ 8 ≤ length (now chain) ⌝ }
+    requires { ⌜ shortest ≤ length (now chain) ⌝ }
     ensures { λ _. ⌜ now (chain .exit) ≡ filled (length (now (chain .entry))) (flat (chordOf (ofPoints (now (points .entry))) edge a b)) ⌝ }
 {
     let start = brep::point(points, edge.start);

@@ -52,7 +52,7 @@ fn reference(points: &[f64], edge: Edge) -> Aabb
 
 // The chord of the vertices in the second buffer. Its parameters are lo twice: it runs through nothing of the curve.
 fn runaway(points: &[f64], edge: Edge, second: &mut [f64]) -> Drawn
-    requires { ⌜ 8 ≤ length (now second) ⌝ }
+    requires { ⌜ shortest ≤ length (now second) ⌝ }
     ensures { λ w. ⌜ InSecond (runaway (ofPoints (now (points .entry))) edge) (length (now (second .entry))) w (now (second .exit)) ⌝ }
 {
     edge_discretise::chord(points, edge, edge.range.lo, edge.range.lo, second);
