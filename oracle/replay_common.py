@@ -50,6 +50,13 @@ def beside(x):
     return [math.nextafter(x, -INF), x, math.nextafter(x, INF)]
 
 
+def must_be_built(*programs):
+    """Ends the run where one of the programs is not there, and says by which command it is built."""
+    for path, command in programs:
+        if not path.exists():
+            sys.exit(f"there is no {path.relative_to(HERE.parent)}: run {command}")
+
+
 def ask(command, text):
     """What the oracle answers. Texts stand for bytes, one character each: a damaged sheet may hold any."""
     run = subprocess.run([HERE / "target/oracle", *command], input=text.encode("latin-1"), capture_output=True, check=True)

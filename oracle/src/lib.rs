@@ -1,6 +1,7 @@
 //! The oracle: the published Rust behind the tables, causes and buffers of the scope.
 
 pub mod arith;
+pub mod batch;
 pub mod causes;
 pub mod check;
 #[cfg(marked)]

@@ -1,11 +1,9 @@
 //! The commands of the oracle. README.md says what each reads and prints.
 
+use oracle::batch::{SEPARATOR, Settings, answers, split};
 use oracle::{arith, check, gen_arith, generate, inspect, sheet, timing};
 use std::io::{BufWriter, Read, Result, Write};
 use std::process::ExitCode;
-
-/// What parts the sheets of a batch, and their answers. No sheet holds an equals sign.
-const SEPARATOR: &[u8] = b"====\n";
 
 const USAGE: &str = "usage: oracle chain [FIRST SECOND] | batch [FIRST SECOND] | gen SEED N [START]
               | coverage SEED N | check SEED N | time FILE
@@ -73,17 +71,6 @@ fn input() -> Result<Vec<u8>> {
     Ok(bytes)
 }
 
-/// The parts of a batch, each ended by the next separator or the batch's end.
-fn split(bytes: &[u8]) -> impl Iterator<Item = &[u8]> {
-    let mut rest = Some(bytes);
-    std::iter::from_fn(move || {
-        let whole = rest?;
-        let at = whole.windows(SEPARATOR.len()).position(|window| window == SEPARATOR);
-        rest = at.map(|at| &whole[at + SEPARATOR.len()..]);
-        Some(&whole[..at.unwrap_or(whole.len())])
-    })
-}
-
 /// The parts of a batch, one after another.
 fn joined(out: &mut impl Write, parts: impl Iterator<Item = Vec<u8>>) -> Result<()> {
     for (number, part) in parts.enumerate() {
@@ -101,7 +88,7 @@ fn chain(out: &mut impl Write, lengths: (usize, usize)) -> Result<()> {
 
 fn batch(out: &mut impl Write, lengths: (usize, usize)) -> Result<()> {
     let bytes = input()?;
-    joined(out, split(&bytes).map(|one| sheet::answer(one, lengths).into_bytes()))
+    joined(out, answers(&bytes, Settings::of(lengths)).map(String::into_bytes))
 }
 
 fn sheets(out: &mut impl Write, seed: u64, count: u64, start: u64) -> Result<()> {

@@ -2,6 +2,7 @@
 
 use crate::draw::{Drawn, WIDTH, draw, in_first};
 use crate::tables::{Edge, KIND_WORDS, Options, OwnedTables, Row, Segment};
+use road::edge::Way;
 use std::fmt::Write;
 
 const MOST_BYTES: usize = 65_536;
@@ -188,6 +189,34 @@ pub fn answer(bytes: &[u8], (first, second): (usize, usize)) -> String {
             let buffer = if in_first(way) { first } else { second };
             listing(&buffer[..WIDTH * count])
         }
+    }
+}
+
+/// What both buffers hold before a drawing that is told whole, so that a float left as it was shows.
+const BEFORE: f64 = f64::from_bits(0x4055555555555555);
+
+/// The whole answer of `draw` to a sheet, in two buffers of these many floats: the refusal, or the way and the number of
+/// points, then every float of both. A text that is no sheet has the refusal alone.
+pub fn whole_answer(bytes: &[u8], (first, second): (usize, usize)) -> String {
+    let Some(sheet) = read(bytes) else {
+        return "refusal 10\n".to_string();
+    };
+    let (mut first, mut second) = (vec![BEFORE; first], vec![BEFORE; second]);
+    let drawn = draw(&sheet.tables.lent(), &sheet.edge, &sheet.options, &mut first, &mut second);
+    let told = match drawn {
+        Drawn::Refused(number) => format!("refusal {number}"),
+        Drawn::Chain(way, count) => format!("way {} points {count}", way_words(way)),
+    };
+    format!("{told}\n{}\n{}\n", hex(&first), hex(&second))
+}
+
+fn way_words(way: Way) -> &'static str {
+    match way {
+        Way::AsDrawn => "as drawn",
+        Way::ChordForWantOfARange => "chord for want of a range",
+        Way::Complement => "complement",
+        Way::ShortArc => "short arc",
+        Way::RunawayChord => "runaway chord",
     }
 }
 

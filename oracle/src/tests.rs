@@ -1,5 +1,6 @@
-//! What no sheet can hold: tables above their size, slices that are not whole rows, other buffers.
+//! What no sheet can hold: tables above their size, slices that are not whole rows, other buffers. And the settings of a batch.
 
+use crate::batch::{Settings, answers};
 use crate::draw::{Drawn, draw};
 use crate::tables::{Edge, LINE, Options, OwnedTables, POLYLINE, Row};
 use road::edge::Way;
@@ -102,5 +103,77 @@ fn an_unknown_kind_gives_3() {
         let mut tables = line();
         tables.curves[0] = kind;
         assert_eq!(drawn_of(&tables), Drawn::Refused(3));
+    }
+}
+
+/// The line of `line()` as a sheet of one segment: two points.
+const SHEET: &str = include_str!("../examples/sheet.in");
+
+fn batch(text: &str) -> String {
+    let settings = Settings::of((8, 8));
+    answers(text.as_bytes(), settings).collect::<Vec<_>>().join("====\n")
+}
+
+fn floats(words: [&str; 9]) -> String {
+    words.join(" ") + "\n"
+}
+
+#[test]
+fn both_buffers_are_told_whole() {
+    let (o, x, b) = ("0000000000000000", "4024000000000000", "4055555555555555");
+    let drawn = floats([o, o, o, o, x, o, o, "4014000000000000", o]);
+    let text = format!("ask both\n====\nbuffers 9 9\n====\n{SHEET}");
+    let answer = format!("====\n====\nway as drawn points 2\n{drawn}{}", floats([o; 9]));
+    assert_eq!(batch(&text), answer);
+    let outside = SHEET.replace("\n0 0 2 1 ", "\n1 0 2 1 ");
+    let text = format!("buffers 9 9\n====\nask both\n====\n{outside}");
+    assert_eq!(
+        batch(&text),
+        format!("====\n====\nrefusal 6\n{}{}", floats([b; 9]), floats([b; 9]))
+    );
+    let text = format!("ask both\n====\nbuffers 1 0\n====\n{SHEET}");
+    assert_eq!(batch(&text), format!("====\n====\nrefusal 7\n{b}\n\n"));
+    assert_eq!(batch("ask both\n====\n"), "====\nrefusal 10\n");
+}
+
+#[test]
+fn a_setting_holds_for_the_sheets_behind_it() {
+    let parts = [
+        SHEET,
+        "buffers 7 8\n",
+        SHEET,
+        "ask both\n",
+        "",
+        "ask chain\n",
+        SHEET,
+        "buffers 8 8\n",
+        SHEET,
+    ];
+    let listing = include_str!("../examples/sheet.out");
+    let answers =
+        [listing, "", "refusal\n7\n", "", "refusal 10\n", "", "refusal\n7\n", "", listing];
+    assert_eq!(batch(&parts.join("====\n")), answers.join("====\n"));
+}
+
+#[test]
+fn what_is_no_setting_is_a_text_that_is_no_sheet() {
+    for text in [
+        "ask",
+        "ask\n",
+        "ask both",
+        "ask  both\n",
+        "ask both \n",
+        "ask both\n\n",
+        "ask neither\n",
+        "Ask both\n",
+        "buffers 8\n",
+        "buffers 8 8",
+        "buffers 8 8 8\n",
+        "buffers 08 8\n",
+        "buffers 8 65537\n",
+        "buffers 8 -1\n",
+        "buffers 8 8\n\n",
+    ] {
+        assert_eq!(batch(text), "refusal\n10\n", "{text}");
     }
 }
