@@ -1,11 +1,18 @@
-// Reads a batch of sheets from standard input, parted by the five bytes `====` and newline, and writes the answers that the
-// program `chain` gives, parted alike. A part `buffers FIRST SECOND` has no answer: the chain buffers of the sheets behind
-// it have so many floats, each at most 65,536. Before the first of them they have 8,192.
+// Reads a batch of sheets from standard input, parted by the five bytes `====` and newline, and writes their answers, parted
+// alike. A part that is one line with a setting holds for the sheets behind it and has an empty answer:
+//   buffers FIRST SECOND   the chain buffers have so many floats, each at most 65,536; 8,192 before the first such part
+//   ask chain              the answer is what the program `chain` prints, as before the first such part
+//   ask both               the answer is that of `draw` told whole, with every float of both buffers
 ghost use mathlib.Core.Path.{_≡_};
-ghost use Prim.Native.Nat.{_≤_};
+ghost use Prim.Native.Nat.{_*_, _≤_};
 ghost use lib.ListN.{length};
+use brep::Edge;
+use draw_spec::Drawn;
+use draw_spec::Way;
 use libc::STDIN_FILENO;
 use libc::STDOUT_FILENO;
+use options::Options;
+use sheet::Sheet;
 use sheet_layout::Row;
 use text_format::Num;
 
@@ -18,42 +25,305 @@ const FLOATS: usize = 65536;
 // Enough for every listing: 68 bytes a point, and 19 for its names or a refusal.
 const BYTES: usize = 1114131;
 
-// How many bytes of the part are kept, how many equals signs end them (at most 4), and the floats of the chain buffers.
+// What both buffers hold before an edge is drawn, so that a float that is left as it was shows.
+const BEFORE: u64 = 0x4055555555555555;
+
+// The bits of a NaN that an operation makes.
+const QUIET: u64 = 0x7FF8000000000000;
+
+// How sheets are answered: the floats of both chain buffers, and whether the whole answer is asked for.
+struct Settings {
+    first: usize,
+    second: usize,
+    both: bool,
+}
+
+// How many bytes of the part are kept, how many equals signs end them (at most 4), and how sheets are answered.
 struct Kept {
     text: usize,
     equals: usize,
-    first: usize,
-    second: usize,
+    settings: Settings,
 }
 
-// The sizes that a part `buffers FIRST SECOND` asks for.
-enum Sizes {
-    Asked(usize, usize),
-    NotAsked,
+// What a part is.
+enum Kind {
+    Setting(Settings),
+    Sheet,
 }
 
-fn sizes_of(row: Row) -> Sizes {
+// Whether a part is this line alone.
+fn is_line(text: &[u8], line: &[u8]) -> bool {
+    match text_format::word(text, 0, line, 0) {
+        Num::Got(_, at) => at == text.len(),
+        Num::Bad => false,
+    }
+}
+
+// The sizes of a line, if it is all that is left of the part's n bytes.
+fn sizes_of(row: Row, n: usize, settings: Settings) -> Kind {
     let numbers = row.numbers;
     let first = numbers[0];
     let second = numbers[1];
-    if row.ok {
-        if first <= 65536 {
-            if second <= 65536 {
-                return Sizes::Asked(first as usize, second as usize);
-            }
+    if row.ok && row.next == n {
+        if first <= 65536 && second <= 65536 {
+            return Kind::Setting(Settings {
+                first: first as usize,
+                second: second as usize,
+                both: settings.both,
+            });
         }
     }
-    Sizes::NotAsked
+    Kind::Sheet
 }
 
-fn asked_sizes(text: &[u8]) -> Sizes {
+// A part that may set the sizes of the buffers.
+fn asked_sizes(text: &[u8], settings: Settings) -> Kind {
     let Num::Got(_, at) = text_format::word(text, 0, b"buffers ", 0) else {
-        return Sizes::NotAsked;
+        return Kind::Sheet;
     };
     if text.len() < at {
-        return Sizes::NotAsked;
+        return Kind::Sheet;
     }
-    sizes_of(sheet_layout::line(text, at, b"ww"))
+    sizes_of(sheet_layout::line(text, at, b"ww"), text.len(), settings)
+}
+
+// What a part is, behind these settings.
+fn kind_of(text: &[u8], settings: Settings) -> Kind {
+    let both = is_line(text, b"ask both\n");
+    if both || is_line(text, b"ask chain\n") {
+        return Kind::Setting(Settings {
+            first: settings.first,
+            second: settings.second,
+            both,
+        });
+    }
+    asked_sizes(text, settings)
+}
+
+fn fill(buffer: &mut [f64]) {
+    let mut i = 0usize;
+    while i < buffer.len() {
+        buffer[i] = f64::from_bits(BEFORE);
+        i += 1;
+    }
+}
+
+// The bits of float i of a buffer if it is NaN. A NaN parameter is the copy of an end of the edge's range, of which a float does
+// not keep the bits: only a chord has one, and its parameters lie at 3 and 7.
+fn nan_at(i: usize, start: u64, end: u64) -> u64 {
+    match i {
+        3 => start,
+        7 => end,
+        _ => QUIET,
+    }
+}
+
+// The bits of x, or `nan` if it is NaN, then the byte `end`.
+fn put_float(x: f64, nan: u64, end: u8, out: &mut [u8; 4096], at: usize) -> usize {
+    if x != x {
+        return replay_text::hex_then(out, at, nan, end);
+    }
+    replay_text::float_then(out, at, x, end)
+}
+
+// All floats of a buffer on one line. `start` and `end` are the bits of a chord's parameters if they are NaN.
+fn put_floats(buffer: &[f64], start: u64, end: u64, out: &mut [u8; 4096], at: usize) -> usize {
+    if buffer.len() == 0 {
+        return replay_text::word(out, at, b"\n");
+    }
+    let mut n = at;
+    let mut i = 0usize;
+    while i < buffer.len() {
+        let x = buffer[i];
+        let nan = nan_at(i, start, end);
+        i += 1;
+        n = put_float(x, nan, if i < buffer.len() { b' ' } else { b'\n' }, out, n);
+    }
+    n
+}
+
+fn put_refusal(cause: u32, out: &mut [u8; 4096], at: usize) -> usize {
+    let n = replay_text::word(out, at, b"refusal ");
+    replay_text::decimal_then(out, n, cause as u64, b'\n')
+}
+
+fn put_way(way: Way, out: &mut [u8; 4096], at: usize) -> usize {
+    match way {
+        Way::AsDrawn => replay_text::word(out, at, b"as drawn"),
+        Way::Chord => replay_text::word(out, at, b"chord for want of a range"),
+        Way::Complement => replay_text::word(out, at, b"complement"),
+        Way::ShortArc => replay_text::word(out, at, b"short arc"),
+        Way::Runaway => replay_text::word(out, at, b"runaway chord"),
+    }
+}
+
+// The line of what drawing answers.
+fn put_drawn(drawn: Drawn, out: &mut [u8; 4096], at: usize) -> usize {
+    match drawn {
+        Drawn::Refused(cause) => put_refusal(cause, out, at),
+        Drawn::Chain(way, count) => {
+            let word = replay_text::word(out, at, b"way ");
+            let told = put_way(way, out, word);
+            let points = replay_text::word(out, told, b" points ");
+            replay_text::decimal_then(out, points, count as u64, b'\n')
+        }
+    }
+}
+
+// Draws the edge of a sheet whose tables are the leading rows of those lent: n points, m curves, k segments.
+fn draw_rows(
+    points: &[f64],
+    curves: &[u32],
+    reals: &[f64],
+    parts: &[u32],
+    ranges: &[f64],
+    n: usize,
+    m: usize,
+    k: usize,
+    edge: Edge,
+    options: Options,
+    first: &mut [f64],
+    second: &mut [f64],
+) -> Drawn
+    requires { ⌜ (3 * n ≤ length (now points)) × (3 * m ≤ length (now curves)) × (2 * m ≤ length (now reals)) × (2 * k ≤ length (now parts)) × (2 * k ≤ length (now ranges)) ⌝ }
+{
+    let n3 = 3 * n;
+    let m3 = 3 * m;
+    let m2 = 2 * m;
+    let k2 = 2 * k;
+    draw::draw(
+        &points[..n3],
+        &curves[..m3],
+        &reals[..m2],
+        &parts[..k2],
+        &ranges[..k2],
+        edge,
+        options,
+        first,
+        second,
+    )
+}
+
+// The same, of the tables that a sheet was read into. It has no more rows than they hold: the tests are always false.
+fn draw_tables(
+    points: &[f64; sheet::POINTS],
+    curves: &[u32; sheet::CURVES],
+    reals: &[f64; sheet::REALS],
+    parts: &[u32; sheet::PARTS],
+    ranges: &[f64; sheet::RANGES],
+    n: usize,
+    m: usize,
+    k: usize,
+    edge: Edge,
+    options: Options,
+    first: &mut [f64],
+    second: &mut [f64],
+) -> Drawn {
+    if sheet::POINTS / 3 < n {
+        return Drawn::Refused(0);
+    }
+    if sheet::REALS / 2 < m {
+        return Drawn::Refused(0);
+    }
+    if sheet::PARTS / 2 < k {
+        return Drawn::Refused(0);
+    }
+    draw_rows(
+        points,
+        curves,
+        reals,
+        parts,
+        ranges,
+        n,
+        m,
+        k,
+        edge,
+        options,
+        first,
+        second,
+    )
+}
+
+// The answer to what was read into the tables.
+fn put_read(
+    read: Sheet,
+    points: &[f64; sheet::POINTS],
+    curves: &[u32; sheet::CURVES],
+    reals: &[f64; sheet::REALS],
+    parts: &[u32; sheet::PARTS],
+    ranges: &[f64; sheet::RANGES],
+    first: &mut [f64],
+    second: &mut [f64],
+    out: &mut [u8; 4096],
+) -> usize {
+    match read {
+        Sheet::Refused(cause) => put_refusal(cause, out, 0),
+        Sheet::Read {
+            points: n,
+            curves: m,
+            segments: k,
+            edge,
+            options,
+            lo,
+            hi,
+        } => {
+            let drawn = draw_tables(
+                points,
+                curves,
+                reals,
+                parts,
+                ranges,
+                n,
+                m,
+                k,
+                edge,
+                options,
+                first,
+                second,
+            );
+            let told = put_drawn(drawn, out, 0);
+            // In the first buffer the chord for want of a range, from lo to hi; in the second the runaway chord, lo twice.
+            let half = put_floats(first, lo, hi, out, told);
+            put_floats(second, lo, lo, out, half)
+        }
+    }
+}
+
+// Writes the bytes that wait.
+fn flush(out: &[u8; 4096], at: usize) {
+    replay_text::flush(out, at);
+}
+
+// Writes the answer of `draw` to a sheet, drawn in these buffers, and every float of both: what a listing leaves out.
+fn put_both(text: &[u8], first: &mut [f64], second: &mut [f64]) {
+    let mut points = [0.0f64; sheet::POINTS];
+    let mut curves = [0u32; sheet::CURVES];
+    let mut reals = [0.0f64; sheet::REALS];
+    let mut parts = [0u32; sheet::PARTS];
+    let mut ranges = [0.0f64; sheet::RANGES];
+    let mut out = io::buffer();
+    fill(first);
+    fill(second);
+    let read = sheet::read(
+        text,
+        &mut points,
+        &mut curves,
+        &mut reals,
+        &mut parts,
+        &mut ranges,
+    );
+    let at = put_read(
+        read,
+        &points,
+        &curves,
+        &reals,
+        &parts,
+        &ranges,
+        first,
+        second,
+        &mut out,
+    );
+    flush(&out, at);
 }
 
 // A size that a buffer has.
@@ -63,43 +333,44 @@ fn at_most(n: usize) -> usize
     if n < FLOATS { n } else { FLOATS }
 }
 
-// Writes the answer to a sheet, drawn in the first floats of both buffers.
-fn put_answer(text: &[u8], first: &mut [f64], second: &mut [f64], out: &mut [u8], kept: Kept)
-    requires { ⌜ (length (now first) ≡ 65536) × (length (now second) ≡ 65536) × (length (now out) ≡ 1114131) ⌝ }
+// Writes the answer to a sheet, drawn in these buffers.
+fn put_answer(text: &[u8], first: &mut [f64], second: &mut [f64], out: &mut [u8], both: bool)
+    requires { ⌜ length (now out) ≡ 1114131 ⌝ }
 {
-    let n = at_most(kept.first);
-    let m = at_most(kept.second);
-    let written = chain_answer::answer(text, &mut first[..n], &mut second[..m], out);
+    if both {
+        put_both(text, first, second);
+        return;
+    }
+    let written = chain_answer::answer(text, first, second, out);
     // Always so, but the contract of `answer` names the bytes and not how many they are at most.
     if written <= out.len() {
         io::write_all(STDOUT_FILENO, &out[..written]);
     }
 }
 
-// A part: a sheet, or the sizes of the buffers.
+// The same, drawn in the first floats of both buffers.
+fn put_sheet(text: &[u8], first: &mut [f64], second: &mut [f64], out: &mut [u8], settings: Settings)
+    requires { ⌜ (length (now first) ≡ 65536) × (length (now second) ≡ 65536) × (length (now out) ≡ 1114131) ⌝ }
+{
+    let n = at_most(settings.first);
+    let m = at_most(settings.second);
+    put_answer(text, &mut first[..n], &mut second[..m], out, settings.both);
+}
+
+// A part: a sheet, which is answered, or a setting.
 fn part(
     text: &[u8],
     first: &mut [f64; FLOATS],
     second: &mut [f64; FLOATS],
     out: &mut [u8; BYTES],
-    kept: Kept,
-) -> Kept {
-    let asked = asked_sizes(text);
-    match asked {
-        Sizes::Asked(n, m) => Kept {
-            text: 0,
-            equals: 0,
-            first: n,
-            second: m,
-        },
-        Sizes::NotAsked => {
-            put_answer(text, first, second, out, kept);
-            Kept {
-                text: 0,
-                equals: 0,
-                first: kept.first,
-                second: kept.second,
-            }
+    settings: Settings,
+) -> Settings {
+    let kind = kind_of(text, settings);
+    match kind {
+        Kind::Setting(next) => next,
+        Kind::Sheet => {
+            put_sheet(text, first, second, out, settings);
+            settings
         }
     }
 }
@@ -111,12 +382,12 @@ fn part_of(
     first: &mut [f64; FLOATS],
     second: &mut [f64; FLOATS],
     out: &mut [u8; BYTES],
-    kept: Kept,
-) -> Kept {
+    settings: Settings,
+) -> Settings {
     if text.len() < n {
-        return kept;
+        return settings;
     }
-    part(&text[..n], first, second, out, kept)
+    part(&text[..n], first, second, out, settings)
 }
 
 // A separator: the four equals signs before its newline are the last bytes kept.
@@ -131,9 +402,14 @@ fn separator(
     if n < 4 {
         return kept;
     }
-    let next = part_of(text, n - 4, first, second, out, kept);
+    let settings = kept.settings;
+    let next = part_of(text, n - 4, first, second, out, settings);
     io::write_all(STDOUT_FILENO, b"====\n");
-    next
+    Kept {
+        text: 0,
+        equals: 0,
+        settings: next,
+    }
 }
 
 // One byte more of a part. Of a part that is too long, the last four places of the text count for what ends it.
@@ -150,11 +426,11 @@ fn push(b: u8, text: &mut [u8; SIZE], kept: Kept) -> Kept {
     } else {
         0
     };
+    let settings = kept.settings;
     Kept {
         text: more,
         equals,
-        first: kept.first,
-        second: kept.second,
+        settings,
     }
 }
 
@@ -201,7 +477,8 @@ fn finish(
     kept: Kept,
 ) {
     let n = kept.text;
-    part_of(text, n, first, second, out, kept);
+    let settings = kept.settings;
+    part_of(text, n, first, second, out, settings);
 }
 
 // All of the input, chunk by chunk. The loop counts its turns down, from a number that no run uses up, since nothing says
@@ -212,11 +489,15 @@ fn main() {
     let mut first = [0.0f64; FLOATS];
     let mut second = [0.0f64; FLOATS];
     let mut out = [0u8; BYTES];
+    let settings = Settings {
+        first: chain_answer::FLOATS,
+        second: chain_answer::FLOATS,
+        both: false,
+    };
     let mut kept = Kept {
         text: 0,
         equals: 0,
-        first: chain_answer::FLOATS,
-        second: chain_answer::FLOATS,
+        settings,
     };
     let mut turns = u64::MAX;
     while 0 < turns {

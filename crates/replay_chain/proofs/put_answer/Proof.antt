@@ -7,12 +7,6 @@ use borrow.Author.Needs.{needs}
 use Rattle.replay_chain.proofs.put_answer.Statement.{statement}
 use Rattle.replay_chain.proofs.put_answer.Tie as tie
 
-slice-aggregate-answer : tie.Need-slice-aggregate-answer
-slice-aggregate-answer c = sym (length-take-le _ _ (omega arith))
-
-slice-aggregate-answer-2 : tie.Need-slice-aggregate-answer-2
-slice-aggregate-answer-2 c = sym (length-take-le _ _ (omega arith))
-
 answer-requires : tie.Need-answer-requires
 unfolding roomOf
 answer-requires c κs = omega arith
@@ -25,11 +19,9 @@ put-answer-spec =
     tie.close
     (tie.spec
     (λ c κs. search needs)
-    (λ c κs. search needs)
     (λ c. search needs)
-    slice-aggregate-answer
     (λ c. search needs)
-    slice-aggregate-answer-2
+    (λ c. search needs)
     answer-requires
     (λ c. search needs)
     slice-aggregate-write-all
