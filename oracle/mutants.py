@@ -1,19 +1,27 @@
-"""How well the generated sheets tell a wrong road from the right one.
+"""How well sheets tell a wrong road from the right one.
 
-Each mutant is the patched road with one operand or comparison changed. It is built like the oracle, and its
-answers to the same sheets are compared with the oracle's. Usage: mutants.py SEED N [NUMBER..]
+Each mutant is the patched road, or the oracle's own code about it, with one operand or comparison changed. It is built like
+the oracle, and its answers to the same sheets are compared with the oracle's.
+
+    mutants.py SEED N [NUMBER..]    N generated sheets, each asked for its chain and for both buffers; names some that tell
+    mutants.py stored [NUMBER..]    the batch that crates/replay_chain is replayed with
 """
 
 import pathlib
 import shutil
 import subprocess
 import sys
+import tempfile
 
 HERE = pathlib.Path(__file__).resolve().parent
 TARGET = HERE / "target"
+STORED = HERE.parent / "crates/replay_chain"
 SEPARATOR = b"====\n"
+# What generated sheets are asked for, with the floats of the buffers where all of them are told.
+ASKED = [b"ask chain\n", b"ask both\n" + SEPARATOR + b"buffers 96 80\n"]
+SHOWN = 6
 
-# file, old text (it occurs once), new text
+# file (src/.. for the oracle's own, else the road's), old text (it occurs once), new text
 MUTANTS = [
     ("edge.rs", "!(reference.diagonal() > 0.0)", "!(reference.diagonal() >= 0.0)"),
     ("edge.rs", "options.sag * 16.0", "options.sag * 15.0"),
@@ -91,51 +99,125 @@ MUTANTS = [
     ("math.rs", "self.min.x > self.max.x ||", "self.min.x >= self.max.x ||"),
     ("steps.rs", "b < a { b } else { a }", "b <= a { b } else { a }"),
     ("steps.rs", "b > a { b } else { a }", "b >= a { b } else { a }"),
+    ("edge.rs", "options.sag * 0.01,", "options.sag * 0.011,"),
+    ("edge.rs", "natural.span().is_finite() && natural.span() > 0.0", "natural.span().is_finite()"),
+    ("edge.rs", "if kept < floor.min(points.len())", "if kept <= floor.min(points.len())"),
+    ("edge.rs", "Curve::Polyline { .. } => true,", "Curve::Polyline { .. } | Curve::Composite { .. } => true,"),
+    ("edge.rs", "params: vec![edge.range.lo, edge.range.lo]", "params: vec![edge.range.lo, if edge.range.lo.is_nan() { edge.range.hi } else { edge.range.lo }]"),
+    ("edge.rs", "way: Way::Complement, ..alternative", "way: Way::ShortArc, ..alternative"),
+    ("edge.rs", "way: Way::ShortArc, ..arc", "way: Way::Complement, ..arc"),
+    ("edge.rs", "way: Way::ChordForWantOfARange,", "way: Way::AsDrawn,"),
+    ("src/sheet.rs", '=> "short arc"', '=> "runaway chord"'),
+    ("src/sheet.rs", '=> "runaway chord"', '=> "short arc"'),
+    ("src/draw.rs", "MOST_ROOM: usize = 16_384;", "MOST_ROOM: usize = 16_383;"),
+    ("src/draw.rs", "MOST_ROOM: usize = 16_384;", "MOST_ROOM: usize = 16_385;"),
+    ("src/sheet.rs", "MOST_BYTES: usize = 65_536;", "MOST_BYTES: usize = 65_540;"),
+    ("src/sheet.rs", "MOST_BYTES: usize = 65_536;", "MOST_BYTES: usize = 65_535;"),
+    ("src/causes.rs", "LEAST_BUFFER: usize = 8;", "LEAST_BUFFER: usize = 12;"),
+    ("src/causes.rs", "LEAST_BUFFER: usize = 8;", "LEAST_BUFFER: usize = 9;"),
+    ("src/causes.rs", "LEAST_BUFFER: usize = 8;", "LEAST_BUFFER: usize = 7;"),
+    ("src/causes.rs", "MOST_NESTING: u32 = 8;", "MOST_NESTING: u32 = 7;"),
+    ("src/causes.rs", "MOST_NESTING: u32 = 8;", "MOST_NESTING: u32 = 9;"),
+    ("knots.rs", "(*a - *b).abs() <= epsilon);\n    knots", "(*a - *b).abs() < epsilon);\n    knots"),
+    ("knots.rs", "*k < hi - epsilon", "*k <= hi - epsilon"),
+    ("eval/curve.rs", "points[last]).length_squared() < 1e-20", "points[last]).length_squared() <= 1e-20"),
+    ("eval/curve.rs", "points[points.len() - 1]).length_squared() < 1e-20", "points[points.len() - 1]).length_squared() <= 1e-20"),
+    ("eval/curve.rs", "points[last]).length_squared() < 1e-20", "points[last]).length_squared() < 1e-21"),
+    ("eval/curve.rs", "points[points.len() - 1]).length_squared() < 1e-20", "points[points.len() - 1]).length_squared() < 1e-21"),
+    ("edge.rs", "let deviation = if len > 1e-300", "let deviation = if len > 1e-150"),
+    ("edge.rs", "let deviation = if len > 1e-300", "let deviation = if len >= 0.0"),
+    ("src/draw.rs", "    first.fill(0.0);\n", ""),
+    ("src/draw.rs", "    second.fill(0.0);\n", ""),
+    ("src/draw.rs", "    if let Some(number) = cause(", "    first.fill(0.0);\n    if let Some(number) = cause("),
+    ("src/draw.rs", "    if let Some(number) = cause(", "    second.fill(0.0);\n    if let Some(number) = cause("),
+    ("src/draw.rs", "Way::AsDrawn | Way::ChordForWantOfARange)", "Way::AsDrawn)"),
+    ("src/draw.rs", "Way::AsDrawn | Way::ChordForWantOfARange)", "Way::AsDrawn | Way::ChordForWantOfARange | Way::Complement)"),
+    # From here on nothing observable changes: README.md says why.
+    ("edge.rs", "if !escapes(&arc) && reaches(start) && reaches(end)", "if !escapes(&arc)"),
+    ("edge.rs", "reference.is_empty() || !(reference", "!(reference"),
+    ("edge.rs", "max(edge.tolerance, 0.0) * MERGE_TOLERANCES", "edge.tolerance * MERGE_TOLERANCES"),
+    ("edge.rs", "let deviation = if len > 1e-300", "let deviation = if len > 1e-200"),
+    ("options.rs", "if r > self.sag {", "if r >= self.sag {"),
 ]
 
 
-def compiled(work, crate, kind, source, *extern):
-    command = ["rustc", "--edition", "2024", "-C", "opt-level=1", "-A", "warnings", "--out-dir", work, "-L", work]
+def compiled(level, work, crate, kind, source, *extern):
+    command = ["rustc", "--edition", "2024", "-A", "warnings", "--out-dir", work, "-L", work]
+    command += ["-C", f"opt-level={level}", "-C", "debug-assertions=off"]
     for name in extern:
         command += ["--extern", name]
     subprocess.run([*command, "--crate-type", kind, "--crate-name", crate, source], check=True)
 
 
-def answers(program, sheets):
+def answers(program, text):
     """The answers of a program; one that panics or runs on answers nothing."""
     try:
-        run = subprocess.run([program, "batch"], input=sheets, capture_output=True, timeout=600)
+        run = subprocess.run([program, "batch"], input=text, capture_output=True, timeout=600)
     except subprocess.TimeoutExpired:
         return []
     return run.stdout.split(SEPARATOR) if run.returncode == 0 else []
 
 
-def mutant_answers(mutant, sheets):
+def built(work, mutant, level):
+    """A mutant's program; with a higher level of optimisation it answers sooner and is built later."""
     file, old, new = mutant
-    work = TARGET / "mutant"
-    shutil.rmtree(work, ignore_errors=True)
     shutil.copytree(TARGET / "oracle.d" / "road", work / "road")
-    path = work / "road" / file
+    shutil.copytree(HERE / "src", work / "src", ignore=shutil.ignore_patterns("road"))
+    path = work / (file if file.startswith("src/") else f"road/{file}")
     text = path.read_text()
     assert text.count(old) == 1, f"{file}: {text.count(old)} times: {old}"
     path.write_text(text.replace(old, new))
-    compiled(work, "road", "rlib", work / "road" / "road.rs")
-    compiled(work, "oracle", "rlib", HERE / "src" / "lib.rs", "road")
-    compiled(work, "main", "bin", HERE / "src" / "main.rs", "oracle")
-    return answers(work / "main", sheets)
+    compiled(level, work, "road", "rlib", work / "road" / "road.rs")
+    compiled(level, work, "oracle", "rlib", work / "src" / "lib.rs", "road")
+    compiled(level, work, "main", "bin", work / "src" / "main.rs", "oracle")
+    return work / "main"
+
+
+def asked(sheets):
+    """One batch of the sheets under each of what they are asked for."""
+    return SEPARATOR.join(settings + SEPARATOR + sheets for settings in ASKED)
+
+
+def batch(words):
+    """The text that mutants answer, the right answers, and a name for each part of it."""
+    if words[0] == "stored":
+        right = (STORED / "stdout").read_bytes().split(SEPARATOR)
+        return (STORED / "stdin").read_bytes(), right, [f"part {i}" for i in range(len(right))]
+    seed, count = words[:2]
+    sheets = subprocess.run([TARGET / "oracle", "gen", seed, count], capture_output=True, check=True).stdout
+    names = []
+    for settings in ASKED:
+        names += ["setting"] * (settings.count(SEPARATOR) + 1)
+        names += [f"{settings.split()[1].decode()} {i}" for i in range(int(count))]
+    text = asked(sheets)
+    return text, answers(TARGET / "oracle", text), names
+
+
+def shortest(text, right, told):
+    """Those of some parts that have the shortest texts and answers."""
+    parts = text.split(SEPARATOR)
+    return sorted(told, key=lambda i: len(parts[i]) + len(right[i]))[:SHOWN]
 
 
 def main():
-    seed, count = sys.argv[1:3]
-    numbers = [int(word) for word in sys.argv[3:]] or range(len(MUTANTS))
-    oracle = TARGET / "oracle"
-    sheets = subprocess.run([oracle, "gen", seed, count], capture_output=True, check=True).stdout
-    right = answers(oracle, sheets)
+    words = sys.argv[1:]
+    stored = words[:1] == ["stored"]
+    which = words[1:] if stored else words[2:]
+    if not words or not all(word.isdecimal() for word in words[1:]) or not (stored or (words[0].isdecimal() and words[1:])):
+        sys.exit(__doc__)
+    text, right, names = batch(words)
+    numbers = [int(word) for word in which] or range(len(MUTANTS))
+    unnoticed = []
     for number in numbers:
         file, old, new = MUTANTS[number]
-        got = mutant_answers(MUTANTS[number], sheets)
-        told = sum(a != b for a, b in zip(right, got)) if got else "all"
-        print(f"{number:3} told by {told} of {len(right)}: {file}: {old!r} -> {new!r}", flush=True)
+        with tempfile.TemporaryDirectory(dir=TARGET) as work:
+            got = answers(built(pathlib.Path(work), MUTANTS[number], 0 if stored else 1), text)
+        told = [i for i, (a, b) in enumerate(zip(right, got)) if a != b] if got else range(len(right))
+        if not told:
+            unnoticed.append(number)
+        some = ", ".join(names[i] for i in shortest(text, right, told))
+        print(f"{number:3} told by {len(told)} of {len(right)}: {file}: {old!r} -> {new!r}: {some}", flush=True)
+    print(f"{len(numbers)} mutants, {len(unnoticed)} unnoticed: {unnoticed}")
 
 
 main()
