@@ -1,12 +1,16 @@
 -- A curve prepared has the points and the derivatives of the curve. Assumes nothing.
 use mathlib.Core.Path.{_≡_, refl, sym, ap, _∙_}
+use mathlib.Core.Bool.{Bool}
+use mathlib.Core.List.{List}
 use lib.Ieee.{Float}
 use Rattle.math.specs.declared.Vec3.{Vec3}
 use Rattle.math.specs.Math.{polar}
 use Rattle.brep.specs.Tree.{CurveTree, analytic, line, circle, ellipse, parabola, polyline, trimmed, composite}
+use Rattle.curve_parameter.specs.Run.{closes}
 use Rattle.curve_point.specs.Point as curves
 use Rattle.curve_tangent.specs.Derivative as derivatives
 use Rattle.curve_prepared.specs.declared.Prepared.{Prepared}
+use Rattle.curve_prepared.specs.declared.Prepared.the-variants.{Other}
 use Rattle.curve_prepared.specs.Own.Prepared.{preparedOf, roundPoint, preparedParabola, preparedPoint, roundDerivative, parabolaSlope, preparedDerivative}
 
 -- of a curve c that has the points of b, which is c with trims taken off
@@ -48,3 +52,8 @@ module _ (c : CurveTree) (t : Float) {r k : Prepared} {p : Vec3} where
 
   pub derivative-by : r ≡ k → p ≡ preparedDerivative k c t → p ≡ preparedDerivative r c t
   derivative-by e h = h ∙ ap (λ x. preparedDerivative x c t) (sym e)
+
+-- what is known of a polyline that was prepared
+pub known-closed : {closed : Bool} (points : List Vec3) → Other closed ≡ preparedOf (polyline points) → closed ≡ closes points
+unfolding preparedOf
+known-closed points e = cc

@@ -2,11 +2,15 @@
 use math::Frame;
 use math::Vec3;
 ghost use mathlib.Core.Path.{_≡_};
-ghost use Prim.Native.Nat.{_+_};
-ghost use Rattle.brep.specs.Rows.{given, pointOf};
-ghost use Rattle.brep.specs.Tree.{tree};
-ghost use Rattle.curve_point.specs.Point.{pointAt};
-ghost use Rattle.curve_prepared.specs.declared.Prepared.the-variants.{Line};
+ghost use mathlib.Core.List.{List};
+ghost use Prim.Native.Nat.{ℕ, _+_};
+ghost use lib.Ieee.{Float};
+ghost use Rattle.brep.specs.Rows.{lent, given, pointOf};
+ghost use Rattle.brep.specs.Tree.{tree, run};
+ghost use Rattle.curve_parameter.specs.Run.{closes, polylineParameter};
+ghost use Rattle.curve_point.specs.Point.{polylinePoint, pointAt};
+ghost use Rattle.curve_tangent.specs.Derivative.{polylineDerivative, derivativeAt};
+ghost use Rattle.curve_prepared.specs.declared.Prepared.the-variants.{Line, Other};
 ghost use Rattle.curve_prepared.specs.Own.Prepared.{roundOf, parabolaOf, preparedOf, roundPoint, preparedParabola, preparedPoint};
 ghost use Rattle.curve_prepared.specs.Own.Prepared.{roundDerivative, parabolaSlope, preparedDerivative};
 
@@ -29,8 +33,10 @@ pub enum Prepared {
         y: Vec3,
         focal_dist: f64,
     },
-    // A polyline or a composite, whose row is looked up at each point.
-    Other,
+    // A polyline or a composite, whose row is looked up at each point. Whether a polyline is closed is worked out once.
+    Other {
+        closed: bool,
+    },
 }
 
 fn round_of(frame: Frame, major: f64, minor: f64) -> Prepared
@@ -100,9 +106,13 @@ pub fn prepare(
             let p = brep::float_at(reals, r as usize * 2);
             parabola_of(brep::frame_at(points, first), p)
         }
-        5 => Prepared::Other,
-        7 => Prepared::Other,
-        _ => Prepared::Other,
+        5 => {
+            let count = brep::int_at(curves, at + 2);
+            let closed = curve_parameter::closes_at(points, first, count);
+            Prepared::Other { closed }
+        }
+        7 => Prepared::Other { closed: false },
+        _ => Prepared::Other { closed: false },
     }
 }
 
@@ -123,6 +133,50 @@ fn parabola_point(origin: Vec3, x: Vec3, y: Vec3, focal_dist: f64, t: f64) -> Ve
         .add(y.scale(2.0 * focal_dist * t))
 }
 
+// A polyline's own parameter: a closed one wraps t, an open one clamps it.
+fn polyline_parameter(count: u32, closed: bool, t: f64) -> f64
+    ensures { λ r. ⌜ ((points : List Float) (first : ℕ) → closed ≡ closes (run points first count) → r ≡ polylineParameter (run points first count) t) ⌝ }
+{
+    let span = curve_parameter::last_of(count) as f64;
+    if closed && 0.0 < span {
+        return t - arith::floor(t / span) * span;
+    }
+    arith::clamp(t, 0.0, span)
+}
+
+// A place on a curve: its point, and the derivative there.
+struct Spot {
+    point: Vec3,
+    slope: Vec3,
+}
+
+// A polyline at t, of its run of points, of which it is known whether it is closed.
+fn polyline_at(points: &[f64], first: u32, count: u32, closed: bool, t: f64) -> Spot
+    requires { ⌜ closed ≡ closes (run (now points) first count) ⌝ }
+    ensures { λ r. ⌜ (r .point ≡ polylinePoint (run (now (points .entry)) first count) t) × (r .slope ≡ polylineDerivative (run (now (points .entry)) first count) t) ⌝ }
+{
+    if count == 0 {
+        return Spot {
+            point: Vec3::ZERO,
+            slope: Vec3::ZERO,
+        };
+    }
+    if count == 1 {
+        let only = brep::point_in(points, first, 0);
+        return Spot {
+            point: only,
+            slope: Vec3::ZERO,
+        };
+    }
+    let u = polyline_parameter(count, closed, t);
+    let i = curve_parameter::index_in(count - 2, u);
+    let a = brep::point_in(points, first, i);
+    let b = brep::point_in(points, first, i + 1);
+    let point = a.lerp(b, u - i as f64);
+    let slope = b.sub(a);
+    Spot { point, slope }
+}
+
 // The point at t of a polyline or a composite. A polyline's row is read as far as it is needed.
 fn other_point(
     points: &[f64],
@@ -131,8 +185,10 @@ fn other_point(
     parts: &[u32],
     ranges: &[f64],
     row: u32,
+    closed: bool,
     t: f64,
 ) -> Vec3
+    requires { ⌜ Other closed ≡ preparedOf (tree (lent points curves reals parts ranges) row) ⌝ }
     ensures { λ r. ⌜ r ≡ pointAt (tree (given points curves reals parts ranges) row) t ⌝ }
 {
     let r = curve_parameter::under_trims(curves, row);
@@ -142,7 +198,8 @@ fn other_point(
         5 => {
             let first = brep::int_at(curves, at + 1);
             let count = brep::int_at(curves, at + 2);
-            curve_point::polyline_point(points, first, count, t)
+            let spot = polyline_at(points, first, count, closed, t);
+            spot.point
         }
         _ => curve_point::point_at(points, curves, reals, parts, ranges, row, t),
     }
@@ -159,6 +216,7 @@ pub fn point_of(
     row: u32,
     t: f64,
 ) -> Vec3
+    requires { ⌜ prepared ≡ preparedOf (tree (lent points curves reals parts ranges) row) ⌝ }
     ensures { λ r. ⌜ r ≡ preparedPoint prepared (tree (given points curves reals parts ranges) row) t ⌝ }
 {
     match prepared {
@@ -176,7 +234,9 @@ pub fn point_of(
             y,
             focal_dist,
         } => parabola_point(origin, x, y, focal_dist, t),
-        Prepared::Other => other_point(points, curves, reals, parts, ranges, row, t),
+        Prepared::Other { closed } => {
+            other_point(points, curves, reals, parts, ranges, row, closed, t)
+        }
     }
 }
 
@@ -193,6 +253,34 @@ fn parabola_slope(x: Vec3, y: Vec3, focal_dist: f64, t: f64) -> Vec3
     x.scale(2.0 * focal_dist * t).add(y.scale(2.0 * focal_dist))
 }
 
+// The derivative at t of a polyline or a composite.
+fn other_derivative(
+    points: &[f64],
+    curves: &[u32],
+    reals: &[f64],
+    parts: &[u32],
+    ranges: &[f64],
+    row: u32,
+    closed: bool,
+    t: f64,
+) -> Vec3
+    requires { ⌜ Other closed ≡ preparedOf (tree (lent points curves reals parts ranges) row) ⌝ }
+    ensures { λ r. ⌜ r ≡ derivativeAt (tree (given points curves reals parts ranges) row) t ⌝ }
+{
+    let r = curve_parameter::under_trims(curves, row);
+    let at = r as usize * 3;
+    let kind = brep::int_at(curves, at);
+    match kind {
+        5 => {
+            let first = brep::int_at(curves, at + 1);
+            let count = brep::int_at(curves, at + 2);
+            let spot = polyline_at(points, first, count, closed, t);
+            spot.slope
+        }
+        _ => curve_tangent::derivative_at(points, curves, reals, parts, ranges, row, t),
+    }
+}
+
 // The derivative at t of the curve of a row, prepared.
 pub fn derivative_of(
     prepared: Prepared,
@@ -204,6 +292,7 @@ pub fn derivative_of(
     row: u32,
     t: f64,
 ) -> Vec3
+    requires { ⌜ prepared ≡ preparedOf (tree (lent points curves reals parts ranges) row) ⌝ }
     ensures { λ r. ⌜ r ≡ preparedDerivative prepared (tree (given points curves reals parts ranges) row) t ⌝ }
 {
     match prepared {
@@ -224,14 +313,8 @@ pub fn derivative_of(
             y,
             focal_dist,
         } => parabola_slope(x, y, focal_dist, t),
-        Prepared::Other => curve_tangent::derivative_at(
-            points,
-            curves,
-            reals,
-            parts,
-            ranges,
-            row,
-            t,
-        ),
+        Prepared::Other { closed } => {
+            other_derivative(points, curves, reals, parts, ranges, row, closed, t)
+        }
     }
 }

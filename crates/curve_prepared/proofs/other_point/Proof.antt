@@ -1,20 +1,27 @@
 -- `curve_prepared::other_point` meets its contract. Assumes nothing.
-use mathlib.Core.Path.{refl, _∙_}
+use mathlib.Core.Path.{refl, sym, _∙_}
 use Rattle.curve_parameter.proofs.Under.{under-same}
 use Rattle.brep.proofs.ByKind.{at-polyline}
 use Rattle.brep.specs.Tree.{CurveTree}
 use Rattle.curve_point.specs.Point.{pointAt}
+use Rattle.curve_prepared.specs.Own.Prepared.{preparedOf}
+use Rattle.curve_prepared.proofs.Laws.{known-closed}
 use borrow.Author.Needs.{needs}
 use Rattle.curve_prepared.proofs.other_point.Statement.{statement}
 use Rattle.curve_prepared.proofs.other_point.Tie as tie
 
+polyline-at-requires : tie.Need-polyline-at-requires
+unfolding preparedOf
+polyline-at-requires c κs =
+    known-closed _ (c .before .before .before .before .before .before .before .before .before .before .pre ∙ sym (at-polyline preparedOf _ _ (c .before .before .before .int-at .ensures) (c .before .before .match .keys1) (c .before .int-at2 .ensures) (c .int-at3 .ensures) ∙ under-same preparedOf (λ b r. refl) _ _ (c .before .before .before .before .under-trims .ensures)))
+
 returns : tie.Need-returns
 unfolding pointAt
 returns c =
-    let t = c .before .before .before .before .before .before .before .before .before .before .before .args .t in
-    c .polyline-point .ensures
-    ∙ at-polyline (λ (k : CurveTree). pointAt k t) _ _ (c .before .before .before .before .int-at .ensures) (c .before .before .before .match .keys1) (c .before .before .int-at2 .ensures) (c .before .int-at3 .ensures)
-    ∙ under-same (λ (k : CurveTree). pointAt k t) (λ b r. refl) _ _ (c .before .before .before .before .before .under-trims .ensures)
+    let t = c .before .before .before .before .before .before .before .before .before .before .before .before .args .t in
+    c .before .polyline-at .ensures .0
+    ∙ at-polyline (λ (k : CurveTree). pointAt k t) _ _ (c .before .before .before .before .before .int-at .ensures) (c .before .before .before .before .match .keys1) (c .before .before .before .int-at2 .ensures) (c .before .before .int-at3 .ensures)
+    ∙ under-same (λ (k : CurveTree). pointAt k t) (λ b r. refl) _ _ (c .before .before .before .before .before .before .under-trims .ensures)
 
 returns-2 : tie.Need-returns-2
 returns-2 c = c .point-at .ensures
@@ -31,7 +38,7 @@ other-point-spec =
     (λ c κs. search needs)
     (λ c. search needs)
     (λ c κs. search needs)
-    (λ c κs. search needs)
+    polyline-at-requires
     (λ c κs. search needs)
     returns
     returns-2)

@@ -1,3 +1,4 @@
+-- `curve_prepared::point_of` meets its contract. Assumes nothing.
 use Rattle.math.specs.Math.{vAdd}
 use Rattle.curve_prepared.proofs.Laws.{point-by}
 use Rattle.curve_prepared.specs.Own.Prepared.{preparedPoint}
@@ -5,12 +6,6 @@ use mathlib.Core.Path.{_≡_, refl, sym, ap, _∙_}
 use borrow.Author.Needs.{needs}
 use Rattle.curve_prepared.proofs.point_of.Statement.{statement}
 use Rattle.curve_prepared.proofs.point_of.Tie as tie
-use Rattle.curve_prepared.proofs.point_of.Reads as reads
-use Rattle.curve_prepared.proofs.point_of.Lts as lts
-use Rattle.math.proofs.Vec3.add.Reads as add-reads
-use Rattle.math.proofs.Vec3.scale.Reads as scale-reads
-use Rattle.curve_prepared.proofs.parabola_point.Reads as parabola-point-reads
-use Rattle.curve_prepared.proofs.round_point.Reads as round-point-reads
 
 returns : tie.Need-returns
 unfolding preparedPoint
@@ -24,9 +19,12 @@ returns-3 : tie.Need-returns-3
 unfolding preparedPoint
 returns-3 c = point-by _ _ (c .before .before .prepared3 .given .1) (c .parabola-point .ensures)
 
+other-point-requires : tie.Need-other-point-requires
+other-point-requires c κs = sym (c .before .prepared4 .given .1) ∙ c .before .before .before .before .before .before .before .before .pre
+
 returns-4 : tie.Need-returns-4
 unfolding preparedPoint
-returns-4 c = point-by _ _ (c .before .enum-told .given .1) (c .other-point .ensures)
+returns-4 c = point-by _ _ (c .before .before .prepared4 .given .1) (c .other-point .ensures)
 
 pub point-of-spec : {M : Type 1} → statement M
 point-of-spec =
@@ -40,7 +38,7 @@ point-of-spec =
     (λ c. search needs)
     (λ c κs. search needs)
     (λ c. search needs)
-    (λ c κs. search needs)
+    other-point-requires
     returns
     returns-2
     returns-3

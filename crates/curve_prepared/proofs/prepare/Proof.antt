@@ -1,5 +1,7 @@
 -- `curve_prepared::prepare` meets its contract. Assumes nothing.
 use Rattle.curve_prepared.specs.Own.Prepared.{roundOf, parabolaOf, preparedOf}
+use Rattle.curve_parameter.specs.Run.{closes}
+use Rattle.curve_prepared.specs.declared.Prepared.the-variants.{Other}
 use Rattle.curve_parameter.proofs.Under.{under-same, under-rest}
 use Rattle.brep.proofs.ByKind.{at-line, at-circle, at-ellipse, at-parabola, at-polyline, at-composite}
 use mathlib.Core.Path.{refl, ap, _∙_}
@@ -25,14 +27,14 @@ returns-4 c = c .parabola-of .ensures ∙ ap (λ f. parabolaOf f (c .before .bef
 
 returns-5 : tie.Need-returns-5
 unfolding preparedOf
-returns-5 c = at-polyline preparedOf _ _ (c .before .before .int-at .ensures) (c .match .keys5) refl refl ∙ under-same preparedOf (λ b r. refl) _ _ (c .before .before .before .under-trims .ensures)
+returns-5 c = ap Other (c .closes-at .ensures) ∙ at-polyline preparedOf _ _ (c .before .before .before .before .int-at .ensures) (c .before .before .match .keys5) (c .before .before .before .int-at2 .ensures) (c .before .int-at3 .ensures) ∙ under-same preparedOf (λ b r. refl) _ _ (c .before .before .before .before .before .under-trims .ensures)
 
 returns-6 : tie.Need-returns-6
 unfolding preparedOf
 returns-6 c = at-composite preparedOf _ _ (c .before .before .int-at .ensures) (c .match .keys6) refl refl ∙ under-same preparedOf (λ b r. refl) _ _ (c .before .before .before .under-trims .ensures)
 
 returns-7 : tie.Need-returns-7
-unfolding preparedOf
+unfolding preparedOf closes
 returns-7 c = under-rest preparedOf (λ b r. refl) _ _ (c .before .before .before .under-trims .ensures) (c .before .before .int-at .ensures) (c .match .rest)
 
 pub prepare-spec : {M : Type 1} → statement M
@@ -63,6 +65,9 @@ prepare-spec =
     (λ c. search needs)
     (λ c. search needs)
     (λ c κs. search needs)
+    (λ c κs. search needs)
+    (λ c κs. search needs)
+    (λ c. search needs)
     (λ c κs. search needs)
     (λ c κs. search needs)
     returns

@@ -1,5 +1,6 @@
 -- A curve prepared for many points, and its points and derivatives: laws beside it say that they are those of eval/curve.rs.
 -- Definitions only.
+use mathlib.Core.Bool.{false}
 use lib.Ieee.{Float, neg}
 use Rattle.arith.specs.Notation.{_⊗_, two}
 use Rattle.arith_trig.specs.Trig.{sinOf, cosOf}
@@ -7,6 +8,7 @@ use Rattle.math.specs.declared.Vec3.{Vec3}
 use Rattle.math.specs.declared.Frame.{Frame}
 use Rattle.math.specs.Math.{vAdd, vScale, yDir}
 use Rattle.brep.specs.Tree.{CurveTree, analytic, line, circle, ellipse, parabola, polyline, trimmed, composite}
+use Rattle.curve_parameter.specs.Run.{closes}
 use Rattle.curve_point.specs.Point.{pointAt}
 use Rattle.curve_tangent.specs.Derivative.{derivativeAt}
 use Rattle.curve_prepared.specs.declared.Prepared.{Prepared}
@@ -20,15 +22,15 @@ roundOf f major minor = Round (f .origin) (f .«ref_dir») (yDir f) major minor
 abbrev pub parabolaOf : Frame → Float → Prepared
 parabolaOf f focal = Parabola (f .origin) (f .«ref_dir») (yDir f) focal
 
--- trims taken off; a polyline or a composite stays to be looked up
+-- trims taken off; a polyline or a composite stays to be looked up, and of a polyline it is known whether it is closed
 unfoldable pub preparedOf : CurveTree → Prepared
 preparedOf (analytic (line origin direction)) = Line origin direction
 preparedOf (analytic (circle f r)) = roundOf f r r
 preparedOf (analytic (ellipse f major minor)) = roundOf f major minor
 preparedOf (analytic (parabola f focal)) = parabolaOf f focal
-preparedOf (polyline points) = Other
+preparedOf (polyline points) = Other (closes points)
 preparedOf (trimmed base range) = preparedOf base
-preparedOf (composite segments) = Other
+preparedOf (composite segments) = Other false
 
 -- O + x (a cos t) + y (b sin t)
 unfoldable pub roundPoint : Vec3 → Vec3 → Vec3 → Float → Float → Float → Vec3
@@ -43,7 +45,7 @@ unfoldable pub preparedPoint : Prepared → CurveTree → Float → Vec3
 preparedPoint (Line origin direction) c t = vAdd origin (vScale direction t)
 preparedPoint (Round origin x y major minor) c t = roundPoint origin x y major minor t
 preparedPoint (Parabola origin x y focal) c t = preparedParabola origin x y focal t
-preparedPoint Other c t = pointAt c t
+preparedPoint (Other closed) c t = pointAt c t
 
 -- x (-a sin t) + y (b cos t)
 unfoldable pub roundDerivative : Vec3 → Vec3 → Float → Float → Float → Vec3
@@ -58,4 +60,4 @@ unfoldable pub preparedDerivative : Prepared → CurveTree → Float → Vec3
 preparedDerivative (Line origin direction) c t = direction
 preparedDerivative (Round origin x y major minor) c t = roundDerivative x y major minor t
 preparedDerivative (Parabola origin x y focal) c t = parabolaSlope x y focal t
-preparedDerivative Other c t = derivativeAt c t
+preparedDerivative (Other closed) c t = derivativeAt c t
