@@ -1,9 +1,8 @@
-"""What the scripts share that make stdin and stdout of the programs crates/replay_*."""
+"""What the scripts share that make stdin and stdout of the programs crates/replay and crates/replay_chain."""
 import math
 import pathlib
 import struct
 import subprocess
-import sys
 
 HERE = pathlib.Path(__file__).resolve().parent
 SEPARATOR = "====\n"
@@ -61,21 +60,3 @@ def ask(command, text):
     """What the oracle answers. Texts stand for bytes, one character each: a damaged sheet may hold any."""
     run = subprocess.run([HERE / "target/oracle", *command], input=text.encode("latin-1"), capture_output=True, check=True)
     return run.stdout.decode("latin-1")
-
-
-def replay(program, texts, answers):
-    """Writes the program's files, a separator between each two texts and answers. With arguments SEED N it writes nothing,
-    runs the program that `rt check` linked, and says whether it answers as the oracle does."""
-    stdin, stdout = (SEPARATOR.join(parts).encode("latin-1") for parts in (texts, answers))
-    if larger() is None:
-        (HERE.parent / "crates" / program / "stdin").write_bytes(stdin)
-        (HERE.parent / "crates" / program / "stdout").write_bytes(stdout)
-        return
-    run = subprocess.run([HERE.parent / "target/bin" / program], input=stdin, capture_output=True, check=True)
-    same = "the same" if run.stdout == stdout else "NOT THE SAME"
-    print(f"{len(answers)} answers, {len(stdout.splitlines())} lines: {same}")
-
-
-def larger():
-    """The seed and the number of a larger run, if one is asked for."""
-    return (int(sys.argv[1]), int(sys.argv[2])) if len(sys.argv) == 3 else None

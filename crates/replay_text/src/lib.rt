@@ -9,7 +9,7 @@ ghost use Rattle.replay_text.specs.Own.Waiting.{waits, putOne, puts};
 use libc::STDOUT_FILENO;
 
 // One byte.
-fn put(out: &mut [u8; 4096], at: usize, b: u8) -> usize
+pub fn put(out: &mut [u8; 4096], at: usize, b: u8) -> usize
     ensures { λ r. ⌜ waits (now (out .exit)) r ≡ putOne b (waits (now (out .entry)) at) ⌝ }
 {
     if at < 4096 {

@@ -68,7 +68,7 @@ fn edge_from(raw: RawEdge) -> Edge
 }
 
 // The options of their numbers. A sheet's angle is in radians.
-fn options_from(raw: RawOptions) -> Options
+pub fn options_from(raw: RawOptions) -> Options
     ensures { λ r. ⌜ r ≡ optionsFrom raw ⌝ }
 {
     Options {
