@@ -9,7 +9,6 @@ use lib.Ieee.{Float, nan, inf, fin, up, down, eq, lt, neg}
 use Rattle.arith.specs.Floor.{floorOf}
 use Rattle.arith.specs.Notation.{_⊕_, _⊖_, _⊗_, _⊘_, bits, count, plusZero, half, one}
 use Rattle.arith_root.specs.Root.{rootOf}
-use Rattle.arith_trig.specs.declared.SinCos.{SinCos}
 
 -- 2 / π, and π / 2 in two parts
 abbrev pub twoOverPi : Float

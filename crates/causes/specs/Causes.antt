@@ -1,6 +1,6 @@
 -- When an edge is turned away: causes 1 to 6 of the scope's table, each a predicate of its own, in order. Definitions only.
 use mathlib.Core.Bool.{Bool, cond, _||_}
-use Prim.Native.Nat.{ℕ, _*_, min}
+use Prim.Native.Nat.{ℕ, _*_}
 use lib.ListN.{length}
 use lib.Dec.{ltb, leb}
 use Rattle.brep.specs.declared.Edge.{Edge}

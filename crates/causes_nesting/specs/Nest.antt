@@ -1,5 +1,5 @@
 -- What trims and composites refer to, and how deep they nest: causes 4 and 5, and the lowest cause of the rows. Definitions only.
-use mathlib.Core.Bool.{Bool, false, cond}
+use mathlib.Core.Bool.{Bool, false}
 use Prim.Native.Nat.{ℕ, suc, _+_, max}
 use lib.Dec.{ltb, leb}
 use Rattle.brep.specs.declared.Curve.{Curve}
@@ -7,7 +7,7 @@ use Rattle.brep.specs.declared.Curve.the-variants.{Line, Circle, Ellipse, Parab
 use Rattle.brep.specs.Rows.{Tables}
 use Rattle.brep.specs.Tree.{CurveTree, analytic, polyline, trimmed, composite, Segments, none, segment, segmentIn, rowIn, tree}
 use Rattle.causes_bounds.specs.Some.{someBelow}
-use Rattle.causes_form.specs.Forms.{curveCount, malformedRow}
+use Rattle.causes_form.specs.Forms.{curveCount}
 
 -- segment j of the run that starts at first refers to row or a higher one
 unfoldable pub highSegment : Tables → ℕ → ℕ → ℕ → Bool

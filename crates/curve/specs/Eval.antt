@@ -15,7 +15,6 @@ use Rattle.curve.specs.declared.Repeats.{Repeats}
 use Rattle.curve.specs.declared.Repeats.the-variants.{Every, Never}
 pub use Rattle.curve_parameter.specs.Run.{indexIn, clampedTo, segmentIndex, segmentLocal}
 unfoldable pub use Rattle.curve_parameter.specs.Run.{runLength, closes, polylineParameter, ownParameter}
-pub use Rattle.curve_point.specs.Own.Around.{around}
 pub use Rattle.curve_point.specs.Point.{alongFrom}
 unfoldable pub use Rattle.curve_point.specs.Point.{polylinePoint, ellipsePoint, parabolaPoint, pointAt, segmentPoint}
 

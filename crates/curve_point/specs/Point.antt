@@ -6,7 +6,6 @@ use lib.ListN.{length, getD}
 use lib.Dec.{eqb}
 use lib.Ieee.{Float}
 use Rattle.arith.specs.Notation.{_⊖_, _⊗_, count, two}
-use Rattle.arith_trig.specs.declared.SinCos.{SinCos}
 use Rattle.arith_trig.specs.Trig.{sinOf, cosOf}
 use Rattle.math.specs.declared.Vec3.{Vec3}
 use Rattle.math.specs.declared.Frame.{Frame}

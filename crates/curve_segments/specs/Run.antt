@@ -1,16 +1,9 @@
 -- A composite of a run of segment records, and the point that a parameter gives on it. Definitions only.
-use mathlib.Core.Bool.{false, cond}
 use mathlib.Core.List.{List, [], _∷_}
-use Prim.Native.Nat.{ℕ, zero, suc}
-use lib.Dec.{eqb}
-use lib.Ieee.{Float, nan}
-use Rattle.math.specs.declared.Vec3.{Vec3}
-use Rattle.math.specs.Math.{vZero, interval}
+use Prim.Native.Nat.{ℕ}
 use Rattle.brep.specs.declared.Segment.{Segment}
 use Rattle.brep.specs.Rows.{Tables}
-use Rattle.brep.specs.Tree.{CurveTree, composite, Segments, none, segment, segmentIn, below}
-use Rattle.curve.specs.Eval.{segmentIndex, segmentLocal, ownParameter, pointAt}
-use Rattle.curve_segments.specs.declared.Place.{Place}
+use Rattle.brep.specs.Tree.{CurveTree, composite, Segments, none, segment, below}
 
 -- a run of records as segments; f gives the curve of a row
 unfoldable pub segmentsOf : (ℕ → CurveTree) → List Segment → Segments

@@ -3,7 +3,7 @@ use mathlib.Core.Path.{_≡_}
 use mathlib.Core.List.{List, [], _∷_, map}
 use Prim.Native.Nat.{ℕ, _+_}
 use lib.Ieee.{Float, neg}
-use Rattle.base_lists.specs.Result.{Result, refused, got, each}
+use Rattle.base_lists.specs.Result.{refused, got, each}
 use Rattle.arith.specs.Notation.{bits, plusZero, half, one, two, count}
 use Rattle.arith.specs.Constants.{nearest, ten, million, billion, hundredth}
 use Rattle.math.specs.declared.Vec3.{Vec3}

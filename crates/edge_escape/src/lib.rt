@@ -55,21 +55,15 @@ fn all_near(reference: Aabb, r: Resolved, square: f64, chain: &[f64], n: usize) 
     true
 }
 
-// The same, where the box and the sag are such that the squares can tell.
+// Whether the squares can tell, for this box and sag, that no point of the chain lies further than that. `false` says nothing.
 fn is_near(reference: Aabb, r: Resolved, chain: &[f64], n: usize) -> bool
     requires { ⌜ width * n ≤ length (now chain) ⌝ }
     ensures { λ b. ⌜ (b ≡ true → false ≡ escapes reference r (samples n (now (chain .entry)))) ⌝ }
 {
     let square = reference.size().length_squared();
     let sag = r.sag;
-    if 0.0 <= sag {
-        if sag <= MODEST {
-            if 0.0 < square {
-                if square <= MODEST {
-                    return all_near(reference, r, square, chain, n);
-                }
-            }
-        }
+    if 0.0 <= sag && sag <= MODEST && 0.0 < square && square <= MODEST {
+        return all_near(reference, r, square, chain, n);
     }
     false
 }

@@ -27,24 +27,20 @@ const EIGHTHS: f64 = 8.0;
 fn add_finite(b: Aabb, p: Vec3) -> Aabb
     ensures { λ r. ⌜ r ≡ cond (vFinite p) (addPoint b p) b ⌝ }
 {
-    if b.min.x <= p.x {
-        if p.x <= b.max.x {
-            if b.min.y <= p.y {
-                if p.y <= b.max.y {
-                    if b.min.z <= p.z {
-                        if p.z <= b.max.z {
-                            return b;
-                        }
-                    }
-                }
-            }
-        }
+    if b.min.x <= p.x
+        && p.x <= b.max.x
+        && b.min.y <= p.y
+        && p.y <= b.max.y
+        && b.min.z <= p.z
+        && p.z <= b.max.z
+    {
+        return b;
     }
-    add_other(b, p)
+    add_outside(b, p)
 }
 
-// The same of any point.
-fn add_other(b: Aabb, p: Vec3) -> Aabb
+// The box with a point that may lie outside it, or may not be finite.
+fn add_outside(b: Aabb, p: Vec3) -> Aabb
     ensures { λ r. ⌜ r ≡ cond (vFinite p) (addPoint b p) b ⌝ }
 {
     if p.is_finite() {
@@ -53,7 +49,7 @@ fn add_other(b: Aabb, p: Vec3) -> Aabb
     b
 }
 
-// 2^60
+// 2^60: within it sums and products of a range's ends stay finite.
 const MODEST: f64 = 1152921504606846976.0;
 
 // Whether o + d * t is from low to high for every t from first to last, by those two: it rises or falls with t. `false` says nothing.
@@ -62,17 +58,17 @@ fn is_between(o: f64, d: f64, first: f64, last: f64, low: f64, high: f64) -> boo
 {
     let a = d * first;
     let c = d * last;
-    if arith::is_finite(first) && arith::is_finite(last) {
-        if arith::is_finite(o) && arith::is_finite(d) {
-            if arith::is_finite(a) && arith::is_finite(c) {
-                let p = o + a;
-                let q = o + c;
-                if low <= p && p <= high {
-                    if low <= q && q <= high {
-                        return true;
-                    }
-                }
-            }
+    if arith::is_finite(first)
+        && arith::is_finite(last)
+        && arith::is_finite(o)
+        && arith::is_finite(d)
+        && arith::is_finite(a)
+        && arith::is_finite(c)
+    {
+        let p = o + a;
+        let q = o + c;
+        if low <= p && p <= high && low <= q && q <= high {
+            return true;
         }
     }
     false
@@ -84,17 +80,14 @@ fn is_line_inside(origin: Vec3, direction: Vec3, range: Interval, b: Aabb) -> bo
 {
     let lo = range.lo;
     let hi = range.hi;
-    if -MODEST <= lo && lo <= hi {
-        if hi <= MODEST {
-            let first = range.at(0.0);
-            let last = range.at(1.0);
-            if is_between(origin.x, direction.x, first, last, b.min.x, b.max.x) {
-                if is_between(origin.y, direction.y, first, last, b.min.y, b.max.y) {
-                    if is_between(origin.z, direction.z, first, last, b.min.z, b.max.z) {
-                        return true;
-                    }
-                }
-            }
+    if -MODEST <= lo && lo <= hi && hi <= MODEST {
+        let first = range.at(0.0);
+        let last = range.at(1.0);
+        if is_between(origin.x, direction.x, first, last, b.min.x, b.max.x)
+            && is_between(origin.y, direction.y, first, last, b.min.y, b.max.y)
+            && is_between(origin.z, direction.z, first, last, b.min.z, b.max.z)
+        {
+            return true;
         }
     }
     false
@@ -215,7 +208,7 @@ pub fn extent_usable(
     arith::max(arith::max(size.x, size.y), size.z)
 }
 
-// The same of an edge alone.
+// The extent of an edge, whose usable range is worked out first.
 pub fn edge_extent(
     points: &[f64],
     curves: &[u32],

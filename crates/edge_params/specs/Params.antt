@@ -6,7 +6,7 @@ use Prim.Native.Nat.{ℕ, zero, suc, _-_}
 use lib.ListN.{length}
 use lib.Dec.{leb, ltb}
 use lib.Ieee.{Float, lt, ne}
-use Rattle.arith.specs.Notation.{_⊕_, _⊗_, _⊘_, count, plusZero, half}
+use Rattle.arith.specs.Notation.{_⊕_, _⊗_, _⊘_, count, half}
 use Rattle.base_lists.specs.Result.{Result, refused, got, bind}
 use Rattle.math.specs.declared.Interval.{Interval}
 use Rattle.math.specs.Math.{at}

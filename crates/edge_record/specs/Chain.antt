@@ -1,16 +1,11 @@
 -- A chain: its samples, and the records that a buffer holds of them. Definitions only.
-use mathlib.Core.Path.{_≡_}
 use mathlib.Core.List.{List, [], _∷_, _++_, dropLast}
 use Prim.Native.Nat.{ℕ, zero, suc, _+_, _*_}
-use lib.ListN.{length, getD}
-use lib.Seq.{sets}
+use lib.ListN.{getD}
 use lib.Ieee.{Float, nan}
-use Rattle.base_lists.specs.Result.{Result, refused, got}
 use Rattle.math.specs.declared.Vec3.{Vec3}
 use Rattle.math.specs.Math.{vec}
 use Rattle.edge_record.specs.declared.Sample.{Sample}
-use Rattle.edge_record.specs.declared.Counted.{Counted}
-use Rattle.edge_record.specs.declared.Counted.the-variants.{Refused, Count}
 
 -- how many floats a record has: x y z t
 abbrev pub width : ℕ

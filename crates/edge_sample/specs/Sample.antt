@@ -2,7 +2,7 @@
 use mathlib.Core.List.{List, []}
 use Prim.Native.Nat.{ℕ}
 use lib.Ieee.{Float, le}
-use Rattle.base_lists.specs.Result.{Result, refused, got}
+use Rattle.base_lists.specs.Result.{Result}
 use Rattle.arith.specs.Notation.{plusZero}
 use Rattle.math.specs.declared.Interval.{Interval}
 use Rattle.brep.specs.Tree.{CurveTree}

@@ -1,5 +1,5 @@
 -- The budget of a span, of subdivide in edge.rs. Definitions only.
-use mathlib.Core.Bool.{Bool, true, false, _&&_}
+use mathlib.Core.Bool.{Bool, _&&_}
 use lib.Ieee.{Float, le, neg}
 use Rattle.arith.specs.Notation.{plusZero, one}
 use Rattle.arith.specs.Pick.{clampOf}
@@ -12,14 +12,9 @@ use Rattle.brep.specs.Tree.{CurveTree}
 use Rattle.curve.specs.Eval.{pointAt}
 use Rattle.curve_tangent.specs.Derivative.{tangentAt}
 use Rattle.options.specs.declared.Resolved.{Resolved}
-use Rattle.arith_root_limit.specs.Own.Limit.{limitOf}
-use Rattle.arith_turn_limit.specs.Own.Limit.{turnCut, overCut}
 use Rattle.math_chord.specs.Chord.{bisectionDistance}
 use Rattle.edge_params.specs.Params.{midpoint}
 use Rattle.edge_subdivide.specs.declared.End.{End}
-use Rattle.edge_subdivide.specs.declared.Limits.{Limits}
-use Rattle.edge_subdivide.specs.declared.Split.{Split}
-use Rattle.edge_subdivide.specs.declared.Split.the-variants.{Within, At}
 
 -- an end of a span: the curve at t
 unfoldable pub endAt : CurveTree → Float → End

@@ -1,9 +1,8 @@
 -- The spans of `thin`: which points of a chain are kept, or refusal 9. Definitions only.
 use mathlib.Core.Bool.{Bool, true, false}
 use mathlib.Core.List.{List, [], _∷_, _++_}
-use mathlib.Core.Path.{_≡_}
-use Prim.Native.Nat.{ℕ, zero, suc, _-_, _≤_, _<_}
-use lib.ListN.{length, getD, set, replicate}
+use Prim.Native.Nat.{ℕ, zero, suc, _-_}
+use lib.ListN.{set, replicate}
 use lib.Ieee.{Float}
 use Rattle.base_lists.specs.Result.{Result, refused, got, each, both}
 use Rattle.math.specs.declared.Vec3.{Vec3}

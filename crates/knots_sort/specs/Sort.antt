@@ -1,10 +1,7 @@
 -- `sort_by` of Rust on floats, which is stable, as an insertion sort. Definitions only.
 use mathlib.Core.Bool.{cond}
 use mathlib.Core.List.{List, [], _∷_}
-use Prim.Native.Nat.{ℕ}
-use lib.Dec.{T}
 use lib.Ieee.{Float, lt}
-use Rattle.arith_order.specs.Own.Number.{number}
 
 -- x put before the first that is not below it
 unfoldable pub inserted : Float → List Float → List Float

@@ -1,13 +1,10 @@
 -- thin_breaks of knots.rs, of a curve's own point. Definitions only.
 use mathlib.Core.List.{List}
-use Prim.Native.Nat.{ℕ}
 use lib.Ieee.{Float}
 use Rattle.knots_inside.specs.Thinned.{thinBreaks}
 use Rattle.brep.specs.Tree.{CurveTree}
 use Rattle.curve.specs.Eval.{pointAt}
-use Rattle.knots.specs.declared.Knots.{Knots}
 use Rattle.knots.specs.Knots.{curveBreaks, deviation}
-use Rattle.knots.specs.Own.Gathered.{knotsCounted, leftOf}
 
 -- thin_breaks(breaks, lo, hi, sag, &|t| curve.point_at(t))
 abbrev pub curveThinned : CurveTree → List Float → Float → Float → Float → List Float

@@ -1,6 +1,6 @@
 -- Vec3, Frame, Aabb and Interval of math.rs, each operation rounded once, in the Rust's order. Definitions only.
 use mathlib.Core.Bool.{Bool, true, false, cond, _&&_, _||_}
-use lib.Ieee.{Float, inf, lt, le, neg}
+use lib.Ieee.{Float, inf, lt}
 use lib.Ieee.Scale.{finite}
 use Rattle.arith.specs.Notation.{_⊕_, _⊖_, _⊗_, _⊘_, plusZero, half, one}
 use Rattle.arith.specs.Constants.{twoToMinus511}

@@ -1,5 +1,5 @@
 -- Options and Resolved of options.rs, each operation rounded once, in the Rust's order. Definitions only.
-use mathlib.Core.Bool.{Bool, true, false, cond, not, _&&_, _||_}
+use mathlib.Core.Bool.{Bool, cond, not, _&&_, _||_}
 use Prim.Native.Nat.{ℕ, min, max}
 use lib.Dec.{eqb}
 use lib.Ieee.{Float, lt, neg, toUnsigned}

@@ -1,8 +1,7 @@
 -- Tables: a line of names, then lines of values in that order, one space between.
-use Prim.Native.Nat.{ℕ, _+_, _*_}
+use Prim.Native.Nat.{ℕ, _+_}
 use Prim.Native.String.{String}
 use mathlib.Core.List.{List, [], _∷_, _++_}
-use lib.Ieee.{Float, binary64, ofBits}
 use Rattle.text_format.specs.Bytes.{bytes}
 use Rattle.text_format.specs.Format.{Format, hex16, plain, oneOf, _ending_, _before_, _and_, noItems, lines}
 

@@ -16,14 +16,5 @@ returns c = c .all-near .ensures
 returns-2 : tie.Need-returns-2
 returns-2 c = λ e. absurd (holds e)
 
-returns-3 : tie.Need-returns-3
-returns-3 c = λ e. absurd (holds e)
-
-returns-4 : tie.Need-returns-4
-returns-4 c = λ e. absurd (holds e)
-
-returns-5 : tie.Need-returns-5
-returns-5 c = λ e. absurd (holds e)
-
 pub is-near-spec : {M : Type 1} → statement M
-is-near-spec = tie.close (tie.spec (λ c κs. search needs) (λ c κs. search needs) all-near-requires returns returns-2 returns-3 returns-4 returns-5)
+is-near-spec = tie.close (tie.spec (λ c κs. search needs) (λ c κs. search needs) all-near-requires returns returns-2)

@@ -1,8 +1,8 @@
 -- Columns by letters, as the code names them; rows of nine numbers.
 use mathlib.Core.Bool.{true, false, cond}
-use mathlib.Core.List.{List, [], map, _++_}
+use mathlib.Core.List.{List, [], map}
 use Prim.Native.Nat.{ℕ, _-_}
-use lib.ListN.{length, replicate}
+use lib.ListN.{length}
 use lib.Dec.{eqb}
 use Rattle.text_format.specs.Format.{Parsed, bad, got}
 use Rattle.text_format.specs.Table.{Field, float}
