@@ -87,9 +87,64 @@ def near_breaks(apart):
     return sheet(points, rows, segments, (0, 3, 0.0, width, 0.0, 4, 5), (0.0, 3.0, 1, 1))
 
 
+def on_a_line(points, rows, segments):
+    """The scope's line behind these rows, with points behind its own."""
+    return sheet(EXAMPLE_POINTS + points, [*rows, LINE], segments, (0, 2, 0.0, 5.0, 0.0, 0, 2), (1.0, 1.0, 1, 12))
+
+
+def forms():
+    """A row of each kind, all of them right and their runs at the tables' ends; then one at a time with a count, an unused number
+    or a run that is wrong."""
+    # kind, first, count, p, q; whether the count is fixed; which of p and q are used
+    kinds = [
+        (("line", 3, 2, 0.0, 0.0), True, ""),
+        (("circle", 2, 3, 1.0, 0.0), True, "p"),
+        (("ellipse", 2, 3, 1.0, 1.0), True, "pq"),
+        (("parabola", 2, 3, 1.0, 0.0), True, "p"),
+        (("polyline", 3, 2, 0.0, 0.0), False, ""),
+        (("trimmed", 0, 1, 0.0, 1.0), True, "pq"),
+        (("composite", 0, 1, 0.0, 0.0), False, ""),
+    ]
+    points, segments = [(0.0, 0.0, 1.0), (0.0, 1.0, 0.0)], [(0, 0.0, 1.0, 1)]
+    yield on_a_line(points, [LINE, *(row for row, _, _ in kinds)], segments)
+    for (kind, first, count, p, q), fixed, used in kinds:
+        wrong = [(kind, 3 if kind == "trimmed" else first + 1, count, p, q)]
+        wrong += [(kind, 0, n, p, q) for n in (count - 1, count + 1) if fixed]
+        wrong += [(kind, first, count, 1.0, q)] * ("p" not in used) + [(kind, first, count, p, 1.0)] * ("q" not in used)
+        for row in wrong:
+            yield on_a_line(points, [LINE, row], segments)
+
+
+def empty_nest(trims):
+    """So many trims of a composite without segments, whose own nesting is 1."""
+    rows = [("composite", 0, 0, 0.0, 0.0)] + [("trimmed", row, 1, 0.0, 1.0) for row in range(trims)]
+    return on_a_line([], rows, [])
+
+
+def boxed(low, high):
+    """The scope's line far outside a box: repaired, but that an empty box says nothing."""
+    return sheet(EXAMPLE_POINTS + [low, high], [LINE], [], (0, 2, 0.0, 5.0, 0.0, 3, 4), (1.0, 1.0, 1, 12))
+
+
+def boxes():
+    """Boxes that are empty along one axis alone, and flat ones, which are not empty."""
+    for axis in range(3):
+        low, high = [100.0, 100.0, 100.0], [101.0, 101.0, 101.0]
+        for low[axis] in (102.0, 101.0):
+            yield boxed(tuple(low), tuple(high))
+
+
+def backwards():
+    """An edge on a trim that runs backwards over a curve without a period: it is held to a range from a slack below the trim's lo to a
+    slack above its hi."""
+    points = [(0.0, 0.0, 0.0), (1.0, 0.0, 0.0), (1.0, 1.0, 0.0), (-9.0, -9.0, -9.0), (9.0, 9.0, 9.0)]
+    rows = [("polyline", 0, 3, 0.0, 0.0), ("trimmed", 0, 1, 2.0, 0.0)]
+    return sheet(points, rows, [], (0, 2, 0.25, 1.75, 0.0, 3, 4), (0.125, 0.5, 1, 4))
+
+
 def boundaries():
     """Sheets for the program's own buffers."""
     sizes = [sheet_of(size) for size in range(MOST_BYTES, MOST_BYTES + 6)]
     closed = [closing(square) for square in beside(1e-20)]
     breaks = [near_breaks(apart) for apart in (0.5, 1.0, 1.5)]
-    return sizes + closed + breaks
+    return [*sizes, *closed, *breaks, *forms(), empty_nest(7), empty_nest(8), *boxes(), backwards()]

@@ -3,6 +3,7 @@ import math
 import pathlib
 import struct
 import subprocess
+import sys
 
 HERE = pathlib.Path(__file__).resolve().parent
 SEPARATOR = "====\n"
@@ -60,3 +61,13 @@ def ask(command, text):
     """What the oracle answers. Texts stand for bytes, one character each: a damaged sheet may hold any."""
     run = subprocess.run([HERE / "target/oracle", *command], input=text.encode("latin-1"), capture_output=True, check=True)
     return run.stdout.decode("latin-1")
+
+
+def store(crate, parts, answers, checked):
+    """Writes stdin and stdout of a crate; where they are checked, ends the run with status 1 if they are not what is stored."""
+    for name, text in (("stdin", parts), ("stdout", answers)):
+        path = HERE.parent / "crates" / crate / name
+        if not checked:
+            path.write_bytes(text)
+        elif path.read_bytes() != text:
+            sys.exit(f"{path.relative_to(HERE.parent)} is not what would be stored")
