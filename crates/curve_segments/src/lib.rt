@@ -1,5 +1,5 @@
 // A composite's segments as a lent run of segment records: the thin reader over `&[Segment]`. It picks the segment of a
-// parameter, and hands its numbers to functions of module 3.
+// parameter, and hands its numbers to `curve`.
 use brep::Segment;
 use math::Interval;
 use math::Vec3;
