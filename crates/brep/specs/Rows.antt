@@ -22,6 +22,7 @@ pub record Tables : Type 0 where
   pub parts : List ℕ
   pub ranges : List Float
 
+-- the tables of five lists
 abbrev pub tables : List Float → List ℕ → List Float → List ℕ → List Float → Tables
 tables points curves reals parts ranges =
     record { points = points; curves = curves; reals = reals; parts = parts; ranges = ranges }
@@ -51,12 +52,21 @@ segmentOf parts ranges i = record {
   «same_sense» = not (eqb (getD parts (i * 2 + 1) 0) 0);
 }
 
--- the kinds are 1 to 7; the first of them, up to 5, are leaves: they refer to points alone
+-- the most points that a table may have
+abbrev pub mostPoints : ℕ
+mostPoints = 65536
+
+-- the most curve rows
+abbrev pub mostRows : ℕ
+mostRows = 4096
+
+-- the most segments
+abbrev pub mostSegments : ℕ
+mostSegments = 4096
+
+-- the kinds are 1 to 7
 abbrev pub lastKind : ℕ
 lastKind = 7
-
-abbrev pub lastLeaf : ℕ
-lastLeaf = 5
 
 -- a row's numbers as one of the seven kinds; an unknown kind is the empty polyline
 unfoldable pub kindOf : List Float → ℕ → ℕ → ℕ → Float → Float → Curve

@@ -12,8 +12,12 @@ ghost use Rattle.brep.specs.Rows.{pointOf, frameOf, segmentOf, kindOf, c
 // The kinds of curve rows are 1 to this.
 pub const LAST_KIND: u32 = 7;
 
-// Up to this kind a row refers to points alone.
-pub const LAST_LEAF: u32 = 5;
+// The largest tables: so many points, curve rows and segments.
+pub const MOST_POINTS: usize = 65536;
+
+pub const MOST_ROWS: usize = 4096;
+
+pub const MOST_SEGMENTS: usize = 4096;
 
 // A curve row by value. Where the Rust boxes a curve or owns a Vec, there is a row or a run of rows: a trim's base is a
 // curve row, a polyline's points are a run of the points, a composite's segments a run of the segments.

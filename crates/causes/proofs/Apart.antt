@@ -73,6 +73,3 @@ module _ (t : Tables) (e : Edge) (o : Options) where
   pub verdict-edge : tablesVerdict t ≡ Accepted → verdict t e o ≡ edgeVerdict t e o
   unfolding lowestOf
   verdict-edge h = verdict-apart ∙ ap (λ v. lowestOf v (edgeVerdict t e o)) h
-
-  pub verdict-accepted : tablesVerdict t ≡ Accepted → edgeVerdict t e o ≡ Accepted → verdict t e o ≡ Accepted
-  verdict-accepted h k = verdict-edge h ∙ k

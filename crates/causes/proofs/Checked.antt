@@ -13,7 +13,7 @@ use Rattle.math.specs.declared.Interval.{Interval}
 use Rattle.brep.specs.declared.Curve.{Curve}
 use Rattle.brep.specs.declared.Curve.the-variants.{Trimmed, Composite}
 use Rattle.brep.specs.declared.Edge.{Edge}
-use Rattle.brep.specs.Rows.{Tables, segmentOf}
+use Rattle.brep.specs.Rows.{Tables, mostPoints, mostRows, mostSegments, segmentOf}
 use Rattle.brep.specs.Tree.{segmentIn, rowIn, tree}
 use Rattle.causes_nesting.specs.Nest.{highSegment, notLower, unorderedRow, nesting, deepRow}
 use Rattle.options.specs.declared.Options.{Options}
@@ -36,9 +36,9 @@ abbrev pub AllBounded : List Float → Type 0
 AllBounded l = (i : ℕ) → i < length l → Bounded (getD l i nan)
 
 pub record Checked (t : Tables) (e : Edge) (o : Options) : Type 0 where
-  pub pointsAtMost : pointCount t ≤ 65536
-  pub curvesAtMost : curveCount t ≤ 4096
-  pub segmentsAtMost : segmentCount t ≤ 4096
+  pub pointsAtMost : pointCount t ≤ mostPoints
+  pub curvesAtMost : curveCount t ≤ mostRows
+  pub segmentsAtMost : segmentCount t ≤ mostSegments
   -- the two slices of a table have as many rows
   pub realsAsMany : length (t .reals) / 2 ≡ curveCount t
   pub rangesAsMany : length (t .ranges) / 2 ≡ segmentCount t
@@ -158,7 +158,7 @@ module _ (t : Tables) where
   unfolding deepRow
   nesting-at-most i h = ltb-false 8 (nesting (tree t i)) h
 
-  sizes-at : oversize t ≡ false → (pointCount t ≤ 65536) × (curveCount t ≤ 4096) × (segmentCount t ≤ 4096)
+  sizes-at : oversize t ≡ false → (pointCount t ≤ mostPoints) × (curveCount t ≤ mostRows) × (segmentCount t ≤ mostSegments)
   sizes-at h = let k = sizes t h in (omega arith, omega arith, omega arith)
 
 module _ (t : Tables) (e : Edge) (o : Options) where
@@ -194,14 +194,10 @@ module _ (t : Tables) (e : Edge) (o : Options) where
       let l = four (leb n (e .start)) (leb n (e .end)) (leb n (e .low)) (leb n (e .high)) (k .1) in
       (leb-false (curveCount t) (e .curve) (k .0), leb-false n (e .start) (l .0), leb-false n (e .end) (l .1), leb-false n (e .low) (l .2), leb-false n (e .high) (l .3))
 
-  -- none of the six applies exactly where the verdict is that they are accepted
+  -- where the verdict is that they are accepted, none of the six applies
   pub causes-of : verdict t e o ≡ Accepted → (oversize t ≡ false) × (unbounded (t .points) (t .reals) (t .ranges) e o ≡ false) × (illFormed t e o ≡ false) × (unordered t ≡ false) × (tooDeep t ≡ false) × (missing t e ≡ false)
   unfolding verdict
   causes-of h = six (oversize t) (unbounded (t .points) (t .reals) (t .ranges) e o) (illFormed t e o) (unordered t) (tooDeep t) (missing t e) h
-
-  pub no-cause : oversize t ≡ false → unbounded (t .points) (t .reals) (t .ranges) e o ≡ false → illFormed t e o ≡ false → unordered t ≡ false → tooDeep t ≡ false → missing t e ≡ false → verdict t e o ≡ Accepted
-  unfolding verdict
-  no-cause a b c d f g = rw (a, b, c, d, f, g)
 
   pub verdict-numbers : (n : ℕ) → verdict t e o ≡ Refused n → (1 ≤ n) × (n ≤ 6)
   unfolding verdict

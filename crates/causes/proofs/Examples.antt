@@ -5,7 +5,6 @@ use mathlib.Core.List.{List, [], _∷_}
 use Prim.Native.Nat.{ℕ}
 use lib.ListN.{length, getD}
 use lib.Ieee.{Float, nan, lt, le, eq, ne, neg, ofBits}
-use lib.Ieee.Scale.{finite}
 use Rattle.arith.specs.Notation.{bits, plusZero, one}
 use Rattle.math.specs.Math.{interval}
 use Rattle.brep.specs.declared.Edge.{Edge}
@@ -56,35 +55,35 @@ more = bits 0x41CDCD6500000001
 
 -- exactly 1e9 passes, and so does a NaN for the edge's hi
 exactly : verdict (drawing most plusZero 0) (edge 1 0) options ≡ Accepted
-unfolding verdict oversize unbounded edgeBeyond optionsBeyond finiteBeyond beyond within illFormed malformedSegment malformedRow malformed targets unusedSet spareQ spareP wrongCount unknownKind uneven broken missing deepRow unorderedRow notLower highSegment someBelow nesting tree below grown segments run curveOf kindOf pointOf frameOf segmentOf lt le eq ne neg ofBits finite
+unfolding verdict oversize unbounded edgeBeyond optionsBeyond finiteBeyond beyond within illFormed malformedSegment malformedRow malformed targets unusedSet spareQ spareP wrongCount unknownKind uneven broken missing deepRow unorderedRow notLower highSegment someBelow nesting tree below grown segments run curveOf kindOf pointOf frameOf segmentOf lt le eq ne neg ofBits
 exactly = refl
 
 -- 1e9 is passed by one float
 above : verdict (drawing more plusZero 0) (edge 1 0) options ≡ Refused 2
-unfolding verdict oversize unbounded edgeBeyond optionsBeyond finiteBeyond beyond within illFormed malformedSegment malformedRow malformed targets unusedSet spareQ spareP wrongCount unknownKind uneven broken missing deepRow unorderedRow notLower highSegment someBelow nesting tree below grown segments run curveOf kindOf pointOf frameOf segmentOf lt le eq ne neg ofBits finite
+unfolding verdict oversize unbounded edgeBeyond optionsBeyond finiteBeyond beyond within illFormed malformedSegment malformedRow malformed targets unusedSet spareQ spareP wrongCount unknownKind uneven broken missing deepRow unorderedRow notLower highSegment someBelow nesting tree below grown segments run curveOf kindOf pointOf frameOf segmentOf lt le eq ne neg ofBits
 above = refl
 
 -- a sense of 2
 sense-2 : verdict (drawing most plusZero 0) (edge 2 0) options ≡ Refused 3
-unfolding verdict oversize unbounded edgeBeyond optionsBeyond finiteBeyond beyond within illFormed malformedSegment malformedRow malformed targets unusedSet spareQ spareP wrongCount unknownKind uneven broken missing deepRow unorderedRow notLower highSegment someBelow nesting tree below grown segments run curveOf kindOf pointOf frameOf segmentOf lt le eq ne neg ofBits finite
+unfolding verdict oversize unbounded edgeBeyond optionsBeyond finiteBeyond beyond within illFormed malformedSegment malformedRow malformed targets unusedSet spareQ spareP wrongCount unknownKind uneven broken missing deepRow unorderedRow notLower highSegment someBelow nesting tree below grown segments run curveOf kindOf pointOf frameOf segmentOf lt le eq ne neg ofBits
 sense-2 = refl
 
 -- a q that a line does not use
 unused-q : verdict (drawing most one 0) (edge 1 0) options ≡ Refused 3
-unfolding verdict oversize unbounded edgeBeyond optionsBeyond finiteBeyond beyond within illFormed malformedSegment malformedRow malformed targets unusedSet spareQ spareP wrongCount unknownKind uneven broken missing deepRow unorderedRow notLower highSegment someBelow nesting tree below grown segments run curveOf kindOf pointOf frameOf segmentOf lt le eq ne neg ofBits finite
+unfolding verdict oversize unbounded edgeBeyond optionsBeyond finiteBeyond beyond within illFormed malformedSegment malformedRow malformed targets unusedSet spareQ spareP wrongCount unknownKind uneven broken missing deepRow unorderedRow notLower highSegment someBelow nesting tree below grown segments run curveOf kindOf pointOf frameOf segmentOf lt le eq ne neg ofBits
 unused-q = refl
 
 -- a trim of its own row
 own-row : verdict (drawing most plusZero 1) (edge 1 0) options ≡ Refused 4
-unfolding verdict oversize unbounded edgeBeyond optionsBeyond finiteBeyond beyond within illFormed malformedSegment malformedRow malformed targets unusedSet spareQ spareP wrongCount unknownKind uneven broken missing deepRow unorderedRow notLower highSegment someBelow nesting tree below grown segments run curveOf kindOf pointOf frameOf segmentOf lt le eq ne neg ofBits finite
+unfolding verdict oversize unbounded edgeBeyond optionsBeyond finiteBeyond beyond within illFormed malformedSegment malformedRow malformed targets unusedSet spareQ spareP wrongCount unknownKind uneven broken missing deepRow unorderedRow notLower highSegment someBelow nesting tree below grown segments run curveOf kindOf pointOf frameOf segmentOf lt le eq ne neg ofBits
 own-row = refl
 
 -- a start past the end
 start : verdict (drawing most plusZero 0) (edge 1 2) options ≡ Refused 6
-unfolding verdict oversize unbounded edgeBeyond optionsBeyond finiteBeyond beyond within illFormed malformedSegment malformedRow malformed targets unusedSet spareQ spareP wrongCount unknownKind uneven broken missing deepRow unorderedRow notLower highSegment someBelow nesting tree below grown segments run curveOf kindOf pointOf frameOf segmentOf lt le eq ne neg ofBits finite
+unfolding verdict oversize unbounded edgeBeyond optionsBeyond finiteBeyond beyond within illFormed malformedSegment malformedRow malformed targets unusedSet spareQ spareP wrongCount unknownKind uneven broken missing deepRow unorderedRow notLower highSegment someBelow nesting tree below grown segments run curveOf kindOf pointOf frameOf segmentOf lt le eq ne neg ofBits
 start = refl
 
 -- two causes: the lower
 lowest : verdict (drawing more plusZero 1) (edge 2 2) options ≡ Refused 2
-unfolding verdict oversize unbounded edgeBeyond optionsBeyond finiteBeyond beyond within illFormed malformedSegment malformedRow malformed targets unusedSet spareQ spareP wrongCount unknownKind uneven broken missing deepRow unorderedRow notLower highSegment someBelow nesting tree below grown segments run curveOf kindOf pointOf frameOf segmentOf lt le eq ne neg ofBits finite
+unfolding verdict oversize unbounded edgeBeyond optionsBeyond finiteBeyond beyond within illFormed malformedSegment malformedRow malformed targets unusedSet spareQ spareP wrongCount unknownKind uneven broken missing deepRow unorderedRow notLower highSegment someBelow nesting tree below grown segments run curveOf kindOf pointOf frameOf segmentOf lt le eq ne neg ofBits
 lowest = refl

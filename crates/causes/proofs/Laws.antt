@@ -6,7 +6,7 @@ use native.Mathlib.Omega.{arith}
 use lib.ListN.{length}
 use lib.Dec.{ltb}
 use borrow.Author.Tests.{ltb-false}
-use Rattle.brep.specs.Rows.{Tables}
+use Rattle.brep.specs.Rows.{Tables, mostPoints, mostRows, mostSegments}
 use Rattle.causes_bounds.specs.Some.{someBelow}
 use Rattle.causes_bounds.specs.Bounds.{unboundedTables}
 use Rattle.causes_bounds.proofs.Laws.{or-true, or-false, neither, four}
@@ -14,7 +14,7 @@ use Rattle.causes_form.specs.Forms.{curveCount, segmentCount, malformedRow, mal
 use Rattle.causes_nesting.specs.Own.RowsCause.{rowsCause}
 use Rattle.causes.specs.declared.Verdict.{Verdict}
 use Rattle.causes.specs.declared.Verdict.the-variants.{Accepted, Refused}
-use Rattle.causes.specs.Causes.{mostPoints, mostRows, mostSegments, oversize, unordered, tooDeep, tablesVerdict}
+use Rattle.causes.specs.Causes.{oversize, unordered, tooDeep, tablesVerdict}
 
 -- tables that are not above their sizes
 pub sizes : (T : Tables) → oversize T ≡ false → (length (T .points) ≤ 3 * mostPoints) × (length (T .curves) ≤ 3 * mostRows) × (length (T .parts) ≤ 2 * mostSegments)

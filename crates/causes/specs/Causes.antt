@@ -4,7 +4,7 @@ use Prim.Native.Nat.{ℕ, _*_}
 use lib.ListN.{length}
 use lib.Dec.{ltb, leb}
 use Rattle.brep.specs.declared.Edge.{Edge}
-use Rattle.brep.specs.Rows.{Tables}
+use Rattle.brep.specs.Rows.{Tables, mostPoints, mostRows, mostSegments}
 pub use Rattle.causes_nesting.specs.Nest.{unordered, tooDeep}
 use Rattle.options.specs.declared.Options.{Options}
 use Rattle.causes_bounds.specs.Bounds.{unboundedTables, unboundedEdge, unbounded}
@@ -13,29 +13,21 @@ use Rattle.causes.specs.declared.Verdict.{Verdict}
 use Rattle.causes.specs.declared.Verdict.the-variants.{Accepted, Refused}
 
 -- 1: a table above its size: 65,536 points, 4,096 rows, 4,096 segments
-abbrev pub mostPoints : ℕ
-mostPoints = 65536
-
-abbrev pub mostRows : ℕ
-mostRows = 4096
-
-abbrev pub mostSegments : ℕ
-mostSegments = 4096
-
 unfoldable pub oversize : Tables → Bool
 oversize T =
     ltb (3 * mostPoints) (length (T .points))
     || ((ltb (3 * mostRows) (length (T .curves)) || ltb (2 * mostRows) (length (T .reals)))
     || (ltb (2 * mostSegments) (length (T .parts)) || ltb (2 * mostSegments) (length (T .ranges))))
 
--- 2 is `unbounded` of the crate bounds, 3 `illFormed` of forms, 4 `unordered` and 5 `tooDeep` of nest
+-- 2 is `unbounded` of causes_bounds, 3 `illFormed` of causes_form, 4 `unordered` and 5 `tooDeep` of causes_nesting
 
--- 6: the edge's curve, start, end, low or high outside its table
+-- the edge's curve not among so many rows, or its start, end, low or high not among so many points
 abbrev pub missingFrom : ℕ → ℕ → Edge → Bool
 missingFrom points rows e =
     leb rows (e .curve)
     || ((leb points (e .start) || leb points (e .end)) || (leb points (e .low) || leb points (e .high)))
 
+-- 6: the edge's curve, start, end, low or high outside its table
 unfoldable pub missing : Tables → Edge → Bool
 missing T e = missingFrom (pointCount T) (curveCount T) e
 

@@ -13,20 +13,14 @@ pub enum Verdict {
     Refused(u32),
 }
 
-// The largest tables, and their slices: points in threes, rows in threes and pairs, segments in pairs.
-const MOST_POINTS: usize = 65536;
+// The slices of the largest tables: points in threes, rows in threes and pairs, segments in pairs.
+const POINT_THREES: usize = 3 * brep::MOST_POINTS;
 
-const MOST_ROWS: usize = 4096;
+const ROW_THREES: usize = 3 * brep::MOST_ROWS;
 
-const MOST_SEGMENTS: usize = 4096;
+const ROW_PAIRS: usize = 2 * brep::MOST_ROWS;
 
-const POINT_THREES: usize = 3 * MOST_POINTS;
-
-const ROW_THREES: usize = 3 * MOST_ROWS;
-
-const ROW_PAIRS: usize = 2 * MOST_ROWS;
-
-const SEGMENT_PAIRS: usize = 2 * MOST_SEGMENTS;
+const SEGMENT_PAIRS: usize = 2 * brep::MOST_SEGMENTS;
 
 // Cause 1.
 fn oversize(points: &[f64], curves: &[u32], reals: &[f64], parts: &[u32], ranges: &[f64]) -> bool

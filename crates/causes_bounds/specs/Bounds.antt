@@ -16,16 +16,19 @@ largest = billion
 unfoldable pub within : Float → Bool
 within x = le (neg largest) x && le x largest
 
+-- not so: above 1e9 in magnitude, a NaN or an infinity
 unfoldable pub beyond : Float → Bool
 beyond x = not (within x)
 
--- of a float that may be NaN or infinite: the edge's lo and hi, and scale
+-- beyond, of a float that may be NaN or infinite: the edge's lo and hi, and scale
 unfoldable pub finiteBeyond : Float → Bool
 finiteBeyond x = finite x && beyond x
 
+-- a float of the edge: lo, hi or the tolerance
 unfoldable pub edgeBeyond : Edge → Bool
 edgeBeyond e = finiteBeyond (e .range .lo) || (finiteBeyond (e .range .hi) || beyond (e .tolerance))
 
+-- a float of the options: the deflection, the angle or the scale
 unfoldable pub optionsBeyond : Options → Bool
 optionsBeyond o = beyond (o .deflection) || (beyond (o .angle .0) || finiteBeyond (o .scale))
 

@@ -7,17 +7,19 @@ use lib.Dec.{eqb, ltb, leb}
 use lib.Ieee.{Float, nan, ne}
 use Rattle.arith.specs.Notation.{plusZero}
 use Rattle.brep.specs.declared.Edge.{Edge}
-use Rattle.brep.specs.Rows.{lastKind, lastLeaf, Tables}
+use Rattle.brep.specs.Rows.{lastKind, Tables}
 use Rattle.options.specs.declared.Options.{Options}
 use Rattle.causes_bounds.specs.Some.{someBelow}
 
--- how many points, curve rows and segments there are
+-- how many points there are
 abbrev pub pointCount : Tables → ℕ
 pointCount T = length (T .points) / 3
 
+-- how many curve rows
 abbrev pub curveCount : Tables → ℕ
 curveCount T = length (T .curves) / 3
 
+-- how many segments
 abbrev pub segmentCount : Tables → ℕ
 segmentCount T = length (T .parts) / 2
 
@@ -32,6 +34,7 @@ broken T =
 unfoldable pub uneven : Tables → Bool
 uneven T = not (eqb (length (T .reals) / 2) (curveCount T)) || not (eqb (length (T .ranges) / 2) (segmentCount T))
 
+-- the slices do not make up tables
 abbrev pub ragged : Tables → Bool
 ragged T = broken T || uneven T
 
@@ -62,10 +65,11 @@ notZero x = ne x plusZero
 unfoldable pub unusedSet : ℕ → Float → Float → Bool
 unusedSet kind p q = (spareP kind && notZero p) || (spareQ kind && notZero q)
 
--- how many there are of what a row refers to: points, or the rows for a trim's base, or the segments of a composite
+-- how many there are of what a row of this kind refers to: rows for a trim (6), segments for a composite (7), points for any other
 abbrev pub targetCount : ℕ → ℕ → ℕ → ℕ → ℕ
-targetCount points rows segments kind = cond (leb kind lastLeaf) points (cond (eqb kind 6) rows segments)
+targetCount points rows segments kind = cond (eqb kind 6) rows (cond (eqb kind 7) segments points)
 
+-- how many of those the tables have
 unfoldable pub targets : Tables → ℕ → ℕ
 targets T kind = targetCount (pointCount T) (curveCount T) (segmentCount T) kind
 
@@ -74,6 +78,7 @@ abbrev pub malformedIn : ℕ → ℕ → ℕ → ℕ → Float → Float → Boo
 malformedIn n kind first count p q =
     (unknownKind kind || wrongCount kind count) || (unusedSet kind p q || ltb n (first + count))
 
+-- a row of this kind with these numbers, in the tables
 unfoldable pub malformed : Tables → ℕ → ℕ → ℕ → Float → Float → Bool
 malformed T kind first count p q = malformedIn (targets T kind) kind first count p q
 
@@ -87,6 +92,7 @@ malformedRow T i =
 abbrev pub malformedPart : List ℕ → ℕ → ℕ → Bool
 malformedPart parts rows i = leb rows (getD parts (i * 2) 0) || ltb 1 (getD parts (i * 2 + 1) 0)
 
+-- segment i of the tables
 unfoldable pub malformedSegment : Tables → ℕ → Bool
 malformedSegment T i = malformedPart (T .parts) (curveCount T) i
 

@@ -72,12 +72,12 @@ fn unused_set(kind: u32, p: f64, q: f64) -> bool
 fn room(points: usize, rows: usize, segments: usize, kind: u32) -> usize
     ensures { λ r. ⌜ r ≡ targetCount points rows segments kind ⌝ }
 {
-    if kind <= brep::LAST_LEAF {
-        points
-    } else if kind == 6 {
+    if kind == 6 {
         rows
-    } else {
+    } else if kind == 7 {
         segments
+    } else {
+        points
     }
 }
 

@@ -10,7 +10,7 @@ use lib.ListN.{length, getD, set, replicate, length-set, length-replicate, getD-
 use lib.Seq.{getD-set-same, getD-set-other}
 use lib.Dec.{eqb, leb}
 use borrow.Author.Tests.{eqb-true, eqb-false, eq-eqb, ne-eqb, leb-false, le-leb, lt-leb, lt-ltb, le-ltb}
-use Rattle.causes_nesting.specs.Own.Depths.{depthBelow, segmentDepth, deepestOf, oneDeeper, rowDepth, blockDepth, Known, Both, NoneKnown, causeWith}
+use Rattle.causes_nesting.specs.Own.Depths.{depthBelow, segmentDepth, deepestOf, oneDeeper, rowDepth, blockDepth, Known, BlocksKnown, NoneKnown, causeWith}
 
 -- ---- what the small functions answer
 module _ (depths : List ℕ) {row base : ℕ} where
@@ -97,8 +97,8 @@ module _ (parts depths : List ℕ) (row v : ℕ) where
   known-more : (size : ℕ) (blocks : List ℕ) → Known size parts depths blocks row → Known size parts (set depths row v) blocks (row + 1)
   known-more size blocks h = record { kept = λ b m l. let e = h .kept b m l in deepest-same (b * size) size (omega arith) ∙ e }
 
-  pub both-more : (blocks larges : List ℕ) → Both parts depths blocks larges row → Both parts (set depths row v) blocks larges (row + 1)
-  both-more blocks larges h = record { small = known-more 16 blocks (h .small); large = known-more 256 larges (h .large); few = h .few; enough = h .enough }
+  pub blocks-more : (blocks larges : List ℕ) → BlocksKnown parts depths blocks larges row → BlocksKnown parts (set depths row v) blocks larges (row + 1)
+  blocks-more blocks larges h = record { small = known-more 16 blocks (h .small); large = known-more 256 larges (h .large); few = h .few; enough = h .enough }
 
 -- a block's depth kept
 pub known-kept : (size : ℕ) (parts depths blocks : List ℕ) (row b d : ℕ) → b < length blocks → d ≡ blockDepth size parts depths row b → Known size parts depths blocks row → Known size parts depths (set blocks b d) row
@@ -115,16 +115,16 @@ known-kept size parts depths blocks row b d l e h = record { kept = λ i m k. go
 known-none : (size : ℕ) (parts depths blocks : List ℕ) (row : ℕ) → NoneKnown blocks → Known size parts depths blocks row
 known-none size parts depths blocks row h = record { kept = λ b m l. let e = h .empty b m in absurd (omega arith) }
 
-pub both-none : (parts depths blocks larges : List ℕ) (row : ℕ) → NoneKnown blocks → NoneKnown larges → length blocks ≤ 256 → length blocks ≤ length larges * 16 → Both parts depths blocks larges row
-both-none parts depths blocks larges row h k l m = record { small = known-none 16 parts depths blocks row h; large = known-none 256 parts depths larges row k; few = l; enough = m }
+pub blocks-none : (parts depths blocks larges : List ℕ) (row : ℕ) → NoneKnown blocks → NoneKnown larges → length blocks ≤ 256 → length blocks ≤ length larges * 16 → BlocksKnown parts depths blocks larges row
+blocks-none parts depths blocks larges row h k l m = record { small = known-none 16 parts depths blocks row h; large = known-none 256 parts depths larges row k; few = l; enough = m }
 
 -- the blocks of 16 after a change that keeps what is known
-pub both-small : {parts depths blocks larges : List ℕ} {row : ℕ} → Both parts depths blocks larges row → (now : List ℕ) → length now ≡ length blocks → Known 16 parts depths now row → Both parts depths now larges row
-both-small h now e k = record { small = k; large = h .large; few = omega (arith, h .few, e); enough = omega (arith, h .enough, e) }
+pub blocks-small : {parts depths blocks larges : List ℕ} {row : ℕ} → BlocksKnown parts depths blocks larges row → (now : List ℕ) → length now ≡ length blocks → Known 16 parts depths now row → BlocksKnown parts depths now larges row
+blocks-small h now e k = record { small = k; large = h .large; few = omega (arith, h .few, e); enough = omega (arith, h .enough, e) }
 
 -- a block of 256 kept
-pub both-kept : {parts depths blocks larges : List ℕ} {row : ℕ} (b d : ℕ) → b < length larges → d ≡ blockDepth 256 parts depths row b → Both parts depths blocks larges row → Both parts depths blocks (set larges b d) row
-both-kept {parts} {depths} {blocks} {larges} {row} b d l e h = record {
+pub blocks-kept : {parts depths blocks larges : List ℕ} {row : ℕ} (b d : ℕ) → b < length larges → d ≡ blockDepth 256 parts depths row b → BlocksKnown parts depths blocks larges row → BlocksKnown parts depths blocks (set larges b d) row
+blocks-kept {parts} {depths} {blocks} {larges} {row} b d l e h = record {
   small = h .small;
   large = known-kept 256 parts depths larges row b d l e (h .large);
   few = h .few;

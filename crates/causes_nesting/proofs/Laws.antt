@@ -15,14 +15,14 @@ use Rattle.brep.specs.declared.Curve.{Curve}
 use Rattle.brep.specs.Rows.{Tables, kindOf, curveOf, segmentOf}
 use Rattle.brep.specs.Tree.{CurveTree, segmentIn, segments, rowIn, grown, below, tree}
 use Rattle.brep.proofs.Laws.{lower}
-use Rattle.brep.proofs.ByKind.{kindIn, firstIn, countIn, pIn, qIn, row-trim, row-composite}
+use Rattle.brep.proofs.ByKind.{rowKind, rowFirst, rowCount, rowP, rowQ, row-trim, row-composite}
 use Rattle.causes_bounds.specs.Some.{someBelow}
 use Rattle.causes_bounds.proofs.Laws.{or-true, or-false, some-found}
 use Rattle.causes_form.specs.Forms.{curveCount, malformedRow}
 use Rattle.causes_nesting.specs.Own.RowsCause.{rowsCause}
 use Rattle.causes_nesting.specs.Nest.{highSegment, notLower, unorderedRow, nesting, deepest, deepRow}
-use Rattle.causes_nesting.specs.Own.Depths.{depthBelow, deepestOf, oneDeeper, rowDepth, Both, causeWith}
-use Rattle.causes_nesting.proofs.Depths.{both-more}
+use Rattle.causes_nesting.specs.Own.Depths.{depthBelow, deepestOf, oneDeeper, rowDepth, BlocksKnown, causeWith}
+use Rattle.causes_nesting.proofs.Depths.{blocks-more}
 
 -- ---- a row by its kind
 -- where both of two curves have P, so has the one that is chosen
@@ -44,9 +44,9 @@ module _ (T : Tables) (row : ℕ) where
       (either-way Plain (eqb kind 4) _ _ (refl, refl)
       (either-way Plain (eqb kind 5) _ _ (refl, refl) (rw (e, g) (refl, refl))))))
 
-  other-row : eqb (kindIn T row) 6 ≡ false → eqb (kindIn T row) 7 ≡ false → Plain (rowIn T row)
+  other-row : eqb (rowKind T row) 6 ≡ false → eqb (rowKind T row) 7 ≡ false → Plain (rowIn T row)
   unfolding curveOf
-  other-row e g = kind-other (T .points) (kindIn T row) (firstIn T row) (countIn T row) (pIn T row) (qIn T row) e g
+  other-row e g = kind-other (T .points) (rowKind T row) (rowFirst T row) (rowCount T row) (rowP T row) (rowQ T row) e g
 
 -- ---- the deepest of a run, the last segment apart
 deepest-last : (T : Tables) (f : ℕ → CurveTree) (first n : ℕ) → deepest (segments T f first (suc n)) ≡ max (deepest (segments T f first n)) (nesting (f (segmentIn T (first + n) .curve)))
@@ -102,17 +102,17 @@ module _ (T : Tables) (depths : List ℕ) (row : ℕ) (known : DepthsKnown T dep
   -- THE LAW: 10 where the row is out of order, else its nesting
   depth-marked : rowDepth (T .curves) (T .parts) depths row ≡ marked (unorderedRow T row) (nesting (tree T row))
   unfolding rowDepth unorderedRow notLower tree grown nesting
-  depth-marked = go (eqb (kindIn T row) 6) (eqb (kindIn T row) 7) refl refl
+  depth-marked = go (eqb (rowKind T row) 6) (eqb (rowKind T row) 7) refl refl
     where
-      go : (a b : Bool) → eqb (kindIn T row) 6 ≡ a → eqb (kindIn T row) 7 ≡ b → rowDepth (T .curves) (T .parts) depths row ≡ marked (unorderedRow T row) (nesting (tree T row))
+      go : (a b : Bool) → eqb (rowKind T row) 6 ≡ a → eqb (rowKind T row) 7 ≡ b → rowDepth (T .curves) (T .parts) depths row ≡ marked (unorderedRow T row) (nesting (tree T row))
       go true b e g =
-          let r = row-trim T row (eqb-true (kindIn T row) 6 e) in
-          let h = below-marked (firstIn T row) in
-          rw (e, ← r, h) (deeper-marked (leb row (firstIn T row)) (nesting (below T row (firstIn T row))))
+          let r = row-trim T row (eqb-true (rowKind T row) 6 e) in
+          let h = below-marked (rowFirst T row) in
+          rw (e, ← r, h) (deeper-marked (leb row (rowFirst T row)) (nesting (below T row (rowFirst T row))))
       go false true e g =
-          let r = row-composite T row (eqb-true (kindIn T row) 7 g) in
-          let h = run-marked (firstIn T row) (countIn T row) in
-          rw (e, g, ← r, h) (deeper-marked (someBelow (countIn T row) (highSegment T row (firstIn T row))) (deepest (segments T (below T row) (firstIn T row) (countIn T row))))
+          let r = row-composite T row (eqb-true (rowKind T row) 7 g) in
+          let h = run-marked (rowFirst T row) (rowCount T row) in
+          rw (e, g, ← r, h) (deeper-marked (someBelow (rowCount T row) (highSegment T row (rowFirst T row))) (deepest (segments T (below T row) (rowFirst T row) (rowCount T row))))
       go false false e g = let p = other-row T row e g in rw (e, g, p .0, p .1)
 
 -- ---- the rows gone by
@@ -143,9 +143,9 @@ pub record Gone (T : Tables) (depths blocks larges : List ℕ) (lowest row : ℕ
   pub cause : lowest ≡ cond (someBelow row (unorderedRow T)) 4 (cond (someBelow row (deepRow T)) 5 0)
   -- where no row was out of order
   pub depthsKnown : someBelow row (unorderedRow T) ≡ false → DepthsKnown T depths row
-  pub known : someBelow row (unorderedRow T) ≡ false → Both (T .parts) depths blocks larges row
+  pub known : someBelow row (unorderedRow T) ≡ false → BlocksKnown (T .parts) depths blocks larges row
 
-pub gone-none : (T : Tables) (depths blocks larges : List ℕ) → Both (T .parts) depths blocks larges 0 → Gone T depths blocks larges 0 0
+pub gone-none : (T : Tables) (depths blocks larges : List ℕ) → BlocksKnown (T .parts) depths blocks larges 0 → Gone T depths blocks larges 0 0
 unfolding someBelow
 gone-none T depths blocks larges h = record { formed = refl; cause = refl; depthsKnown = λ e i l. absurd (not-suc-le-zero l); known = λ e. h }
 
@@ -153,7 +153,7 @@ module _ (T : Tables) (depths blocks larges : List ℕ) (lowest row : ℕ) (g : 
   pub in-order : (lowest ≡ 4 → ⊥) → someBelow row (unorderedRow T) ≡ false
   in-order h = not-four (someBelow row (unorderedRow T)) (someBelow row (deepRow T)) lowest (g .cause) h
 
-  pub gone-known : (lowest ≡ 4 → ⊥) → Both (T .parts) depths blocks larges row
+  pub gone-known : (lowest ≡ 4 → ⊥) → BlocksKnown (T .parts) depths blocks larges row
   gone-known h = g .known (in-order h)
 
   -- a row that is not looked at for its depth
@@ -169,7 +169,7 @@ module _ (T : Tables) (depths blocks larges : List ℕ) (lowest row : ℕ) (g : 
       }
 
   -- a row of this depth
-  pub gone-more : (lowest ≡ 4 → ⊥) → malformedRow T row ≡ false → row < length depths → (now most : List ℕ) → Both (T .parts) depths now most row → (depth : ℕ) → depth ≡ rowDepth (T .curves) (T .parts) depths row → (next : ℕ) → next ≡ causeWith lowest depth → Gone T (set depths row depth) now most next (row + 1)
+  pub gone-more : (lowest ≡ 4 → ⊥) → malformedRow T row ≡ false → row < length depths → (now most : List ℕ) → BlocksKnown (T .parts) depths now most row → (depth : ℕ) → depth ≡ rowDepth (T .curves) (T .parts) depths row → (next : ℕ) → next ≡ causeWith lowest depth → Gone T (set depths row depth) now most next (row + 1)
   unfolding someBelow deepRow
   gone-more h m l now most k depth e next q =
       let o = in-order h in
@@ -179,7 +179,7 @@ module _ (T : Tables) (depths blocks larges : List ℕ) (lowest row : ℕ) (g : 
         formed = rw (add-one, g .formed) m;
         cause = rw (add-one, o) (q ∙ cause-more (someBelow row (deepRow T)) (unorderedRow T row) (nesting (tree T row)) depth lowest z d);
         depthsKnown = λ w i j. known-more o d (rw (add-one, o) at w) i j (eqb i row) refl;
-        known = λ w. both-more (T .parts) depths row depth now most k;
+        known = λ w. blocks-more (T .parts) depths row depth now most k;
       }
     where
       known-more : someBelow row (unorderedRow T) ≡ false → depth ≡ marked (unorderedRow T row) (nesting (tree T row)) → unorderedRow T row ≡ false → (i : ℕ) → i < row + 1 → (b : Bool) → eqb i row ≡ b → getD (set depths row depth) i 0 ≡ min 9 (nesting (tree T i))

@@ -1,4 +1,4 @@
--- What trims and composites refer to, and how deep they nest: causes 4 and 5, and the lowest cause of the rows. Definitions only.
+-- What trims and composites refer to, and how deep they nest: causes 4 and 5. Definitions only.
 use mathlib.Core.Bool.{Bool, false}
 use Prim.Native.Nat.{ℕ, suc, _+_, max}
 use lib.Dec.{ltb, leb}
@@ -23,7 +23,7 @@ notLower T row (Polyline first count) = false
 notLower T row (Trimmed base range) = leb row base
 notLower T row (Composite first count) = someBelow count (highSegment T row first)
 
--- curve row number row
+-- what curve row number row refers to is not all in lower rows
 unfoldable pub unorderedRow : Tables → ℕ → Bool
 unorderedRow T row = notLower T row (rowIn T row)
 

@@ -4,9 +4,9 @@
 ghost use mathlib.Core.Path.{_≡_};
 ghost use Prim.Native.Nat.{_+_, _*_, _/_, _<_, _≤_, max};
 ghost use lib.ListN.{length};
-ghost use Rattle.brep.specs.Rows.{given};
+ghost use Rattle.brep.specs.Rows.{given, mostRows, mostSegments};
 ghost use Rattle.causes_nesting.specs.Own.RowsCause.{rowsCause};
-ghost use Rattle.causes_nesting.specs.Own.Depths.{depthBelow, segmentDepth, deepestOf, oneDeeper, rowDepth, blockDepth, Known, Both, RunFits, causeWith, NoneKnown};
+ghost use Rattle.causes_nesting.specs.Own.Depths.{depthBelow, segmentDepth, deepestOf, oneDeeper, rowDepth, blockDepth, Known, BlocksKnown, RunFits, causeWith, NoneKnown};
 
 fn larger(a: u32, b: u32) -> u32
     ensures { λ r. ⌜ r ≡ max a b ⌝ }
@@ -61,9 +61,9 @@ fn large_depth(
     row: u32,
     b: u32,
 ) -> u32
-    requires { ⌜ Both (now parts) (now depths) (now blocks) (now larges) row × (b < length (now larges)) × (b * 16 + 16 ≤ length (now blocks)) ⌝ }
+    requires { ⌜ BlocksKnown (now parts) (now depths) (now blocks) (now larges) row × (b < length (now larges)) × (b * 16 + 16 ≤ length (now blocks)) ⌝ }
     ensures { λ r. ⌜ (r ≡ blockDepth 256 (now (parts .entry)) (now (depths .entry)) row b)
-        × Both (now (parts .entry)) (now (depths .entry)) (now (blocks .exit)) (now (larges .exit)) row ⌝ }
+        × BlocksKnown (now (parts .entry)) (now (depths .entry)) (now (blocks .exit)) (now (larges .exit)) row ⌝ }
 {
     let known = larges[b as usize];
     if known < 10 {
@@ -89,9 +89,9 @@ fn run_depth(
     first: u32,
     count: u32,
 ) -> u32
-    requires { ⌜ Both (now parts) (now depths) (now blocks) (now larges) row × (first + count ≤ length (now blocks) * 16) ⌝ }
+    requires { ⌜ BlocksKnown (now parts) (now depths) (now blocks) (now larges) row × (first + count ≤ length (now blocks) * 16) ⌝ }
     ensures { λ r. ⌜ (r ≡ deepestOf (now (parts .entry)) (now (depths .entry)) row first count)
-        × Both (now (parts .entry)) (now (depths .entry)) (now (blocks .exit)) (now (larges .exit)) row ⌝ }
+        × BlocksKnown (now (parts .entry)) (now (depths .entry)) (now (blocks .exit)) (now (larges .exit)) row ⌝ }
 {
     let mut depth: u32 = 0;
     let mut n: u32 = 0;
@@ -128,9 +128,9 @@ fn row_depth(
     larges: &mut [u32],
     row: u32,
 ) -> u32
-    requires { ⌜ Both (now parts) (now depths) (now blocks) (now larges) row × RunFits (now curves) (now blocks) row ⌝ }
+    requires { ⌜ BlocksKnown (now parts) (now depths) (now blocks) (now larges) row × RunFits (now curves) (now blocks) row ⌝ }
     ensures { λ r. ⌜ (r ≡ rowDepth (now (curves .entry)) (now (parts .entry)) (now (depths .entry)) row)
-        × Both (now (parts .entry)) (now (depths .entry)) (now (blocks .exit)) (now (larges .exit)) row ⌝ }
+        × BlocksKnown (now (parts .entry)) (now (depths .entry)) (now (blocks .exit)) (now (larges .exit)) row ⌝ }
 {
     let at = row as usize * 3;
     let kind = brep::int_at(curves, at);
@@ -169,7 +169,7 @@ fn rows_cause_in(
     blocks: &mut [u32],
     larges: &mut [u32],
 ) -> u32
-    requires { ⌜ (length (now curves) / 3 ≤ length (now depths)) × (length (now depths) ≤ 4096) ⌝ }
+    requires { ⌜ (length (now curves) / 3 ≤ length (now depths)) × (length (now depths) ≤ mostRows) ⌝ }
     requires { ⌜ NoneKnown (now blocks) × (length (now parts) / 2 ≤ length (now blocks) * 16) × (length (now blocks) ≤ 256) ⌝ }
     requires { ⌜ NoneKnown (now larges) × (length (now blocks) ≤ length (now larges) * 16) ⌝ }
     ensures { λ r. ⌜ r ≡ rowsCause (given points curves reals parts ranges) ⌝ }
@@ -199,7 +199,7 @@ pub fn rows_cause(
     parts: &[u32],
     ranges: &[f64],
 ) -> u32
-    requires { ⌜ (length (now curves) / 3 ≤ 4096) × (length (now parts) / 2 ≤ 4096) ⌝ }
+    requires { ⌜ (length (now curves) / 3 ≤ mostRows) × (length (now parts) / 2 ≤ mostSegments) ⌝ }
     ensures { λ r. ⌜ r ≡ rowsCause (given points curves reals parts ranges) ⌝ }
 {
     if curves.len() / 3 <= 32 && parts.len() / 2 <= 64 {
@@ -217,7 +217,7 @@ pub fn rows_cause(
             &mut one,
         );
     }
-    let mut depths = [0u32; 4096];
+    let mut depths = [0u32; brep::MOST_ROWS];
     let mut blocks = [10u32; 256];
     let mut larges = [10u32; 16];
     rows_cause_in(

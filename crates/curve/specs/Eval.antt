@@ -1,5 +1,5 @@
 -- eval/curve.rs: ranges, closure, period and sampling, by recursion on the curve, as the Rust's `match`; its parameters and points are
--- those of curve_run and curve_point. Definitions only.
+-- those of curve_parameter and curve_point. Definitions only.
 use mathlib.Core.Bool.{Bool, true, false, cond, _&&_}
 use Prim.Native.Nat.{_-_}
 use lib.ListN.{length}
@@ -18,7 +18,7 @@ unfoldable pub use Rattle.curve_parameter.specs.Run.{runLength, closes, polylin
 pub use Rattle.curve_point.specs.Point.{alongFrom}
 unfoldable pub use Rattle.curve_point.specs.Point.{polylinePoint, ellipsePoint, parabolaPoint, pointAt, segmentPoint}
 
--- 2π, a full turn
+-- 2π, a full turn (`full-turn` in proofs/Laws.antt)
 abbrev pub tau : Float
 tau = bits 0x401921FB54442D18
 
@@ -43,11 +43,11 @@ isClosed (trimmed base range) =
     isClosed base && lt (absOf (absOf (spanOf range) ⊖ spanOf (naturalRange base))) billionth
 isClosed (composite ss) = false
 
--- a span that is above zero and finite
+-- a period of this span, where it is above zero and finite
 unfoldable pub everySpan : Float → Repeats
 everySpan span = cond (lt plusZero span && finite span) (Every span) Never
 
--- Curve::period
+-- Curve::period: what the parameter of a closed curve repeats by
 unfoldable pub period : CurveTree → Repeats
 period (analytic (line o d)) = Never
 period (analytic (circle f r)) = Every tau

@@ -13,7 +13,7 @@ use Rattle.arith.specs.Notation.{count}
 use Rattle.arith_trig.specs.Trig.{sinOf, cosOf}
 use Rattle.math.specs.declared.Vec3.{Vec3}
 use Rattle.math.specs.declared.Frame.{Frame}
-use Rattle.math.specs.Math.{vZero, vAdd, vSub, vScale, vLerp, vCross, yDir, polar, vec}
+use Rattle.math.specs.Math.{vZero, vAdd, vSub, vScale, vLerp, vCross, yDir, vec}
 use Rattle.brep.specs.Tree.{analytic, line, circle, ellipse, parabola, polyline}
 use Rattle.curve.specs.Eval.{pointAt, ellipsePoint, parabolaPoint, polylineParameter, polylinePoint, indexIn, alongFrom}
 use Rattle.curve_iso.specs.Iso.{Expr, value, exact, rounded, roundedVector, isoLine, rustLine, isoCircle, rustCircle, isoEllipse, rustEllipse, isoParabola, rustParabola, isoPolyline, isoPolylineFromOne, rustPolyline, crossPart, one, _+_ as _plus_}
@@ -105,7 +105,7 @@ line-rounded o d t = refl
 
 pub circle-rounded : (f : Frame) (r t : Float) →
     pointAt (analytic (circle f r)) t ≡ roundedVector (λ part. rustCircle (part (f .origin)) (value r) (part (f .«ref_dir»)) (part (yDir f)) (value (cosOf t)) (value (sinOf t)))
-unfolding pointAt polar vAdd vScale roundedVector rounded rustCircle
+unfolding pointAt ellipsePoint vAdd vScale roundedVector rounded rustCircle
 circle-rounded f r t = refl
 
 pub ellipse-rounded : (f : Frame) (a b t : Float) →

@@ -79,7 +79,7 @@ module _ {ℓ} {A : Type ℓ} where
   unfoldable pub isoPolyline : (P next i u : Expr A) → Expr A
   isoPolyline P next i u = P + (u - i) · (next - P)
 
-  -- the same with the points numbered from 1 and each given its weight: P (i - u) + next (u + 1 - i)
+  -- polyline, with the points numbered from 1 and each given its weight: P (i - u) + next (u + 1 - i)
   unfoldable pub isoPolylineFromOne : (P next i u : Expr A) → Expr A
   isoPolylineFromOne P next i u = P · (i - u) + next · (u + one - i)
 

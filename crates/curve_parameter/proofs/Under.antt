@@ -12,7 +12,7 @@ use Rattle.math.specs.declared.Interval.{Interval}
 use Rattle.brep.specs.Rows.{Tables}
 use Rattle.brep.specs.Tree.{Analytic, CurveTree, analytic, polyline, trimmed, tree}
 use Rattle.brep.proofs.Laws.{at-lower, at-high}
-use Rattle.brep.proofs.ByKind.{kindIn, firstIn, Left, left-unknown, at-leaf, at-trim, at-unknown}
+use Rattle.brep.proofs.ByKind.{rowKind, rowFirst, UnknownOrTrim, not-trim-unknown, at-leaf, at-trim, at-unknown}
 use Rattle.curve_parameter.specs.Own.Under.{descends, downBy, under}
 
 module _ (curves : List ℕ) where
@@ -118,9 +118,9 @@ module _ {A : Type 0} (F : CurveTree → A) (through : (b : CurveTree) (r : Inte
   same : (n row : ℕ) → F (tree T (downBy n (T .curves) row)) ≡ F (tree T row)
   unfolding downBy
   same zero row = refl
-  same (suc n) row = go (descends (T .curves) row) refl (same n (firstIn T row))
+  same (suc n) row = go (descends (T .curves) row) refl (same n (rowFirst T row))
     where
-      go : (v : Bool) → descends (T .curves) row ≡ v → F (tree T (downBy n (T .curves) (firstIn T row))) ≡ F (tree T (firstIn T row)) → F (tree T (downBy (suc n) (T .curves) row)) ≡ F (tree T row)
+      go : (v : Bool) → descends (T .curves) row ≡ v → F (tree T (downBy n (T .curves) (rowFirst T row))) ≡ F (tree T (rowFirst T row)) → F (tree T (downBy (suc n) (T .curves) row)) ≡ F (tree T row)
       go true e ih =
           ap (λ (i : ℕ). F (tree T i)) (step (T .curves) n row e) ∙ ih ∙ at-lower F T row (descends-base (T .curves) row e)
           ∙ sym (through _ _) ∙ at-trim F T row refl (descends-kind (T .curves) row e) refl refl refl
@@ -131,20 +131,20 @@ module _ {A : Type 0} (F : CurveTree → A) (through : (b : CurveTree) (r : Inte
   under-same row e = ap (λ (i : ℕ). F (tree T i)) e ∙ same row row
 
   -- a trim that stays where it is reads as the empty polyline
-  pub empty-trim : (row : ℕ) {r kind : ℕ} → r ≡ under (T .curves) row → kind ≡ kindIn T r → kind ≡ 6 → F (polyline []) ≡ F (tree T row)
+  pub empty-trim : (row : ℕ) {r kind : ℕ} → r ≡ under (T .curves) row → kind ≡ rowKind T r → kind ≡ 6 → F (polyline []) ≡ F (tree T row)
   empty-trim row {r} e k six =
       at-high F T r (under-trim (T .curves) row e (sym k ∙ six)) ∙ sym (through _ _) ∙ at-trim F T r k six refl refl refl ∙ under-same row e
 
   -- the kinds that are left: such a trim, and an unknown one
-  pub under-rest : (row : ℕ) {r kind : ℕ} → r ≡ under (T .curves) row → kind ≡ kindIn T r → Left kind → F (polyline []) ≡ F (tree T row)
+  pub under-rest : (row : ℕ) {r kind : ℕ} → r ≡ under (T .curves) row → kind ≡ rowKind T r → UnknownOrTrim kind → F (polyline []) ≡ F (tree T row)
   under-rest row {r} {kind} e k n = go (eqb kind 6) refl
     where
       go : (v : Bool) → eqb kind 6 ≡ v → F (polyline []) ≡ F (tree T row)
       go true h = empty-trim row e k (eqb-true kind 6 h)
-      go false h = at-unknown F T r k (left-unknown n (eqb-false kind 6 h)) ∙ under-same row e
+      go false h = at-unknown F T r k (not-trim-unknown n (eqb-false kind 6 h)) ∙ under-same row e
 
   -- an F that is v of every analytic curve and of every polyline is v of all but composites
-  pub under-none : (v : A) → ((c : Analytic) → v ≡ F (analytic c)) → ((ps : List Vec3) → v ≡ F (polyline ps)) → (row : ℕ) {r kind : ℕ} → r ≡ under (T .curves) row → kind ≡ kindIn T r → (kind ≡ 7 → ⊥) → v ≡ F (tree T row)
+  pub under-none : (v : A) → ((c : Analytic) → v ≡ F (analytic c)) → ((ps : List Vec3) → v ≡ F (polyline ps)) → (row : ℕ) {r kind : ℕ} → r ≡ under (T .curves) row → kind ≡ rowKind T r → (kind ≡ 7 → ⊥) → v ≡ F (tree T row)
   under-none v a p row {r} {kind} e k n = go (eqb kind 6) refl
     where
       go : (b : Bool) → eqb kind 6 ≡ b → v ≡ F (tree T row)

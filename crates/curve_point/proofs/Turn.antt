@@ -9,13 +9,12 @@ use Rattle.arith_trig.specs.declared.SinCos.{SinCos}
 use Rattle.arith_trig.specs.Own.SinCos.{sinCosOf}
 use Rattle.math.specs.declared.Frame.{Frame}
 use Rattle.math.specs.declared.Interval.{Interval}
-use Rattle.math.specs.Math.{polar}
+use Rattle.math.specs.Math.{yDir}
 use Rattle.brep.specs.declared.Curve.{Curve}
 use Rattle.brep.specs.declared.Curve.the-variants.{Circle, Ellipse, Trimmed}
 use Rattle.brep.specs.Rows.{Tables}
 use Rattle.brep.specs.Tree.{CurveTree, analytic, polyline, circle, ellipse, trimmed, rowIn, tree}
-use Rattle.brep.proofs.ByKind.{kindIn, number}
-use Rattle.curve_point.specs.Own.Around.{around}
+use Rattle.brep.proofs.ByKind.{rowKind, number}
 use Rattle.curve_point.specs.Point.{ellipsePoint, pointAt}
 use Rattle.curve_parameter.specs.Own.Under.{under}
 use Rattle.curve_point.specs.Own.Turn.{sinCosFor}
@@ -23,14 +22,14 @@ use Rattle.curve_parameter.proofs.Under.{empty-trim}
 
 module _ (T : Tables) (row : ℕ) {c : Curve} (e : c ≡ rowIn T row) where
   -- the sine and cosine worked out before a row that is round
-  module _ (t : Float) {s : SinCos} (h : s ≡ sinCosFor (kindIn T row) t) where
-    pub circle-around : {f : Frame} {r : Float} → c ≡ Circle f r → around f r r s ≡ pointAt (analytic (circle f r)) t
-    unfolding sinCosFor sinCosOf pointAt polar
-    circle-around {f} {r} k = ap (around f r r) (h ∙ rw (number T row (sym e ∙ k) (λ v. omega arith)))
+  module _ (t : Float) {s : SinCos} (h : s ≡ sinCosFor (rowKind T row) t) where
+    pub circle-around : {f : Frame} {r : Float} → c ≡ Circle f r → ellipsePoint (f .origin) (f .«ref_dir») (yDir f) r r (s .cos) (s .sin) ≡ pointAt (analytic (circle f r)) t
+    unfolding sinCosFor sinCosOf pointAt
+    circle-around {f} {r} k = ap (λ (x : SinCos). ellipsePoint (f .origin) (f .«ref_dir») (yDir f) r r (x .cos) (x .sin)) (h ∙ rw (number T row (sym e ∙ k) (λ v. omega arith)))
 
-    pub ellipse-around : {f : Frame} {a b : Float} → c ≡ Ellipse f a b → around f a b s ≡ pointAt (analytic (ellipse f a b)) t
-    unfolding sinCosFor sinCosOf pointAt ellipsePoint
-    ellipse-around {f} {a} {b} k = ap (around f a b) (h ∙ rw (number T row (sym e ∙ k) (λ v. omega arith)))
+    pub ellipse-around : {f : Frame} {a b : Float} → c ≡ Ellipse f a b → ellipsePoint (f .origin) (f .«ref_dir») (yDir f) a b (s .cos) (s .sin) ≡ pointAt (analytic (ellipse f a b)) t
+    unfolding sinCosFor sinCosOf pointAt
+    ellipse-around {f} {a} {b} k = ap (λ (x : SinCos). ellipsePoint (f .origin) (f .«ref_dir») (yDir f) a b (x .cos) (x .sin)) (h ∙ rw (number T row (sym e ∙ k) (λ v. omega arith)))
 
 -- a trim that stays where it is
 module _ {A : Type 0} (F : CurveTree → A) (through : (b : CurveTree) (r : Interval) → F (trimmed b r) ≡ F b) (T : Tables) where

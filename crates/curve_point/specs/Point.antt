@@ -8,8 +8,7 @@ use lib.Ieee.{Float}
 use Rattle.arith.specs.Notation.{_⊖_, _⊗_, count, two}
 use Rattle.arith_trig.specs.Trig.{sinOf, cosOf}
 use Rattle.math.specs.declared.Vec3.{Vec3}
-use Rattle.math.specs.declared.Frame.{Frame}
-use Rattle.math.specs.Math.{vZero, vAdd, vScale, vLerp, yDir, polar}
+use Rattle.math.specs.Math.{vZero, vAdd, vScale, vLerp, yDir}
 use Rattle.brep.specs.Tree.{CurveTree, analytic, line, circle, ellipse, parabola, polyline, trimmed, composite, Segments, none, segment}
 use Rattle.curve_parameter.specs.Run.{runLength, indexIn, polylineParameter, segmentIndex, segmentLocal, ownParameter}
 
@@ -25,21 +24,21 @@ polylinePoint ps t =
     (cond (eqb (length ps) 1) (getD ps 0 vZero)
     (alongFrom ps (indexIn (length ps - 2) u) u))
 
--- an ellipse's point: O + x (a cos t) + y (b sin t)
-unfoldable pub ellipsePoint : Frame → Float → Float → Float → Vec3
-ellipsePoint f a b t = vAdd (vAdd (f .origin) (vScale (f .«ref_dir») (a ⊗ cosOf t))) (vScale (yDir f) (b ⊗ sinOf t))
+-- an ellipse's point, of the cosine c and the sine s of its angle: O + x (a c) + y (b s); a circle's, Frame::polar, is that of equal axes
+unfoldable pub ellipsePoint : Vec3 → Vec3 → Vec3 → Float → Float → Float → Float → Vec3
+ellipsePoint origin x y a b c s = vAdd (vAdd origin (vScale x (a ⊗ c))) (vScale y (b ⊗ s))
 
 -- a parabola's point: O + x (F t t) + y (2 F t)
-unfoldable pub parabolaPoint : Frame → Float → Float → Vec3
-parabolaPoint f d t = vAdd (vAdd (f .origin) (vScale (f .«ref_dir») (d ⊗ t ⊗ t))) (vScale (yDir f) (two ⊗ d ⊗ t))
+unfoldable pub parabolaPoint : Vec3 → Vec3 → Vec3 → Float → Float → Vec3
+parabolaPoint origin x y d t = vAdd (vAdd origin (vScale x (d ⊗ t ⊗ t))) (vScale y (two ⊗ d ⊗ t))
 
 -- Curve::point_at
 unfoldable mutual
   pub pointAt : CurveTree → Float → Vec3
   pointAt (analytic (line o d)) t = vAdd o (vScale d t)
-  pointAt (analytic (circle f r)) t = polar f r t
-  pointAt (analytic (ellipse f a b)) t = ellipsePoint f a b t
-  pointAt (analytic (parabola f d)) t = parabolaPoint f d t
+  pointAt (analytic (circle f r)) t = ellipsePoint (f .origin) (f .«ref_dir») (yDir f) r r (cosOf t) (sinOf t)
+  pointAt (analytic (ellipse f a b)) t = ellipsePoint (f .origin) (f .«ref_dir») (yDir f) a b (cosOf t) (sinOf t)
+  pointAt (analytic (parabola f d)) t = parabolaPoint (f .origin) (f .«ref_dir») (yDir f) d t
   pointAt (polyline ps) t = polylinePoint ps t
   pointAt (trimmed base range) t = pointAt base t
   pointAt (composite ss) t = segmentPoint ss (segmentIndex (runLength ss) t) (segmentLocal (runLength ss) t)

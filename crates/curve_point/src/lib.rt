@@ -6,15 +6,15 @@ use math::Vec3;
 ghost use mathlib.Core.Path.{_≡_};
 ghost use Prim.Native.Nat.{_*_};
 ghost use lib.ListN.{getD};
+ghost use Rattle.math.specs.Math.{yDir};
 ghost use Rattle.brep.specs.Rows.{given};
 ghost use Rattle.brep.specs.Own.RunOf.{runOf};
 ghost use Rattle.brep.specs.Tree.{tree, run};
 ghost use Rattle.curve_point.specs.Own.Turn.{sinCosFor};
-ghost use Rattle.curve_point.specs.Own.Around.{around};
-ghost use Rattle.curve_point.specs.Point.{polylinePoint, parabolaPoint, pointAt};
+ghost use Rattle.curve_point.specs.Point.{polylinePoint, ellipsePoint, parabolaPoint, pointAt};
 
 // A polyline's point, of its run of points.
-pub fn polyline_point(points: &[f64], first: u32, count: u32, t: f64) -> Vec3
+fn polyline_point(points: &[f64], first: u32, count: u32, t: f64) -> Vec3
     ensures { λ r. ⌜ r ≡ polylinePoint (run (now (points .entry)) first count) t ⌝ }
 {
     if count == 0 {
@@ -30,9 +30,9 @@ pub fn polyline_point(points: &[f64], first: u32, count: u32, t: f64) -> Vec3
     a.lerp(b, u - i as f64)
 }
 
-// A sine and a cosine along a frame's axes.
+// An ellipse's point, of a sine and a cosine that are at hand.
 fn around(frame: Frame, semi_major: f64, semi_minor: f64, sc: SinCos) -> Vec3
-    ensures { λ r. ⌜ r ≡ around frame «semi_major» «semi_minor» sc ⌝ }
+    ensures { λ r. ⌜ r ≡ ellipsePoint (frame .origin) (frame .«ref_dir») (yDir frame) «semi_major» «semi_minor» (sc .cos) (sc .sin) ⌝ }
 {
     let x = frame.ref_dir.scale(semi_major * sc.cos);
     let y = frame.y_dir().scale(semi_minor * sc.sin);
@@ -40,7 +40,7 @@ fn around(frame: Frame, semi_major: f64, semi_minor: f64, sc: SinCos) -> Vec3
 }
 
 fn parabola_point(frame: Frame, focal_dist: f64, t: f64) -> Vec3
-    ensures { λ r. ⌜ r ≡ parabolaPoint frame «focal_dist» t ⌝ }
+    ensures { λ r. ⌜ r ≡ parabolaPoint (frame .origin) (frame .«ref_dir») (yDir frame) «focal_dist» t ⌝ }
 {
     let x = frame.ref_dir.scale(focal_dist * t * t);
     let y = frame.y_dir().scale(2.0 * focal_dist * t);

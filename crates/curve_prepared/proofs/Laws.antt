@@ -4,7 +4,6 @@ use mathlib.Core.Bool.{Bool}
 use mathlib.Core.List.{List}
 use lib.Ieee.{Float}
 use Rattle.math.specs.declared.Vec3.{Vec3}
-use Rattle.math.specs.Math.{polar}
 use Rattle.brep.specs.Tree.{CurveTree, analytic, line, circle, ellipse, parabola, polyline, trimmed, composite}
 use Rattle.curve_parameter.specs.Run.{closes}
 use Rattle.curve_point.specs.Point as curves
@@ -15,7 +14,7 @@ use Rattle.curve_prepared.specs.Own.Prepared.{preparedOf, roundPoint, pr
 
 -- of a curve c that has the points of b, which is c with trims taken off
 points-of : (b c : CurveTree) (t : Float) → curves.pointAt c t ≡ curves.pointAt b t → preparedPoint (preparedOf b) c t ≡ curves.pointAt b t
-unfolding preparedPoint preparedOf roundPoint preparedParabola curves.pointAt curves.ellipsePoint curves.parabolaPoint polar
+unfolding preparedPoint preparedOf roundPoint preparedParabola curves.pointAt curves.ellipsePoint curves.parabolaPoint
 points-of (analytic (line o d)) c t e = refl
 points-of (analytic (circle f r)) c t e = refl
 points-of (analytic (ellipse f a b)) c t e = refl

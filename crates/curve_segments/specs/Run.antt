@@ -1,4 +1,4 @@
--- A composite of a run of segment records, and the point that a parameter gives on it. Definitions only.
+-- The composite of a run of segment records. Definitions only.
 use mathlib.Core.List.{List, [], _∷_}
 use Prim.Native.Nat.{ℕ}
 use Rattle.brep.specs.declared.Segment.{Segment}

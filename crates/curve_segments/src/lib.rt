@@ -1,12 +1,12 @@
 // A composite's segments as a lent run of segment records: the thin reader over `&[Segment]`. It picks the segment of a
-// parameter, and hands its numbers to functions of module 3.
+// parameter, and hands its numbers to `curve`.
 use brep::Segment;
 use math::Interval;
 use math::Vec3;
 ghost use mathlib.Core.Path.{_≡_};
 ghost use Prim.Native.Nat.{_-_};
 ghost use lib.ListN.{getD};
-ghost use Rattle.brep.specs.Rows.{lent, given};
+ghost use Rattle.brep.specs.Rows.{given};
 ghost use Rattle.curve.specs.Eval.{indexIn, pointAt};
 ghost use Rattle.curve_segments.specs.Own.Places.{past, placeIn, alongOf};
 ghost use Rattle.curve_segments.specs.Run.{compositeOf};
@@ -92,7 +92,7 @@ fn along(
 }
 
 // The point at t of the composite whose segments are run, and which row refers to.
-pub fn point_in(
+pub fn point_of_run(
     points: &[f64],
     curves: &[u32],
     reals: &[f64],

@@ -8,7 +8,6 @@ use lib.Ieee.{Float, neg}
 use Rattle.arith.specs.Notation.{_⊗_, one, two}
 use Rattle.arith_trig.specs.Trig.{sinOf, cosOf}
 use Rattle.math.specs.declared.Vec3.{Vec3}
-use Rattle.math.specs.declared.Frame.{Frame}
 use Rattle.math.specs.declared.Direction.{Direction}
 use Rattle.math.specs.declared.Interval.{Interval}
 use Rattle.math.specs.Math.{vZero, vAdd, vSub, vScale, yDir, tryNormalized, spanOf}
@@ -26,21 +25,21 @@ unfoldable pub signedSpan : Interval → Bool → Float
 signedSpan range true = one ⊗ spanOf range
 signedSpan range false = neg one ⊗ spanOf range
 
--- an ellipse's derivative: x (-a sin t) + y (b cos t); a circle's is that of equal axes
-unfoldable pub ellipseDerivative : Frame → Float → Float → Float → Vec3
-ellipseDerivative f a b t = vAdd (vScale (f .«ref_dir») (neg a ⊗ sinOf t)) (vScale (yDir f) (b ⊗ cosOf t))
+-- an ellipse's derivative, of the cosine c and the sine s of its angle: x (-a s) + y (b c); a circle's is that of equal axes
+unfoldable pub ellipseDerivative : Vec3 → Vec3 → Float → Float → Float → Float → Vec3
+ellipseDerivative x y a b c s = vAdd (vScale x (neg a ⊗ s)) (vScale y (b ⊗ c))
 
 -- a parabola's derivative: x (2 F t) + y (2 F)
-unfoldable pub parabolaDerivative : Frame → Float → Float → Vec3
-parabolaDerivative f d t = vAdd (vScale (f .«ref_dir») (two ⊗ d ⊗ t)) (vScale (yDir f) (two ⊗ d))
+unfoldable pub parabolaDerivative : Vec3 → Vec3 → Float → Float → Vec3
+parabolaDerivative x y d t = vAdd (vScale x (two ⊗ d ⊗ t)) (vScale y (two ⊗ d))
 
 -- Curve::derivative_at
 unfoldable mutual
   pub derivativeAt : CurveTree → Float → Vec3
   derivativeAt (analytic (line o d)) t = d
-  derivativeAt (analytic (circle f r)) t = ellipseDerivative f r r t
-  derivativeAt (analytic (ellipse f a b)) t = ellipseDerivative f a b t
-  derivativeAt (analytic (parabola f d)) t = parabolaDerivative f d t
+  derivativeAt (analytic (circle f r)) t = ellipseDerivative (f .«ref_dir») (yDir f) r r (cosOf t) (sinOf t)
+  derivativeAt (analytic (ellipse f a b)) t = ellipseDerivative (f .«ref_dir») (yDir f) a b (cosOf t) (sinOf t)
+  derivativeAt (analytic (parabola f d)) t = parabolaDerivative (f .«ref_dir») (yDir f) d t
   derivativeAt (polyline ps) t = polylineDerivative ps t
   derivativeAt (trimmed base range) t = derivativeAt base t
   derivativeAt (composite ss) t = segmentDerivative ss (segmentIndex (runLength ss) t) (segmentLocal (runLength ss) t)

@@ -4,6 +4,8 @@ use math::Direction;
 use math::Interval;
 use math::Vec3;
 ghost use mathlib.Core.Path.{_≡_};
+ghost use Rattle.arith_trig.specs.Trig.{sinOf, cosOf};
+ghost use Rattle.math.specs.Math.{yDir};
 ghost use Rattle.brep.specs.Rows.{given, frameOf};
 ghost use Rattle.brep.specs.Own.RunOf.{runOf};
 ghost use Rattle.brep.specs.Tree.{tree, run};
@@ -35,7 +37,7 @@ fn signed_span(range: Interval, same_sense: bool) -> f64
 
 // A circle is an ellipse with equal axes. The sine and cosine come before the frame, as in `curve_point`.
 fn ellipse_derivative(points: &[f64], first: u32, semi_major: f64, semi_minor: f64, t: f64) -> Vec3
-    ensures { λ r. ⌜ r ≡ ellipseDerivative (frameOf (now (points .entry)) first) «semi_major» «semi_minor» t ⌝ }
+    ensures { λ r. let f = frameOf (now (points .entry)) first in ⌜ r ≡ ellipseDerivative (f .«ref_dir») (yDir f) «semi_major» «semi_minor» (cosOf t) (sinOf t) ⌝ }
 {
     let sc = arith_trig::sin_cos(t);
     let frame = brep::frame_at(points, first);
@@ -45,7 +47,7 @@ fn ellipse_derivative(points: &[f64], first: u32, semi_major: f64, semi_minor: f
 }
 
 fn parabola_derivative(points: &[f64], first: u32, focal_dist: f64, t: f64) -> Vec3
-    ensures { λ r. ⌜ r ≡ parabolaDerivative (frameOf (now (points .entry)) first) «focal_dist» t ⌝ }
+    ensures { λ r. let f = frameOf (now (points .entry)) first in ⌜ r ≡ parabolaDerivative (f .«ref_dir») (yDir f) «focal_dist» t ⌝ }
 {
     let frame = brep::frame_at(points, first);
     let x = frame.ref_dir.scale(2.0 * focal_dist * t);

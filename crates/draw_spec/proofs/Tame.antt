@@ -7,7 +7,7 @@ use Prim.Native.Nat.{ℕ, zero, suc, _+_, _-_, _*_, _<_, _≤_}
 use native.Mathlib.Omega.{arith}
 use lib.IntN.{pos}
 use lib.ListN.{length, getD}
-use lib.Dec.{T, eqb, leb}
+use lib.Dec.{T, eqb}
 use lib.Ieee.{Float, nan, binary64, fits, le, lt, neg, ofBits, ofInt}
 use lib.Ieee.Scale.{finite}
 use lib.Ieee.Fits.{ofInt-fits}
@@ -157,12 +157,12 @@ pick false u v = v
 module _ (t : Tables) (e : Edge) (o : Options) (h : Checked t e o) (reals : Fitting (t .reals)) (ranges : Fitting (t .ranges)) where
   room-size : (kind : ℕ) → targets t kind ≤ 65536
   unfolding targets
-  room-size kind = go (leb kind 5) (eqb kind 6)
+  room-size kind = go (eqb kind 6) (eqb kind 7)
     where
-      go : (a b : Bool) → cond a (pointCount t) (cond b (curveCount t) (segmentCount t)) ≤ 65536
-      go true b = h .pointsAtMost
-      go false true = omega (arith, h .curvesAtMost)
-      go false false = omega (arith, h .segmentsAtMost)
+      go : (a b : Bool) → cond a (curveCount t) (cond b (segmentCount t) (pointCount t)) ≤ 65536
+      go true b = omega (arith, h .curvesAtMost)
+      go false true = omega (arith, h .segmentsAtMost)
+      go false false = h .pointsAtMost
 
   real-size : (i : ℕ) → i < length (t .reals) → Size 40 (getD (t .reals) i nan)
   real-size i l = size-grows 30 40 (getD (t .reals) i nan) (omega arith) (bounded-size (getD (t .reals) i nan) (h .realsBounded i l))

@@ -11,7 +11,7 @@ use Rattle.math.specs.declared.Interval.{Interval}
 use Rattle.math.specs.Math.{spanOf}
 use Rattle.brep.specs.Rows.{Tables}
 use Rattle.brep.specs.Tree.{CurveTree, tree}
-use Rattle.brep.proofs.ByKind.{kindIn, at-parabola, at-polyline, at-composite}
+use Rattle.brep.proofs.ByKind.{rowKind, at-parabola, at-polyline, at-composite}
 use Rattle.curve.specs.declared.Repeats.{Repeats}
 use Rattle.curve.specs.Eval.{naturalRange, period}
 use Rattle.curve_parameter.specs.Own.Under.{under}
@@ -48,7 +48,7 @@ pub arc : (r : Resolved) (range : Interval) {radius of total : Float} → radius
 arc r range e g = rw (e, g)
 
 -- the curves whose curvature is not known: all but the first three kinds, at the row that the trims lead down to
-module _ (T : Tables) (range : Interval) (s : Resolved) (row : ℕ) {r kind : ℕ} (u : r ≡ under (T .curves) row) (k : kind ≡ kindIn T r) where
+module _ (T : Tables) (range : Interval) (s : Resolved) (row : ℕ) {r kind : ℕ} (u : r ≡ under (T .curves) row) (k : kind ≡ rowKind T r) where
   abbrev segments-at : CurveTree → Closed
   segments-at c = analyticSegments c range s
 

@@ -16,8 +16,8 @@ use Rattle.knots_inside.specs.Thinned.{thinnedFrom, thinBreaks}
 use Rattle.knots.specs.declared.Knots.{Knots}
 use Rattle.knots.specs.declared.Knots.the-variants.{Count, TooMany}
 use Rattle.knots.specs.Knots.{curveKnots, curveBreaks}
-use Rattle.knots.proofs.Answers.{counted, exceeded, left-fits}
-use Rattle.knots_thin.specs.Own.Kept.{curveDeviation, keptAnswer, keptLeft}
+use Rattle.knots.proofs.Answers.{counted, exceeded, after-fits}
+use Rattle.knots_thin.specs.Own.Kept.{curveDeviation, keptAnswer, keptAfter}
 use Rattle.knots_thin.specs.Thin.{curveThinned, keptBreaks}
 
 -- ---- no knots
@@ -61,12 +61,12 @@ module _ (c : CurveTree) (lo hi sag : Float) where
     pub not-many : kept ≡ TooMany → ⊥
     not-many e = omega (arith, exceeded c room (keptBreaks c lo hi sag) (sym answered ∙ e))
 
-    module _ (buffer after : List Float) (long : length buffer ≡ room) (left : after ≡ keptLeft buffer c lo hi sag) (m : ℕ) (e : kept ≡ Count m) where
+    module _ (buffer after : List Float) (long : length buffer ≡ room) (left : after ≡ keptAfter buffer c lo hi sag) (m : ℕ) (e : kept ≡ Count m) where
       count : m ≡ length (keptBreaks c lo hi sag)
       count = counted c room (keptBreaks c lo hi sag) m (sym answered ∙ e) .0
 
       floats : after ≡ filled (length buffer) (keptBreaks c lo hi sag)
-      floats = left ∙ sym (left-fits c buffer (keptBreaks c lo hi sag) (omega arith))
+      floats = left ∙ sym (after-fits c buffer (keptBreaks c lo hi sag) (omega arith))
 
       pub kept-room : length after ≡ length buffer → m ≤ length after
       kept-room s = omega (arith, count, filled-most (length buffer) (keptBreaks c lo hi sag) (sym (ap length floats) ∙ s))

@@ -12,8 +12,7 @@ use Rattle.arith_root.specs.Root.{rootOf}
 use Rattle.arith_root_limit.specs.declared.Limit.{Limit}
 use Rattle.arith_root_limit.specs.Own.Limit.{limitOf}
 use Rattle.arith_trig.specs.Trig.{acosOf}
-use Rattle.math_chord.specs.Own.Offset.{bisectionOffset}
-use Rattle.math_chord.specs.Chord.{chordDistance, bisectionDistance}
+use Rattle.math_chord.specs.Chord.{bisectionOffset, bisectionDistance}
 use Rattle.math.specs.declared.Vec3.{Vec3}
 use Rattle.math.specs.declared.Direction.{Direction}
 use Rattle.math.specs.declared.Direction.the-variants.{Unit, Nothing}
@@ -49,7 +48,7 @@ module _ (c : CurveTree) (t : Float) {prepared : Prepared} (R : prepared ≡ pre
 -- ---- the sag, by its square: what is_within works out and compares
 pub sag-within : (pa pb pm chord offset : Vec3) (len s sag : Float) (limit : Limit) → chord ≡ vSub pb pa → len ≡ vLength chord
     → offset ≡ bisectionOffset pa chord len pm → s ≡ vLengthSquared offset → limit ≡ limitOf sag → le (rootOf s) (limit .at) ≡ le (sagOf pa pb pm) sag
-unfolding sagOf bisectionOffset bisectionDistance chordDistance vLength limitOf
+unfolding sagOf bisectionDistance vLength limitOf
 sag-within pa pb pm chord offset len s sag limit C L O S E = rw (S, O, L, C, E)
 
 -- ---- the limits, one by one

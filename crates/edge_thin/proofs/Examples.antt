@@ -6,7 +6,7 @@ use Rattle.arith.specs.Notation.{_⊗_, bits, plusZero, one, two}
 use Rattle.arith_root.specs.Root.{rootOf}
 use Rattle.arith_trig.specs.Trig.{halved, summed, arcOf, angleOf, acosBy, acosOf}
 use Rattle.math.specs.Math.{vec, vAdd, vSub, vScale, vDot, vLength, tryNormalized}
-use Rattle.math_chord.specs.Chord.{footOf, chordOffset, chordDistance, spanDistance}
+use Rattle.math_chord.specs.Chord.{footOf, chordOffset, spanOffset, spanDistance}
 use Rattle.base_lists.specs.Result.{refused, got}
 use Rattle.edge_record.specs.declared.Sample.{Sample}
 use Rattle.edge_record.specs.Chain.{lastOf}
@@ -42,5 +42,5 @@ far =
 -- the corner stays; the middle one of a row goes, unless the segment floor asks for it; the last is refused
 pub examples : thinned hundredth angle 2 corner ∷ thinned hundredth angle 2 row ∷ thinned hundredth angle 3 row ∷ thinned hundredth angle 2 far ∷ []
     ≡ got corner ∷ got (at plusZero plusZero plusZero ∷ at two plusZero two ∷ []) ∷ got row ∷ refused 9 ∷ []
-unfolding thinned retainedBy restored flagCount evens flagged keptIn decision spanTurn worstOf worstFrom directions angleBetween spanDistance chordDistance chordOffset footOf tryNormalized vAdd vSub vScale vDot vLength lastOf acosOf acosBy angleOf arcOf summed halved rootOf add sub mul div neg lt le eq isNan ofBits ofInt
+unfolding thinned retainedBy restored flagCount evens flagged keptIn decision spanTurn worstOf worstFrom directions angleBetween spanDistance spanOffset chordOffset footOf tryNormalized vAdd vSub vScale vDot vLength lastOf acosOf acosBy angleOf arcOf summed halved rootOf add sub mul div neg lt le eq isNan ofBits ofInt
 examples = refl

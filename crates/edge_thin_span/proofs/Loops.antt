@@ -15,8 +15,7 @@ use Rattle.math.specs.declared.Direction.the-variants.{Unit, Nothing}
 use Rattle.math.specs.Math.{vSub, vLengthSquared, vLength, tryNormalized}
 use Rattle.edge_record.specs.Chain.{lastOf}
 use Rattle.edge_record.proofs.Shorter.{last-snoc}
-use Rattle.math_chord.specs.Own.Offset.{spanOffset}
-use Rattle.math_chord.specs.Chord.{chordDistance, spanDistance}
+use Rattle.math_chord.specs.Chord.{spanOffset, spanDistance}
 use Rattle.edge_thin_span.specs.declared.Worst.{Worst}
 use Rattle.edge_thin_span.specs.Span.{worse, worstFrom, worstOf, joined, directions, firstIn, lastIn}
 
@@ -36,7 +35,7 @@ module _ (points : ℕ → Vec3) (pa axis : Vec3) (b : ℕ) where
   module _ (far : Float) (at i : ℕ) (h : i < b) {len2 d2 : Float} {p v : Vec3} {below : Bool} (el : len2 ≡ vLengthSquared axis) (ep : p ≡ points i) (ev : v ≡ spanOffset pa axis len2 p) (ed : d2 ≡ vLengthSquared v) (et : below ≡ lt far (rootOf d2)) where
     -- the root of an offset's square is the distance
     rooted : rootOf d2 ≡ spanDistance pa axis (vLengthSquared axis) (points i)
-    unfolding spanDistance chordDistance spanOffset vLength
+    unfolding spanDistance vLength
     rooted = rw (ed, ev, ep, el)
 
     one-more : worstLeft far at i ≡ worstFrom points pa axis (b - (i + 1)) (i + 1) (worse (worstIs far at) (rootOf d2) i)

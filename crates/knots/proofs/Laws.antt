@@ -12,7 +12,7 @@ use borrow.Author.Tests.{eqb-true, eqb-false}
 use Rattle.brep.specs.declared.Curve.the-variants.{Composite}
 use Rattle.brep.specs.Rows.{Tables}
 use Rattle.brep.specs.Tree.{CurveTree, segments, grown, below, segmentIn, rowIn, tree}
-use Rattle.brep.proofs.ByKind.{kindIn, firstIn, countIn, row-trim, row-composite, row-leaf}
+use Rattle.brep.proofs.ByKind.{rowKind, rowFirst, rowCount, row-trim, row-composite, row-leaf}
 use Rattle.knots.specs.Knots.{segmentKnots, curveKnots}
 use Rattle.knots.specs.Own.Gathered.{runKnots}
 
@@ -30,17 +30,17 @@ run-knots T f first (suc n) = ap (λ (l : List Float). segmentIn T first .range 
 module _ (T : Tables) (n : ℕ) (short : (i first count : ℕ) → rowIn T i ≡ Composite first count → count ≤ n) where
   few-grown : (f : ℕ → CurveTree) → ((i : ℕ) → length (curveKnots (f i)) ≤ 2 * n) → (row : ℕ) → length (curveKnots (grown T f (rowIn T row))) ≤ 2 * n
   unfolding curveKnots grown
-  few-grown f h row = go (eqb (kindIn T row) 6) (eqb (kindIn T row) 7) refl refl
+  few-grown f h row = go (eqb (rowKind T row) 6) (eqb (rowKind T row) 7) refl refl
     where
-      go : (a b : Bool) → eqb (kindIn T row) 6 ≡ a → eqb (kindIn T row) 7 ≡ b → length (curveKnots (grown T f (rowIn T row))) ≤ 2 * n
-      go true b e g = rw (← row-trim T row (eqb-true (kindIn T row) 6 e)) (h (firstIn T row))
+      go : (a b : Bool) → eqb (rowKind T row) 6 ≡ a → eqb (rowKind T row) 7 ≡ b → length (curveKnots (grown T f (rowIn T row))) ≤ 2 * n
+      go true b e g = rw (← row-trim T row (eqb-true (rowKind T row) 6 e)) (h (rowFirst T row))
       go false true e g =
-          let r = row-composite T row (eqb-true (kindIn T row) 7 g) in
-          let l = run-knots T f (firstIn T row) (countIn T row) in
-          rw (← r) (omega (arith, short row _ _ (sym r), ap length l, run-length (T .parts) (T .ranges) (firstIn T row) (countIn T row)))
+          let r = row-composite T row (eqb-true (rowKind T row) 7 g) in
+          let l = run-knots T f (rowFirst T row) (rowCount T row) in
+          rw (← r) (omega (arith, short row _ _ (sym r), ap length l, run-length (T .parts) (T .ranges) (rowFirst T row) (rowCount T row)))
       go false false e g =
           row-leaf T row f (λ c. length (curveKnots c) ≤ 2 * n) (λ c. omega arith) (λ ps. omega arith)
-          (eqb-false (kindIn T row) 6 e) (eqb-false (kindIn T row) 7 g)
+          (eqb-false (rowKind T row) 6 e) (eqb-false (rowKind T row) 7 g)
 
   few-below : (k i : ℕ) → length (curveKnots (below T k i)) ≤ 2 * n
   unfolding curveKnots below

@@ -12,9 +12,9 @@ use Rattle.brep.specs.Tree.{CurveTree}
 use Rattle.knots.specs.declared.Knots.{Knots}
 use Rattle.knots.specs.declared.Knots.the-variants.{Count, TooMany}
 use Rattle.knots.specs.Knots.{curveKnots, curveBreaks}
-use Rattle.knots.specs.Own.Gathered.{breaksAnswer, breaksLeft}
-use Rattle.knots.proofs.Answers.{answer-fits, answer-exceeds, counted, exceeded, left-fits, left-exceeds}
-use Rattle.knots_thin.specs.Own.Kept.{keptAnswer, keptLeft}
+use Rattle.knots.specs.Own.Gathered.{breaksAnswer, breaksAfter}
+use Rattle.knots.proofs.Answers.{answer-fits, answer-exceeds, counted, exceeded, after-fits, after-exceeds}
+use Rattle.knots_thin.specs.Own.Kept.{keptAnswer, keptAfter}
 use Rattle.knots_thin.specs.Thin.{curveThinned, keptBreaks}
 
 module _ (buffer : List Float) (curve : CurveTree) (lo hi : Float) where
@@ -25,16 +25,16 @@ module _ (buffer : List Float) (curve : CurveTree) (lo hi : Float) where
     pub same-length : length out ≡ length buffer
     pub floats : out ≡ filled (length buffer) (curveBreaks curve lo hi)
 
-  module _ (found : Knots) (out : List Float) (answered : found ≡ breaksAnswer (length buffer) curve lo hi) (left : out ≡ breaksLeft buffer curve lo hi) where
+  module _ (found : Knots) (out : List Float) (answered : found ≡ breaksAnswer (length buffer) curve lo hi) (left : out ≡ breaksAfter buffer curve lo hi) where
     pub some-found : length out ≡ length buffer → (n : ℕ) → found ≡ Count n → Found out n
     some-found e n is =
         let k = counted curve (length buffer) (curveBreaks curve lo hi) n (sym answered ∙ is) in
-        record { count = k .0; fits = k .1; same-length = e; floats = left ∙ sym (left-fits curve buffer (curveBreaks curve lo hi) (k .1)) }
+        record { count = k .0; fits = k .1; same-length = e; floats = left ∙ sym (after-fits curve buffer (curveBreaks curve lo hi) (k .1)) }
 
-    pub none-kept : (sag : Float) → found ≡ TooMany → (TooMany ≡ keptAnswer (length buffer) curve lo hi sag) × (out ≡ keptLeft buffer curve lo hi sag)
+    pub none-kept : (sag : Float) → found ≡ TooMany → (TooMany ≡ keptAnswer (length buffer) curve lo hi sag) × (out ≡ keptAfter buffer curve lo hi sag)
     none-kept sag is =
         let h = exceeded curve (length buffer) (curveBreaks curve lo hi) (sym answered ∙ is) in
-        (answer-exceeds curve (length buffer) (keptBreaks curve lo hi sag) h, left ∙ sym (left-exceeds curve buffer (curveBreaks curve lo hi) h) ∙ left-exceeds curve buffer (keptBreaks curve lo hi sag) h)
+        (answer-exceeds curve (length buffer) (keptBreaks curve lo hi sag) h, left ∙ sym (after-exceeds curve buffer (curveBreaks curve lo hi) h) ∙ after-exceeds curve buffer (keptBreaks curve lo hi sag) h)
 
 module _ {buffer : List Float} {curve : CurveTree} {lo hi : Float} {out : List Float} {n : ℕ} (s : Found buffer curve lo hi out n) where
   room : n ≤ length buffer
@@ -54,13 +54,13 @@ module _ {buffer : List Float} {curve : CurveTree} {lo hi : Float} {out : List F
   -- last: the part after `thin_breaks`, which answered m
   pub some-kept : (sag : Float) (m : ℕ) (last : List Float) → length last ≡ length (take n out) → m ≡ length (curveThinned curve (take n out) lo hi sag)
       → last ≡ filled (length (take n out)) (curveThinned curve (take n out) lo hi sag)
-      → (Count m ≡ keptAnswer (length buffer) curve lo hi sag) × (last ++ drop n out ≡ keptLeft buffer curve lo hi sag)
+      → (Count m ≡ keptAnswer (length buffer) curve lo hi sag) × (last ++ drop n out ≡ keptAfter buffer curve lo hi sag)
   some-kept sag m last long count floats = (
     ap Count (count ∙ ap (λ (l : List Float). length (curveThinned curve l lo hi sag)) part) ∙ answer-fits curve (length buffer) (keptBreaks curve lo hi sag) (s .fits),
     ap (λ (l : List Float). l ++ drop n out) is
         ∙ ap (λ (l : List Float). filled n (keptBreaks curve lo hi sag) ++ drop n l) (s .floats)
         ∙ filled-part (length buffer) n (curveBreaks curve lo hi) (keptBreaks curve lo hi sag) (sym (s .count)) room few
-        ∙ left-fits curve buffer (keptBreaks curve lo hi sag) (s .fits),
+        ∙ after-fits curve buffer (keptBreaks curve lo hi sag) (s .fits),
   )
     where
       is : last ≡ filled n (keptBreaks curve lo hi sag)

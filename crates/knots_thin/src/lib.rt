@@ -10,7 +10,7 @@ ghost use Rattle.knots_inside.specs.Thinned.{nextOf};
 ghost use Rattle.brep.specs.Rows.{lent, given};
 ghost use Rattle.brep.specs.Tree.{tree};
 ghost use Rattle.curve.specs.Eval.{pointAt};
-ghost use Rattle.knots_thin.specs.Own.Kept.{curveDeviation, keptAnswer, keptLeft};
+ghost use Rattle.knots_thin.specs.Own.Kept.{curveDeviation, keptAnswer, keptAfter};
 ghost use Rattle.knots_thin.specs.Thin.{curveThinned};
 
 // How far the curve of a row leaves the chord from a to b; pa is its point at a.
@@ -103,7 +103,7 @@ pub fn kept_breaks(
 ) -> Knots
     requires { ⌜ length (now out) ≤ mostKnots ⌝ }
     ensures { λ r. ⌜ (r ≡ keptAnswer (length (now (out .entry))) (tree (given points curves reals parts ranges) row) lo hi sag)
-        × (now (out .exit) ≡ keptLeft (now (out .entry)) (tree (given points curves reals parts ranges) row) lo hi sag) ⌝ }
+        × (now (out .exit) ≡ keptAfter (now (out .entry)) (tree (given points curves reals parts ranges) row) lo hi sag) ⌝ }
 {
     let found = knots::curve_breaks(points, curves, reals, parts, ranges, row, lo, hi, out);
     match found {

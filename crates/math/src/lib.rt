@@ -37,7 +37,7 @@ pub struct Interval {
 }
 
 // 2^-511, the root of the least normal number: what is not longer has no direction.
-const SHORTEST: f64 = 1.4916681462400413e-154;
+const SHORTEST_VECTOR: f64 = 1.4916681462400413e-154;
 
 impl Vec3 {
     // The origin.
@@ -85,7 +85,7 @@ impl Vec3 {
     {
         let n = self.length();
         if arith::is_finite(n) {
-            if SHORTEST < n {
+            if SHORTEST_VECTOR < n {
                 return Direction::Unit(self.scale(1.0 / n));
             }
         }

@@ -1,2 +1,1 @@
 pub mod Chord
-pub mod Own

@@ -2,8 +2,7 @@
 use math::Interval;
 use math::Vec3;
 ghost use mathlib.Core.Path.{_≡_};
-ghost use Rattle.math_chord.specs.Own.Offset.{spanOffset, bisectionOffset};
-ghost use Rattle.math_chord.specs.Chord.{footOf, chordOffset, chordDistance, spanDistance};
+ghost use Rattle.math_chord.specs.Chord.{footOf, chordOffset, spanOffset, spanDistance, bisectionOffset};
 
 // A chord that is not longer than this has no length for bisection.
 const SHORTEST_CHORD: f64 = 1e-300;
@@ -19,7 +18,7 @@ fn foot(pa: Vec3, axis: Vec3, divisor: f64, p: Vec3) -> f64
     )
 }
 
-// From the chord to p.
+// The leaf: from the chord to p. Whether the chord has a length, and the divisor, are the caller's.
 fn chord_offset(pa: Vec3, axis: Vec3, has_length: bool, divisor: f64, p: Vec3) -> Vec3
     ensures { λ r. ⌜ r ≡ chordOffset pa axis «has_length» divisor p ⌝ }
 {
@@ -30,13 +29,6 @@ fn chord_offset(pa: Vec3, axis: Vec3, has_length: bool, divisor: f64, p: Vec3) -
     p.sub(pa)
 }
 
-// The leaf: the distance of p to the chord from pa along axis.
-fn chord_distance(pa: Vec3, axis: Vec3, has_length: bool, divisor: f64, p: Vec3) -> f64
-    ensures { λ r. ⌜ r ≡ chordDistance pa axis «has_length» divisor p ⌝ }
-{
-    chord_offset(pa, axis, has_length, divisor, p).length()
-}
-
 // For thinning; len2 is the chord's squared length.
 pub fn span_offset(pa: Vec3, axis: Vec3, len2: f64, p: Vec3) -> Vec3
     ensures { λ r. ⌜ r ≡ spanOffset pa axis len2 p ⌝ }
@@ -44,11 +36,11 @@ pub fn span_offset(pa: Vec3, axis: Vec3, len2: f64, p: Vec3) -> Vec3
     chord_offset(pa, axis, 0.0 < len2, len2, p)
 }
 
-// The distance of p to a chord, whose squared length is the divisor.
+// The distance of p to such a chord.
 pub fn span_distance(pa: Vec3, axis: Vec3, len2: f64, p: Vec3) -> f64
     ensures { λ r. ⌜ r ≡ spanDistance pa axis len2 p ⌝ }
 {
-    chord_distance(pa, axis, 0.0 < len2, len2, p)
+    span_offset(pa, axis, len2, p).length()
 }
 
 // For bisection; len is the chord's length.

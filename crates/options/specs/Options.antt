@@ -25,10 +25,11 @@ degree = bits 0x3F91DF46A2529D39
 abbrev pub degrees : Float → Angle
 degrees x = radians (x ⊗ degree)
 
--- the least and the largest angle that `resolve` lets pass: 1e-4 and π
+-- the least angle that `resolve` lets pass: 1e-4
 abbrev pub leastAngle : Float
 leastAngle = tenThousandth
 
+-- the largest: π
 abbrev pub largestAngle : Float
 largestAngle = pi
 

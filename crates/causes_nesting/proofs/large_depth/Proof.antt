@@ -5,7 +5,7 @@ use native.Mathlib.Omega.{arith}
 use lib.ListN.{length}
 use borrow.Author.Needs.{needs}
 use Rattle.causes_nesting.specs.Own.Depths.{deepestOf, Known}
-use Rattle.causes_nesting.proofs.Depths.{deepest-none, deepest-block, deepest-all, both-small, both-kept}
+use Rattle.causes_nesting.proofs.Depths.{deepest-none, deepest-block, deepest-all, blocks-small, blocks-kept}
 use Rattle.causes_nesting.proofs.large_depth.Statement.{statement}
 use Rattle.causes_nesting.proofs.large_depth.Tie as tie
 
@@ -55,7 +55,7 @@ returns-2 c =
     let st = c .before .before .before .before .before .before .before .before in
     let l = c .before .loop in
     let d = deepest-all _ _ _ _ (l .n * 16) 256 _ (omega arith) (l .inv .1) in
-    (d, both-kept _ _ (st .pre .1) d (both-small (st .pre .0) (l .blocks) (l .inv .3) (l .inv .2)))
+    (d, blocks-kept _ _ (st .pre .1) d (blocks-small (st .pre .0) (l .blocks) (l .inv .3) (l .inv .2)))
 
 pub large-depth-spec : {M : Type 1} → statement M
 large-depth-spec =

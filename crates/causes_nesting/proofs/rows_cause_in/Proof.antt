@@ -7,7 +7,7 @@ use lib.ListN.{length, length-set}
 use borrow.Author.Needs.{needs}
 use Rattle.brep.specs.Rows.{tables}
 use Rattle.causes_form.proofs.Laws.{composite-inside}
-use Rattle.causes_nesting.proofs.Depths.{both-none}
+use Rattle.causes_nesting.proofs.Depths.{blocks-none}
 use Rattle.causes_nesting.proofs.Laws.{Gone, gone-none, gone-known, gone-four, gone-more, gone-malformed, gone-all}
 use Rattle.causes_nesting.proofs.rows_cause_in.Statement.{statement}
 use Rattle.causes_nesting.proofs.rows_cause_in.Tie as tie
@@ -24,7 +24,7 @@ cast-rows : tie.Need-cast-rows Inv-loop μ-loop
 cast-rows c = omega arith
 
 loop-holds : tie.Need-loop-holds Inv-loop μ-loop
-loop-holds c = (search needs, gone-none _ _ _ _ (both-none _ _ _ _ _ (c .before .before .before .before .before .before .before .before .pre .1 .0 .0) (c .before .before .before .before .before .before .before .before .pre .1 .1 .0) (c .before .before .before .before .before .before .before .before .pre .1 .0 .2) (c .before .before .before .before .before .before .before .before .pre .1 .1 .1)), refl, refl, refl)
+loop-holds c = (search needs, gone-none _ _ _ _ (blocks-none _ _ _ _ _ (c .before .before .before .before .before .before .before .before .pre .1 .0 .0) (c .before .before .before .before .before .before .before .before .pre .1 .1 .0) (c .before .before .before .before .before .before .before .before .pre .1 .0 .2) (c .before .before .before .before .before .before .before .before .pre .1 .1 .1)), refl, refl, refl)
 
 malformed-row-requires : tie.Need-malformed-row-requires Inv-loop μ-loop
 malformed-row-requires c κs = omega arith

@@ -5,14 +5,14 @@ use native.Mathlib.Omega.{arith}
 use lib.ListN.{length}
 use borrow.Author.Tests.{leb-true}
 use borrow.Author.Needs.{needs}
-use Rattle.causes_nesting.specs.Own.Depths.{deepestOf, Both}
-use Rattle.causes_nesting.proofs.Depths.{deepest-none, deepest-more, deepest-block, deepest-all, both-small}
+use Rattle.causes_nesting.specs.Own.Depths.{deepestOf, BlocksKnown}
+use Rattle.causes_nesting.proofs.Depths.{deepest-none, deepest-more, deepest-block, deepest-all, blocks-small}
 use Rattle.causes_nesting.proofs.run_depth.Statement.{statement}
 use Rattle.causes_nesting.proofs.run_depth.Tie as tie
 
 abbrev Inv-loop : tie.InvT-loop
 Inv-loop parts depths blocks₀ larges₀ row first count depth₀ n₀ blocks larges depth n =
-    (n ≤ count) × (depth ≡ deepestOf parts depths row first n) × Both parts depths blocks larges row
+    (n ≤ count) × (depth ≡ deepestOf parts depths row first n) × BlocksKnown parts depths blocks larges row
     × (length blocks ≡ length blocks₀) × (length larges ≡ length larges₀)
 
 abbrev μ-loop : tie.MeasureT-loop
@@ -71,7 +71,7 @@ loop-again-2 c =
     let t = c .before .before .before .block-depth in (
       omega (arith, leb-true (l .n + 16) (c .before .before .before .before .before .before .before .before .before .before .before .before .before .before .args .count) (c .before .before .before .before .before .if4 .taken)),
       deepest-block _ _ _ _ 16 _ _ _ _ _ (omega arith) (l .inv .1) (t .ensures .0) (c .larger2 .ensures),
-      both-small (l .inv .2) _ (t .kept .1 .1 .0) (t .ensures .1),
+      blocks-small (l .inv .2) _ (t .kept .1 .1 .0) (t .ensures .1),
       t .kept .1 .1 .0 ∙ l .inv .3,
       l .inv .4,
     )

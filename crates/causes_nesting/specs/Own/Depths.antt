@@ -40,8 +40,8 @@ blockDepth size parts depths row b = deepestOf parts depths row (b * size) size
 pub record Known (size : ℕ) (parts depths blocks : List ℕ) (row : ℕ) : Type 0 where
   pub kept : (b : ℕ) → b < length blocks → getD blocks b 0 < 10 → blockDepth size parts depths row b ≡ getD blocks b 0
 
--- the same of blocks of 16 segments and of 256; there is one of 256 for each sixteen of the others, or more
-pub record Both (parts depths blocks larges : List ℕ) (row : ℕ) : Type 0 where
+-- what is held of blocks of 16 segments and of 256 is known; there is one of 256 for each sixteen of the others, or more
+pub record BlocksKnown (parts depths blocks larges : List ℕ) (row : ℕ) : Type 0 where
   pub small : Known 16 parts depths blocks row
   pub large : Known 256 parts depths larges row
   pub few : length blocks ≤ 256

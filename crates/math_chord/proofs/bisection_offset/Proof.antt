@@ -1,5 +1,5 @@
 -- `math_chord::bisection_offset` meets its contract. Assumes nothing.
-use Rattle.math_chord.specs.Own.Offset.{bisectionOffset}
+use Rattle.math_chord.specs.Chord.{bisectionOffset}
 use borrow.Author.Needs.{needs}
 use Rattle.math_chord.proofs.bisection_offset.Statement.{statement}
 use Rattle.math_chord.proofs.bisection_offset.Tie as tie

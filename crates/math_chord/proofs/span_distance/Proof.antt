@@ -6,7 +6,7 @@ use Rattle.math_chord.proofs.span_distance.Tie as tie
 
 returns : tie.Need-returns
 unfolding spanDistance
-returns c = c .chord-distance .ensures
+returns c = rw (c .length .ensures, c .before .span-offset .ensures)
 
 pub span-distance-spec : {M : Type 1} → statement M
-span-distance-spec = tie.close (tie.spec (λ c κs. search needs) returns)
+span-distance-spec = tie.close (tie.spec (λ c κs. search needs) (λ c κs. search needs) returns)

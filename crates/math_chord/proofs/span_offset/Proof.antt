@@ -1,5 +1,5 @@
 -- `math_chord::span_offset` meets its contract. Assumes nothing.
-use Rattle.math_chord.specs.Own.Offset.{spanOffset}
+use Rattle.math_chord.specs.Chord.{spanOffset}
 use borrow.Author.Needs.{needs}
 use Rattle.math_chord.proofs.span_offset.Statement.{statement}
 use Rattle.math_chord.proofs.span_offset.Tie as tie

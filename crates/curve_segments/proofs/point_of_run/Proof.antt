@@ -1,4 +1,4 @@
--- `point_in` meets its contract: a walk of its MIR, by hand. The run's length is read, and three functions are called: `place_in` on numbers, `segment_at` on the run, and `along` on the tables and the numbers of the segment.
+-- `point_of_run` meets its contract: a walk of its MIR, by hand. The run's length is read, and three functions are called: `place_in` on numbers, `segment_at` on the run, and `along` on the tables and the numbers of the segment.
 -- Each parameter is Copy: what they own is had as often as it is needed, and one copy is kept whole for the exit. All that the proof knows of the callees is that they meet their contracts. Assumes nothing.
 use mathlib.Core.Path.{_≡_, refl, ap}
 use mathlib.Core.List.{List, [], _∷_}
@@ -68,12 +68,12 @@ use Rattle.curve_segments.proofs.along as along
 use Rattle.curve_segments.proofs.along.Symbol as along-def
 use Rattle.curve_segments.proofs.along.Symbol.{name as #segments·along}
 use Rattle.curve_segments.proofs.along.Met as along-thm
-use Rattle.curve_segments.proofs.point_in.Key.{name as #segments·point-in}
-use Rattle.curve_segments.proofs.point_in as point-in
-use Rattle.curve_segments.proofs.point_in.Statement as stated
-use Rattle.curve_segments.proofs.point_in.Code as code
+use Rattle.curve_segments.proofs.point_of_run.Key.{name as #segments·point-of-run}
+use Rattle.curve_segments.proofs.point_of_run as point-of-run
+use Rattle.curve_segments.proofs.point_of_run.Statement as stated
+use Rattle.curve_segments.proofs.point_of_run.Code as code
 
-abbrev stayed : Stays (point-in.ended .signature .params) (point-in.ended .kept)
+abbrev stayed : Stays (point-of-run.ended .signature .params) (point-of-run.ended .kept)
 stayed = (
   stay-none-slice (0 ∷ []) tt (plain (λ _. f64)) yes,
   (
@@ -122,7 +122,7 @@ module _ {M : Type 1} (𝓤 : URA M) (H : Heap 𝓤) (A : Atoms 𝓤) (W : Given
   abbrev a : Denots (Ps κs)
   a = (points, (curves, (reals, (parts, (ranges, (row, (xs, (t, tt))))))))
 
-  abbrev at : Vals point-in.signature κs
+  abbrev at : Vals point-of-run.signature κs
   at = (v points ∷ [], (v curves ∷ [], (v reals ∷ [], (v parts ∷ [], (v ranges ∷ [], (vint w32 row ∷ [], (v xs ∷ [], (vfloat binary64 t ∷ [], tt))))))))
 
   -- the tables, and how many segments
@@ -133,7 +133,7 @@ module _ {M : Type 1} (𝓤 : URA M) (H : Heap 𝓤) (A : Atoms 𝓤) (W : Given
   n = length (xs .now)
 
   abbrev Post : Val → SProp 𝓤
-  Post = walkOf 𝓤 H A point-in.ended stayed (point-in.clauses 𝓤 H A mem run) .post ((κs, qs, tt, a, at), tt)
+  Post = walkOf 𝓤 H A point-of-run.ended stayed (point-of-run.clauses 𝓤 H A mem run) .post ((κs, qs, tt, a, at), tt)
 
   -- what the parameters own, and the same twice
   abbrev Own : Fml
@@ -243,11 +243,11 @@ module _ {M : Type 1} (𝓤 : URA M) (H : Heap 𝓤) (A : Atoms 𝓤) (W : Given
   exits : (p : Vec3) (u : Val) → p ≡ pointAt (compositeOf T row (xs .now)) t → ent 𝓤 (⋆ 𝓤 H A (‵ (E.the-row .own p (u ∷ [])) ∷ Tabs ∷ ‵ Own ∷ Run ∷ [])) (Post u)
   exits p u e =
       qed W (‵ (E.the-row .own p (u ∷ [])) ∷ Tabs ∷ ‵ Own ∷ Run ∷ []) ∵
-      suffices ! _ (ends-at 𝓤 H A point-in.ended stayed (point-in.clauses 𝓤 H A mem run) W ((κs, qs, tt, a, at), tt) u p (tt, (tt, (tt, (tt, (tt, (tt, (tt, (tt, tt)))))))) (tt, (tt, (tt, (tt, (tt, (tt, (tt, (tt, tt))))))))) $ says ! e $
+      suffices ! _ (ends-at 𝓤 H A point-of-run.ended stayed (point-of-run.clauses 𝓤 H A mem run) W ((κs, qs, tt, a, at), tt) u p (tt, (tt, (tt, (tt, (tt, (tt, (tt, (tt, tt)))))))) (tt, (tt, (tt, (tt, (tt, (tt, (tt, (tt, tt))))))))) $ says ! e $
       move ! (1 ∷ 3 ∷ []) $ use2 W All joined $ frame ! $ move ! (1 ∷ 0 ∷ []) $ frame ! $ done !
 
   module _ (C : Calls 𝓤 H) (Λ : Loops 𝓤 H) (fm : FmC 𝓤 H (W .laws) C) (known-place : Triple 𝓤 (C #segments·place-in) (PlaceIn 𝓤 H A mem run)) (known-segment : Triple 𝓤 (C #segments·segment-at) (SegmentAt 𝓤 H A mem run)) (known-along : Triple 𝓤 (C #segments·along) (Along 𝓤 H A mem run)) where
-    walk : AreAll (Ps κs) a at → ent 𝓤 (onEntry 𝓤 H A point-in.signature κs qs a at) (WpFn 𝓤 H C Λ code.function (v points ∷ v curves ∷ v reals ∷ v parts ∷ v ranges ∷ vint w32 row ∷ v xs ∷ vfloat binary64 t ∷ []) Post)
+    walk : AreAll (Ps κs) a at → ent 𝓤 (onEntry 𝓤 H A point-of-run.signature κs qs a at) (WpFn 𝓤 H C Λ code.function (v points ∷ v curves ∷ v reals ∷ v parts ∷ v ranges ∷ vint w32 row ∷ v xs ∷ vfloat binary64 t ∷ []) Post)
     walk (is₀, (is₁, (is₂, (is₃, (is₄, (is₅, (is₆, (is₇, _)))))))) =
         let long = shr-slice-lawful 𝓤 H A W (named 5) κ₅ S.the-row .typed xs (v xs ∷ []) is₆ .0 in
         let n-fits : n < 2 ^ 64 = is₆ .0 .1 .0 in
@@ -288,10 +288,10 @@ module _ {M : Type 1} (𝓤 : URA M) (H : Heap 𝓤) (A : Atoms 𝓤) (W : Given
         by ! (exits p u₃ (read T row (xs .now) t r s p e₁ e₂ e₃))))))))))))))))))))))))))
 
 module _ {M : Type 1} (𝓤 : URA M) (H : Heap 𝓤) (A : Atoms 𝓤) (W : Given 𝓤 H A) (mem : Memory → SProp 𝓤) (run : Routine → Fun 𝓤) where
-  point-in-walks : (C : Calls 𝓤 H) (Λ : Loops 𝓤 H) → FmC 𝓤 H (W .laws) C → Triple 𝓤 (C #segments·place-in) (PlaceIn 𝓤 H A mem run) → Triple 𝓤 (C #segments·segment-at) (SegmentAt 𝓤 H A mem run) → Triple 𝓤 (C #segments·along) (Along 𝓤 H A mem run)
-      → Walks 𝓤 H A point-in.ended stayed (WpFn 𝓤 H C Λ code.function) (point-in.clauses 𝓤 H A mem run)
-  point-in-walks C Λ fm known-place known-segment known-along =
-      walked 𝓤 H A point-in.ended stayed (point-in.clauses 𝓤 H A mem run) (WpFn 𝓤 H C Λ code.function)
+  point-of-run-walks : (C : Calls 𝓤 H) (Λ : Loops 𝓤 H) → FmC 𝓤 H (W .laws) C → Triple 𝓤 (C #segments·place-in) (PlaceIn 𝓤 H A mem run) → Triple 𝓤 (C #segments·segment-at) (SegmentAt 𝓤 H A mem run) → Triple 𝓤 (C #segments·along) (Along 𝓤 H A mem run)
+      → Walks 𝓤 H A point-of-run.ended stayed (WpFn 𝓤 H C Λ code.function) (point-of-run.clauses 𝓤 H A mem run)
+  point-of-run-walks C Λ fm known-place known-segment known-along =
+      walked 𝓤 H A point-of-run.ended stayed (point-of-run.clauses 𝓤 H A mem run) (WpFn 𝓤 H C Λ code.function)
       (λ κs. (slice-vals, (slice-vals, (slice-vals, (slice-vals, (slice-vals, (uint-vals w32, (slice-vals, (float-vals binary64, tt)))))))))
       (λ κs. (
         shr-slice-tells (named 0) (κs .0) f64,
@@ -312,11 +312,11 @@ module _ {M : Type 1} (𝓤 : URA M) (H : Heap 𝓤) (A : Atoms 𝓤) (W : Given
       (λ κs qs bounds a g are. via 𝓤 _ (fst∗ 𝓤 _ (emp 𝓤)) (walk 𝓤 H A W mem run (κs .0) (κs .1 .0) (κs .1 .1 .0) (κs .1 .1 .1 .0) (κs .1 .1 .1 .1 .0) (κs .1 .1 .1 .1 .1 .0) (qs .0) (qs .1 .0) (qs .1 .1 .0) (qs .1 .1 .1 .0) (qs .1 .1 .1 .1 .0) (qs .1 .1 .1 .1 .1 .0)
       (a .0) (a .1 .0) (a .1 .1 .0) (a .1 .1 .1 .0) (a .1 .1 .1 .1 .0) (a .1 .1 .1 .1 .1 .0) (a .1 .1 .1 .1 .1 .1 .0) (a .1 .1 .1 .1 .1 .1 .1 .0) C Λ fm known-place known-segment known-along are))
 
-point-in-meets : {M : Type 1} (𝓤 : URA M) (H : Heap 𝓤) (A : Atoms 𝓤) → Given 𝓤 H A → (mem : Memory → SProp 𝓤) (run : Routine → Fun 𝓤) (𝓣 : Tables 𝓤 H)
+point-of-run-meets : {M : Type 1} (𝓤 : URA M) (H : Heap 𝓤) (A : Atoms 𝓤) → Given 𝓤 H A → (mem : Memory → SProp 𝓤) (run : Routine → Fun 𝓤) (𝓣 : Tables 𝓤 H)
     → Triple 𝓤 (𝓣 .C #segments·place-in) (PlaceIn 𝓤 H A mem run) → Triple 𝓤 (𝓣 .C #segments·segment-at) (SegmentAt 𝓤 H A mem run) → Triple 𝓤 (𝓣 .C #segments·along) (Along 𝓤 H A mem run)
-    → Meets 𝓤 H A point-in.signature (WpFn 𝓤 H (𝓣 .C) (𝓣 .Λ) code.function) (point-in.spec 𝓤 H A mem run)
-point-in-meets 𝓤 H A W mem run 𝓣 known-place known-segment known-along =
-    walk-meets 𝓤 H A point-in.ended stayed W (
+    → Meets 𝓤 H A point-of-run.signature (WpFn 𝓤 H (𝓣 .C) (𝓣 .Λ) code.function) (point-of-run.spec 𝓤 H A mem run)
+point-of-run-meets 𝓤 H A W mem run 𝓣 known-place known-segment known-along =
+    walk-meets 𝓤 H A point-of-run.ended stayed W (
       goes-none-slice 𝓤 H A W 6 (0 ∷ []) tt (plain (λ _. f64)) yes,
       (
         goes-none-slice 𝓤 H A W 6 (1 ∷ []) tt (plain (λ _. u32)) yes,
@@ -332,15 +332,15 @@ point-in-meets 𝓤 H A W mem run 𝓣 known-place known-segment known-along =
         ),
       ),
     )
-    (point-in.clauses 𝓤 H A mem run) (WpFn 𝓤 H (𝓣 .C) (𝓣 .Λ) code.function) (WpFn-mono 𝓤 H (W .laws) 𝓣 code.function)
-    (point-in-walks 𝓤 H A W mem run (𝓣 .C) (𝓣 .Λ) (fmOf 𝓤 H (W .laws) 𝓣) known-place known-segment known-along)
+    (point-of-run.clauses 𝓤 H A mem run) (WpFn 𝓤 H (𝓣 .C) (𝓣 .Λ) code.function) (WpFn-mono 𝓤 H (W .laws) 𝓣 code.function)
+    (point-of-run-walks 𝓤 H A W mem run (𝓣 .C) (𝓣 .Λ) (fmOf 𝓤 H (W .laws) 𝓣) known-place known-segment known-along)
 
-pub point-in-spec : {M : Type 1} → stated.statement M
+pub point-of-run-spec : {M : Type 1} → stated.statement M
 unfolding code.routine tablesOf
-point-in-spec 𝓤 H 𝓜 𝓖 𝓡 =
-    entered 𝓤 H (tripleOf 𝓤 H (𝓖 .A) point-in.signature (point-in.spec 𝓤 H (𝓖 .A) (𝓜 .mem) (𝓡 .run)))
-    (tables 𝓤 H 𝓜 𝓡 code.env .C) (tables 𝓤 H 𝓜 𝓡 code.env .Λ) #segments·point-in code.function (code.unfolded 𝓤 H 𝓜 𝓡)
-    (point-in-meets 𝓤 H (𝓖 .A) (givenOf 𝓤 H 𝓜 𝓖) (𝓜 .mem) (𝓡 .run) (tablesOf 𝓤 H 𝓜 (tables 𝓤 H 𝓜 𝓡 code.env))
+point-of-run-spec 𝓤 H 𝓜 𝓖 𝓡 =
+    entered 𝓤 H (tripleOf 𝓤 H (𝓖 .A) point-of-run.signature (point-of-run.spec 𝓤 H (𝓖 .A) (𝓜 .mem) (𝓡 .run)))
+    (tables 𝓤 H 𝓜 𝓡 code.env .C) (tables 𝓤 H 𝓜 𝓡 code.env .Λ) #segments·point-of-run code.function (code.unfolded 𝓤 H 𝓜 𝓡)
+    (point-of-run-meets 𝓤 H (𝓖 .A) (givenOf 𝓤 H 𝓜 𝓖) (𝓜 .mem) (𝓡 .run) (tablesOf 𝓤 H 𝓜 (tables 𝓤 H 𝓜 𝓡 code.env))
     (cited 𝓤 H (PlaceIn 𝓤 H (𝓖 .A) (𝓜 .mem) (𝓡 .run)) 𝓜 𝓡 code.env #segments·place-in place-in-def.routine code.calls-curve-segments·place-in (place-in-thm.met 𝓤 H 𝓜 𝓖 𝓡))
     (cited 𝓤 H (SegmentAt 𝓤 H (𝓖 .A) (𝓜 .mem) (𝓡 .run)) 𝓜 𝓡 code.env #segments·segment-at segment-at-def.routine code.calls-curve-segments·segment-at (segment-at-thm.met 𝓤 H 𝓜 𝓖 𝓡))
     (cited 𝓤 H (Along 𝓤 H (𝓖 .A) (𝓜 .mem) (𝓡 .run)) 𝓜 𝓡 code.env #segments·along along-def.routine code.calls-curve-segments·along (along-thm.met 𝓤 H 𝓜 𝓖 𝓡)))
