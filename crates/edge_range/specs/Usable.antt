@@ -26,15 +26,15 @@ ownRange natural =
     cond (finite (spanOf natural) && lt (absOf (spanOf natural)) billion) (Range natural) Unusable
 
 -- the edge's range, held to the curve's own with a slack of 1e-9 of its span
-unfoldable pub heldTo : Interval → Interval → Interval
-heldTo natural range =
+unfoldable pub clampedToDomain : Interval → Interval → Interval
+clampedToDomain natural range =
     let slack = absOf (spanOf natural) ⊗ billionth in
     interval (maxOf (range .lo) (natural .lo ⊖ slack)) (minOf (range .hi) (natural .hi ⊕ slack))
 
 -- a periodic curve may run past its own range
 unfoldable pub withinDomain : Repeats → Interval → Interval → Interval
 withinDomain (Every p) natural range = range
-withinDomain Never natural range = heldTo natural range
+withinDomain Never natural range = clampedToDomain natural range
 
 -- an edge's range is no range where it is not finite, empty or reversed
 abbrev pub isNoRange : Interval → Bool

@@ -24,5 +24,5 @@ pub record ChainInto (n : ℕ) (D : Result (List Sample)) (answer : Counted) (ch
 
 -- of a D that depends on the room of both buffers, with +0.0 in all of scratch
 pub record DiscretisedInto (D : ℕ → Result (List Sample)) (chain scratch : List Float) (answer : Counted) (chain' scratch' : List Float) : Type 0 where
-  pub drew : ChainInto (length chain) (D (roomOf (length chain) (length scratch))) answer chain'
+  pub drawn : ChainInto (length chain) (D (roomOf (length chain) (length scratch))) answer chain'
   pub cleared : scratch' ≡ filled (length scratch) []

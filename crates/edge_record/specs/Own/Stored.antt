@@ -13,8 +13,8 @@ use Rattle.edge_record.specs.declared.Counted.the-variants.{Refused, Cou
 use Rattle.edge_record.specs.Chain.{flat, sampleAt}
 
 -- the point of a buffer's record i
-abbrev pub pointAt : List Float → ℕ → Vec3
-pointAt c i = sampleAt c i .point
+abbrev pub recordPoint : List Float → ℕ → Vec3
+recordPoint c i = sampleAt c i .point
 
 -- what a pass over a chain leaves: its samples stand at the buffer's start, what lies behind them stays, and their number is the answer
 pub record ChainStored (entry exit : List Float) (answer : ℕ) (l : List Sample) : Type 0 where
