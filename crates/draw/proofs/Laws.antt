@@ -10,6 +10,7 @@ use lib.Dec.{ltb}
 use lib.Ieee.{Float, binary64, ofBits}
 use borrow.Author.Tests.{lt-ltb, le-ltb, le-leb, lt-leb}
 use Rattle.base_lists.specs.Result.{Result, refused, got}
+use Rattle.base_lists.specs.Own.ListOf.{listOf}
 use Rattle.base_lists.specs.Room.{filled}
 use Rattle.base_lists.proofs.Filled.{filled-length, filled-front}
 use Rattle.brep.specs.declared.Edge.{Edge}
@@ -42,7 +43,7 @@ use Rattle.draw_spec.proofs.Sound.{Binary}
 use Rattle.draw_spec.proofs.Accepted.{given, by-tables, by-buffers, refused-so}
 use Rattle.draw_spec.proofs.Table.{lowest}
 use Rattle.draw_spec.proofs.ReadBack.{read-back, outcome}
-use Rattle.edge_discretise.specs.Own.Discretised.{chainOf, DiscretisedInto}
+use Rattle.edge_discretise.specs.Own.Discretised.{DiscretisedInto}
 use Rattle.edge_repair.specs.Own.Redrawn.{DrawnInto}
 use Rattle.draw_spec.specs.Draw.{liesInFirst, chainFloats}
 
@@ -129,7 +130,7 @@ module _ (t : Tables) (e : Edge) (r : Resolved) (first second : List Float) (p :
             let k : m ≡ n = cc in
             let c : chain ≡ refused n = h ∙ ap refused k in
             subst (λ (x : Result Got). DrawnInto x first second (Refused n) f s) (sym (whole-refused n c))
-            (subst (λ (x : List Float). DrawnInto (refused n) first second (Refused n) x s) (sym (d .drawn .holds ∙ ap (λ (x : Result (List Sample)). filled (length first) (flat (chainOf x))) c ∙ none))
+            (subst (λ (x : List Float). DrawnInto (refused n) first second (Refused n) x s) (sym (d .drawn .holds ∙ ap (λ (x : Result (List Sample)). filled (length first) (flat (listOf x))) c ∙ none))
             (subst (λ (x : List Float). DrawnInto (refused n) first second (Refused n) (filled (length first) []) x) (sym (d .cleared))
             (refused-left n first second (chain-late n c))))
           where
@@ -155,7 +156,7 @@ module _ (t : Tables) (e : Edge) (r : Resolved) (first second : List Float) (p :
         go (got l) h =
             let a : counted.Count n ≡ countedOf (got l) = sym is ∙ d .drawn .answered ∙ ap countedOf h in
             let k : n ≡ length l = cc in
-            let g : f ≡ filled (length first) (flat l) = d .drawn .holds ∙ ap (λ (x : Result (List Sample)). filled (length first) (flat (chainOf x))) h in
+            let g : f ≡ filled (length first) (flat l) = d .drawn .holds ∙ ap (λ (x : Result (List Sample)). filled (length first) (flat (listOf x))) h in
             let m : length (flat l) ≤ length first = omega (arith, length-flat l, chain-fits l h) in
             let long : length f ≡ length first = ap length g ∙ filled-length (length first) (flat l) m in
             let short : length s ≡ length second = ap length (d .cleared) ∙ filled-length (length second) [] (omega arith) in

@@ -44,6 +44,7 @@ pub record Outline : Type 0 where
   pub way : Way
   pub params : List Float
 
+-- the outline of what drawing got
 abbrev pub outlineOf : Got → Outline
 outlineOf g = record { way = g .way; params = map (λ (s : Sample). s .param) (g .chain) }
 
@@ -130,6 +131,7 @@ farApart = oneRow (billion ∷ plusZero ∷ plusZero ∷ nearest 1 10 ∷ plusZe
 abbrev corner : Tables
 corner = oneRow (plusZero ∷ plusZero ∷ plusZero ∷ one ∷ plusZero ∷ plusZero ∷ one ∷ one ∷ plusZero ∷ []) 5 3 plusZero
 
+-- the edge round it
 abbrev round : Edge
 round = rowEdge 0 2 plusZero two (nearest 1 4) 0 2
 

@@ -4,12 +4,13 @@ use mathlib.Core.Bool.{Bool, true, false, cond, not, _&&_, _||_, Bool·beq}
 use Prim.Native.Nat.{ℕ, zero, suc, _≤_}
 use native.Mathlib.Omega.{arith}
 use lib.Dec.{T}
-use lib.Ieee.{Float, nan, inf, fin, binary64, le, lt, isNan, ofBits, ofInt, add}
+use lib.Ieee.{Float, nan, inf, fin, binary64, le, lt, isNan, ofBits, add}
 use lib.Ieee.Scale.{finite}
 use lib.Ieee.Fits.{add-fits, sub-fits}
 use Rattle.arith_order.proofs.Lerp.{quot-low, quot-high, quot-finite}
 use Rattle.arith.specs.Notation.{_⊕_, _⊖_, _⊗_, _⊘_, count, plusZero}
 use Rattle.arith.specs.Constants.{fiveTwelve, billion, billionth}
+use Rattle.arith.proofs.Constants.{constants}
 use Rattle.arith.specs.Pick.{absOf}
 use Rattle.math.specs.declared.Vec3.{Vec3}
 use Rattle.math.specs.declared.Interval.{Interval}
@@ -127,15 +128,11 @@ complement-ends range p h l s = record {
 }
 
 -- ---- the short arc
-steps : fiveTwelve ≡ count 512
-unfolding ofBits ofInt
-steps = refl
-
 module _ (c : CurveTree) (tame : Tame c) where
   sweep-good : (i : ℕ) → i ≤ 512 → Good (sweepAt (naturalRange c) i)
   sweep-good i h =
       at-good (naturalRange c) (count i ⊘ fiveTwelve) (tame .own .low) (tame .own .high)
-      (rw steps
+      (rw (constants .isFiveTwelve)
       (record {
         is-finite = quot-finite binary64 512 (omega arith) (omega arith) i h;
         from = quot-low binary64 512 (omega arith) (omega arith) i h;

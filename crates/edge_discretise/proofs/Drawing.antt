@@ -28,7 +28,7 @@ use Rattle.edge_record.proofs.Laws.{pointOf-samples}
 use Rattle.edge_range.specs.declared.Usable.{Usable}
 use Rattle.edge_range.specs.declared.Usable.the-variants.{Range, Unusable}
 use Rattle.edge_range.specs.Usable.{usableRange}
-use Rattle.edge_sample.specs.Own.ListOf.{listOf}
+use Rattle.base_lists.specs.Own.ListOf.{listOf}
 use Rattle.edge_sample.specs.Sample.{sampled}
 use Rattle.edge_sample.specs.Own.Answered.{SampledInto}
 use Rattle.edge_sample.specs.Own.Tried.{tried, isKept}
@@ -40,13 +40,13 @@ use Rattle.draw_spec.specs.Edge.{edgeCurve, atLeastTwo, chordOf, placed, thinne
 use Rattle.draw_spec.specs.Draw.{roomOf}
 use Rattle.edge_place.specs.Own.Place.{PointsKnown}
 use Rattle.edge_place.proofs.Laws.{placed-length}
-use Rattle.edge_discretise.specs.Own.Discretised.{chainOf, ChainInto}
+use Rattle.edge_discretise.specs.Own.Discretised.{ChainInto}
 use Rattle.edge_discretise.proofs.Thinning.{read-back}
 
 into-is : (n m : ℕ) (D E : Result (List Sample)) {w : Counted} {g : List Float} → n ≡ m → D ≡ E → ChainInto n D w g → ChainInto m E w g
 into-is n m D E k e p = record {
   answered = p .answered ∙ ap countedOf e;
-  holds = p .holds ∙ ap (λ (i : ℕ). filled i (flat (chainOf D))) k ∙ ap (λ (x : Result (List Sample)). filled m (flat (chainOf x))) e;
+  holds = p .holds ∙ ap (λ (i : ℕ). filled i (flat (listOf D))) k ∙ ap (λ (x : Result (List Sample)). filled m (flat (listOf x))) e;
 }
 
 pub into-as : {n m : ℕ} {D : Result (List Sample)} {w : Counted} {g : List Float} → n ≡ m → ChainInto n D w g → ChainInto m D w g

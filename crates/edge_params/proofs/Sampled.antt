@@ -1,4 +1,4 @@
--- The parameters that sampling gives stand in one order, so they run one way. Assumes nothing.
+-- The parameters that sampling gives stand in one order. Assumes nothing.
 use mathlib.Core.Path.{_≡_, refl}
 use mathlib.Core.Bool.{Bool, true, false, cond}
 use mathlib.Core.List.{List, [], _∷_, reverse}
@@ -21,8 +21,7 @@ use Rattle.knots_inside.proofs.Kept.{inside-all}
 use Rattle.knots_inside.proofs.Between.{Between, inside-between}
 use Rattle.knots_inside.specs.Thinned.{nextOf, thinnedFrom, thinBreaks}
 use Rattle.edge_params.specs.Params.{Sampler, evenly, breaksAlong, through, bisected, sampleParams}
-use Rattle.edge_params.specs.OneWay.{OneWay}
-use Rattle.edge_params.proofs.Steady.{Steady, rising, falling, steady-one-way, steady-sub}
+use Rattle.edge_params.proofs.Steady.{Steady, rising, falling}
 use Rattle.edge_params.proofs.Runs.{Good, good-number, good-between, up, down, evenly-pairs, through-pairs}
 use Rattle.edge_params.proofs.Lists.{gives-got, sampled-gives}
 
@@ -75,10 +74,6 @@ module _ (s : Sampler) (range : Interval) (sampleable : Sampleable s range) wher
     sampled-steady =
         gives-got l
         (sampled-gives Steady room s range (λ n h. evenly-steady n (omega arith)) (λ h. bisected-steady)) e
-
-    -- of the list, and of any list with some of its parameters left out
-    pub sampled-one-way : (k : List Float) → Sub k l → OneWay k
-    sampled-one-way k u = steady-one-way (steady-sub u sampled-steady)
 
 -- ---- thin_breaks leaves breaks out
 thinned-sub : (deviation : Float → Float → Float) (sag hi start : Float) (bs : List Float)

@@ -28,6 +28,7 @@ fn own_range(natural: Interval) -> Usable
     Usable::Unusable
 }
 
+// The edge's range, clamped to the curve's own with a slack.
 fn clamped_to_domain(natural: Interval, range: Interval) -> Interval
     ensures { λ r. ⌜ r ≡ clampedToDomain natural range ⌝ }
 {
@@ -80,6 +81,7 @@ pub fn usable_range(
     Usable::Range(within_domain(repeats, natural, range))
 }
 
+// A line has one segment at least.
 fn at_least_one(n: u64) -> u64
     ensures { λ r. ⌜ r ≡ max n 1 ⌝ }
 {

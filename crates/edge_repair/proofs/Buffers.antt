@@ -10,6 +10,7 @@ use lib.Dec.{leb}
 use lib.Ieee.{Float, binary64, ofBits}
 use borrow.Author.Tests.{leb-true}
 use Rattle.base_lists.specs.Result.{Result, refused, got, bind}
+use Rattle.base_lists.specs.Own.ListOf.{listOf}
 use Rattle.base_lists.specs.Room.{filled}
 use Rattle.base_lists.proofs.Filled.{filled-most}
 use Rattle.math.specs.declared.Aabb.{Aabb}
@@ -31,7 +32,7 @@ use Rattle.draw_spec.specs.Repair.{Got, by, escapes, runaway}
 use Rattle.draw_spec.specs.Draw.{roomOf, answerOf, inFirst, firstAfter, secondAfter}
 use Rattle.draw_spec.proofs.Answers.{answers-refused}
 use Rattle.draw_spec.proofs.Discretised.{Room, discretised-answers}
-use Rattle.edge_discretise.specs.Own.Discretised.{chainOf, DiscretisedInto}
+use Rattle.edge_discretise.specs.Own.Discretised.{DiscretisedInto}
 use Rattle.edge_repair.specs.Own.Redrawn.{RedrawnChain, RedrawnInto, DrawnInto, InSecond}
 
 -- ---- `discretise` into the second buffer
@@ -58,7 +59,7 @@ redrawn-chain T e d r {first} {second} h k s p =
     record {
       answered = a;
       firstHolds = p .cleared;
-      secondHolds = p .drawn .holds ∙ ap (λ (X : Result (List Sample)). filled (length second) (flat (chainOf X))) q;
+      secondHolds = p .drawn .holds ∙ ap (λ (X : Result (List Sample)). filled (length second) (flat (listOf X))) q;
       late = λ n t. go n (discretised (roomOf (length first) (length second)) T d r) (discretised-late T d r (length first) (length second) n h k) (sym t ∙ a);
     }
   where
@@ -85,7 +86,7 @@ module _ {X : Result (List Sample)} {first second : List Float} {w : Counted} {f
   pub drawn-chain : (n : ℕ) → w ≡ counts.Count n → length second' ≡ length second → DrawnChain X n second'
   drawn-chain n t e = go X (sym t ∙ d .answered) (d .secondHolds)
     where
-      go : (Y : Result (List Sample)) → counts.Count n ≡ counted Y → second' ≡ filled (length second) (flat (chainOf Y)) → DrawnChain Y n second'
+      go : (Y : Result (List Sample)) → counts.Count n ≡ counted Y → second' ≡ filled (length second) (flat (listOf Y)) → DrawnChain Y n second'
       go (refused m) a b = absurd (let z : _≡_ {A = ℕ} 0 1 = cc in omega arith)
       go (got l) a b = record { chain = l; is = refl; size = cc; floats = b ∙ ap (λ (k : ℕ). filled k (flat l)) (sym e) }
 
@@ -95,7 +96,7 @@ module _ {X : Result (List Sample)} {first second : List Float} {w : Counted} {f
   unfolding answerOf firstAfter secondAfter flat
   redrawn-refused D f n t q = go X (sym t ∙ d .answered) (d .secondHolds) q
     where
-      go : (Y : Result (List Sample)) → counts.Refused n ≡ counted Y → second' ≡ filled (length second) (flat (chainOf Y)) → D (roomOf (length first) (length second)) ≡ bind Y f → RedrawnInto D first second (Refused n) first' second'
+      go : (Y : Result (List Sample)) → counts.Refused n ≡ counted Y → second' ≡ filled (length second) (flat (listOf Y)) → D (roomOf (length first) (length second)) ≡ bind Y f → RedrawnInto D first second (Refused n) first' second'
       go (refused m) a b q =
           let z : n ≡ m = cc in
           let l = above m (omega (arith, d .late n t)) in

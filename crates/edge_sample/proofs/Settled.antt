@@ -16,7 +16,7 @@ use Rattle.edge_params.specs.declared.Listed.{Listed}
 use Rattle.edge_params.specs.declared.Listed.the-variants.{Count, Refused}
 use Rattle.edge_params.specs.Own.Written.{said, ListWritten}
 use Rattle.edge_params.proofs.Written.{fitting-fits, Counted, counted, written-count, written-length, written-list}
-use Rattle.edge_sample.specs.Own.ListOf.{listOf}
+use Rattle.base_lists.specs.Own.ListOf.{listOf}
 use Rattle.edge_sample.specs.Own.Answered.{SampledInto, keptFloats}
 
 refused-list : (s : Result (List Float)) → refused 8 ≡ each length s → listOf s ≡ []

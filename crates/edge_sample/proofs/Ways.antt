@@ -19,7 +19,7 @@ use Rattle.edge_params.specs.declared.Listed.the-variants.{Count, Refused}
 use Rattle.edge_params.specs.Own.Written.{said, ListWritten}
 use Rattle.edge_params.proofs.Written.{fitting-fits, written-count, written-list}
 use Rattle.edge_range.specs.Usable.{analyticSegments}
-use Rattle.edge_sample.specs.Own.ListOf.{listOf}
+use Rattle.base_lists.specs.Own.ListOf.{listOf}
 use Rattle.edge_sample.specs.Sample.{worstMiss, sampler, sampled}
 use Rattle.edge_sample.specs.Own.Tried.{isFormWithin, stepsOf, tried, isKept}
 use Rattle.edge_sample.specs.Own.Answered.{SampledInto}

@@ -7,12 +7,12 @@ use Rattle.arith.specs.Notation.{_⊗_, plusZero, one, two}
 use Rattle.arith.specs.Constants.{nearest, hundredth}
 use Rattle.arith_root.specs.Root.{rootOf}
 use Rattle.arith_trig.specs.Trig.{halved, summed, arcOf, angleOf, acosBy, acosOf}
-use Rattle.math.specs.Math.{vec, vAdd, vSub, vScale, vDot, vLength, tryNormalized}
+use Rattle.math.specs.Math.{vec, vAdd, vSub, vScale, vDot, vLength, tryNormalized, angleBetween}
 use Rattle.math_chord.specs.Chord.{footOf, chordOffset, chordDistance, spanDistance}
 use Rattle.base_lists.specs.Result.{refused, got}
 use Rattle.edge_record.specs.declared.Sample.{Sample}
 use Rattle.edge_record.specs.Chain.{lastOf}
-use Rattle.edge_thin_span.specs.Span.{worstFrom, worstOf, directions, angleBetween, spanTurn, decision}
+use Rattle.edge_thin_span.specs.Span.{worstFrom, worstOf, directions, spanTurn, decision}
 use Rattle.edge_thin_mark.specs.Spans.{keptIn, flagged}
 use Rattle.edge_thin.specs.Thin.{flagCount, evens, restored, retainedBy, thinned}
 

@@ -1,4 +1,4 @@
--- The walk of `mark` by the decisions of `span`, from flags that are all false to those of `flagged`. Assumes nothing.
+-- The walk of `mark` by the decisions of `edge_thin_span`, from flags that are all false to those of `flagged`. Assumes nothing.
 use mathlib.Core.Path.{_≡_, refl, sym, ap, _∙_}
 use mathlib.Core.Bool.{Bool, true, false}
 use mathlib.Core.List.{List}

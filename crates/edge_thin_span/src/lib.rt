@@ -7,12 +7,13 @@ ghost use Prim.Native.Nat.{_+_, _*_, _-_, _<_, _≤_};
 ghost use lib.ListN.{length};
 ghost use lib.Ieee.{lt};
 ghost use Rattle.math.specs.Math.{vSub, tryNormalized};
+ghost use Rattle.math.specs.Math.{angleBetween};
 ghost use Rattle.edge_record.specs.Own.Stored.{recordPoint};
 ghost use Rattle.edge_record.specs.Chain.{width};
-ghost use Rattle.edge_thin_span.specs.Span.{worstOf, directions, firstIn, lastIn, angleBetween, spanTurn, decision};
+ghost use Rattle.edge_thin_span.specs.Span.{worstOf, directions, firstIn, lastIn, spanTurn, decision};
 
 // The largest distance of a span's points to its chord, and the index of its point.
-pub struct Worst {
+struct Worst {
     pub distance: f64,
     pub index: usize,
 }

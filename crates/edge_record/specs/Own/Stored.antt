@@ -21,11 +21,12 @@ pub record ChainStored (entry exit : List Float) (answer : ℕ) (l : List Sample
   pub count : answer ≡ length l
   pub floats : exit ≡ sets entry 0 (flat l)
 
--- the same of a pass that may refuse; the buffer is then as it was
+-- what a pass that may refuse answers: the refusal's number, or how many samples the chain has
 abbrev pub countedOf : Result (List Sample) → Counted
 countedOf (refused n) = Refused n
 countedOf (got l) = Count (length l)
 
+-- what it leaves: after a refusal the buffer as it was, else the samples at its start
 abbrev pub after : List Float → Result (List Sample) → List Float
 after entry (refused n) = entry
 after entry (got l) = sets entry 0 (flat l)
