@@ -1,2 +1,3 @@
 pub mod Way
 pub mod Sub
+pub mod ListOf

@@ -1,6 +1,7 @@
 -- An answer, or the number of a refusal.
 use Prim.Native.Nat.{ℕ}
 
+-- refused with a number, or got an answer
 pub data Result (A : Type 0) : Type 0 where
   refused : ℕ → Result A
   got : A → Result A

@@ -23,7 +23,7 @@ use Rattle.draw_spec.specs.declared.Drawn.the-variants.{Refused, Chain}
 use Rattle.draw_spec.specs.Repair.{Got}
 use Rattle.draw_spec.specs.Draw.{roomOf, drawn, answerOf, inFirst, firstAfter, secondAfter, chainIn, Outcome}
 use Rattle.draw_spec.proofs.Sound.{drawn-fits}
-use Rattle.draw_spec.proofs.Held.{held}
+use Rattle.draw_spec.proofs.ReadBack.{read-back}
 use Rattle.draw_spec.specs.Draw.{chainFloats}
 use Rattle.chain_answer.specs.Own.Shown.{shown}
 use Rattle.chain_answer.specs.Printed.{lastBits, printedDrawn, drawnOf, printedRead, firstLeft, secondLeft, Prints}
@@ -89,7 +89,7 @@ module _ (t : Tables) (e : Edge) (o : Options) (first second : List Float) (d : 
       go : (g : Result Got) → made ≡ g → shown lo hi d (chainIn f s d) ≡ printedDrawn lo hi g
       go (refused n) q = ap (λ (x : Drawn). shown lo hi x (chainIn f s x)) (h .answered ∙ ap answerOf q)
       go (got g) q =
-          rw (h .answered, h .firstHolds, h .secondHolds, q) (ap (listing lo (lastBits (g .way) lo hi)) (held first second g))
+          rw (h .answered, h .firstHolds, h .secondHolds, q) (ap (listing lo (lastBits (g .way) lo hi)) (read-back first second g))
 
 -- ---- the whole answer
 module _ (text : List ℕ) (first second : List Float) (out : List ℕ) (r : ℕ) (out' : List ℕ) where

@@ -10,6 +10,7 @@ use lib.Dec.{ltb}
 use lib.Ieee.{Float, binary64, ofBits}
 use borrow.Author.Tests.{lt-ltb, le-ltb, le-leb, lt-leb}
 use Rattle.base_lists.specs.Result.{Result, refused, got}
+use Rattle.base_lists.specs.Own.ListOf.{listOf}
 use Rattle.base_lists.specs.Room.{filled}
 use Rattle.base_lists.proofs.Filled.{filled-length, filled-front}
 use Rattle.brep.specs.declared.Edge.{Edge}
@@ -26,7 +27,7 @@ use Rattle.edge_record.specs.declared.Sample.{Sample}
 use Rattle.edge_record.specs.declared.Counted.{Counted}
 use Rattle.edge_record.specs.declared.Counted.the-variants as counted
 use Rattle.edge_record.specs.Own.Stored.{countedOf}
-use Rattle.edge_record.specs.Chain.{width, flat, samples}
+use Rattle.edge_record.specs.Chain.{width, shortest, flat, samples}
 use Rattle.edge_record.proofs.Laws.{length-flat, reads}
 use Rattle.draw_spec.specs.declared.Way.{Way}
 use Rattle.draw_spec.specs.declared.Drawn.{Drawn}
@@ -35,19 +36,19 @@ use Rattle.draw_spec.specs.Edge.{edgeCurve, discretised}
 use Rattle.draw_spec.specs.Repair.{Got, by, repaired}
 use Rattle.draw_spec.specs.Draw as draw
 use Rattle.draw_spec.specs.Draw.{firstWay, localOptions, drawnIn, roomOf, tooShort, drawn, Lowest, Outcome, inFirst, afterRefusal, firstAfter, secondAfter}
-use Rattle.draw_spec.proofs.Outcome.{outcome-got, outcome-refused}
-use Rattle.draw_spec.proofs.Discretised.{Room, discretised-outcome}
-use Rattle.draw_spec.proofs.Repaired.{drawn-in-outcome}
+use Rattle.draw_spec.proofs.Answers.{answers-got, answers-refused}
+use Rattle.draw_spec.proofs.Discretised.{Room, discretised-answers}
+use Rattle.draw_spec.proofs.Repaired.{drawn-in-answers}
 use Rattle.draw_spec.proofs.Sound.{Binary}
 use Rattle.draw_spec.proofs.Accepted.{given, by-tables, by-buffers, refused-so}
 use Rattle.draw_spec.proofs.Table.{lowest}
-use Rattle.draw_spec.proofs.Held.{held, outcome}
-use Rattle.edge_discretise.specs.Own.Discretised.{chainOf, DiscretisedInto}
+use Rattle.draw_spec.proofs.ReadBack.{read-back, outcome}
+use Rattle.edge_discretise.specs.Own.Discretised.{DiscretisedInto}
 use Rattle.edge_repair.specs.Own.Redrawn.{DrawnInto}
 use Rattle.draw_spec.specs.Draw.{liesInFirst, chainFloats}
 
 -- ---- the room of buffers that are long enough
-room-fine : (first second : ℕ) → 8 ≤ first → 8 ≤ second → Room (roomOf first second)
+room-fine : (first second : ℕ) → shortest ≤ first → shortest ≤ second → Room (roomOf first second)
 unfolding roomOf
 room-fine first second p q = record { least = omega arith; most = omega arith }
 
@@ -85,7 +86,7 @@ unfolding draw.answerOf firstAfter secondAfter
 refused-left n first second h = record { answered = refl; firstHolds = sym (late n first h); secondHolds = sym (late n second h) }
 
 -- ---- drawn_in, after discretise answered w and left f and s
-module _ (t : Tables) (e : Edge) (r : Resolved) (first second : List Float) (p : 8 ≤ length first) (q : 8 ≤ length second) where
+module _ (t : Tables) (e : Edge) (r : Resolved) (first second : List Float) (p : shortest ≤ length first) (q : shortest ≤ length second) where
   abbrev chain : Result (List Sample)
   chain = discretised (roomOf (length first) (length second)) t e r
 
@@ -96,18 +97,18 @@ module _ (t : Tables) (e : Edge) (r : Resolved) (first second : List Float) (p :
   way = firstWay (usableRange (edgeCurve t e) (e .range))
 
   chain-late : (n : ℕ) → chain ≡ refused n → (n ≡ 8) ⊎ (n ≡ 9)
-  chain-late n = outcome-refused n
-      (discretised-outcome ⊥ t e (λ x. absurd x) (λ x. absurd x) (roomOf (length first) (length second)) (room-fine (length first) (length second) p q) r)
+  chain-late n = answers-refused n
+      (discretised-answers ⊥ t e (λ x. absurd x) (λ x. absurd x) (roomOf (length first) (length second)) (room-fine (length first) (length second) p q) r)
 
   chain-fits : (l : List Sample) → chain ≡ got l → width * length l ≤ length first
   chain-fits l h = room-least (length first) (length second) (length l)
-      (outcome-got l
-      (discretised-outcome ⊥ t e (λ x. absurd x) (λ x. absurd x) (roomOf (length first) (length second)) (room-fine (length first) (length second) p q) r)
+      (answers-got l
+      (discretised-answers ⊥ t e (λ x. absurd x) (λ x. absurd x) (roomOf (length first) (length second)) (room-fine (length first) (length second) p q) r)
       h .fits)
 
   whole-late : (n : ℕ) → whole ≡ refused n → (n ≡ 8) ⊎ (n ≡ 9)
-  whole-late n = outcome-refused n
-      (drawn-in-outcome ⊥ t e (λ x. absurd x) (λ x. absurd x) (roomOf (length first) (length second)) (room-fine (length first) (length second) p q) r)
+  whole-late n = answers-refused n
+      (drawn-in-answers ⊥ t e (λ x. absurd x) (λ x. absurd x) (roomOf (length first) (length second)) (room-fine (length first) (length second) p q) r)
 
   whole-refused : (n : ℕ) → chain ≡ refused n → whole ≡ refused n
   unfolding drawnIn
@@ -123,13 +124,13 @@ module _ (t : Tables) (e : Edge) (r : Resolved) (first second : List Float) (p :
     not-drawn n is = go chain refl
       where
         go : (c : Result (List Sample)) → chain ≡ c → DrawnInto whole first second (Refused n) f s
-        go (got l) h = absurd (let a : counted.Refused n ≡ countedOf (got l) = sym is ∙ d .drew .answered ∙ ap countedOf h in let z : _≡_ {A = ℕ} 0 1 = cc in omega arith)
+        go (got l) h = absurd (let a : counted.Refused n ≡ countedOf (got l) = sym is ∙ d .drawn .answered ∙ ap countedOf h in let z : _≡_ {A = ℕ} 0 1 = cc in omega arith)
         go (refused m) h =
-            let a : counted.Refused n ≡ countedOf (refused m) = sym is ∙ d .drew .answered ∙ ap countedOf h in
+            let a : counted.Refused n ≡ countedOf (refused m) = sym is ∙ d .drawn .answered ∙ ap countedOf h in
             let k : m ≡ n = cc in
             let c : chain ≡ refused n = h ∙ ap refused k in
             subst (λ (x : Result Got). DrawnInto x first second (Refused n) f s) (sym (whole-refused n c))
-            (subst (λ (x : List Float). DrawnInto (refused n) first second (Refused n) x s) (sym (d .drew .holds ∙ ap (λ (x : Result (List Sample)). filled (length first) (flat (chainOf x))) c ∙ none))
+            (subst (λ (x : List Float). DrawnInto (refused n) first second (Refused n) x s) (sym (d .drawn .holds ∙ ap (λ (x : Result (List Sample)). filled (length first) (flat (listOf x))) c ∙ none))
             (subst (λ (x : List Float). DrawnInto (refused n) first second (Refused n) (filled (length first) []) x) (sym (d .cleared))
             (refused-left n first second (chain-late n c))))
           where
@@ -141,8 +142,8 @@ module _ (t : Tables) (e : Edge) (r : Resolved) (first second : List Float) (p :
       pub is : chain ≡ got (samples n f)
       pub first-long : length f ≡ length first
       pub second-long : length s ≡ length second
-      pub first-enough : 8 ≤ length f
-      pub second-enough : 8 ≤ length s
+      pub first-enough : shortest ≤ length f
+      pub second-enough : shortest ≤ length s
       pub fits : width * n ≤ length f
       pub alone : f ≡ filled (length f) (flat (samples n f))
       pub clear : s ≡ filled (length s) []
@@ -151,11 +152,11 @@ module _ (t : Tables) (e : Edge) (r : Resolved) (first second : List Float) (p :
     counts n is = go chain refl
       where
         go : (c : Result (List Sample)) → chain ≡ c → Counts n
-        go (refused m) h = absurd (let a : counted.Count n ≡ countedOf (refused m) = sym is ∙ d .drew .answered ∙ ap countedOf h in let z : _≡_ {A = ℕ} 0 1 = cc in omega arith)
+        go (refused m) h = absurd (let a : counted.Count n ≡ countedOf (refused m) = sym is ∙ d .drawn .answered ∙ ap countedOf h in let z : _≡_ {A = ℕ} 0 1 = cc in omega arith)
         go (got l) h =
-            let a : counted.Count n ≡ countedOf (got l) = sym is ∙ d .drew .answered ∙ ap countedOf h in
+            let a : counted.Count n ≡ countedOf (got l) = sym is ∙ d .drawn .answered ∙ ap countedOf h in
             let k : n ≡ length l = cc in
-            let g : f ≡ filled (length first) (flat l) = d .drew .holds ∙ ap (λ (x : Result (List Sample)). filled (length first) (flat (chainOf x))) h in
+            let g : f ≡ filled (length first) (flat l) = d .drawn .holds ∙ ap (λ (x : Result (List Sample)). filled (length first) (flat (listOf x))) h in
             let m : length (flat l) ≤ length first = omega (arith, length-flat l, chain-fits l h) in
             let long : length f ≡ length first = ap length g ∙ filled-length (length first) (flat l) m in
             let short : length s ≡ length second = ap length (d .cleared) ∙ filled-length (length second) [] (omega arith) in
@@ -220,18 +221,18 @@ module _ (t : Tables) (e : Edge) (o : Options) (first second : List Float) where
       outcome t e o first second answer f s (h .answered ∙ ap draw.answerOf d) (h .firstHolds ∙ ap (firstAfter first) d) (h .secondHolds ∙ ap (secondAfter second) d) k
 
 -- ---- the lengths that draw_checked looks at
-pub first-short : (a b : ℕ) → a < 8 → tooShort a b ≡ true
-first-short a b h = ap (λ (x : Bool). x || ltb b 8) (lt-ltb a 8 h)
+pub first-short : (a b : ℕ) → a < shortest → tooShort a b ≡ true
+first-short a b h = ap (λ (x : Bool). x || ltb b shortest) (lt-ltb a shortest h)
 
-pub second-short : (a b : ℕ) → b < 8 → tooShort a b ≡ true
-second-short a b h = ap (λ (x : Bool). ltb a 8 || x) (lt-ltb b 8 h) ∙ or-true (ltb a 8)
+pub second-short : (a b : ℕ) → b < shortest → tooShort a b ≡ true
+second-short a b h = ap (λ (x : Bool). ltb a shortest || x) (lt-ltb b shortest h) ∙ or-true (ltb a shortest)
   where
     or-true : (x : Bool) → x || true ≡ true
     or-true true = refl
     or-true false = refl
 
-pub neither-short : (a b : ℕ) → 8 ≤ a → 8 ≤ b → tooShort a b ≡ false
-neither-short a b g h = ap (λ (x : Bool). x || ltb b 8) (le-ltb a 8 g) ∙ le-ltb b 8 h
+pub neither-short : (a b : ℕ) → shortest ≤ a → shortest ≤ b → tooShort a b ≡ false
+neither-short a b g h = ap (λ (x : Bool). x || ltb b shortest) (le-ltb a shortest g) ∙ le-ltb b shortest h
 
 -- ---- chain_of: the part of the buffer that holds the chain
 module _ {A : Type 0} (d : Drawn) (way : Way) (n : ℕ) (is : d ≡ Chain way n) (b : Bool) (lies : b ≡ inFirst way) where
@@ -256,7 +257,7 @@ part-is-chain t e o first second answer f s h = go (drawn t e o (length first) (
     go : (d : Result Got) → drawn t e o (length first) (length second) ≡ d → take (chainFloats answer) (cond (liesInFirst answer) f s) ≡ flat (draw.chainIn f s answer)
     go (refused n) q = rw (h .answered, q)
     go (got g) q =
-        rw (h .answered, h .firstHolds, h .secondHolds, q, held first second g)
+        rw (h .answered, h .firstHolds, h .secondHolds, q, read-back first second g)
         (at (inFirst (g .way)))
       where
         at : (b : Bool) → take (width * length (g .chain)) (cond b (filled (length first) (cond b (flat (g .chain)) [])) (filled (length second) (cond b [] (flat (g .chain))))) ≡ flat (g .chain)

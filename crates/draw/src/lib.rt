@@ -25,7 +25,7 @@ ghost use Rattle.knots.specs.Knots.{curveKnots};
 ghost use Rattle.edge_record.specs.Chain.{width, shortest};
 ghost use Rattle.edge_range.specs.Usable.{usableRange};
 ghost use Rattle.draw_spec.specs.Draw.{firstWay, localOptions, drawnIn, roomOf, inFirst, liesInFirst, chainFloats, Outcome};
-ghost use Rattle.draw_spec.specs.Own.Binary.{Fitting};
+ghost use Rattle.draw_spec.specs.Own.Binary.{AllBinary64};
 ghost use Rattle.edge_repair.specs.Own.Redrawn.{DrawnInto};
 
 // The way of the first drawing: the chord where the edge has no usable range.
@@ -39,8 +39,8 @@ fn first_way(usable: Usable) -> Way
 }
 
 // Every float of a slice is a binary64. Nothing is done: that a slice is read here says it of the slice.
-fn fitting(s: &[f64])
-    ensures { λ _. ⌜ Fitting (now (s .entry)) ⌝ }
+fn all_binary64(s: &[f64])
+    ensures { λ _. ⌜ AllBinary64 (now (s .entry)) ⌝ }
 {
     if 0 < s.len() {
         let _ = s[0];
@@ -48,7 +48,7 @@ fn fitting(s: &[f64])
 }
 
 // Both ends of a range are binary64. Nothing is done: that they are handed over says it of them.
-fn fitting_ends(range: Interval)
+fn ends_binary64(range: Interval)
     ensures { λ _. ⌜ T (fits binary64 (range .lo)) × T (fits binary64 (range .hi)) ⌝ }
 {}
 
@@ -144,9 +144,9 @@ fn draw_checked(
     if first.len() < edge_record::SHORTEST || second.len() < edge_record::SHORTEST {
         return Drawn::Refused(7);
     }
-    fitting(reals);
-    fitting(ranges);
-    fitting_ends(edge.range);
+    all_binary64(reals);
+    all_binary64(ranges);
+    ends_binary64(edge.range);
     let usable = edge_range::usable_range(
         points,
         curves,

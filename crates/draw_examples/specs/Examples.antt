@@ -1,10 +1,10 @@
 -- The examples of the scope that are proved, as one list under one claim. Definitions only.
 use mathlib.Core.Path.{_≡_}
 use mathlib.Core.List.{List, [], _∷_, map}
-use Prim.Native.Nat.{ℕ, _+_}
+use Prim.Native.Nat.{ℕ, _+_, _*_, _^_}
 use lib.Ieee.{Float, neg}
 use Rattle.base_lists.specs.Result.{refused, got, each}
-use Rattle.arith.specs.Notation.{bits, plusZero, half, one, two, count}
+use Rattle.arith.specs.Notation.{plusZero, half, one, two, count}
 use Rattle.arith.specs.Constants.{nearest, ten, million, billion, hundredth}
 use Rattle.math.specs.declared.Vec3.{Vec3}
 use Rattle.math.specs.declared.Interval.{Interval}
@@ -44,6 +44,7 @@ pub record Outline : Type 0 where
   pub way : Way
   pub params : List Float
 
+-- the outline of what drawing got
 abbrev pub outlineOf : Got → Outline
 outlineOf g = record { way = g .way; params = map (λ (s : Sample). s .param) (g .chain) }
 
@@ -66,9 +67,9 @@ five = count 5
 abbrev hundred : Float
 hundred = count 100
 
--- 6e8 plus so many times 2^-23
+-- 6e8 plus n times 2^-23, which is the step from 6e8 to the next float
 abbrev far : ℕ → Float
-far n = bits (0x41C1E1A300000000 + n)
+far n = nearest (6 * 10 ^ 8 * 2 ^ 23 + n) (2 ^ 23)
 
 -- ---- tables, edges and options
 -- one row of this kind with its points from the first on, and p
@@ -130,6 +131,7 @@ farApart = oneRow (billion ∷ plusZero ∷ plusZero ∷ nearest 1 10 ∷ plusZe
 abbrev corner : Tables
 corner = oneRow (plusZero ∷ plusZero ∷ plusZero ∷ one ∷ plusZero ∷ plusZero ∷ one ∷ one ∷ plusZero ∷ []) 5 3 plusZero
 
+-- the edge round it
 abbrev round : Edge
 round = rowEdge 0 2 plusZero two (nearest 1 4) 0 2
 

@@ -6,7 +6,8 @@ use Prim.Native.Nat.{ℕ, _^_, _-_, _+_, _≤_}
 use native.Mathlib.Omega.{arith}
 use lib.ListN.{length, getD}
 use lib.Ieee.{Float}
-use Rattle.arith.specs.Notation.{_⊗_, bits}
+use Rattle.arith.specs.Notation.{_⊗_}
+use Rattle.arith.specs.Constants.{hundredth}
 use Rattle.base_lists.specs.Result.{Result, refused, got, bind, each}
 use Rattle.base_lists.specs.All.{none}
 use Rattle.base_lists.proofs.Order.{sub-length}
@@ -20,7 +21,7 @@ use Rattle.knots.specs.Knots.{curveKnots, curveBreaks, deviation}
 use Rattle.edge_params.proofs.Runs.{good-number}
 use Rattle.edge_params.proofs.Steady.{Steady, steady-sub, steady-one-way, two-one-way, two-steady}
 use Rattle.edge_params.proofs.Lists.{sampled-length, sampled-refused}
-use Rattle.edge_params.proofs.Sampled.{sampled-steady, thin-sound}
+use Rattle.edge_params.proofs.Sampled.{sampled-steady, thin-sampleable}
 use Rattle.edge_record.specs.declared.Sample.{Sample}
 use Rattle.edge_record.specs.Chain.{lastOf}
 use Rattle.edge_record.proofs.Shorter.{Shorter, shorter-same, shorter-trans, shorter-sub, shorter-two, shorter-first, shorter-last, shorter-between}
@@ -36,7 +37,7 @@ use Rattle.draw_spec.specs.Draw.{Sound}
 use Rattle.draw_spec.proofs.Tame.{Tame}
 use Rattle.draw_spec.proofs.Ranges.{Ends, Goods, usable-goods}
 use Rattle.draw_spec.proofs.Placed.{Own, Placed, placed-holds, placed-length}
-use Rattle.draw_spec.proofs.Outcome.{Outcome, answer, eight, nine}
+use Rattle.draw_spec.proofs.Answers.{Answers, answer, eight, nine}
 
 -- a chain that fits the room, and of which the five clauses hold, given H
 pub record Chained (H : Type 0) (t : Tables) (e : Edge) (floor : Float) (room : ℕ) (l : List Sample) : Type 0 where
@@ -75,7 +76,7 @@ last-at d (p ∷ l) h = let z : length (p ∷ l) - 1 ≡ length l = omega arith 
 module _ (r : Resolved) (l : List Sample) (two : 2 ≤ length l) where
   thinned-shorter : (b : Bool) (k : List Sample) → thinnedIf b r l ≡ got k → Shorter k l
   unfolding thinnedIf
-  thinned-shorter true k q = thin-shorter (r .sag ⊗ bits 0x3F847AE147AE147B) (r .angle) (r .segments + 1) l k two q
+  thinned-shorter true k q = thin-shorter (r .sag ⊗ hundredth) (r .angle) (r .segments + 1) l k two q
   thinned-shorter false k q = let x : l ≡ k = cc in subst (λ (m : List Sample). Shorter m l) x (itself l two)
     where
       itself : (l : List Sample) → 2 ≤ length l → Shorter l l
@@ -85,7 +86,7 @@ module _ (r : Resolved) (l : List Sample) (two : 2 ≤ length l) where
 
   thinned-refused : (b : Bool) (n : ℕ) → thinnedIf b r l ≡ refused n → n ≡ 9
   unfolding thinnedIf
-  thinned-refused true n q = thin-refused (r .sag ⊗ bits 0x3F847AE147AE147B) (r .angle) (r .segments + 1) l n q
+  thinned-refused true n q = thin-refused (r .sag ⊗ hundredth) (r .angle) (r .segments + 1) l n q
   thinned-refused false n q = absurd (let z : _≡_ {A = ℕ} 0 1 = cc in omega arith)
 
   merged-length : (floor : Float) (k : List Sample) → Shorter k l → length (merged floor k) ≤ length l
@@ -111,25 +112,25 @@ merged-sound t e l p floor k s =
     }
 
 module _ (t : Tables) (e : Edge) (r : Resolved) where
-  abbrev floorOf : Float
-  floorOf = mergeFloor (e .tolerance) (r .sag)
+  abbrev edgeFloor : Float
+  edgeFloor = mergeFloor (e .tolerance) (r .sag)
 
-  finished-outcome : (H : Type 0) (room : ℕ) (params : List Float) → 2 ≤ length params → length params ≤ room → (H → Steady params)
-      → Outcome (Chained H t e floorOf room) (finished t e r params)
+  finished-answers : (H : Type 0) (room : ℕ) (params : List Float) → 2 ≤ length params → length params ≤ room → (H → Steady params)
+      → Answers (Chained H t e edgeFloor room) (finished t e r params)
   unfolding finished
-  finished-outcome H room params h n s = go (thinnedIf (isSampled (edgeCurve t e)) r (placed t e params)) refl
+  finished-answers H room params h n s = go (thinnedIf (isSampled (edgeCurve t e)) r (placed t e params)) refl
     where
       long : 2 ≤ length (placed t e params)
       long = omega (arith, placed-length t e params)
 
       go : (x : Result (List Sample)) → thinnedIf (isSampled (edgeCurve t e)) r (placed t e params) ≡ x
-          → Outcome (Chained H t e floorOf room) (each (merged floorOf) x)
+          → Answers (Chained H t e edgeFloor room) (each (merged edgeFloor) x)
       go (got k) q =
           let l = placed t e params in
           let u = thinned-shorter r l long (isSampled (edgeCurve t e)) k q in
           answer (record {
-            sound = λ x. merged-sound t e l (placed-holds t e params h (s x)) floorOf k u;
-            fits = omega (arith, merged-length r l long floorOf k u, placed-length t e params);
+            sound = λ x. merged-sound t e l (placed-holds t e params h (s x)) edgeFloor k u;
+            fits = omega (arith, merged-length r l long edgeFloor k u, placed-length t e params);
           })
       go (refused k) q = let z = thinned-refused r (placed t e params) long (isSampled (edgeCurve t e)) k q in rw z nine
 
@@ -159,33 +160,33 @@ module _ (range : Interval) where
 
 -- ---- discretise
 module _ (H : Type 0) (t : Tables) (e : Edge) (tame : H → Tame (edgeCurve t e)) (ends : H → Ends (e .range)) (room : ℕ) (fine : Room room) (r : Resolved) where
-  sampled-outcome : (range : Interval) → (H → Goods range)
-      → Outcome (Chained H t e (floorOf t e r) room) (overRange room t e r range)
+  sampled-answers : (range : Interval) → (H → Goods range)
+      → Answers (Chained H t e (edgeFloor t e r) room) (overRange room t e r range)
   unfolding sampled sampler curveBreaks
-  sampled-outcome range g = go (sampled room (edgeCurve t e) range r) refl
+  sampled-answers range g = go (sampled room (edgeCurve t e) range r) refl
     where
       go : (x : Result (List Float)) → sampled room (edgeCurve t e) range r ≡ x
-          → Outcome (Chained H t e (floorOf t e r) room) (bind x (λ params. finished t e r (atLeastTwo range params)))
+          → Answers (Chained H t e (edgeFloor t e r) room) (bind x (λ params. finished t e r (atLeastTwo range params)))
       go (refused n) q = let z = sampled-refused room (sampler (edgeCurve t e) range r) range n q in rw z eight
       go (got l) q =
           let c = edgeCurve t e in
           let s = sampler c range r in
-          finished-outcome t e r H room (atLeastTwo range l) (at-least-two range l)
+          finished-answers t e r H room (atLeastTwo range l) (at-least-two range l)
           (at-most range room (fine .least) l (sampled-length room s range l q))
           (λ x.
           still-steady range (g x) l
           (sampled-steady s range
-          (thin-sound s range (curveKnots c) (r .sag) (deviation (pointAt c)) refl (tame x .knots) (g x .low) (g x .high))
+          (thin-sampleable s range (curveKnots c) (r .sag) (deviation (pointAt c)) refl (tame x .knots) (g x .low) (g x .high))
           room (fine .most) l q))
 
-  pub discretised-outcome : Outcome (Chained H t e (mergeFloor (e .tolerance) (r .sag)) room) (discretised room t e r)
+  pub discretised-answers : Answers (Chained H t e (mergeFloor (e .tolerance) (r .sag)) room) (discretised room t e r)
   unfolding discretised
-  discretised-outcome = go (usableRange (edgeCurve t e) (e .range)) refl
+  discretised-answers = go (usableRange (edgeCurve t e) (e .range)) refl
     where
       go : (u : Usable) → usableRange (edgeCurve t e) (e .range) ≡ u
-          → Outcome (Chained H t e (mergeFloor (e .tolerance) (r .sag)) room) (elim u [
+          → Answers (Chained H t e (mergeFloor (e .tolerance) (r .sag)) room) (elim u [
             | Unusable ↦ got (chordOf t e (e .range .lo) (e .range .hi))
             | Range range ↦ overRange room t e r range
           ])
       go Unusable q = answer (chord-chained H t e (mergeFloor (e .tolerance) (r .sag)) room (fine .least) (e .range .lo) (e .range .hi))
-      go (Range range) q = sampled-outcome range (λ x. usable-goods (edgeCurve t e) (tame x) range (e .range) (ends x) q)
+      go (Range range) q = sampled-answers range (λ x. usable-goods (edgeCurve t e) (tame x) range (e .range) (ends x) q)

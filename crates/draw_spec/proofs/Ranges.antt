@@ -4,11 +4,13 @@ use mathlib.Core.Bool.{Bool, true, false, cond, not, _&&_, _||_, Bool·beq}
 use Prim.Native.Nat.{ℕ, zero, suc, _≤_}
 use native.Mathlib.Omega.{arith}
 use lib.Dec.{T}
-use lib.Ieee.{Float, nan, inf, fin, binary64, le, lt, isNan, ofBits, ofInt, add}
+use lib.Ieee.{Float, nan, inf, fin, binary64, le, lt, isNan, ofBits, add}
 use lib.Ieee.Scale.{finite}
 use lib.Ieee.Fits.{add-fits, sub-fits}
 use Rattle.arith_order.proofs.Lerp.{quot-low, quot-high, quot-finite}
-use Rattle.arith.specs.Notation.{_⊕_, _⊖_, _⊗_, _⊘_, bits, count, plusZero}
+use Rattle.arith.specs.Notation.{_⊕_, _⊖_, _⊗_, _⊘_, count, plusZero}
+use Rattle.arith.specs.Constants.{fiveTwelve, billion, billionth}
+use Rattle.arith.proofs.Constants.{constants}
 use Rattle.arith.specs.Pick.{absOf}
 use Rattle.math.specs.declared.Vec3.{Vec3}
 use Rattle.math.specs.declared.Interval.{Interval}
@@ -20,7 +22,7 @@ use Rattle.curve.specs.Eval.{naturalRange, period, pointAt}
 use Rattle.edge_params.proofs.Runs.{Good}
 use Rattle.edge_params.proofs.Ends.{Size, size-grows, size-good, abs-size, good-either, add-size, sub-size, Unit, part-size, at-good}
 use Rattle.edge_range.specs.declared.Usable.the-variants.{Range, Unusable}
-use Rattle.edge_range.specs.Usable.{ownRange, heldTo, withinDomain, isNoRange, usableRange}
+use Rattle.edge_range.specs.Usable.{ownRange, clampedToDomain, withinDomain, isNoRange, usableRange}
 use Rattle.draw_spec.specs.Repair.{sweepAt, nearestOf, nearest, orderedInterval}
 use Rattle.draw_spec.proofs.Tame.{Reach, Tame}
 
@@ -44,22 +46,21 @@ reach-goods range r = record {
 }
 
 -- ---- usable_range
--- 1e-9
-billionth : Unit (bits 0x3E112E0BE826D695)
+billionth-unit : Unit billionth
 unfolding ofBits le
-billionth = record { is-finite = tt; from = tt; to = tt }
+billionth-unit = record { is-finite = tt; from = tt; to = tt }
 
 module _ (natural : Interval) (r : Reach natural) where
-  slack-size : Size 41 (absOf (spanOf natural) ⊗ bits 0x3E112E0BE826D695)
+  slack-size : Size 41 (absOf (spanOf natural) ⊗ billionth)
   unfolding spanOf
   slack-size =
-      part-size 41 (omega arith) (absOf (spanOf natural)) (bits 0x3E112E0BE826D695)
-      (abs-size 41 (spanOf natural) (sub-size 40 (omega arith) (natural .hi) (natural .lo) (r .high) (r .low))) billionth
+      part-size 41 (omega arith) (absOf (spanOf natural)) billionth
+      (abs-size 41 (spanOf natural) (sub-size 40 (omega arith) (natural .hi) (natural .lo) (r .high) (r .low))) billionth-unit
 
-  held-goods : (range : Interval) → Goods range → Goods (heldTo natural range)
-  unfolding heldTo
-  held-goods range g =
-      let slack = absOf (spanOf natural) ⊗ bits 0x3E112E0BE826D695 in
+  clamped-goods : (range : Interval) → Goods range → Goods (clampedToDomain natural range)
+  unfolding clampedToDomain
+  clamped-goods range g =
+      let slack = absOf (spanOf natural) ⊗ billionth in
       let low = sub-size 41 (omega arith) (natural .lo) slack (size-grows 40 41 (natural .lo) (omega arith) (r .low)) slack-size in
       let high = add-size 41 (omega arith) (natural .hi) slack (size-grows 40 41 (natural .hi) (omega arith) (r .high)) slack-size in
       record {
@@ -78,7 +79,7 @@ no-range a e = absurd (let z : _≡_ {A = ℕ} 0 1 = cc in omega arith)
 module _ (c : CurveTree) (tame : Tame c) (found : Interval) where
   own-goods : ownRange (naturalRange c) ≡ Range found → Goods found
   unfolding ownRange
-  own-goods = go (finite (spanOf (naturalRange c)) && lt (absOf (spanOf (naturalRange c))) (bits 0x41CDCD6500000000))
+  own-goods = go (finite (spanOf (naturalRange c)) && lt (absOf (spanOf (naturalRange c))) billion)
     where
       go : (b : Bool) → cond b (Range (naturalRange c)) Unusable ≡ Range found → Goods found
       go true e = found-is (naturalRange c) found e (reach-goods (naturalRange c) (tame .own))
@@ -87,7 +88,7 @@ module _ (c : CurveTree) (tame : Tame c) (found : Interval) where
   domain-goods : (range : Interval) → Goods range → (p : Repeats) → Goods (withinDomain p (naturalRange c) range)
   unfolding withinDomain
   domain-goods range g (Every p) = g
-  domain-goods range g Never = held-goods (naturalRange c) (tame .own) range g
+  domain-goods range g Never = clamped-goods (naturalRange c) (tame .own) range g
 
   both-finite : (a b s : Bool) → not a || (not b || s) ≡ false → T a × T b
   both-finite true true s e = (tt, tt)
@@ -127,15 +128,11 @@ complement-ends range p h l s = record {
 }
 
 -- ---- the short arc
-steps : bits 0x4080000000000000 ≡ count 512
-unfolding ofBits ofInt
-steps = refl
-
 module _ (c : CurveTree) (tame : Tame c) where
   sweep-good : (i : ℕ) → i ≤ 512 → Good (sweepAt (naturalRange c) i)
   sweep-good i h =
-      at-good (naturalRange c) (count i ⊘ bits 0x4080000000000000) (tame .own .low) (tame .own .high)
-      (rw steps
+      at-good (naturalRange c) (count i ⊘ fiveTwelve) (tame .own .low) (tame .own .high)
+      (rw (constants .isFiveTwelve)
       (record {
         is-finite = quot-finite binary64 512 (omega arith) (omega arith) i h;
         from = quot-low binary64 512 (omega arith) (omega arith) i h;

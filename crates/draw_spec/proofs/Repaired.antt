@@ -26,8 +26,8 @@ use Rattle.draw_spec.specs.Repair.{Got, by, withRange, reference, escape
 use Rattle.draw_spec.specs.Draw.{firstWay, drawnIn}
 use Rattle.draw_spec.proofs.Tame.{Tame}
 use Rattle.draw_spec.proofs.Ranges.{Ends, goods-ends, complement-ends, short-goods}
-use Rattle.draw_spec.proofs.Outcome.{Outcome, answer, outcome-bind}
-use Rattle.draw_spec.proofs.Discretised.{Chained, Room, chord-chained, discretised-outcome}
+use Rattle.draw_spec.proofs.Answers.{Answers, answer, answers-bind}
+use Rattle.draw_spec.proofs.Discretised.{Chained, Room, chord-chained, discretised-answers}
 
 -- an edge's own range: a lo that is finite is small enough to have a period added to it
 pub record OwnRange (range : Interval) : Type 0 where
@@ -47,27 +47,27 @@ module _ (H : Type 0) (t : Tables) (e : Edge) (tame : H → Tame (edgeCurve t e)
   }
 
   redrawn : (range : Interval) → (H → Ends range) → (f : List Sample → Result Got)
-      → ((l : List Sample) → Chained H t e (mergeFloor (e .tolerance) (r .sag)) room l → Outcome Fine (f l))
-      → Outcome Fine (bind (discretised room t (withRange e range) r) f)
+      → ((l : List Sample) → Chained H t e (mergeFloor (e .tolerance) (r .sag)) room l → Answers Fine (f l))
+      → Answers Fine (bind (discretised room t (withRange e range) r) f)
   redrawn range ends f g =
-      outcome-bind f (discretised-outcome H t (withRange e range) tame ends room fine r) (λ l c. g l (another range l c))
+      answers-bind f (discretised-answers H t (withRange e range) tame ends room fine r) (λ l c. g l (another range l c))
 
-  runaway-fine : Outcome Fine (got (runaway t e))
+  runaway-fine : Answers Fine (got (runaway t e))
   runaway-fine = answer (chord-chained H t e (mergeFloor (e .tolerance) (r .sag)) room (fine .least) (e .range .lo) (e .range .lo))
 
-  arc-fine : (arc : List Sample) → Chained H t e (mergeFloor (e .tolerance) (r .sag)) room arc → Outcome Fine (got (arcOrChord t e r arc))
+  arc-fine : (arc : List Sample) → Chained H t e (mergeFloor (e .tolerance) (r .sag)) room arc → Answers Fine (got (arcOrChord t e r arc))
   unfolding arcOrChord
   arc-fine arc c = go (serves t e r arc)
     where
-      go : (b : Bool) → Outcome Fine (got (cond b (by ShortArc arc) (runaway t e)))
+      go : (b : Bool) → Answers Fine (got (cond b (by ShortArc arc) (runaway t e)))
       go true = answer c
       go false = runaway-fine
 
-  short-outcome : Outcome Fine (byShortArc room t e r)
+  short-answers : Answers Fine (byShortArc room t e r)
   unfolding byShortArc
-  short-outcome = go (hasShortArc t e)
+  short-answers = go (hasShortArc t e)
     where
-      go : (b : Bool) → Outcome Fine (elim b [
+      go : (b : Bool) → Answers Fine (elim b [
         | true ↦ bind (discretised room t (withRange e (shortRange t e)) r) (λ arc. got (arcOrChord t e r arc))
         | false ↦ got (runaway t e)
       ])
@@ -77,16 +77,16 @@ module _ (H : Type 0) (t : Tables) (e : Edge) (tame : H → Tame (edgeCurve t e)
           (λ arc. got (arcOrChord t e r arc)) arc-fine
       go false = runaway-fine
 
-  complement-outcome : (p : Float) → (H → Size 40 p) → Outcome Fine (byComplement room t e r p)
+  complement-answers : (p : Float) → (H → Size 40 p) → Answers Fine (byComplement room t e r p)
   unfolding byComplement
-  complement-outcome p s = go (lt plusZero (spanOf (complementRange e p)))
+  complement-answers p s = go (lt plusZero (spanOf (complementRange e p)))
     where
       kept : (arc : List Sample) → Chained H t e (mergeFloor (e .tolerance) (r .sag)) room arc → (b : Bool)
-          → Outcome Fine (elim b [ true ↦ byShortArc room t e r | false ↦ got (by Complement arc) ])
-      kept arc c true = short-outcome
+          → Answers Fine (elim b [ true ↦ byShortArc room t e r | false ↦ got (by Complement arc) ])
+      kept arc c true = short-answers
       kept arc c false = answer c
 
-      go : (b : Bool) → Outcome Fine (elim b [
+      go : (b : Bool) → Answers Fine (elim b [
         | true ↦ bind (discretised room t (withRange e (complementRange e p)) r) (complementOrShort room t e r)
         | false ↦ byShortArc room t e r
       ])
@@ -95,25 +95,25 @@ module _ (H : Type 0) (t : Tables) (e : Edge) (tame : H → Tame (edgeCurve t e)
           (λ x. complement-ends (e .range) p (own x .ends) (own x .low) (s x))
           (complementOrShort room t e r)
           (λ arc c. kept arc c (escapes (reference t e) r arc))
-      go false = short-outcome
+      go false = short-answers
 
-  period-outcome : (p : Repeats) → period (edgeCurve t e) ≡ p → Outcome Fine (byPeriod room t e r p)
+  period-answers : (p : Repeats) → period (edgeCurve t e) ≡ p → Answers Fine (byPeriod room t e r p)
   unfolding byPeriod
-  period-outcome (Every p) q = complement-outcome p (λ x. tame x .every p q)
-  period-outcome Never q = short-outcome
+  period-answers (Every p) q = complement-answers p (λ x. tame x .every p q)
+  period-answers Never q = short-answers
 
-  repaired-outcome : (g : Got) → Fine g → Outcome Fine (repaired room t e r g)
+  repaired-answers : (g : Got) → Fine g → Answers Fine (repaired room t e r g)
   unfolding repaired
-  repaired-outcome g c = go (stays t e r (g .chain))
+  repaired-answers g c = go (stays t e r (g .chain))
     where
-      go : (b : Bool) → Outcome Fine (elim b [ true ↦ got g | false ↦ byPeriod room t e r (period (edgeCurve t e)) ])
+      go : (b : Bool) → Answers Fine (elim b [ true ↦ got g | false ↦ byPeriod room t e r (period (edgeCurve t e)) ])
       go true = answer c
-      go false = period-outcome (period (edgeCurve t e)) refl
+      go false = period-answers (period (edgeCurve t e)) refl
 
   -- whichever way
-  pub drawn-in-outcome : Outcome (λ (g : Got). Chained H t e (mergeFloor (e .tolerance) (r .sag)) room (g .chain)) (drawnIn room t e r)
+  pub drawn-in-answers : Answers (λ (g : Got). Chained H t e (mergeFloor (e .tolerance) (r .sag)) room (g .chain)) (drawnIn room t e r)
   unfolding drawnIn
-  drawn-in-outcome =
+  drawn-in-answers =
       let way = firstWay (usableRange (edgeCurve t e) (e .range)) in
-      outcome-bind (λ chain. repaired room t e r (by way chain)) (discretised-outcome H t e tame (λ x. own x .ends) room fine r)
-      (λ l c. repaired-outcome (by way l) c)
+      answers-bind (λ chain. repaired room t e r (by way chain)) (discretised-answers H t e tame (λ x. own x .ends) room fine r)
+      (λ l c. repaired-answers (by way l) c)

@@ -17,20 +17,21 @@ use Rattle.causes.specs.Causes.{verdict}
 use Rattle.causes_bounds.proofs.Laws.{neither}
 use Rattle.causes.proofs.Checked.{checked, verdict-numbers}
 use Rattle.edge_params.proofs.Ends.{size-grows, size-good}
+use Rattle.edge_record.specs.Chain.{shortest}
 use Rattle.edge_merge.specs.Merge.{mergeFloor}
 use Rattle.draw_spec.specs.Repair.{Got}
 use Rattle.draw_spec.specs.Draw.{localOptions, drawnIn, roomOf, tooShort, drawn, Sound}
-use Rattle.draw_spec.specs.Own.Binary.{Fitting}
+use Rattle.draw_spec.specs.Own.Binary.{AllBinary64}
 use Rattle.draw_spec.proofs.Tame.{bounded-size, tree-tame}
 use Rattle.draw_spec.proofs.Accepted.{Refuses, by-tables, by-buffers, by-drawing, accepts, refuses}
-use Rattle.draw_spec.proofs.Outcome.{Outcome, outcome-got, outcome-refused}
+use Rattle.draw_spec.proofs.Answers.{Answers, answers-got, answers-refused}
 use Rattle.draw_spec.proofs.Discretised.{Chained, Room}
-use Rattle.draw_spec.proofs.Repaired.{OwnRange, drawn-in-outcome}
+use Rattle.draw_spec.proofs.Repaired.{OwnRange, drawn-in-answers}
 
 -- that the floats are binary64, as those of a function's f64 arguments and lent slices of f64 are
 pub record Binary (t : Tables) (e : Edge) : Type 0 where
-  pub reals : Fitting (t .reals)
-  pub ranges : Fitting (t .ranges)
+  pub reals : AllBinary64 (t .reals)
+  pub ranges : AllBinary64 (t .ranges)
   pub lo : T (fits binary64 (e .range .lo))
   pub hi : T (fits binary64 (e .range .hi))
 
@@ -38,9 +39,9 @@ pub record Binary (t : Tables) (e : Edge) : Type 0 where
 room-fine : (first second : ℕ) → tooShort first second ≡ false → Room (roomOf first second)
 unfolding roomOf
 room-fine first second h =
-    let k = neither (ltb first 8) (ltb second 8) h in
-    let p = ltb-false first 8 (k .0) in
-    let q = ltb-false second 8 (k .1) in
+    let k = neither (ltb first shortest) (ltb second shortest) h in
+    let p = ltb-false first shortest (k .0) in
+    let q = ltb-false second shortest (k .1) in
     record { least = omega arith; most = omega arith }
 
 module _ (t : Tables) (e : Edge) (o : Options) (first second : ℕ) where
@@ -56,16 +57,16 @@ module _ (t : Tables) (e : Edge) (o : Options) (first second : ℕ) where
         low = λ f. size-grows 30 40 (e .range .lo) (omega arith) (bounded-size (e .range .lo) (k .loBounded f));
       }
 
-  outcome : verdict t e o ≡ Accepted → tooShort first second ≡ false
-      → Outcome (λ (g : Got). Chained (Binary t e) t e (mergeFloor (e .tolerance) (localOptions t e o .sag)) (roomOf first second) (g .chain))
+  drawn-answers : verdict t e o ≡ Accepted → tooShort first second ≡ false
+      → Answers (λ (g : Got). Chained (Binary t e) t e (mergeFloor (e .tolerance) (localOptions t e o .sag)) (roomOf first second) (g .chain))
       (drawnIn (roomOf first second) t e (localOptions t e o))
-  outcome a h =
+  drawn-answers a h =
       let k = checked t e o a in
-      drawn-in-outcome (Binary t e) t e (λ b. tree-tame t e o k (b .reals) (b .ranges) (e .curve) (k .curveInside)) (own-range a) (roomOf first second)
+      drawn-in-answers (Binary t e) t e (λ b. tree-tame t e o k (b .reals) (b .ranges) (e .curve) (k .curveInside)) (own-range a) (roomOf first second)
       (room-fine first second h) (localOptions t e o)
 
   chained : (g : Got) → drawn t e o first second ≡ got g → Chained (Binary t e) t e (mergeFloor (e .tolerance) (localOptions t e o .sag)) (roomOf first second) (g .chain)
-  chained g q = let a = accepts t e o first second g q in outcome-got g (outcome (a .accepted) (a .long)) (a .made)
+  chained g q = let a = accepts t e o first second g q in answers-got g (drawn-answers (a .accepted) (a .long)) (a .made)
 
   -- DEMAND 3: of a chain, whichever way it was got, all five clauses hold together
   pub drawn-sound : (g : Got) → Binary t e → drawn t e o first second ≡ got g → Sound t e (mergeFloor (e .tolerance) (localOptions t e o .sag)) (g .chain)
@@ -77,7 +78,7 @@ module _ (t : Tables) (e : Edge) (o : Options) (first second : ℕ) where
 
   -- ---- the numbers of refusals
   pub drawn-late : (n : ℕ) → drawnIn (roomOf first second) t e (localOptions t e o) ≡ refused n → verdict t e o ≡ Accepted → tooShort first second ≡ false → (n ≡ 8) ⊎ (n ≡ 9)
-  drawn-late n q a h = outcome-refused n (outcome a h) q
+  drawn-late n q a h = answers-refused n (drawn-answers a h) q
 
   pub drawn-numbers : (n : ℕ) → drawn t e o first second ≡ refused n → (1 ≤ n) × (n ≤ 9)
   drawn-numbers n q = go (refuses t e o first second n q)

@@ -13,7 +13,8 @@ use lib.Ieee.Scale.{finite}
 use lib.Ieee.Fits.{ofInt-fits}
 use Rattle.arith_order.proofs.Laws.{le-trans, whole-le}
 use Rattle.arith_order.proofs.Modest.{big}
-use Rattle.arith.specs.Notation.{_⊖_, bits, count, plusZero}
+use Rattle.arith.specs.Notation.{_⊖_, count, plusZero}
+use Rattle.arith.specs.Constants.{million, trillion}
 use Rattle.math.specs.declared.Vec3.{Vec3}
 use Rattle.math.specs.declared.Frame.{Frame}
 use Rattle.math.specs.declared.Interval.{Interval}
@@ -28,8 +29,9 @@ use Rattle.brep.proofs.Laws.{lower, length-run}
 use Rattle.causes_bounds.specs.Bounds.{largest}
 use Rattle.causes_form.specs.Forms.{pointCount, curveCount, segmentCount, targets}
 use Rattle.options.specs.declared.Options.{Options}
+use Rattle.causes.specs.Causes.{mostPoints}
 use Rattle.causes.proofs.Checked.{Bounded, Checked}
-use Rattle.draw_spec.specs.Own.Binary.{Fitting}
+use Rattle.draw_spec.specs.Own.Binary.{AllBinary64}
 use Rattle.curve.specs.declared.Repeats.the-variants.{Every, Never}
 use Rattle.curve.specs.Eval.{tau, naturalRange, closes, everySpan, period}
 use Rattle.curve.proofs.Laws.{count-segments}
@@ -37,17 +39,17 @@ use Rattle.knots.specs.Knots.{segmentKnots, curveKnots}
 use Rattle.edge_params.proofs.Ends.{Size, size-grows, sub-size}
 
 -- a slice that has no floats
-pub fitting-none : (l : List Float) → length l ≡ 0 → Fitting l
+pub binary64-none : (l : List Float) → length l ≡ 0 → AllBinary64 l
 unfolding fits
-fitting-none [] h i = tt
-fitting-none (x ∷ l) h i = absurd (omega arith)
+binary64-none [] h i = tt
+binary64-none (x ∷ l) h i = absurd (omega arith)
 
 -- ---- sizes
 record Facts : Type 0 where
   pub billion-low : T (le (big 30 true) (neg largest))
   pub billion-high : T (le largest (big 30 false))
   pub count-low : T (le (big 16 true) (count 0))
-  pub count-high : T (le (count 65536) (big 16 false))
+  pub count-high : T (le (count mostPoints) (big 16 false))
   pub turn-fits : T (fits binary64 tau)
   pub turn : Size 40 tau
   pub zero-fits : T (fits binary64 plusZero)
@@ -72,10 +74,10 @@ bounded-size x b = (
   le-trans x largest (big 30 false) (b .1) (facts .billion-high),
 )
 
-count-size : (n : ℕ) → n ≤ 65536 → Size 16 (count n)
+count-size : (n : ℕ) → n ≤ mostPoints → Size 16 (count n)
 count-size n h = (
   le-trans (big 16 true) (count 0) (count n) (facts .count-low) (whole-le binary64 0 n (omega arith)),
-  le-trans (count n) (count 65536) (big 16 false) (whole-le binary64 n 65536 h) (facts .count-high),
+  le-trans (count n) (count mostPoints) (big 16 false) (whole-le binary64 n mostPoints h) (facts .count-high),
 )
 
 -- ---- both ends of a range: binary64, and at most 2 ^ 40 from 0
@@ -93,7 +95,7 @@ turn-reach = record {
   high-fits = facts .turn-fits;
 }
 
-count-reach : (n : ℕ) → n ≤ 65536 → Reach (interval plusZero (count n))
+count-reach : (n : ℕ) → n ≤ mostPoints → Reach (interval plusZero (count n))
 count-reach n h = record {
   low = size-grows 16 40 plusZero (omega arith) (facts .zero);
   low-fits = facts .zero-fits;
@@ -101,11 +103,11 @@ count-reach n h = record {
   high-fits = ofInt-fits binary64 (pos n);
 }
 
-line-reach : Reach (interval (neg (bits 0x426D1A94A2000000)) (bits 0x426D1A94A2000000))
+line-reach : Reach (interval (neg trillion) trillion)
 unfolding le neg ofBits fits
 line-reach = record { low = (tt, tt); low-fits = tt; high = (tt, tt); high-fits = tt }
 
-parabola-reach : Reach (interval (neg (bits 0x412E848000000000)) (bits 0x412E848000000000))
+parabola-reach : Reach (interval (neg million) million)
 unfolding le neg ofBits fits
 parabola-reach = record { low = (tt, tt); low-fits = tt; high = (tt, tt); high-fits = tt }
 
@@ -129,7 +131,7 @@ span-period span p s = go (lt plusZero span && finite span)
     go true e = let q : span ≡ p = cc in subst (Size 40) q s
     go false e = no-period p e
 
-polyline-tame : (ps : List Vec3) → length ps - 1 ≤ 65536 → Tame (polyline ps)
+polyline-tame : (ps : List Vec3) → length ps - 1 ≤ mostPoints → Tame (polyline ps)
 unfolding naturalRange period curveKnots spanOf
 polyline-tame ps h = record { own = count-reach (length ps - 1) h; every = λ p. go p (closes ps); knots = none }
   where
@@ -146,20 +148,20 @@ data Row : Curve → Type 0 where
   a-circle : {f : Frame} {r : Float} → Row (Circle f r)
   an-ellipse : {f : Frame} {a b : Float} → Row (Ellipse f a b)
   a-parabola : {f : Frame} {d : Float} → Row (Parabola f d)
-  a-polyline : {first n : ℕ} → n ≤ 65536 → Row (Polyline first n)
+  a-polyline : {first n : ℕ} → n ≤ mostPoints → Row (Polyline first n)
   a-trim : {base : ℕ} {range : Interval} → Reach range → Row (Trimmed base range)
-  a-composite : {first n : ℕ} → n ≤ 65536 → Row (Composite first n)
+  a-composite : {first n : ℕ} → n ≤ mostPoints → Row (Composite first n)
 
 pick : (b : Bool) {x y : Curve} → Row x → Row y → Row (cond b x y)
 pick true u v = u
 pick false u v = v
 
-module _ (t : Tables) (e : Edge) (o : Options) (h : Checked t e o) (reals : Fitting (t .reals)) (ranges : Fitting (t .ranges)) where
-  room-size : (kind : ℕ) → targets t kind ≤ 65536
+module _ (t : Tables) (e : Edge) (o : Options) (h : Checked t e o) (reals : AllBinary64 (t .reals)) (ranges : AllBinary64 (t .ranges)) where
+  room-size : (kind : ℕ) → targets t kind ≤ mostPoints
   unfolding targets
   room-size kind = go (eqb kind 6) (eqb kind 7)
     where
-      go : (a b : Bool) → cond a (curveCount t) (cond b (segmentCount t) (pointCount t)) ≤ 65536
+      go : (a b : Bool) → cond a (curveCount t) (cond b (segmentCount t) (pointCount t)) ≤ mostPoints
       go true b = omega (arith, h .curvesAtMost)
       go false true = omega (arith, h .segmentsAtMost)
       go false false = h .pointsAtMost
@@ -171,7 +173,7 @@ module _ (t : Tables) (e : Edge) (o : Options) (h : Checked t e o) (reals : Fitt
   unfolding curveOf kindOf
   row-is i l =
       let kind = getD (t .curves) (i * 3) 0 in
-      let n : getD (t .curves) (i * 3 + 2) 0 ≤ 65536 = omega (arith, h .runInside i l, room-size kind) in
+      let n : getD (t .curves) (i * 3 + 2) 0 ≤ mostPoints = omega (arith, h .runInside i l, room-size kind) in
       let m = h .realsAsMany in
       pick (eqb kind 1) a-line
       (pick (eqb kind 2) a-circle

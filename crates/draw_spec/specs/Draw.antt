@@ -58,6 +58,7 @@ roomOf first second = min most (min (first / width) (second / width))
 abbrev pub programPoints : ℕ
 programPoints = 2048
 
+-- and so many floats in each
 abbrev pub programFloats : ℕ
 programFloats = width * programPoints
 
@@ -102,11 +103,12 @@ chainFloats (Chain way n) = width * n
 abbrev pub afterRefusal : ℕ → List Float → List Float
 afterRefusal n entry = cond (leb n 7) entry (filled (length entry) [])
 
--- the first buffer, and the second; a buffer that holds no chain is all +0.0
+-- the first buffer: a chain that lies there, and +0.0 behind it; all +0.0 where the chain lies in the second
 unfoldable pub firstAfter : List Float → Result Got → List Float
 firstAfter entry (refused n) = afterRefusal n entry
 firstAfter entry (got g) = filled (length entry) (cond (inFirst (g .way)) (flat (g .chain)) [])
 
+-- the second buffer: a chain that lies there, and +0.0 behind it; all +0.0 where the chain lies in the first
 unfoldable pub secondAfter : List Float → Result Got → List Float
 secondAfter entry (refused n) = afterRefusal n entry
 secondAfter entry (got g) = filled (length entry) (cond (inFirst (g .way)) [] (flat (g .chain)))

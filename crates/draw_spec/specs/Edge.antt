@@ -28,15 +28,18 @@ use Rattle.edge_sample.specs.Sample.{sampled}
 unfoldable pub use Rattle.edge_closed_form.specs.Located.{located}
 
 -- ---- the edge's curve, vertices and sense
+-- the curve of the edge's row
 abbrev pub edgeCurve : Tables → Edge → CurveTree
 edgeCurve T e = tree T (e .curve)
 
+-- its start vertex, and its end vertex
 abbrev pub edgeStart : Tables → Edge → Vec3
 edgeStart T e = pointOf (T .points) (e .start)
 
 abbrev pub edgeEnd : Tables → Edge → Vec3
 edgeEnd T e = pointOf (T .points) (e .end)
 
+-- whether it runs as its curve does
 abbrev pub sameSense : Edge → Bool
 sameSense e = not (eqb (e .sense) 0)
 
@@ -77,6 +80,7 @@ isReversed T e head tail =
     cond (degenerateEnds T e) (not (sameSense e))
     (lt (vLengthSquared (vSub tail (edgeStart T e))) (vLengthSquared (vSub head (edgeStart T e))))
 
+-- the chain turned to run from the start vertex to the end vertex
 unfoldable pub oriented : Tables → Edge → List Sample → List Sample
 oriented T e [] = []
 oriented T e (s ∷ l) = cond (isReversed T e (s .point) (lastOf s l .point)) (reverse (s ∷ l)) (s ∷ l)
@@ -85,11 +89,12 @@ oriented T e (s ∷ l) = cond (isReversed T e (s .point) (lastOf s l .point)) (r
 abbrev pub movedTo : Vec3 → Sample → Sample
 movedTo p s = record { point = p; param = s .param }
 
--- the ends pinned to the vertices
+-- the last sample moved to the end vertex
 unfoldable pub lastPinned : Vec3 → Sample → List Sample → List Sample
 lastPinned end s [] = movedTo end s ∷ []
 lastPinned end s (q ∷ l) = s ∷ lastPinned end q l
 
+-- both ends pinned to the vertices
 unfoldable pub pinned : Vec3 → Vec3 → List Sample → List Sample
 pinned start end [] = []
 pinned start end (s ∷ l) = lastPinned end (movedTo start s) l

@@ -29,6 +29,7 @@ pub record Got : Type 0 where
   pub way : Way
   pub chain : List Sample
 
+-- a chain that was got this way
 abbrev pub by : Way → List Sample → Got
 by way chain = record { way = way; chain = chain }
 

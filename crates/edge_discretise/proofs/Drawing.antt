@@ -21,14 +21,14 @@ use Rattle.edge_params.specs.Own.Written.{said}
 use Rattle.edge_record.specs.declared.Sample.{Sample}
 use Rattle.edge_record.specs.declared.Counted.{Counted}
 use Rattle.edge_record.specs.declared.Counted.the-variants.{Refused, Count}
-use Rattle.edge_record.specs.Own.Stored.{pointAt, countedOf}
+use Rattle.edge_record.specs.Own.Stored.{recordPoint, countedOf}
 use Rattle.edge_record.specs.Chain.{width, most, flat, samples, samplePoint}
 use Rattle.curve.specs.Eval as eval
 use Rattle.edge_record.proofs.Laws.{pointOf-samples}
 use Rattle.edge_range.specs.declared.Usable.{Usable}
 use Rattle.edge_range.specs.declared.Usable.the-variants.{Range, Unusable}
 use Rattle.edge_range.specs.Usable.{usableRange}
-use Rattle.edge_sample.specs.Own.ListOf.{listOf}
+use Rattle.base_lists.specs.Own.ListOf.{listOf}
 use Rattle.edge_sample.specs.Sample.{sampled}
 use Rattle.edge_sample.specs.Own.Answered.{SampledInto}
 use Rattle.edge_sample.specs.Own.Tried.{tried, isKept}
@@ -40,17 +40,17 @@ use Rattle.draw_spec.specs.Edge.{edgeCurve, atLeastTwo, chordOf, placed, thinne
 use Rattle.draw_spec.specs.Draw.{roomOf}
 use Rattle.edge_place.specs.Own.Place.{PointsKnown}
 use Rattle.edge_place.proofs.Laws.{placed-length}
-use Rattle.edge_discretise.specs.Own.Discretised.{chainOf, ChainInto}
+use Rattle.edge_discretise.specs.Own.Discretised.{ChainInto}
 use Rattle.edge_discretise.proofs.Thinning.{read-back}
 
-drew : (n m : ℕ) (D E : Result (List Sample)) {w : Counted} {g : List Float} → n ≡ m → D ≡ E → ChainInto n D w g → ChainInto m E w g
-drew n m D E k e p = record {
+into-is : (n m : ℕ) (D E : Result (List Sample)) {w : Counted} {g : List Float} → n ≡ m → D ≡ E → ChainInto n D w g → ChainInto m E w g
+into-is n m D E k e p = record {
   answered = p .answered ∙ ap countedOf e;
-  holds = p .holds ∙ ap (λ (i : ℕ). filled i (flat (chainOf D))) k ∙ ap (λ (x : Result (List Sample)). filled m (flat (chainOf x))) e;
+  holds = p .holds ∙ ap (λ (i : ℕ). filled i (flat (listOf D))) k ∙ ap (λ (x : Result (List Sample)). filled m (flat (listOf x))) e;
 }
 
-pub drew-as : {n m : ℕ} {D : Result (List Sample)} {w : Counted} {g : List Float} → n ≡ m → ChainInto n D w g → ChainInto m D w g
-drew-as {n} {m} {D} e p = drew n m D D e refl p
+pub into-as : {n m : ℕ} {D : Result (List Sample)} {w : Counted} {g : List Float} → n ≡ m → ChainInto n D w g → ChainInto m D w g
+into-as {n} {m} {D} e p = into-is n m D D e refl p
 
 -- ---- `draw_range`
 two-or-more : (range : Interval) (l : List Float) → 2 ≤ length l → atLeastTwo range l ≡ l
@@ -114,8 +114,8 @@ module _ {room : ℕ} (T : Tables) (e : Edge) (r : Resolved) (range : Interval) 
       ∙ ap (finished T e r) (sym (two-or-more range (s .params) (omega (arith, s .two, s .size))))
       ∙ ap (λ (x : Result (List Float)). bind x (λ params. finished T e r (atLeastTwo range params))) (sym (s .is))
 
-  pub drew-some : (w : Counted) (g : List Float) → ChainInto (length d) (thinnedMerged T e r (samples n d)) w g → ChainInto (length chain) (overRange room T e r range) w g
-  drew-some w g = drew (length d) (length chain) _ _ (ap length p ∙ length-sets chain 0 (flat (placed T e (take n out)))) over-some
+  pub into-some : (w : Counted) (g : List Float) → ChainInto (length d) (thinnedMerged T e r (samples n d)) w g → ChainInto (length chain) (overRange room T e r range) w g
+  into-some w g = into-is (length d) (length chain) _ _ (ap length p ∙ length-sets chain 0 (flat (placed T e (take n out)))) over-some
 
 -- what sample_params left in the chain, where it says that these are the parameters' points
 module _ {room : ℕ} (T : Tables) (e : Edge) (r : Resolved) (range : Interval) {n : ℕ} {out : List Float} (s : Sampling room (sampled room (edgeCurve T e) range r) n out)
@@ -136,17 +136,17 @@ module _ {room : ℕ} (T : Tables) (e : Edge) (r : Resolved) (range : Interval) 
           ∙ ap (samples (length (located (edgeCurve T e) (s .params)))) (p ∙ ap (λ (l : List Float). sets chain 0 (flat (located (edgeCurve T e) l))) own)
           ∙ read-back chain (located (edgeCurve T e) (s .params)) (omega (arith, size, fits))
 
-      go : (i : ℕ) → i < n → pointAt left i ≡ eval.pointAt (edgeCurve T e) (getD (take n out) i nan)
+      go : (i : ℕ) → i < n → recordPoint left i ≡ eval.pointAt (edgeCurve T e) (getD (take n out) i nan)
       go i l =
           sym (pointOf-samples left n i l) ∙ ap (λ (q : List Sample). samplePoint q i) reads
           ∙ ap (λ (q : Sample). q .point) (located-at (edgeCurve T e) (s .params) i _ (omega (arith, s .size, l)))
           ∙ ap (λ (q : List Float). eval.pointAt (edgeCurve T e) (getD q i nan)) (sym (part s))
 
-pub drew-none : (S : Result (List Float)) (f : List Float → Result (List Sample)) (w : Listed) (chain g : List Float) → said w ≡ each length S → w ≡ listed.Refused
+pub into-none : (S : Result (List Float)) (f : List Float → Result (List Sample)) (w : Listed) (chain g : List Float) → said w ≡ each length S → w ≡ listed.Refused
     → g ≡ filled (length chain) (take 0 chain) → ChainInto (length chain) (bind S f) (Refused 8) g
 unfolding flat
-drew-none (refused n) f w chain g a e b = let q : refused 8 ≡ refused n = ap said (sym e) ∙ a in record { answered = cc; holds = b }
-drew-none (got l) f w chain g a e b = let q : refused 8 ≡ got (length l) = ap said (sym e) ∙ a in let z : _≡_ {A = ℕ} 0 1 = cc in absurd (omega arith)
+into-none (refused n) f w chain g a e b = let q : refused 8 ≡ refused n = ap said (sym e) ∙ a in record { answered = cc; holds = b }
+into-none (got l) f w chain g a e b = let q : refused 8 ≡ got (length l) = ap said (sym e) ∙ a in let z : _≡_ {A = ℕ} 0 1 = cc in absurd (omega arith)
 
 pub none-listed : (room : ℕ) (S : Result (List Float)) (w : Listed) {out : List Float} → said w ≡ each length S → w ≡ listed.Refused → out ≡ filled room (listOf S) → out ≡ filled room []
 none-listed room (refused n) w a e h = h
@@ -191,12 +191,12 @@ cleared-whole n left scratch h l q =
     ∙ filled-twice (length scratch) n h
 
 module _ (room : ℕ) (T : Tables) (e : Edge) (r : Resolved) (k : ℕ) {w : Counted} {g : List Float} (u : Usable) (own : u ≡ usableRange (edgeCurve T e) (e .range)) where
-  pub drew-range : (range : Interval) (j : ℕ) → u ≡ Range range → j ≡ room → ChainInto k (overRange j T e r range) w g → ChainInto k (discretised room T e r) w g
+  pub into-range : (range : Interval) (j : ℕ) → u ≡ Range range → j ≡ room → ChainInto k (overRange j T e r range) w g → ChainInto k (discretised room T e r) w g
   unfolding discretised
-  drew-range range j q h =
+  into-range range j q h =
       let s : overRange room T e r range ≡ discretised room T e r = rw (sym own ∙ q, discretised) in
-      drew k k _ _ refl (ap (λ (i : ℕ). overRange i T e r range) h ∙ s)
+      into-is k k _ _ refl (ap (λ (i : ℕ). overRange i T e r range) h ∙ s)
 
-  pub drew-chord : u ≡ Unusable → w ≡ Count 2 → g ≡ filled k (flat (chordOf T e (e .range .lo) (e .range .hi))) → ChainInto k (discretised room T e r) w g
+  pub into-chord : u ≡ Unusable → w ≡ Count 2 → g ≡ filled k (flat (chordOf T e (e .range .lo) (e .range .hi))) → ChainInto k (discretised room T e r) w g
   unfolding discretised
-  drew-chord q a b = rw (sym own ∙ q, discretised) (record { answered = a; holds = b })
+  into-chord q a b = rw (sym own ∙ q, discretised) (record { answered = a; holds = b })

@@ -11,7 +11,8 @@ use lib.Ieee.{Float, lt}
 use Rattle.base_lists.specs.Result.{Result, refused, got, each}
 use Rattle.base_lists.specs.Room.{filled}
 use Rattle.base_lists.proofs.Order.{sub-length}
-use Rattle.arith.specs.Notation.{_⊗_, bits, plusZero}
+use Rattle.arith.specs.Notation.{_⊗_, plusZero}
+use Rattle.arith.specs.Constants.{hundredth}
 use Rattle.math.specs.declared.Vec3.{Vec3}
 use Rattle.brep.specs.declared.Edge.{Edge}
 use Rattle.brep.specs.Rows.{Tables}
@@ -20,7 +21,7 @@ use Rattle.edge_record.specs.declared.Sample.{Sample}
 use Rattle.edge_record.specs.declared.Counted.{Counted}
 use Rattle.edge_record.specs.declared.Counted.the-variants.{Refused, Count}
 use Rattle.edge_record.specs.Own.Stored.{countedOf, after, ChainStored}
-use Rattle.edge_record.specs.Chain.{width, most, row, flat, samplePoint, samples}
+use Rattle.edge_record.specs.Chain.{width, shortest, most, row, flat, samplePoint, samples}
 use Rattle.edge_record.proofs.Laws.{length-flat, flat-one, push, samplesFrom-length, samples-own, reads, rest-cleared}
 use Rattle.edge_record.proofs.Shorter.{Shorter, shorter-same, shorter-sub, shorter-two}
 use Rattle.edge_merge.specs.Merge.{merged}
@@ -66,12 +67,12 @@ Passed c X w d = (w ≡ countedOf X) × (d ≡ after c X)
 
 module _ (r : Resolved) (c : List Float) (n : ℕ) (b sampled : Bool) (own : b ≡ sampled) where
   pub passed-thinned : (floor : ℕ) (w : Counted) (d : List Float) → b ≡ true → n ≤ most → floor ≡ min (r .segments) most
-      → Passed c (thinned (r .sag ⊗ bits 0x3F847AE147AE147B) (r .angle) (floor + 1) (samples n c)) w d
+      → Passed c (thinned (r .sag ⊗ hundredth) (r .angle) (floor + 1) (samples n c)) w d
       → Passed c (thinnedIf sampled r (samples n c)) w d
   unfolding thinnedIf
   passed-thinned floor w d t h e p =
-      let q : thinned (r .sag ⊗ bits 0x3F847AE147AE147B) (r .angle) (floor + 1) (samples n c) ≡ thinnedIf sampled r (samples n c) =
-      thin-capped (r .sag ⊗ bits 0x3F847AE147AE147B) (r .angle) (r .segments) floor (samples n c) (omega (arith, samplesFrom-length c 0 n)) e
+      let q : thinned (r .sag ⊗ hundredth) (r .angle) (floor + 1) (samples n c) ≡ thinnedIf sampled r (samples n c) =
+      thin-capped (r .sag ⊗ hundredth) (r .angle) (r .segments) floor (samples n c) (omega (arith, samplesFrom-length c 0 n)) e
       ∙ ap (λ (v : Bool). thinnedIf v r (samples n c)) (sym t ∙ own) in
       (p .0 ∙ ap countedOf q, p .1 ∙ ap (after c) q)
 
@@ -171,8 +172,8 @@ finished-none c (refused x) floor w n d g p e q = record { answered = sym e ∙ 
 finished-none c (got l) floor w n d g p e q = let z : _≡_ {A = ℕ} 0 1 = cc in absurd (omega arith)
 
 -- ---- `chord`
-pub chord-held : (T : Tables) (e : Edge) (a b : Float) (c d f g : List Float) (p q : Vec3) → 8 ≤ length c → p ≡ edgeStart T e → q ≡ edgeEnd T e
-    → d ≡ sets c 0 (row (record { point = p; param = a })) → f ≡ sets d width (row (record { point = q; param = b })) → g ≡ filled (length f) (take 8 f)
+pub chord-held : (T : Tables) (e : Edge) (a b : Float) (c d f g : List Float) (p q : Vec3) → shortest ≤ length c → p ≡ edgeStart T e → q ≡ edgeEnd T e
+    → d ≡ sets c 0 (row (record { point = p; param = a })) → f ≡ sets d width (row (record { point = q; param = b })) → g ≡ filled (length f) (take shortest f)
     → g ≡ filled (length c) (flat (chordOf T e a b))
 chord-held T e a b c d f g p q room s t h k w =
     let A : Sample = record { point = edgeStart T e; param = a } in
@@ -182,4 +183,4 @@ chord-held T e a b c d f g p q room s t h k w =
     let u : f ≡ sets c 0 (flat (chordOf T e a b)) =
     k ∙ ap (λ (x : Vec3). sets d width (row (record { point = x; param = b }))) t
     ∙ ap (λ (l : List Float). sets l width (row B)) v ∙ push c (A ∷ []) B in
-    w ∙ ap (λ (l : List Float). filled (length l) (take 8 l)) u ∙ rest-cleared c (chordOf T e a b) room
+    w ∙ ap (λ (l : List Float). filled (length l) (take shortest l)) u ∙ rest-cleared c (chordOf T e a b) room

@@ -14,7 +14,7 @@ use Rattle.math.specs.Math.{distance, centre}
 use Rattle.brep.specs.declared.Edge.{Edge}
 use Rattle.options.specs.declared.Resolved.{Resolved}
 use Rattle.edge_record.specs.declared.Sample.{Sample}
-use Rattle.edge_record.specs.Own.Stored.{pointAt}
+use Rattle.edge_record.specs.Own.Stored.{recordPoint}
 use Rattle.edge_record.specs.Chain.{samplesFrom, samples}
 use Rattle.draw_spec.specs.Repair.{escapeLimit, escapes, reaches}
 
@@ -36,15 +36,15 @@ module _ (P : Vec3 → Bool) (c : List Float) (n : ℕ) where
   left i = someOf P (samplesFrom c i (n - i))
 
   module _ (i : ℕ) where
-    one-more : i < n → left i ≡ P (pointAt c i) || left (i + 1)
+    one-more : i < n → left i ≡ P (recordPoint c i) || left (i + 1)
     unfolding samplesFrom
     one-more h = let q : n - i ≡ suc (n - (i + 1)) = omega arith in rw (q, add-one i)
 
-    pub found : {b : Bool} → i < n → b ≡ P (pointAt c i) → b ≡ true → true ≡ left i
-    found h e t = let k : P (pointAt c i) ≡ true = sym e ∙ t in sym (one-more h ∙ rw k)
+    pub found : {b : Bool} → i < n → b ≡ P (recordPoint c i) → b ≡ true → true ≡ left i
+    found h e t = let k : P (recordPoint c i) ≡ true = sym e ∙ t in sym (one-more h ∙ rw k)
 
-    pub passed : {b : Bool} → i < n → b ≡ P (pointAt c i) → b ≡ false → left (i + 1) ≡ left i
-    passed h e t = let k : P (pointAt c i) ≡ false = sym e ∙ t in sym (one-more h ∙ rw k)
+    pub passed : {b : Bool} → i < n → b ≡ P (recordPoint c i) → b ≡ false → left (i + 1) ≡ left i
+    passed h e t = let k : P (recordPoint c i) ≡ false = sym e ∙ t in sym (one-more h ∙ rw k)
 
     pub none : n ≤ i → false ≡ left i
     unfolding samplesFrom

@@ -44,7 +44,7 @@ fn all_near(reference: Aabb, r: Resolved, square: f64, chain: &[f64], n: usize) 
     let centre = reference.centre();
     let mut i = 0usize;
     while i < n {
-        let p = edge_record::point_at(chain, i);
+        let p = edge_record::record_point(chain, i);
         let s = p.sub(centre).length_squared();
         if 0.0 <= s && s <= square {
             i += 1;
@@ -82,7 +82,7 @@ pub fn escapes(reference: Aabb, r: Resolved, chain: &[f64], n: usize) -> bool
     let cut = limit * limit;
     let has_cut = arith_root::root(cut) <= limit;
     for i in 0..n {
-        let p = edge_record::point_at(chain, i);
+        let p = edge_record::record_point(chain, i);
         if arith_root_limit::is_above(p.sub(centre).length_squared(), limit, cut, has_cut) {
             return true;
         }
@@ -100,7 +100,7 @@ pub fn reaches(edge: Edge, r: Resolved, p: Vec3, chain: &[f64], n: usize) -> boo
     let cut = limit * limit * 1.000001;
     let has_cut = limit < arith_root::root(cut);
     for i in 0..n {
-        let q = edge_record::point_at(chain, i);
+        let q = edge_record::record_point(chain, i);
         if arith_root_limit::is_within(q.sub(p).length_squared(), limit, cut, has_cut) {
             return true;
         }

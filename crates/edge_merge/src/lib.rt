@@ -61,7 +61,7 @@ pub fn merge(chain: &mut [f64], n: usize, floor: f64) -> usize
         // A little above the square, so that the cut's root is above the floor.
         let cut = floor * floor * 1.000001;
         let has_cut = floor < arith_root::root(cut);
-        let mut last = edge_record::point_at(chain, 0);
+        let mut last = edge_record::record_point(chain, 0);
         let mut k = 1usize;
         for i in 1..n - 1 {
             let p = edge_record::sample_at(chain, i);

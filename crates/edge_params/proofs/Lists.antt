@@ -45,76 +45,76 @@ module _ (within : Float → Float → Bool) (depth : ℕ) (a b : Float) where
       deeper h (subdivided within (depth - 1) a (midpoint a b) ++ midpoint a b ∷ subdivided within (depth - 1) (midpoint a b) b)
       (rw (e, subdivided))
 
--- ---- `Outcome P r`: r is a list that holds P, or refusal 8
-pub data Outcome (P : List Float → Type 0) : Result (List Float) → Type 0 where
-  list : {l : List Float} → P l → Outcome P (got l)
-  eight : Outcome P (refused 8)
+-- ---- `Gives P r`: r is a list that holds P, or refusal 8
+pub data Gives (P : List Float → Type 0) : Result (List Float) → Type 0 where
+  list : {l : List Float} → P l → Gives P (got l)
+  eight : Gives P (refused 8)
 
-pub outcome-got : {P : List Float → Type 0} {r : Result (List Float)} (l : List Float) → Outcome P r → r ≡ got l → P l
-outcome-got {P} l (list {l = k} p) e = let q : k ≡ l = cc in subst P q p
-outcome-got l eight e = let z : _≡_ {A = ℕ} 0 1 = cc in absurd (omega arith)
+pub gives-got : {P : List Float → Type 0} {r : Result (List Float)} (l : List Float) → Gives P r → r ≡ got l → P l
+gives-got {P} l (list {l = k} p) e = let q : k ≡ l = cc in subst P q p
+gives-got l eight e = let z : _≡_ {A = ℕ} 0 1 = cc in absurd (omega arith)
 
-pub outcome-refused : {P : List Float → Type 0} {r : Result (List Float)} (n : ℕ) → Outcome P r → r ≡ refused n → n ≡ 8
-outcome-refused n (list p) e = let z : _≡_ {A = ℕ} 0 1 = cc in absurd (omega arith)
-outcome-refused n eight e = cc
+pub gives-refused : {P : List Float → Type 0} {r : Result (List Float)} (n : ℕ) → Gives P r → r ≡ refused n → n ≡ 8
+gives-refused n (list p) e = let z : _≡_ {A = ℕ} 0 1 = cc in absurd (omega arith)
+gives-refused n eight e = cc
 
-outcome-bind : {P Q : List Float → Type 0} {r : Result (List Float)} (f : List Float → Result (List Float)) → Outcome P r
-    → ((l : List Float) → P l → Outcome Q (f l)) → Outcome Q (bind r f)
-outcome-bind f (list {l = l} p) g = g l p
-outcome-bind f eight g = eight
+gives-bind : {P Q : List Float → Type 0} {r : Result (List Float)} (f : List Float → Result (List Float)) → Gives P r
+    → ((l : List Float) → P l → Gives Q (f l)) → Gives Q (bind r f)
+gives-bind f (list {l = l} p) g = g l p
+gives-bind f eight g = eight
 
 -- ---- of a P that holds of even steps and of bisection, where they fit the room
 module _ (P : List Float → Type 0) (room : ℕ) (s : Sampler) (range : Interval)
     (even : (n : ℕ) → suc n ≤ room → P (evenly range n))
     (halves : length (bisected s range) ≤ room → P (bisected s range)) where
-  fitting-outcome : (l : List Float) → (length l ≤ room → P l) → Outcome P (fitting room l)
+  fitting-gives : (l : List Float) → (length l ≤ room → P l) → Gives P (fitting room l)
   unfolding fitting
-  fitting-outcome l h = go (leb (length l) room) refl
+  fitting-gives l h = go (leb (length l) room) refl
     where
-      go : (t : Bool) → leb (length l) room ≡ t → Outcome P (elim t [ true ↦ got l | false ↦ refused 8 ])
+      go : (t : Bool) → leb (length l) room ≡ t → Gives P (elim t [ true ↦ got l | false ↦ refused 8 ])
       go true e = list (h (leb-true (length l) room e))
       go false e = eight
 
-  even-outcome : (n : ℕ) → Outcome P (fitting room (evenly range n))
-  even-outcome n = fitting-outcome (evenly range n) (λ h. even n (omega (arith, steps-length range n (suc n))))
+  even-gives : (n : ℕ) → Gives P (fitting room (evenly range n))
+  even-gives n = fitting-gives (evenly range n) (λ h. even n (omega (arith, steps-length range n (suc n))))
 
-  floored-outcome : (l : List Float) → P l → Outcome P (floored room s range l)
+  floored-gives : (l : List Float) → P l → Gives P (floored room s range l)
   unfolding floored
-  floored-outcome l p = go (ltb (length l - 1) (s .least))
+  floored-gives l p = go (ltb (length l - 1) (s .least))
     where
-      go : (t : Bool) → Outcome P (elim t [ true ↦ fitting room (evenly range (s .least)) | false ↦ got l ])
-      go true = even-outcome (s .least)
+      go : (t : Bool) → Gives P (elim t [ true ↦ fitting room (evenly range (s .least)) | false ↦ got l ])
+      go true = even-gives (s .least)
       go false = list p
 
-  refined-outcome : Outcome P (refined room s range)
+  refined-gives : Gives P (refined room s range)
   unfolding refined
-  refined-outcome = outcome-bind (floored room s range) (fitting-outcome (bisected s range) halves) floored-outcome
+  refined-gives = gives-bind (floored room s range) (fitting-gives (bisected s range) halves) floored-gives
 
-  pub sampled-outcome : Outcome P (sampleParams room s range)
+  pub sampled-gives : Gives P (sampleParams room s range)
   unfolding sampleParams
-  sampled-outcome = go (s .closed)
+  sampled-gives = go (s .closed)
     where
-      checked : (l : List Float) → P l → (t : Bool) → Outcome P (elim t [ true ↦ got l | false ↦ refined room s range ])
+      checked : (l : List Float) → P l → (t : Bool) → Gives P (elim t [ true ↦ got l | false ↦ refined room s range ])
       checked l p true = list p
-      checked l p false = refined-outcome
+      checked l p false = refined-gives
 
-      go : (c : Closed) → Outcome P (elim c [
+      go : (c : Closed) → Gives P (elim c [
         | Unknown ↦ refined room s range
         | Segments n ↦ bind (fitting room (evenly range n)) (λ l. elim (s .meets l) [ true ↦ got l | false ↦ refined room s range ])
       ])
-      go Unknown = refined-outcome
+      go Unknown = refined-gives
       go (Segments n) =
-          outcome-bind (λ l. elim (s .meets l) [ true ↦ got l | false ↦ refined room s range ]) (even-outcome n)
+          gives-bind (λ l. elim (s .meets l) [ true ↦ got l | false ↦ refined room s range ]) (even-gives n)
           (λ l p. checked l p (s .meets l))
 
 -- ---- at most as many as the room has, and no refusal but 8
 module _ (room : ℕ) (s : Sampler) (range : Interval) where
-  sampled-fit : Outcome (λ l. length l ≤ room) (sampleParams room s range)
+  sampled-fit : Gives (λ l. length l ≤ room) (sampleParams room s range)
   sampled-fit =
-      sampled-outcome (λ l. length l ≤ room) room s range (λ n h. omega (arith, steps-length range n (suc n))) (λ h. h)
+      sampled-gives (λ l. length l ≤ room) room s range (λ n h. omega (arith, steps-length range n (suc n))) (λ h. h)
 
   pub sampled-length : (l : List Float) → sampleParams room s range ≡ got l → length l ≤ room
-  sampled-length l e = outcome-got l sampled-fit e
+  sampled-length l e = gives-got l sampled-fit e
 
   pub sampled-refused : (n : ℕ) → sampleParams room s range ≡ refused n → n ≡ 8
-  sampled-refused n e = outcome-refused n sampled-fit e
+  sampled-refused n e = gives-refused n sampled-fit e

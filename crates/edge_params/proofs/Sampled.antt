@@ -1,4 +1,4 @@
--- The parameters that sampling gives stand in one order, so they run one way. Assumes nothing.
+-- The parameters that sampling gives stand in one order. Assumes nothing.
 use mathlib.Core.Path.{_≡_, refl}
 use mathlib.Core.Bool.{Bool, true, false, cond}
 use mathlib.Core.List.{List, [], _∷_, reverse}
@@ -21,13 +21,12 @@ use Rattle.knots_inside.proofs.Kept.{inside-all}
 use Rattle.knots_inside.proofs.Between.{Between, inside-between}
 use Rattle.knots_inside.specs.Thinned.{nextOf, thinnedFrom, thinBreaks}
 use Rattle.edge_params.specs.Params.{Sampler, evenly, breaksAlong, through, bisected, sampleParams}
-use Rattle.edge_params.specs.OneWay.{OneWay}
-use Rattle.edge_params.proofs.Steady.{Steady, rising, falling, steady-one-way, steady-sub}
+use Rattle.edge_params.proofs.Steady.{Steady, rising, falling}
 use Rattle.edge_params.proofs.Runs.{Good, good-number, good-between, up, down, evenly-pairs, through-pairs}
-use Rattle.edge_params.proofs.Lists.{outcome-got, sampled-outcome}
+use Rattle.edge_params.proofs.Lists.{gives-got, sampled-gives}
 
 -- a range and breaks that can be sampled
-pub record Sound (s : Sampler) (range : Interval) : Type 0 where
+pub record Sampleable (s : Sampler) (range : Interval) : Type 0 where
   pub low : Good (range .lo)
   pub high : Good (range .hi)
   pub fit : All (λ b. T (fits binary64 b)) (s .breaks)
@@ -38,9 +37,9 @@ goods : {a b : Float} {l : List Float} → Good a → Good b → All (λ x. T (f
 goods {a} {b} A B F w =
     all-map (λ x p. good-between a x b A B (p .0) (p .1 .0) (p .1 .1)) (all-both F (all-both (w .from) (w .to)))
 
-module _ (s : Sampler) (range : Interval) (sound : Sound s range) where
+module _ (s : Sampler) (range : Interval) (sampleable : Sampleable s range) where
   rising-ends : lt (range .hi) (range .lo) ≡ false → T (le (range .lo) (range .hi))
-  rising-ends e = nlt→le (range .hi) (range .lo) (good-number (sound .high)) (good-number (sound .low)) (rw e tt)
+  rising-ends e = nlt→le (range .hi) (range .lo) (good-number (sampleable .high)) (good-number (sampleable .low)) (rw e tt)
 
   falling-ends : lt (range .hi) (range .lo) ≡ true → T (le (range .hi) (range .lo))
   falling-ends e = lt→le (range .hi) (range .lo) (rw e tt)
@@ -49,36 +48,32 @@ module _ (s : Sampler) (range : Interval) (sound : Sound s range) where
   evenly-steady n h = go (lt (range .hi) (range .lo)) refl
     where
       go : (t : Bool) → lt (range .hi) (range .lo) ≡ t → Steady (evenly range n)
-      go true e = falling (evenly-pairs Down down range n (sound .low) (sound .high) (falling-ends e) h)
-      go false e = rising (evenly-pairs Up up range n (sound .low) (sound .high) (rising-ends e) h)
+      go true e = falling (evenly-pairs Down down range n (sampleable .low) (sampleable .high) (falling-ends e) h)
+      go false e = rising (evenly-pairs Up up range n (sampleable .low) (sampleable .high) (rising-ends e) h)
 
   bisected-steady : Steady (bisected s range)
   unfolding breaksAlong
-  bisected-steady = go (lt (range .hi) (range .lo)) refl (sound .between)
+  bisected-steady = go (lt (range .hi) (range .lo)) refl (sampleable .between)
     where
       go : (t : Bool) → lt (range .hi) (range .lo) ≡ t
           → cond t (Within Up (range .hi) (s .breaks) (range .lo)) (Within Up (range .lo) (s .breaks) (range .hi))
           → Steady (through s range (elim t [ true ↦ reverse (s .breaks) | false ↦ s .breaks ]))
       go true e w =
           falling
-          (through-pairs Down down s range (sound .high) (reverse (s .breaks)) (sound .low)
-          (all-reverse (s .breaks) (goods (sound .high) (sound .low) (sound .fit) w)) (falling-ends e)
+          (through-pairs Down down s range (sampleable .high) (reverse (s .breaks)) (sampleable .low)
+          (all-reverse (s .breaks) (goods (sampleable .high) (sampleable .low) (sampleable .fit) w)) (falling-ends e)
           (all-reverse (s .breaks) (w .to)) (all-reverse (s .breaks) (w .from)) (pair-reverse (s .breaks) (w .pairs)))
       go false e w =
           rising
-          (through-pairs Up up s range (sound .high) (s .breaks) (sound .low)
-          (goods (sound .low) (sound .high) (sound .fit) w) (rising-ends e) (w .from) (w .to) (w .pairs))
+          (through-pairs Up up s range (sampleable .high) (s .breaks) (sampleable .low)
+          (goods (sampleable .low) (sampleable .high) (sampleable .fit) w) (rising-ends e) (w .from) (w .to) (w .pairs))
 
   -- ---- what a caller cites
   module _ (room : ℕ) (small : room ≤ 2 ^ 53) (l : List Float) (e : sampleParams room s range ≡ got l) where
     pub sampled-steady : Steady l
     sampled-steady =
-        outcome-got l
-        (sampled-outcome Steady room s range (λ n h. evenly-steady n (omega arith)) (λ h. bisected-steady)) e
-
-    -- of the list, and of any list with some of its parameters left out
-    pub sampled-one-way : (k : List Float) → Sub k l → OneWay k
-    sampled-one-way k u = steady-one-way (steady-sub u sampled-steady)
+        gives-got l
+        (sampled-gives Steady room s range (λ n h. evenly-steady n (omega arith)) (λ h. bisected-steady)) e
 
 -- ---- thin_breaks leaves breaks out
 thinned-sub : (deviation : Float → Float → Float) (sag hi start : Float) (bs : List Float)
@@ -117,8 +112,8 @@ module _ (s : Sampler) (range : Interval) (knots : List Float) (sag : Float) (de
   leaves : Sub (s .breaks) (insideOf knots (range .lo) (range .hi))
   leaves = rw e (thin-sub (insideOf knots (range .lo) (range .hi)) (range .lo) (range .hi) sag deviation)
 
-  pub thin-sound : All (λ k. T (fits binary64 k)) knots → Good (range .lo) → Good (range .hi) → Sound s range
-  thin-sound F L H = record {
+  pub thin-sampleable : All (λ k. T (fits binary64 k)) knots → Good (range .lo) → Good (range .hi) → Sampleable s range
+  thin-sampleable F L H = record {
     low = L;
     high = H;
     fit = sub-all leaves (inside-all knots F (range .lo) (range .hi));

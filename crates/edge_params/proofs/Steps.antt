@@ -12,12 +12,12 @@ use Rattle.math.specs.declared.Interval.{Interval}
 use Rattle.edge_params.specs.declared.Listed.the-variants.{Count, Refused}
 use Rattle.edge_params.specs.Params.{stepAt, steps, evenly}
 use Rattle.edge_params.specs.Own.Written.{ListWritten}
-use Rattle.edge_params.proofs.Written.{held-none, held-push, held-stop, held-full}
+use Rattle.edge_params.proofs.Written.{written-none, written-push, written-stop, written-full}
 
 module _ (range : Interval) (n : ℕ) where
   pub steps-none : (out : List Float) → ListWritten out (steps range n 0) (Count 0) out
   unfolding steps
-  steps-none out = held-none out
+  steps-none out = written-none out
 
   module _ {out after : List Float} (i : ℕ) (h : ListWritten out (steps range n i) (Count i) after) where
     pub steps-push : (x : Float) → x ≡ stepAt range n i → i < length out
@@ -25,7 +25,7 @@ module _ (range : Interval) (n : ℕ) where
     unfolding steps
     steps-push x e l =
         subst (λ (k : ℕ). ListWritten out (steps range n k) (Count (i + 1)) (set after i x)) (sym (add-one i))
-        (subst (λ (y : Float). ListWritten out (steps range n i ++ (y ∷ [])) (Count (i + 1)) (set after i x)) e (held-push x h l))
+        (subst (λ (y : Float). ListWritten out (steps range n i ++ (y ∷ [])) (Count (i + 1)) (set after i x)) e (written-push x h l))
 
     pub steps-done : i ≡ n + 1 → ListWritten out (evenly range n) (Count i) after
     steps-done e = subst (λ (k : ℕ). ListWritten out (steps range n k) (Count i) after) (e ∙ add-one n) h
@@ -40,8 +40,8 @@ module _ (range : Interval) (n : ℕ) where
             → ListWritten out (steps range n k ++ (stepAt range n k ∷ [])) Refused after
         go f (inl e) =
             subst (λ (m : ℕ). ListWritten out (steps range n m ++ (stepAt range n m ∷ [])) Refused after) e
-            (held-stop (stepAt range n i) [] h l)
-        go f (inr m) = held-full (stepAt range n k ∷ []) (f m)
+            (written-stop (stepAt range n i) [] h l)
+        go f (inr m) = written-full (stepAt range n k ∷ []) (f m)
 
     pub steps-stop : i ≤ n → length out ≤ i → ListWritten out (evenly range n) Refused after
     steps-stop k l = steps-full (suc n) (omega arith) l

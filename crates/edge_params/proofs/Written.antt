@@ -77,54 +77,54 @@ overfull room l e = go (leb (length l) room) refl
     go false p = leb-false (length l) room p
 
 -- ---- a list in a buffer
-pub held-counted : {out l after : List Float} {n : ℕ} → ListWritten out l (Count n) after → Counted (length out) l n
-held-counted {out} {l} {n = n} h = counted (length out) l n (h .answer)
+pub written-count : {out l after : List Float} {n : ℕ} → ListWritten out l (Count n) after → Counted (length out) l n
+written-count {out} {l} {n = n} h = counted (length out) l n (h .answer)
 
-pub held-length : {out l after : List Float} {r : Listed} → ListWritten out l r after → length after ≡ length out
-held-length {out} {l} h = ap length (h .buffer) ∙ length-sets out 0 l
+pub written-length : {out l after : List Float} {r : Listed} → ListWritten out l r after → length after ≡ length out
+written-length {out} {l} h = ap length (h .buffer) ∙ length-sets out 0 l
 
-fits-held : {out l after : List Float} {n : ℕ} → n ≡ length l → length l ≤ length out → after ≡ sets out 0 l
+fits-written : {out l after : List Float} {n : ℕ} → n ≡ length l → length l ≤ length out → after ≡ sets out 0 l
     → ListWritten out l (Count n) after
-fits-held {out} {l} e h b = record { answer = ap got e ∙ sym (ap (each length) (fitting-fits (length out) l h)); buffer = b }
+fits-written {out} {l} e h b = record { answer = ap got e ∙ sym (ap (each length) (fitting-fits (length out) l h)); buffer = b }
 
-over-held : {out l after : List Float} → length out < length l → after ≡ sets out 0 l → ListWritten out l Refused after
-over-held {out} {l} h b = record { answer = sym (ap (each length) (fitting-over (length out) l h)); buffer = b }
+over-written : {out l after : List Float} → length out < length l → after ≡ sets out 0 l → ListWritten out l Refused after
+over-written {out} {l} h b = record { answer = sym (ap (each length) (fitting-over (length out) l h)); buffer = b }
 
 -- read back
-pub held-list : {out l after : List Float} {n : ℕ} → ListWritten out l (Count n) after → take n after ≡ l
-held-list {out} {l} {after} {n} h =
-    let c = held-counted h in
+pub written-list : {out l after : List Float} {n : ℕ} → ListWritten out l (Count n) after → take n after ≡ l
+written-list {out} {l} {after} {n} h =
+    let c = written-count h in
     let e : after ≡ l ++ drop (length l) out = h .buffer ∙ start out l (c .fits) in
     rw (e, c .same) (take-append-seam l (drop (length l) out))
 
 -- ---- put together from its parts: none, one more, one too many
-pub held-none : (out : List Float) → ListWritten out [] (Count 0) out
-held-none out = fits-held refl (omega arith) refl
+pub written-none : (out : List Float) → ListWritten out [] (Count 0) out
+written-none out = fits-written refl (omega arith) refl
 
 -- a full buffer takes nothing more
 full : (out a b : List Float) → length out ≤ length a → sets out 0 (a ++ b) ≡ sets out 0 a
 full out a b h = behind out a b ∙ sets-out (sets out 0 a) (length a) b (rw (length-sets out 0 a) h)
 
 module _ {out a after : List Float} (x : Float) where
-  pub held-push : {n : ℕ} → ListWritten out a (Count n) after → n < length out
+  pub written-push : {n : ℕ} → ListWritten out a (Count n) after → n < length out
       → ListWritten out (a ++ (x ∷ [])) (Count (n + 1)) (set after n x)
-  held-push {n} h l =
-      let c = held-counted h in
-      fits-held (simp length-append (omega (arith, c .same))) (simp length-append (omega (arith, c .same)))
+  written-push {n} h l =
+      let c = written-count h in
+      fits-written (simp length-append (omega (arith, c .same))) (simp length-append (omega (arith, c .same)))
       (ap (λ (i : ℕ). set after i x) (c .same) ∙ ap (λ (k : List Float). set k (length a) x) (h .buffer)
       ∙ sym (behind out a (x ∷ [])))
 
-  pub held-stop : {n : ℕ} (b : List Float) → ListWritten out a (Count n) after → length out ≤ n → ListWritten out (a ++ x ∷ b) Refused after
-  held-stop b h l =
-      let c = held-counted h in
-      over-held (simp length-append (omega (arith, c .same)))
+  pub written-stop : {n : ℕ} (b : List Float) → ListWritten out a (Count n) after → length out ≤ n → ListWritten out (a ++ x ∷ b) Refused after
+  written-stop b h l =
+      let c = written-count h in
+      over-written (simp length-append (omega (arith, c .same)))
       (h .buffer ∙ sym (full out a (x ∷ b) (omega (arith, c .same))))
 
 -- a front that is refused, and one behind which more is written
-pub held-full : {out a after : List Float} (b : List Float) → ListWritten out a Refused after → ListWritten out (a ++ b) Refused after
-held-full {out} {a} b h =
+pub written-full : {out a after : List Float} (b : List Float) → ListWritten out a Refused after → ListWritten out (a ++ b) Refused after
+written-full {out} {a} b h =
     let g = overfull (length out) a (h .answer) in
-    over-held (simp length-append (omega arith)) (h .buffer ∙ sym (full out a b (omega arith)))
+    over-written (simp length-append (omega arith)) (h .buffer ∙ sym (full out a b (omega arith)))
 
 -- ---- a list behind what a buffer holds already, put together from its parts
 -- a list's own front, stored again
@@ -136,14 +136,14 @@ own l n h =
 pub behind-none : (out : List Float) (k : ℕ) → k ≤ length out → ListAppended out k [] (Count k) out
 behind-none out k h =
     let e = length-take-le k out h in
-    subst (λ (l : List Float). ListWritten out l (Count k) out) (sym (append-nil (take k out))) (fits-held (sym e) (rw e h) (own out k h))
+    subst (λ (l : List Float). ListWritten out l (Count k) out) (sym (append-nil (take k out))) (fits-written (sym e) (rw e h) (own out k h))
 
 -- one more, for which there is room or not
 pub behind-one : (out : List Float) (k : ℕ) (x : Float) → k < length out → ListAppended out k (x ∷ []) (Count (k + 1)) (set out k x)
-behind-one out k x h = rw append-assoc at (held-push x (behind-none out k (omega arith)) h)
+behind-one out k x h = rw append-assoc at (written-push x (behind-none out k (omega arith)) h)
 
 pub behind-over : (out : List Float) (k : ℕ) (x : Float) → k ≤ length out → length out ≤ k → ListAppended out k (x ∷ []) Refused out
-behind-over out k x h l = rw append-assoc at (held-stop x [] (behind-none out k h) l)
+behind-over out k x h l = rw append-assoc at (written-stop x [] (behind-none out k h) l)
 
 -- a front that is refused, and one behind which more is written
 module _ (out : List Float) (k : ℕ) (a : List Float) {r : Listed} (mid : List Float) (h : ListAppended out k a r mid) where
@@ -151,12 +151,12 @@ module _ (out : List Float) (k : ℕ) (a : List Float) {r : Listed} (mid : List 
   counts n e = subst (λ (q : Listed). ListAppended out k a q mid) e h
 
   pub behind-refused : r ≡ Refused → (b : List Float) → ListAppended out k (a ++ b) Refused mid
-  behind-refused e b = rw append-assoc at (held-full b (subst (λ (q : Listed). ListAppended out k a q mid) e h))
+  behind-refused e b = rw append-assoc at (written-full b (subst (λ (q : Listed). ListAppended out k a q mid) e h))
 
   pub behind-room : (n : ℕ) → r ≡ Count n → n ≤ length mid
   behind-room n e =
       let g = counts n e in
-      omega (arith, held-length g, held-counted g .same, held-counted g .fits)
+      omega (arith, written-length g, written-count g .same, written-count g .fits)
 
   pub behind-then : (n : ℕ) → r ≡ Count n → (b : List Float) {q : Listed} {after : List Float} → ListAppended mid n b q after
       → ListAppended out k (a ++ b) q after
@@ -169,13 +169,13 @@ module _ (out : List Float) (k : ℕ) (a : List Float) {r : Listed} (mid : List 
       g = counts n e
 
       f' : ListWritten mid (front ++ b) q after
-      f' = rw (held-list g) at f
+      f' = rw (written-list g) at f
 
       go : ListWritten out (front ++ b) q after
       go = record {
-        answer = f' .answer ∙ ap (λ (m : ℕ). each length (fitting m (front ++ b))) (held-length g);
+        answer = f' .answer ∙ ap (λ (m : ℕ). each length (fitting m (front ++ b))) (written-length g);
         buffer =
-            f' .buffer ∙ ap (λ (m : List Float). sets m 0 (front ++ b)) (g .buffer) ∙ again out front b (held-counted g .fits);
+            f' .buffer ∙ ap (λ (m : List Float). sets m 0 (front ++ b)) (g .buffer) ∙ again out front b (written-count g .fits);
       }
 
 -- a list, one more, and another list: the ways in which code that writes the three one after the other comes out

@@ -1,5 +1,4 @@
--- The parameters of an edge: sample_params and subdivide of edge.rs, thin_breaks of knots.rs, over what they ask of the curve.
--- Definitions only.
+-- The parameters of an edge: sample_params and subdivide of edge.rs, over what they ask of the curve. Definitions only.
 use mathlib.Core.Bool.{Bool, true, false}
 use mathlib.Core.List.{List, [], _∷_, _++_, reverse}
 use Prim.Native.Nat.{ℕ, zero, suc, _-_}
@@ -47,7 +46,7 @@ pub record Sampler : Type 0 where
 abbrev pub stepAt : Interval → ℕ → ℕ → Float
 stepAt range n i = at range (count i ⊘ count n)
 
--- the same for each i below k
+-- range.at(i as f64 / n as f64), for each i below k
 unfoldable pub steps : Interval → ℕ → ℕ → List Float
 steps range n zero = []
 steps range n (suc k) = steps range n k ++ (stepAt range n k ∷ [])

@@ -1,4 +1,5 @@
-// The parameters of an edge: definitions in specs/, laws in proofs/. There is no code but a type that the definitions name.
+// The parameters of an edge: definitions in specs/, laws in proofs/; and lists of parameters, written into a buffer whose length is
+// the room for them.
 use math::Interval;
 ghost use mathlib.Core.List.{[], _∷_};
 ghost use Prim.Native.Nat.{_≤_};
@@ -11,8 +12,6 @@ pub enum Closed {
     Unknown,
     Segments(u64),
 }
-
-// Lists of parameters, written into a buffer whose length is the room for them.
 
 // How many parameters the buffer then holds, or refusal 8.
 pub enum Listed {

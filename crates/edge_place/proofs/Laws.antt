@@ -21,7 +21,7 @@ use Rattle.curve_prepared.specs.Own.Prepared.{preparedOf, preparedPoint}
 use Rattle.curve_prepared.proofs.Laws.{point-by, prepared-point}
 use Rattle.edge_record.specs.declared.Sample.{Sample}
 use Rattle.edge_record.specs.Chain.{width, row, flat, lastOf}
-use Rattle.edge_record.specs.Own.Stored.{pointAt as inChain}
+use Rattle.edge_record.specs.Own.Stored.{recordPoint}
 use Rattle.edge_closed_form.proofs.Located.{on, located-length, located-at}
 use Rattle.edge_record.proofs.Laws.{push, sampleAt-behind}
 use Rattle.draw_spec.specs.Edge.{edgeCurve, edgeStart, edgeEnd, located, degenerateEnds, isReversed, oriented, movedTo, lastPinned, pinned, placed}
@@ -189,11 +189,11 @@ module _ (T : Tables) (e : Edge) where
 
     -- record i is read before it is written, so it still holds what it held at first
     pub still-held : (c₀ c : List Float) (i : ℕ) {b : Bool} → i < length params → c ≡ sets c₀ 0 (flat (take i (placed T e params))) → b ≡ false → PointsKnown (edgeCurve T e) params c₀
-        → inChain c i ≡ pointAt (edgeCurve T e) (paramAt params b i)
+        → recordPoint c i ≡ pointAt (edgeCurve T e) (paramAt params b i)
     unfolding paramAt
     still-held c₀ c i h q onward held =
         let n : length (take i (placed T e params)) ≤ i = omega (arith, length-take-le i (placed T e params) (omega (arith, placed-length))) in
-        ap (λ (k : List Float). inChain k i) q
+        ap (λ (k : List Float). recordPoint k i) q
         ∙ ap (λ (s : Sample). s .point) (sampleAt-behind c₀ (take i (placed T e params)) i n)
         ∙ held .point i h
         ∙ ap (λ (z : Bool). pointAt (edgeCurve T e) (getD params (cond z (lastIndex params - i) i) nan)) (sym onward)

@@ -13,7 +13,7 @@ ghost use Rattle.brep.specs.Rows.{lent, given};
 ghost use Rattle.curve_prepared.specs.Own.Prepared.{preparedOf};
 ghost use Rattle.curve.specs.Eval.{pointAt as onCurve};
 ghost use Rattle.edge_record.specs.Chain.{width, flat};
-ghost use Rattle.edge_record.specs.Own.Stored.{pointAt as inChain};
+ghost use Rattle.edge_record.specs.Own.Stored.{recordPoint};
 ghost use Rattle.draw_spec.specs.Edge.{edgeCurve, degenerateEnds, placed};
 ghost use Rattle.edge_place.specs.Own.Place.{ofPoints, runsBack, paramAt, recordAt, PointsKnown};
 
@@ -47,7 +47,7 @@ fn own_point(
     ensures { λ r. ⌜ r ≡ onCurve (edgeCurve (given points curves reals parts ranges) edge) (getD (now (params .entry)) i nan) ⌝ }
 {
     if known {
-        return edge_record::point_at(chain, i);
+        return edge_record::record_point(chain, i);
     }
     let row = edge.curve;
     let t = params[i];
@@ -134,7 +134,7 @@ fn record_at(
 ) -> Sample
     requires { ⌜ (i < length (now params)) × (width * i + width ≤ length (now chain))
         × (prepared ≡ preparedOf (edgeCurve (lent points curves reals parts ranges) edge))
-        × (kept ≡ true → inChain (now chain) i ≡ onCurve (edgeCurve (lent points curves reals parts ranges) edge) (paramAt (now params) reversed i)) ⌝ }
+        × (kept ≡ true → recordPoint (now chain) i ≡ onCurve (edgeCurve (lent points curves reals parts ranges) edge) (paramAt (now params) reversed i)) ⌝ }
     ensures { λ r. ⌜ r ≡ recordAt (given points curves reals parts ranges) edge (now (params .entry)) reversed i ⌝ }
 {
     let param = param_at(params, reversed, i);
@@ -150,7 +150,7 @@ fn record_at(
         return Sample { point: end, param };
     }
     if kept {
-        let held = edge_record::point_at(chain, i);
+        let held = edge_record::record_point(chain, i);
         return Sample { point: held, param };
     }
     let row = edge.curve;

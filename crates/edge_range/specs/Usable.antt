@@ -25,21 +25,22 @@ unfoldable pub ownRange : Interval → Usable
 ownRange natural =
     cond (finite (spanOf natural) && lt (absOf (spanOf natural)) billion) (Range natural) Unusable
 
--- the edge's range, held to the curve's own with a slack of 1e-9 of its span
-unfoldable pub heldTo : Interval → Interval → Interval
-heldTo natural range =
+-- the edge's range, clamped to the curve's own with a slack of 1e-9 of its span at each end
+unfoldable pub clampedToDomain : Interval → Interval → Interval
+clampedToDomain natural range =
     let slack = absOf (spanOf natural) ⊗ billionth in
     interval (maxOf (range .lo) (natural .lo ⊖ slack)) (minOf (range .hi) (natural .hi ⊕ slack))
 
--- a periodic curve may run past its own range
+-- the edge's range as it is where the curve is periodic, and may run past its own; else clamped
 unfoldable pub withinDomain : Repeats → Interval → Interval → Interval
 withinDomain (Every p) natural range = range
-withinDomain Never natural range = heldTo natural range
+withinDomain Never natural range = clampedToDomain natural range
 
 -- an edge's range is no range where it is not finite, empty or reversed
 abbrev pub isNoRange : Interval → Bool
 isNoRange range = not (finite (range .lo)) || (not (finite (range .hi)) || le (spanOf range) plusZero)
 
+-- usable_range: the edge's range within the curve's domain; where it is no range the curve's own, if that is short enough, or none
 unfoldable pub usableRange : CurveTree → Interval → Usable
 usableRange c range =
     cond (isNoRange range) (ownRange (naturalRange c)) (Range (withinDomain (period c) (naturalRange c) range))
@@ -52,6 +53,7 @@ ellipseRadius major minor =
     let b = minOf (absOf major) (absOf minor) in
     maxOf (cond (lt plusZero a) (b ⊗ b ⊘ a) plusZero) b
 
+-- analytic_segments: how many segments a line, a circle or an ellipse is sampled in, or a trim of one; none is known of other curves
 unfoldable pub analyticSegments : CurveTree → Interval → Resolved → Closed
 analyticSegments (analytic (line o d)) range r = Segments (max (r .segments) 1)
 analyticSegments (analytic (circle f radius)) range r = Segments (segmentsForArc r radius (spanOf range))

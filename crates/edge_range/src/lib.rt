@@ -7,7 +7,7 @@ ghost use mathlib.Core.Path.{_≡_};
 ghost use Prim.Native.Nat.{max};
 ghost use Rattle.brep.specs.Rows.{given};
 ghost use Rattle.brep.specs.Tree.{tree};
-ghost use Rattle.edge_range.specs.Usable.{ownRange, heldTo, withinDomain, isNoRange, usableRange, ellipseRadius, analyticSegments};
+ghost use Rattle.edge_range.specs.Usable.{ownRange, clampedToDomain, withinDomain, isNoRange, usableRange, ellipseRadius, analyticSegments};
 
 // What `usable_range` finds: the range to sample, or none.
 pub enum Usable {
@@ -28,8 +28,9 @@ fn own_range(natural: Interval) -> Usable
     Usable::Unusable
 }
 
-fn held_to(natural: Interval, range: Interval) -> Interval
-    ensures { λ r. ⌜ r ≡ heldTo natural range ⌝ }
+// The edge's range, clamped to the curve's own with a slack.
+fn clamped_to_domain(natural: Interval, range: Interval) -> Interval
+    ensures { λ r. ⌜ r ≡ clampedToDomain natural range ⌝ }
 {
     let slack = arith::abs(natural.span()) * 1e-9;
     Interval {
@@ -44,7 +45,7 @@ fn within_domain(repeats: Repeats, natural: Interval, range: Interval) -> Interv
 {
     match repeats {
         Repeats::Every(_) => range,
-        Repeats::Never => held_to(natural, range),
+        Repeats::Never => clamped_to_domain(natural, range),
     }
 }
 
@@ -80,6 +81,7 @@ pub fn usable_range(
     Usable::Range(within_domain(repeats, natural, range))
 }
 
+// A line has one segment at least.
 fn at_least_one(n: u64) -> u64
     ensures { λ r. ⌜ r ≡ max n 1 ⌝ }
 {

@@ -10,7 +10,7 @@ use lib.Seq.{getD-at, getD-append-add, set-comm, set-set, set-getD, sets, sets-e
 use lib.Ieee.{Float, nan}
 use Rattle.base_lists.specs.Room.{filled}
 use Rattle.edge_record.specs.declared.Sample.{Sample}
-use Rattle.edge_record.specs.Own.Stored.{pointAt}
+use Rattle.edge_record.specs.Own.Stored.{recordPoint}
 use Rattle.edge_record.specs.Chain.{width, row, flat, sampleAt, samplesFrom, samples, samplePoint}
 
 -- ---- stores of a run of floats
@@ -95,7 +95,7 @@ samplesFrom-at c d i zero j h = absurd (omega arith)
 samplesFrom-at c d i (suc n) zero h = ap (sampleAt c) (sym (add-zero i))
 samplesFrom-at c d i (suc n) (suc j) h = samplesFrom-at c d (suc i) n j (omega arith) ∙ ap (sampleAt c) (suc-add i j ∙ sym (add-suc i j))
 
-pub pointOf-samples : (c : List Float) (n j : ℕ) → j < n → samplePoint (samples n c) j ≡ pointAt c j
+pub pointOf-samples : (c : List Float) (n j : ℕ) → j < n → samplePoint (samples n c) j ≡ recordPoint c j
 pointOf-samples c n j h = ap (λ (s : Sample). s .point) (samplesFrom-at c _ 0 n j h ∙ ap (sampleAt c) (zero-add j))
 
 -- ---- a buffer's own samples, stored again, change nothing

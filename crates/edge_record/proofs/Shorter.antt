@@ -1,14 +1,12 @@
 -- A chain with some of its inner samples left out: what thinning and merging make of a chain of two and more. Assumes nothing.
 use mathlib.Core.Path.{_≡_, refl, sym, ap, subst, _∙_}
-use mathlib.Core.List.{List, [], _∷_, _++_, dropLast, map}
+use mathlib.Core.List.{List, [], _∷_, _++_, dropLast}
 use Prim.Native.Nat.{ℕ, _-_, _≤_}
 use native.Mathlib.Omega.{arith}
 use lib.ListN.{length, getD, length-append}
-use lib.Ieee.{Float}
 use Rattle.base_lists.specs.All.{All}
-use Rattle.base_lists.specs.Own.Sub.{Pairwise, Sub, keep}
-use Rattle.base_lists.proofs.Order.{sub-all, sub-pairwise, sub-same, sub-trans, sub-append}
-use Rattle.base_lists.proofs.Joined.{sub-map}
+use Rattle.base_lists.specs.Own.Sub.{Sub, keep}
+use Rattle.base_lists.proofs.Order.{sub-all, sub-same, sub-trans, sub-append}
 use Rattle.edge_record.specs.declared.Sample.{Sample}
 use Rattle.edge_record.specs.Chain.{lastOf, innerSamples}
 
@@ -90,7 +88,3 @@ module _ (m l : List Sample) (s : Shorter m l) where
     where
       inner-of : (k : List Sample) (p : Sample) (i : List Sample) (z : Sample) → k ≡ p ∷ (i ++ (z ∷ [])) → innerSamples k ≡ i
       inner-of k p i z e = ap innerSamples e ∙ dropLast-snoc i z
-
-  -- what holds of the parameters, each with every later one
-  pub shorter-params : (R : Float → Float → Type 0) → Pairwise R (map (λ (p : Sample). p .param) l) → Pairwise R (map (λ (p : Sample). p .param) m)
-  shorter-params R h = sub-pairwise (sub-map (λ (p : Sample). p .param) shorter-sub) h

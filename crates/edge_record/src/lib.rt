@@ -4,7 +4,7 @@ ghost use mathlib.Core.Path.{_≡_};
 ghost use Prim.Native.Nat.{_+_, _*_, _≤_};
 ghost use lib.ListN.{length};
 ghost use lib.Seq.{sets};
-ghost use Rattle.edge_record.specs.Own.Stored.{pointAt};
+ghost use Rattle.edge_record.specs.Own.Stored.{recordPoint};
 ghost use Rattle.edge_record.specs.Chain.{width, row, sampleAt};
 
 // How many floats a record has.
@@ -29,9 +29,9 @@ pub enum Counted {
 }
 
 // The point of record i.
-pub fn point_at(chain: &[f64], i: usize) -> Vec3
+pub fn record_point(chain: &[f64], i: usize) -> Vec3
     requires { ⌜ width * i + width ≤ length (now chain) ⌝ }
-    ensures { λ r. ⌜ r ≡ pointAt (now (chain .entry)) i ⌝ }
+    ensures { λ r. ⌜ r ≡ recordPoint (now (chain .entry)) i ⌝ }
 {
     let at = WIDTH * i;
     Vec3 {
@@ -46,7 +46,7 @@ pub fn sample_at(chain: &[f64], i: usize) -> Sample
     requires { ⌜ width * i + width ≤ length (now chain) ⌝ }
     ensures { λ r. ⌜ r ≡ sampleAt (now (chain .entry)) i ⌝ }
 {
-    let p = point_at(chain, i);
+    let p = record_point(chain, i);
     Sample {
         point: p,
         param: chain[WIDTH * i + 3],

@@ -10,6 +10,7 @@ use lib.Dec.{leb}
 use lib.Ieee.{Float, binary64, ofBits}
 use borrow.Author.Tests.{leb-true}
 use Rattle.base_lists.specs.Result.{Result, refused, got, bind}
+use Rattle.base_lists.specs.Own.ListOf.{listOf}
 use Rattle.base_lists.specs.Room.{filled}
 use Rattle.base_lists.proofs.Filled.{filled-most}
 use Rattle.math.specs.declared.Aabb.{Aabb}
@@ -19,7 +20,7 @@ use Rattle.options.specs.declared.Resolved.{Resolved}
 use Rattle.edge_record.specs.declared.Sample.{Sample}
 use Rattle.edge_record.specs.declared.Counted.{Counted}
 use Rattle.edge_record.specs.declared.Counted.the-variants as counts
-use Rattle.edge_record.specs.Chain.{width, flat, samples}
+use Rattle.edge_record.specs.Chain.{width, shortest, flat, samples}
 use Rattle.edge_record.specs.Own.Stored.{countedOf as counted}
 use Rattle.edge_record.proofs.Laws.{length-flat, reads, samplesFrom-length}
 use Rattle.draw_spec.specs.declared.Way.{Way}
@@ -29,9 +30,9 @@ use Rattle.draw_spec.specs.declared.Way.the-variants.{Runaway}
 use Rattle.draw_spec.specs.Edge.{chordOf, discretised}
 use Rattle.draw_spec.specs.Repair.{Got, by, escapes, runaway}
 use Rattle.draw_spec.specs.Draw.{roomOf, answerOf, inFirst, firstAfter, secondAfter}
-use Rattle.draw_spec.proofs.Outcome.{outcome-refused}
-use Rattle.draw_spec.proofs.Discretised.{Room, discretised-outcome}
-use Rattle.edge_discretise.specs.Own.Discretised.{chainOf, DiscretisedInto}
+use Rattle.draw_spec.proofs.Answers.{answers-refused}
+use Rattle.draw_spec.proofs.Discretised.{Room, discretised-answers}
+use Rattle.edge_discretise.specs.Own.Discretised.{DiscretisedInto}
 use Rattle.edge_repair.specs.Own.Redrawn.{RedrawnChain, RedrawnInto, DrawnInto, InSecond}
 
 -- ---- `discretise` into the second buffer
@@ -39,26 +40,26 @@ room-swap : (a b : ℕ) → roomOf a b ≡ roomOf b a
 unfolding roomOf
 room-swap a b = omega arith
 
-enough : (a b : ℕ) → 8 ≤ a → 8 ≤ b → Room (roomOf a b)
+enough : (a b : ℕ) → shortest ≤ a → shortest ≤ b → Room (roomOf a b)
 unfolding roomOf
 enough a b h k = record { least = omega arith; most = omega arith }
 
-discretised-late : (T : Tables) (e : Edge) (r : Resolved) (a b n : ℕ) → 8 ≤ a → 8 ≤ b → discretised (roomOf a b) T e r ≡ refused n → 7 < n
+discretised-late : (T : Tables) (e : Edge) (r : Resolved) (a b n : ℕ) → shortest ≤ a → shortest ≤ b → discretised (roomOf a b) T e r ≡ refused n → 7 < n
 discretised-late T e r a b n h k q =
     ⊎-elim (λ (z : n ≡ 8). omega arith) (λ (z : n ≡ 9). omega arith)
-    (outcome-refused n (discretised-outcome ⊥ T e (λ x. absurd x) (λ x. absurd x) (roomOf a b) (enough a b h k) r) q)
+    (answers-refused n (discretised-answers ⊥ T e (λ x. absurd x) (λ x. absurd x) (roomOf a b) (enough a b h k) r) q)
 
-pub redrew : (T : Tables) (e d : Edge) (r : Resolved) {first second : List Float} {w : Counted} {first' second' : List Float} → 8 ≤ length first → 8 ≤ length second → e ≡ d
+pub redrawn-chain : (T : Tables) (e d : Edge) (r : Resolved) {first second : List Float} {w : Counted} {first' second' : List Float} → shortest ≤ length first → shortest ≤ length second → e ≡ d
     → DiscretisedInto (λ room. discretised room T e r) second first w second' first'
     → RedrawnChain (discretised (roomOf (length first) (length second)) T d r) first second w first' second'
-redrew T e d r {first} {second} h k s p =
+redrawn-chain T e d r {first} {second} h k s p =
     let q : discretised (roomOf (length second) (length first)) T e r ≡ discretised (roomOf (length first) (length second)) T d r =
     rw (s, room-swap (length second) (length first)) in
-    let a = p .drew .answered ∙ ap counted q in
+    let a = p .drawn .answered ∙ ap counted q in
     record {
       answered = a;
       firstHolds = p .cleared;
-      secondHolds = p .drew .holds ∙ ap (λ (X : Result (List Sample)). filled (length second) (flat (chainOf X))) q;
+      secondHolds = p .drawn .holds ∙ ap (λ (X : Result (List Sample)). filled (length second) (flat (listOf X))) q;
       late = λ n t. go n (discretised (roomOf (length first) (length second)) T d r) (discretised-late T d r (length first) (length second) n h k) (sym t ∙ a);
     }
   where
@@ -75,17 +76,17 @@ above n h = go (leb n 7) refl
     go false q = q
 
 -- ---- a chain that was drawn
-pub record Drew (X : Result (List Sample)) (n : ℕ) (c : List Float) : Type 0 where
+pub record DrawnChain (X : Result (List Sample)) (n : ℕ) (c : List Float) : Type 0 where
   pub chain : List Sample
   pub is : X ≡ got chain
   pub size : n ≡ length chain
   pub floats : c ≡ filled (length c) (flat chain)
 
 module _ {X : Result (List Sample)} {first second : List Float} {w : Counted} {first' second' : List Float} (d : RedrawnChain X first second w first' second') where
-  pub drew : (n : ℕ) → w ≡ counts.Count n → length second' ≡ length second → Drew X n second'
-  drew n t e = go X (sym t ∙ d .answered) (d .secondHolds)
+  pub drawn-chain : (n : ℕ) → w ≡ counts.Count n → length second' ≡ length second → DrawnChain X n second'
+  drawn-chain n t e = go X (sym t ∙ d .answered) (d .secondHolds)
     where
-      go : (Y : Result (List Sample)) → counts.Count n ≡ counted Y → second' ≡ filled (length second) (flat (chainOf Y)) → Drew Y n second'
+      go : (Y : Result (List Sample)) → counts.Count n ≡ counted Y → second' ≡ filled (length second) (flat (listOf Y)) → DrawnChain Y n second'
       go (refused m) a b = absurd (let z : _≡_ {A = ℕ} 0 1 = cc in omega arith)
       go (got l) a b = record { chain = l; is = refl; size = cc; floats = b ∙ ap (λ (k : ℕ). filled k (flat l)) (sym e) }
 
@@ -95,26 +96,26 @@ module _ {X : Result (List Sample)} {first second : List Float} {w : Counted} {f
   unfolding answerOf firstAfter secondAfter flat
   redrawn-refused D f n t q = go X (sym t ∙ d .answered) (d .secondHolds) q
     where
-      go : (Y : Result (List Sample)) → counts.Refused n ≡ counted Y → second' ≡ filled (length second) (flat (chainOf Y)) → D (roomOf (length first) (length second)) ≡ bind Y f → RedrawnInto D first second (Refused n) first' second'
+      go : (Y : Result (List Sample)) → counts.Refused n ≡ counted Y → second' ≡ filled (length second) (flat (listOf Y)) → D (roomOf (length first) (length second)) ≡ bind Y f → RedrawnInto D first second (Refused n) first' second'
       go (refused m) a b q =
           let z : n ≡ m = cc in
           let l = above m (omega (arith, d .late n t)) in
           record { drawn = rw q (record { answered = ap Refused z; firstHolds = rw l (d .firstHolds); secondHolds = rw l b }); late = λ k u. let v : n ≡ k = cc in rw (sym v) (d .late n t) }
       go (got l) a b q = absurd (let z : _≡_ {A = ℕ} 0 1 = cc in omega arith)
 
-module _ {X : Result (List Sample)} {n : ℕ} {c : List Float} (d : Drew X n c) where
-  pub drew-room : width * n ≤ length c
-  drew-room = omega (arith, d .size, length-flat (d .chain), filled-most (length c) (flat (d .chain)) (sym (ap length (d .floats))))
+module _ {X : Result (List Sample)} {n : ℕ} {c : List Float} (d : DrawnChain X n c) where
+  pub chain-room : width * n ≤ length c
+  chain-room = omega (arith, d .size, length-flat (d .chain), filled-most (length c) (flat (d .chain)) (sym (ap length (d .floats))))
 
-  pub drew-reads : samples n c ≡ d .chain
-  drew-reads = ap (λ (k : ℕ). samples k c) (d .size) ∙ ap (samples (length (d .chain))) (d .floats) ∙ reads (d .chain) (replicate (length c - length (flat (d .chain))) (ofBits binary64 0))
+  pub chain-reads : samples n c ≡ d .chain
+  chain-reads = ap (λ (k : ℕ). samples k c) (d .size) ∙ ap (samples (length (d .chain))) (d .floats) ∙ reads (d .chain) (replicate (length c - length (flat (d .chain))) (ofBits binary64 0))
 
-  pub drew-own : c ≡ filled (length c) (flat (samples n c))
-  drew-own = d .floats ∙ ap (λ (l : List Sample). filled (length c) (flat l)) (sym drew-reads)
+  pub chain-floats : c ≡ filled (length c) (flat (samples n c))
+  chain-floats = d .floats ∙ ap (λ (l : List Sample). filled (length c) (flat l)) (sym chain-reads)
 
   -- a test of the records is one of the chain
-  pub drew-escapes : (r : Resolved) (box b : Aabb) (t v : Bool) → b ≡ box → t ≡ escapes b r (samples n c) → t ≡ v → escapes box r (d .chain) ≡ v
-  drew-escapes r box b t v p q h = ap (escapes box r) (sym drew-reads) ∙ ap (λ (x : Aabb). escapes x r (samples n c)) (sym p) ∙ sym q ∙ h
+  pub chain-escapes : (r : Resolved) (box b : Aabb) (t v : Bool) → b ≡ box → t ≡ escapes b r (samples n c) → t ≡ v → escapes box r (d .chain) ≡ v
+  chain-escapes r box b t v p q h = ap (escapes box r) (sym chain-reads) ∙ ap (λ (x : Aabb). escapes x r (samples n c)) (sym p) ∙ sym q ∙ h
 
 -- ---- a chain that is in the second buffer
 pub kept-second : (way : Way) (n : ℕ) (second : List Float) → inFirst way ≡ false → second ≡ filled (length second) (flat (samples n second))

@@ -16,7 +16,7 @@ use Rattle.options.specs.Options.{segmentsForArc}
 use Rattle.edge_params.specs.declared.Closed.{Closed}
 use Rattle.edge_params.specs.declared.Closed.the-variants.{Unknown, Segments}
 use Rattle.edge_params.specs.Params.{Sampler, evenly, fitting, bisected, floored, refined, sampleParams}
-use Rattle.edge_params.proofs.Lists.{Outcome, list, eight, outcome-got, steps-length, sampled-length}
+use Rattle.edge_params.proofs.Lists.{Gives, list, eight, gives-got, steps-length, sampled-length}
 use Rattle.edge_range.specs.Usable.{analyticSegments}
 use Rattle.edge_sample.specs.Sample.{sampler, sampled}
 use Rattle.edge_sample.proofs.Settled.{bisected-long}
@@ -43,43 +43,43 @@ abbrev Long : List Float → Type 0
 Long l = 2 ≤ length l
 
 module _ (room : ℕ) (s : Sampler) (range : Interval) where
-  fitting-long : (l : List Float) → Long l → Outcome Long (fitting room l)
+  fitting-long : (l : List Float) → Long l → Gives Long (fitting room l)
   unfolding fitting
   fitting-long l h = go (leb (length l) room)
     where
-      go : (t : Bool) → Outcome Long (elim t [ true ↦ got l | false ↦ refused 8 ])
+      go : (t : Bool) → Gives Long (elim t [ true ↦ got l | false ↦ refused 8 ])
       go true = list h
       go false = eight
 
-  even-long : (n : ℕ) → 1 ≤ n → Outcome Long (fitting room (evenly range n))
+  even-long : (n : ℕ) → 1 ≤ n → Gives Long (fitting room (evenly range n))
   even-long n h = fitting-long (evenly range n) (omega (arith, steps-length range n (suc n)))
 
-  floored-long : (l : List Float) → Long l → Outcome Long (floored room s range l)
+  floored-long : (l : List Float) → Long l → Gives Long (floored room s range l)
   unfolding floored
   floored-long l h = go (ltb (length l - 1) (s .least)) refl
     where
-      go : (t : Bool) → ltb (length l - 1) (s .least) ≡ t → Outcome Long (elim t [ true ↦ fitting room (evenly range (s .least)) | false ↦ got l ])
+      go : (t : Bool) → ltb (length l - 1) (s .least) ≡ t → Gives Long (elim t [ true ↦ fitting room (evenly range (s .least)) | false ↦ got l ])
       go true p = even-long (s .least) (omega (arith, ltb-true (length l - 1) (s .least) p))
       go false p = list h
 
-  then-long : {x : Result (List Float)} (f : List Float → Result (List Float)) → Outcome Long x
-      → ((l : List Float) → Long l → Outcome Long (f l)) → Outcome Long (bind x f)
+  then-long : {x : Result (List Float)} (f : List Float → Result (List Float)) → Gives Long x
+      → ((l : List Float) → Long l → Gives Long (f l)) → Gives Long (bind x f)
   then-long f (list {l = l} p) g = g l p
   then-long f eight g = eight
 
-  refined-long : Outcome Long (refined room s range)
+  refined-long : Gives Long (refined room s range)
   unfolding refined
   refined-long = then-long (floored room s range) (fitting-long (bisected s range) (bisected-long s range)) floored-long
 
-  sampled-long : ((n : ℕ) → s .closed ≡ Segments n → 1 ≤ n) → Outcome Long (sampleParams room s range)
+  sampled-long : ((n : ℕ) → s .closed ≡ Segments n → 1 ≤ n) → Gives Long (sampleParams room s range)
   unfolding sampleParams
   sampled-long some = go (s .closed) refl
     where
-      checked : (l : List Float) → Long l → (t : Bool) → Outcome Long (elim t [ true ↦ got l | false ↦ refined room s range ])
+      checked : (l : List Float) → Long l → (t : Bool) → Gives Long (elim t [ true ↦ got l | false ↦ refined room s range ])
       checked l h true = list h
       checked l h false = refined-long
 
-      go : (x : Closed) → s .closed ≡ x → Outcome Long (elim x [
+      go : (x : Closed) → s .closed ≡ x → Gives Long (elim x [
         | Unknown ↦ refined room s range
         | Segments n ↦ bind (fitting room (evenly range n)) (λ l. elim (s .meets l) [ true ↦ got l | false ↦ refined room s range ])
       ])
@@ -90,7 +90,7 @@ module _ (room : ℕ) (s : Sampler) (range : Interval) where
 module _ (room : ℕ) (c : CurveTree) (range : Interval) (r : Resolved) (l : List Float) (e : sampled room c range r ≡ got l) where
   pub sampled-two : 2 ≤ length l
   unfolding sampled sampler
-  sampled-two = outcome-got l (sampled-long room (sampler c range r) range (form-some c range r)) e
+  sampled-two = gives-got l (sampled-long room (sampler c range r) range (form-some c range r)) e
 
   pub sampled-room : length l ≤ room
   unfolding sampled

@@ -15,8 +15,8 @@ use Rattle.edge_params.specs.Params.{Sampler, evenly, fitting, walked, through,
 use Rattle.edge_params.specs.declared.Listed.{Listed}
 use Rattle.edge_params.specs.declared.Listed.the-variants.{Count, Refused}
 use Rattle.edge_params.specs.Own.Written.{said, ListWritten}
-use Rattle.edge_params.proofs.Written.{fitting-fits, Counted, counted, held-counted, held-length, held-list}
-use Rattle.edge_sample.specs.Own.ListOf.{listOf}
+use Rattle.edge_params.proofs.Written.{fitting-fits, Counted, counted, written-count, written-length, written-list}
+use Rattle.base_lists.specs.Own.ListOf.{listOf}
 use Rattle.edge_sample.specs.Own.Answered.{SampledInto, keptFloats}
 
 refused-list : (s : Result (List Float)) → refused 8 ≡ each length s → listOf s ≡ []
@@ -32,7 +32,7 @@ module _ {out l after : List Float} (v w : Listed) (e : v ≡ w) (h : ListWritte
   settle-room = go w now-held
     where
       go : (w : Listed) → ListWritten out l w after → keptFloats w ≤ length after
-      go (Count n) h = omega (arith, held-counted h .same, held-counted h .fits, held-length h)
+      go (Count n) h = omega (arith, written-count h .same, written-count h .fits, written-length h)
       go Refused h = omega arith
 
   -- in a buffer of room floats, where s is what the list stands for
@@ -46,10 +46,10 @@ module _ {out l after : List Float} (v w : Listed) (e : v ≡ w) (h : ListWritte
 
         go : (w : Listed) → ListWritten out l w after → filled (length after) (take (keptFloats w) after) ≡ filled room (listOf (fitting room l))
         go (Count n) h =
-            ap (filled (length after)) (held-list h) ∙ ap (λ (m : ℕ). filled m l) (held-length h ∙ long)
-            ∙ ap (λ (x : Result (List Float)). filled room (listOf x)) (sym (fitting-fits room l (omega (arith, held-counted h .fits))))
+            ap (filled (length after)) (written-list h) ∙ ap (λ (m : ℕ). filled m l) (written-length h ∙ long)
+            ∙ ap (λ (x : Result (List Float)). filled room (listOf x)) (sym (fitting-fits room l (omega (arith, written-count h .fits))))
         go Refused h =
-            ap (λ (m : ℕ). filled m []) (held-length h ∙ long)
+            ap (λ (m : ℕ). filled m []) (written-length h ∙ long)
             ∙ ap (filled room) (sym (refused-list (fitting room l) (h .answer ∙ ap (λ (n : ℕ). each length (fitting n l)) long)))
 
 -- ---- refine

@@ -15,7 +15,7 @@ use Rattle.edge_params.specs.Params.{subdivided, breaksAlong, unlessHi, walked,
 use Rattle.edge_params.specs.declared.Listed.{Listed}
 use Rattle.edge_params.specs.declared.Listed.the-variants.{Count, Refused}
 use Rattle.edge_params.specs.Own.Written.{ListWritten, ListAppended}
-use Rattle.edge_params.proofs.Written.{held-length, behind-none, behind-room, behind-refused, behind-then}
+use Rattle.edge_params.proofs.Written.{written-length, behind-none, behind-room, behind-refused, behind-then}
 use Rattle.knots_thin.specs.Thin.{keptBreaks}
 use Rattle.edge_subdivide.specs.declared.End.{End}
 use Rattle.edge_subdivide.specs.Bisect.{endAt, withinBudget}
@@ -133,7 +133,7 @@ module _ (c : CurveTree) (range : Interval) (r : Resolved) where
         unfolding rest
         walking-next n e = record {
           own = end-own c b right own;
-          same-length = held-length joined;
+          same-length = written-length joined;
           front = s .front ++ span (left .t) (right .t);
           held = subst (λ (q : Listed). ListAppended out₁ k₁ (s .front ++ span (left .t) (right .t)) q out') e joined;
           all = more;

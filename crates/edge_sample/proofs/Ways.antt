@@ -17,9 +17,9 @@ use Rattle.edge_params.specs.Params.{evenly, fitting, refined, sampleParams}
 use Rattle.edge_params.specs.declared.Listed.{Listed}
 use Rattle.edge_params.specs.declared.Listed.the-variants.{Count, Refused}
 use Rattle.edge_params.specs.Own.Written.{said, ListWritten}
-use Rattle.edge_params.proofs.Written.{fitting-fits, held-counted, held-list}
+use Rattle.edge_params.proofs.Written.{fitting-fits, written-count, written-list}
 use Rattle.edge_range.specs.Usable.{analyticSegments}
-use Rattle.edge_sample.specs.Own.ListOf.{listOf}
+use Rattle.base_lists.specs.Own.ListOf.{listOf}
 use Rattle.edge_sample.specs.Sample.{worstMiss, sampler, sampled}
 use Rattle.edge_sample.specs.Own.Tried.{isFormWithin, stepsOf, tried, isKept}
 use Rattle.edge_sample.specs.Own.Answered.{SampledInto}
@@ -96,12 +96,12 @@ module _ (room : ℕ) (c : CurveTree) (range : Interval) (r : Resolved) where
         held = subst (λ (q : Listed). ListWritten out (evenly range n) q mid) z h
 
         fits : fitting room (evenly range n) ≡ got (evenly range n)
-        fits = fitting-fits room (evenly range n) (omega (arith, held-counted held .fits))
+        fits = fitting-fits room (evenly range n) (omega (arith, written-count held .fits))
 
         -- t is what meets answered
         form-checked : (t : Bool) → le (worstMiss c plusZero (take m mid)) (r .sag) ≡ t → checked (evenly range n) t ≡ sampled room c range r
         form-checked t p =
-            ap (checked (evenly range n)) (sym p ∙ ap (λ (l : List Float). le (worstMiss c plusZero l) (r .sag)) (held-list held))
+            ap (checked (evenly range n)) (sym p ∙ ap (λ (l : List Float). le (worstMiss c plusZero l) (r .sag)) (written-list held))
             ∙ ap (λ (y : Result (List Float)). bind y (λ l. checked l (le (worstMiss c plusZero l) (r .sag)))) (sym fits) ∙ form
 
         module _ (t : Bool) (of : t ≡ le (worstMiss c plusZero (take m mid)) (r .sag)) where
@@ -115,11 +115,11 @@ module _ (room : ℕ) (c : CurveTree) (range : Interval) (r : Resolved) where
 
         -- the parameters that were checked
         pub form-tried : take m mid ≡ tried room c range r
-        form-tried = held-list held ∙ sym (ap listOf (steps ∙ fits))
+        form-tried = written-list held ∙ sym (ap listOf (steps ∙ fits))
 
         pub form-within : (t : Bool) → t ≡ le (worstMiss c plusZero (take m mid)) (r .sag) → t ≡ isKept room c range r
         unfolding isFormWithin
-        form-within t of = of ∙ ap (λ (l : List Float). le (worstMiss c plusZero l) (r .sag)) (held-list held) ∙ sym (ap (isFormWithin c r) (steps ∙ fits))
+        form-within t of = of ∙ ap (λ (l : List Float). le (worstMiss c plusZero l) (r .sag)) (written-list held) ∙ sym (ap (isFormWithin c r) (steps ∙ fits))
 
 -- what was checked and found within the sag is the answer
 module _ (room : ℕ) (c : CurveTree) (range : Interval) (r : Resolved) where

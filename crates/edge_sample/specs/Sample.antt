@@ -1,5 +1,5 @@
 -- edge.rs: sample_params, with what it asks of a curve. Definitions only.
-use mathlib.Core.List.{List, []}
+use mathlib.Core.List.{List}
 use Prim.Native.Nat.{ℕ}
 use lib.Ieee.{Float, le}
 use Rattle.base_lists.specs.Result.{Result}

@@ -16,7 +16,7 @@ use Rattle.math_chord.specs.Chord.{bisectionOffset, bisectionDistance}
 use Rattle.math.specs.declared.Vec3.{Vec3}
 use Rattle.math.specs.declared.Direction.{Direction}
 use Rattle.math.specs.declared.Direction.the-variants.{Unit, Nothing}
-use Rattle.math.specs.Math.{vSub, vDot, vLength, vLengthSquared, tryNormalized}
+use Rattle.math.specs.Math.{vSub, vDot, vLength, vLengthSquared, tryNormalized, angleBetween}
 use Rattle.brep.specs.Tree.{CurveTree}
 use Rattle.curve.specs.Eval.{pointAt}
 use Rattle.curve_tangent.specs.Derivative.{tangentAt}
@@ -76,7 +76,7 @@ module _ (a b : Direction) (limit : Float) where
   turn-no-second ta e f = rw (e, f)
 
   pub turn-both : (ta tb : Vec3) → a ≡ Unit ta → b ≡ Unit tb → le (acosOf (clampOf (vDot ta tb) (neg one) one)) limit ≡ le (tangentTurn a b) limit
-  unfolding tangentTurn
+  unfolding tangentTurn angleBetween
   turn-both ta tb e f = rw (e, f)
 
 module _ (r : Resolved) (a b : End) (pm : Vec3) where

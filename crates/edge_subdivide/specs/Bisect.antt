@@ -1,13 +1,11 @@
 -- The budget of a span, of subdivide in edge.rs. Definitions only.
 use mathlib.Core.Bool.{Bool, _&&_}
-use lib.Ieee.{Float, le, neg}
-use Rattle.arith.specs.Notation.{plusZero, one}
-use Rattle.arith.specs.Pick.{clampOf}
-use Rattle.arith_trig.specs.Trig.{acosOf}
+use lib.Ieee.{Float, le}
+use Rattle.arith.specs.Notation.{plusZero}
 use Rattle.math.specs.declared.Vec3.{Vec3}
 use Rattle.math.specs.declared.Direction.{Direction}
 use Rattle.math.specs.declared.Direction.the-variants.{Unit, Nothing}
-use Rattle.math.specs.Math.{vSub, vDot, vLength}
+use Rattle.math.specs.Math.{vSub, vLength, angleBetween}
 use Rattle.brep.specs.Tree.{CurveTree}
 use Rattle.curve.specs.Eval.{pointAt}
 use Rattle.curve_tangent.specs.Derivative.{tangentAt}
@@ -26,7 +24,7 @@ sagOf pa pb pm = let chord = vSub pb pa in bisectionDistance pa chord (vLength c
 
 -- the angle between two tangents; 0 where one is missing
 unfoldable pub tangentTurn : Direction → Direction → Float
-tangentTurn (Unit a) (Unit b) = acosOf (clampOf (vDot a b) (neg one) one)
+tangentTurn (Unit a) (Unit b) = angleBetween a b
 tangentTurn (Unit a) Nothing = plusZero
 tangentTurn Nothing b = plusZero
 
@@ -34,6 +32,6 @@ tangentTurn Nothing b = plusZero
 unfoldable pub isWithin : Resolved → End → End → Vec3 → Bool
 isWithin r a b pm = le (sagOf (a .point) (b .point) pm) (r .sag) && le (tangentTurn (a .tangent) (b .tangent)) (r .angle)
 
--- the same of a curve between two parameters
+-- a curve between two parameters is within budget: deviation at most the sag, and turn at most the angle
 unfoldable pub withinBudget : CurveTree → Resolved → Float → Float → Bool
 withinBudget c r a b = isWithin r (endAt c a) (endAt c b) (pointAt c (midpoint a b))

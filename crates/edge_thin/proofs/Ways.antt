@@ -15,7 +15,7 @@ use Rattle.base_lists.specs.Result.{Result, refused, got, each}
 use Rattle.edge_record.specs.declared.Sample.{Sample}
 use Rattle.edge_record.specs.declared.Counted.{Counted}
 use Rattle.edge_record.specs.declared.Counted.the-variants.{Refused, Count}
-use Rattle.edge_record.specs.Own.Stored.{pointAt, countedOf, after, ChainStored}
+use Rattle.edge_record.specs.Own.Stored.{recordPoint, countedOf, after, ChainStored}
 use Rattle.edge_record.specs.Chain.{width, most, flat, samples, samplePoint}
 use Rattle.edge_record.proofs.Laws.{samplesFrom-length, samples-own, pointOf-samples}
 use Rattle.edge_thin_mark.specs.Own.Flags.{flags}
@@ -92,15 +92,15 @@ module _ (tolerance angle : Float) (floor n : ℕ) (c : List Float) where
 
   -- j flags were lent to `flag`, of which it left `keep` and answered b
   module _ (above : lt plusZero tolerance ≡ true) (enough : 3 ≤ n) (j : ℕ) (lent : j ≡ n) (b : Bool) (keep : List Bool)
-      (m : flags b keep ≡ each (withFloor floor) (flagged (pointAt c) tolerance angle j)) where
+      (m : flags b keep ≡ each (withFloor floor) (flagged (recordPoint c) tolerance angle j)) where
     -- the flags of the buffer's points are those of the chain's
     by-flags : each (λ k. retainedBy k (samples n c)) (flags b keep) ≡ thinning
     unfolding thinned
     by-flags =
         let q = samplesFrom-length c 0 n in
-        let s : flagged (pointAt c) tolerance angle n ≡ flagged (samplePoint (samples n c)) tolerance angle n =
-        flagged-same (pointAt c) (samplePoint (samples n c)) tolerance angle n (λ j h. sym (pointOf-samples c n j h)) (omega arith) in
-        ap (each (λ k. retainedBy k (samples n c))) (m ∙ ap (λ (i : ℕ). each (withFloor floor) (flagged (pointAt c) tolerance angle i)) lent ∙ ap (each (withFloor floor)) s)
+        let s : flagged (recordPoint c) tolerance angle n ≡ flagged (samplePoint (samples n c)) tolerance angle n =
+        flagged-same (recordPoint c) (samplePoint (samples n c)) tolerance angle n (λ j h. sym (pointOf-samples c n j h)) (omega arith) in
+        ap (each (λ k. retainedBy k (samples n c))) (m ∙ ap (λ (i : ℕ). each (withFloor floor) (flagged (recordPoint c) tolerance angle i)) lent ∙ ap (each (withFloor floor)) s)
         ∙ over (flagged (samplePoint (samples n c)) tolerance angle n)
         ∙ sym (rw (le-ltb (length (samples n c)) 3 (omega arith), above, q))
       where

@@ -21,7 +21,7 @@ flagCount (false ∷ keep) = flagCount keep
 abbrev pub evenAt : ℕ → ℕ → ℕ → ℕ
 evenAt n want i = i * (n - 1) / max (want - 1) 1
 
--- the first i of them
+-- the first i indexes at even steps
 unfoldable pub evens : ℕ → ℕ → ℕ → List ℕ
 evens n want zero = []
 evens n want (suc i) = evens n want i ++ (evenAt n want i ∷ [])
@@ -30,6 +30,7 @@ evens n want (suc i) = evens n want i ++ (evenAt n want i ∷ [])
 unfoldable pub restored : ℕ → List Bool → List Bool
 restored want keep = cond (ltb (flagCount keep) want) (marks keep (evens (length keep) want want)) keep
 
+-- the segment floor of `floor` flags, or of all where there are fewer
 abbrev pub withFloor : ℕ → List Bool → List Bool
 withFloor floor keep = restored (min floor (length keep)) keep
 
@@ -40,7 +41,7 @@ retainedBy (b ∷ keep) [] = []
 retainedBy (true ∷ keep) (s ∷ l) = s ∷ retainedBy keep l
 retainedBy (false ∷ keep) (s ∷ l) = retainedBy keep l
 
--- thin
+-- thin: every sample of a chain of under three, or for a tolerance that is not above zero; else those whose flags are set, or refusal 9
 unfoldable pub thinned : Float → Float → ℕ → List Sample → Result (List Sample)
 thinned tolerance angle floor l =
     cond (ltb (length l) 3 || not (lt plusZero tolerance)) (got l)

@@ -7,7 +7,7 @@ ghost use lib.ListN.{length, replicate};
 ghost use lib.Ieee.{lt};
 ghost use Rattle.arith.specs.Notation.{plusZero};
 ghost use Rattle.base_lists.specs.Result.{each};
-ghost use Rattle.edge_record.specs.Own.Stored.{pointAt, countedOf, after, ChainStored};
+ghost use Rattle.edge_record.specs.Own.Stored.{recordPoint, countedOf, after, ChainStored};
 ghost use Rattle.edge_record.specs.Chain.{width, most, samples};
 ghost use Rattle.edge_thin_mark.specs.Own.Flags.{flags};
 ghost use Rattle.edge_thin_mark.specs.Spans.{marks, flagged};
@@ -54,7 +54,7 @@ fn wanted(floor: usize, n: usize) -> usize
 // Sets the flags of the points that stay; there is a flag for each point. False means refused with 9.
 fn flag(chain: &[f64], tolerance: f64, angle: f64, floor: usize, keep: &mut [bool]) -> bool
     requires { ⌜ (1 < length (now keep)) × (length (now keep) ≤ most) × (width * length (now keep) ≤ length (now chain)) × (now keep ≡ replicate (length (now keep)) false) ⌝ }
-    ensures { λ r. ⌜ flags r (now (keep .exit)) ≡ each (withFloor floor) (flagged (pointAt (now (chain .entry))) tolerance angle (length (now (keep .entry)))) ⌝ }
+    ensures { λ r. ⌜ flags r (now (keep .exit)) ≡ each (withFloor floor) (flagged (recordPoint (now (chain .entry))) tolerance angle (length (now (keep .entry)))) ⌝ }
 {
     if !edge_thin_mark::mark(chain, tolerance, angle, keep) {
         return false;

@@ -1,4 +1,4 @@
--- The walk of `mark` by the decisions of `span`, from flags that are all false to those of `flagged`. Assumes nothing.
+-- The walk of `mark` by the decisions of `edge_thin_span`, from flags that are all false to those of `flagged`. Assumes nothing.
 use mathlib.Core.Path.{_≡_, refl, sym, ap, _∙_}
 use mathlib.Core.Bool.{Bool, true, false}
 use mathlib.Core.List.{List}
@@ -7,19 +7,19 @@ use native.Mathlib.Omega.{arith}
 use lib.ListN.{length, set, replicate}
 use lib.Ieee.{Float}
 use Rattle.base_lists.specs.Result.{each}
-use Rattle.edge_record.specs.Own.Stored.{pointAt}
+use Rattle.edge_record.specs.Own.Stored.{recordPoint}
 use Rattle.edge_thin_span.specs.Span.{decision}
 use Rattle.edge_thin_span.proofs.Laws.{narrow, inside}
 use Rattle.edge_thin_mark.specs.Spans.{kept, marks, flagged}
 use Rattle.edge_thin_mark.proofs.Walk.{Splits, Standing, begin}
 
 module _ (chain : List Float) (tolerance angle : Float) where
-  pub decides : Splits (decision (pointAt chain) tolerance angle)
-  decides = record { narrow = narrow (pointAt chain) tolerance angle; inside = inside (pointAt chain) tolerance angle }
+  pub decides : Splits (decision (recordPoint chain) tolerance angle)
+  decides = record { narrow = narrow (recordPoint chain) tolerance angle; inside = inside (recordPoint chain) tolerance angle }
 
   -- where the walk stands, with flags for 0 to last
   abbrev pub Marking : ℕ → List Bool → ℕ → Type 0
-  Marking last keep a = Standing (decision (pointAt chain) tolerance angle) last (flagged (pointAt chain) tolerance angle (last + 1)) keep a
+  Marking last keep a = Standing (decision (recordPoint chain) tolerance angle) last (flagged (recordPoint chain) tolerance angle (last + 1)) keep a
 
   pub marking-none : (k : List Bool) (last : ℕ) → 0 < last → length k ≡ last + 1 → k ≡ replicate (length k) false → Marking last (set (set k 0 true) last true) 0
   unfolding flagged

@@ -22,7 +22,7 @@ keptIn decide zero a b = got []
 keptIn decide (suc n) a b =
     bySplit (decide a b) (λ w. both (λ l r. w ∷ l ++ r) (keptIn decide n a w) (keptIn decide n w b))
 
--- of any span
+-- the indexes kept between a and b
 abbrev pub kept : (ℕ → ℕ → Decision) → ℕ → ℕ → Result (List ℕ)
 kept decide a b = keptIn decide (b - a) a b
 

@@ -5,7 +5,7 @@ ghost use mathlib.Core.Path.{_≡_};
 ghost use mathlib.Core.Bool.{false};
 ghost use Prim.Native.Nat.{_*_, _<_, _≤_};
 ghost use lib.ListN.{length, replicate};
-ghost use Rattle.edge_record.specs.Own.Stored.{pointAt};
+ghost use Rattle.edge_record.specs.Own.Stored.{recordPoint};
 ghost use Rattle.edge_record.specs.Chain.{width};
 ghost use Rattle.edge_thin_mark.specs.Own.Flags.{flags, FirstKept};
 ghost use Rattle.edge_thin_mark.specs.Spans.{flagged};
@@ -28,7 +28,7 @@ fn next_kept(keep: &[bool], from: usize) -> usize
 // Sets the flags of the points that are kept; there is a flag for each point. False means refused with 9.
 pub fn mark(chain: &[f64], tolerance: f64, angle: f64, keep: &mut [bool]) -> bool
     requires { ⌜ (1 < length (now keep)) × (width * length (now keep) ≤ length (now chain)) × (now keep ≡ replicate (length (now keep)) false) ⌝ }
-    ensures { λ r. ⌜ flags r (now (keep .exit)) ≡ flagged (pointAt (now (chain .entry))) tolerance angle (length (now (keep .entry))) ⌝ }
+    ensures { λ r. ⌜ flags r (now (keep .exit)) ≡ flagged (recordPoint (now (chain .entry))) tolerance angle (length (now (keep .entry))) ⌝ }
 {
     let last = keep.len() - 1;
     keep[0] = true;

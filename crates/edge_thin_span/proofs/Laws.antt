@@ -11,12 +11,12 @@ use Rattle.arith.specs.Notation.{_⊕_, plusZero}
 use Rattle.math.specs.declared.Vec3.{Vec3}
 use Rattle.math.specs.declared.Direction.{Direction}
 use Rattle.math.specs.declared.Direction.the-variants.{Unit, Nothing}
-use Rattle.math.specs.Math.{vSub, vLengthSquared, tryNormalized}
+use Rattle.math.specs.Math.{vSub, vLengthSquared, tryNormalized, angleBetween}
 use Rattle.math_chord.specs.Chord.{spanDistance}
 use Rattle.edge_thin_span.specs.declared.Worst.{Worst}
 use Rattle.edge_thin_span.specs.declared.Decision.{Decision}
 use Rattle.edge_thin_span.specs.declared.Decision.the-variants.{Leave, Split, Refuse}
-use Rattle.edge_thin_span.specs.Span.{worse, worstFrom, worstOf, joined, directions, firstIn, lastIn, angleBetween, turnBy, spanTurn, decision}
+use Rattle.edge_thin_span.specs.Span.{worse, worstFrom, worstOf, joined, directions, firstIn, lastIn, turnBy, spanTurn, decision}
 use Rattle.edge_thin_span.proofs.Loops.{worstIs}
 
 -- ---- the worst index is the span's start, or inside

@@ -29,8 +29,8 @@ root-none = refl
 
 module _ (points : ℕ → Vec3) (pa axis : Vec3) (b : ℕ) where
   -- the points from i on, after those that gave `far` and `at`
-  abbrev pub worstLeft : Float → ℕ → ℕ → Worst
-  worstLeft far at i = worstFrom points pa axis (b - i) i (worstIs far at)
+  abbrev pub worstOnward : Float → ℕ → ℕ → Worst
+  worstOnward far at i = worstFrom points pa axis (b - i) i (worstIs far at)
 
   module _ (far : Float) (at i : ℕ) (h : i < b) {len2 d2 : Float} {p v : Vec3} {below : Bool} (el : len2 ≡ vLengthSquared axis) (ep : p ≡ points i) (ev : v ≡ spanOffset pa axis len2 p) (ed : d2 ≡ vLengthSquared v) (et : below ≡ lt far (rootOf d2)) where
     -- the root of an offset's square is the distance
@@ -38,17 +38,17 @@ module _ (points : ℕ → Vec3) (pa axis : Vec3) (b : ℕ) where
     unfolding spanDistance vLength
     rooted = rw (ed, ev, ep, el)
 
-    one-more : worstLeft far at i ≡ worstFrom points pa axis (b - (i + 1)) (i + 1) (worse (worstIs far at) (rootOf d2) i)
+    one-more : worstOnward far at i ≡ worstFrom points pa axis (b - (i + 1)) (i + 1) (worse (worstIs far at) (rootOf d2) i)
     unfolding worstFrom
     one-more = let q : b - i ≡ suc (b - (i + 1)) = omega arith in rw (q, add-one i, rooted)
 
-    pub worst-new : below ≡ true → worstLeft (rootOf d2) i (i + 1) ≡ worstLeft far at i
+    pub worst-new : below ≡ true → worstOnward (rootOf d2) i (i + 1) ≡ worstOnward far at i
     worst-new s = sym (one-more ∙ rw (sym et ∙ s))
 
-    pub worst-old : below ≡ false → worstLeft far at (i + 1) ≡ worstLeft far at i
+    pub worst-old : below ≡ false → worstOnward far at (i + 1) ≡ worstOnward far at i
     worst-old s = sym (one-more ∙ rw (sym et ∙ s))
 
-  pub worst-end : (far : Float) (at i : ℕ) → b ≤ i → worstIs far at ≡ worstLeft far at i
+  pub worst-end : (far : Float) (at i : ℕ) → b ≤ i → worstIs far at ≡ worstOnward far at i
   unfolding worstFrom
   worst-end far at i h = let q : b - i ≡ 0 = omega arith in rw q
 

@@ -3,14 +3,12 @@ use mathlib.Core.Bool.{cond, _||_}
 use mathlib.Core.List.{List, [], _∷_}
 use Prim.Native.Nat.{ℕ, zero, suc, _+_, _-_}
 use lib.Dec.{leb, eqb}
-use lib.Ieee.{Float, lt, neg}
-use Rattle.arith.specs.Notation.{_⊕_, plusZero, one}
-use Rattle.arith.specs.Pick.{clampOf}
-use Rattle.arith_trig.specs.Trig.{acosOf}
+use lib.Ieee.{Float, lt}
+use Rattle.arith.specs.Notation.{_⊕_, plusZero}
 use Rattle.math.specs.declared.Vec3.{Vec3}
 use Rattle.math.specs.declared.Direction.{Direction}
 use Rattle.math.specs.declared.Direction.the-variants.{Unit, Nothing}
-use Rattle.math.specs.Math.{vSub, vDot, vLengthSquared, tryNormalized}
+use Rattle.math.specs.Math.{vSub, vLengthSquared, tryNormalized, angleBetween}
 use Rattle.edge_record.specs.Chain.{lastOf}
 use Rattle.math_chord.specs.Chord.{spanDistance}
 use Rattle.edge_thin_span.specs.declared.Worst.{Worst}
@@ -33,35 +31,34 @@ worstOf points a b =
     worstFrom points (points a) (vSub (points b) (points a)) (b - (a + 1)) (a + 1)
     (record { distance = plusZero; index = a })
 
--- ends: the directions of n segments from point a on; a segment without one is passed over
+-- a segment's direction before those of later ones; a segment without one is passed over
 abbrev pub joined : Direction → List Vec3 → List Vec3
 joined (Unit v) l = v ∷ l
 joined Nothing l = l
 
+-- ends: the directions of n segments from point a on
 unfoldable pub directions : (ℕ → Vec3) → ℕ → ℕ → List Vec3
 directions points zero a = []
 directions points (suc n) a = joined (tryNormalized (vSub (points (suc a)) (points a))) (directions points n (suc a))
 
--- ends.next(), ends.last()
+-- ends.next(): the first direction, if there is one
 abbrev pub firstIn : List Vec3 → Direction
 firstIn [] = Nothing
 firstIn (v ∷ l) = Unit v
 
+-- ends.last(): the last, if there is one
 abbrev pub lastIn : List Vec3 → Direction
 lastIn [] = Nothing
 lastIn (v ∷ l) = Unit (lastOf v l)
 
--- the angle between two unit vectors
-unfoldable pub angleBetween : Vec3 → Vec3 → Float
-angleBetween u v = acosOf (clampOf (vDot u v) (neg one) one)
-
--- turn: from the first direction to the last, by way of the chord's; 0.0 where one of the three is missing
+-- the angle from the first direction to the last, by way of the chord's; 0.0 where one of the three is missing
 abbrev pub turnBy : Direction → Direction → Direction → Float
 turnBy (Unit f) (Unit l) (Unit chord) = angleBetween f chord ⊕ angleBetween chord l
 turnBy (Unit f) (Unit l) Nothing = plusZero
 turnBy (Unit f) Nothing chord = plusZero
 turnBy Nothing last chord = plusZero
 
+-- turn: that of the span from a to b
 unfoldable pub spanTurn : (ℕ → Vec3) → ℕ → ℕ → Float
 spanTurn points a b =
     turnBy (firstIn (directions points (b - a) a)) (lastIn (directions points (b - a) a)) (tryNormalized (vSub (points b) (points a)))

@@ -22,7 +22,7 @@ use Rattle.draw_spec.specs.declared.Drawn.{Drawn}
 use Rattle.draw_spec.specs.Repair.{Got}
 use Rattle.draw_spec.specs.Draw.{drawn, answerOf, Outcome}
 use Rattle.draw_spec.proofs.Sound.{drawn-numbers}
-use Rattle.draw_spec.proofs.Held.{fits-first, fits-second}
+use Rattle.draw_spec.proofs.ReadBack.{fits-first, fits-second}
 use Rattle.ffi_numbers.specs.declared.Codes.{Codes}
 use Rattle.ffi_numbers.specs.Numbers.{causeOf, numberOf, codesOf}
 use Rattle.ffi.specs.Numbered.{answerTo, Numbered, NumberedOutcome}

@@ -1,11 +1,12 @@
 -- Vec3, Frame, Aabb and Interval of math.rs, each operation rounded once, in the Rust's order. Definitions only.
 use mathlib.Core.Bool.{Bool, true, false, cond, _&&_, _||_}
-use lib.Ieee.{Float, inf, lt}
+use lib.Ieee.{Float, inf, lt, neg}
 use lib.Ieee.Scale.{finite}
 use Rattle.arith.specs.Notation.{_⊕_, _⊖_, _⊗_, _⊘_, plusZero, half, one}
 use Rattle.arith.specs.Constants.{twoToMinus511}
-use Rattle.arith.specs.Pick.{minOf, maxOf}
+use Rattle.arith.specs.Pick.{minOf, maxOf, clampOf}
 use Rattle.arith_root.specs.Root.{rootOf}
+use Rattle.arith_trig.specs.Trig.{acosOf}
 use Rattle.math.specs.declared.Vec3.{Vec3}
 use Rattle.math.specs.declared.Direction.{Direction}
 use Rattle.math.specs.declared.Direction.the-variants.{Unit, Nothing}
@@ -61,6 +62,10 @@ shortestVector = twoToMinus511
 -- Vec3::try_normalized: none unless the length is finite and above 2^-511
 unfoldable pub tryNormalized : Vec3 → Direction
 tryNormalized a = cond (finite (vLength a) && lt shortestVector (vLength a)) (Unit (vScale a (one ⊘ vLength a))) Nothing
+
+-- the angle between two unit vectors, by the arc cosine of their product, clamped to -1 to 1
+unfoldable pub angleBetween : Vec3 → Vec3 → Float
+angleBetween u v = acosOf (clampOf (vDot u v) (neg one) one)
 
 -- Vec3::lerp: the point at t on the way from a to b
 unfoldable pub vLerp : Vec3 → Vec3 → Float → Vec3

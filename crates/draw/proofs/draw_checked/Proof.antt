@@ -30,10 +30,10 @@ drawn-in-requires c κs =
 returns-2 : tie.Need-returns-2
 returns-2 c =
     let a = c .before .before .before .before .before .before .before .before .before .before .before .before .before .before .before .before .before .before .before .before .before .args in
-    let ends = c .before .before .before .before .before .before .before .before .before .fitting-ends .ensures in
+    let ends = c .before .before .before .before .before .before .before .before .before .ends-binary64 .ensures in
     by-drawing (lent (a .points) (a .curves) (a .reals) (a .parts) (a .ranges)) (a .edge) (a .options) (a .first .now) (a .second .now) (c .before .before .before .before .before .before .before .before .before .before .before .before .before .before .before .before .before .before .before .before .before .pre)
     (neither-short (length (a .first .now)) (length (a .second .now)) (c .before .before .before .before .before .before .before .before .before .before .before .before .before .if1 .left) (ltb-false (length (a .second .now)) 8 (c .before .before .before .before .before .before .before .before .before .before .before .before .if2 .left)))
-    (record { reals = c .before .before .before .before .before .before .before .before .before .before .before .fitting .ensures; ranges = c .before .before .before .before .before .before .before .before .before .before .fitting2 .ensures; lo = ends .0; hi = ends .1 })
+    (record { reals = c .before .before .before .before .before .before .before .before .before .before .before .all-binary64 .ensures; ranges = c .before .before .before .before .before .before .before .before .before .before .all-binary642 .ensures; lo = ends .0; hi = ends .1 })
     _ (c .before .before .before .before .before .before .before .local-options .ensures) _ _ _ (c .before .before .before .before .drawn-in .ensures)
 
 pub draw-checked-spec : {M : Type 1} → statement M

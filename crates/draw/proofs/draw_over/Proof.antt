@@ -1,4 +1,4 @@
--- `draw::draw_edge` meets its contract: over accepted tables the edge's verdict is the verdict. Assumes nothing.
+-- `draw::draw_over` meets its contract: over accepted tables the edge's verdict is the verdict. Assumes nothing.
 use mathlib.Core.Path.{sym, _∙_}
 use Rattle.brep.specs.Rows.{lent}
 use Rattle.causes.proofs.Apart.{verdict-edge}

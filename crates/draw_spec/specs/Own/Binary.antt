@@ -5,6 +5,6 @@ use lib.ListN.{getD}
 use lib.Dec.{T}
 use lib.Ieee.{Float, nan, binary64, fits}
 
--- each float of a list
-abbrev pub Fitting : List Float → Type 0
-Fitting l = (i : ℕ) → T (fits binary64 (getD l i nan))
+-- each float of a list is a binary64
+abbrev pub AllBinary64 : List Float → Type 0
+AllBinary64 l = (i : ℕ) → T (fits binary64 (getD l i nan))

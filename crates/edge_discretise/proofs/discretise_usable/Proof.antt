@@ -6,7 +6,7 @@ use denote.Ref.{now}
 use lib.ListN.{length}
 use Rattle.brep.specs.Rows.{Tables, lent}
 use Rattle.draw_spec.specs.Draw.{roomOf}
-use Rattle.edge_discretise.proofs.Drawing.{Lent, lent-part, whole-length, cleared-whole, drew-range, drew-chord}
+use Rattle.edge_discretise.proofs.Drawing.{Lent, lent-part, whole-length, cleared-whole, into-range, into-chord}
 use borrow.Author.Needs.{needs}
 use Rattle.edge_discretise.proofs.discretise_usable.Statement.{statement}
 use Rattle.edge_discretise.proofs.discretise_usable.Tie as tie
@@ -26,8 +26,8 @@ told f = lent-part _ _ _ (f .room .ensures)
 returns : tie.Need-returns
 returns c =
     let st = c .before .before .before .before .before .before .before .before .before .before .before .before .before .before .before .before .before in
-    let z = drew-chord (room-of st) (tables-of st) (st .args .edge) (st .args .r) (length (now (st .args .chain))) _ (st .pre .3) (c .before .before .before .before .before .before .before .before .enum-told .given .1) refl (c .before .before .before .before .before .before .chord .ensures) in
-    record { drew = z; cleared = c .before .before .clear-from .ensures }
+    let z = into-chord (room-of st) (tables-of st) (st .args .edge) (st .args .r) (length (now (st .args .chain))) _ (st .pre .3) (c .before .before .before .before .before .before .before .before .enum-told .given .1) refl (c .before .before .before .before .before .before .chord .ensures) in
+    record { drawn = z; cleared = c .before .before .clear-from .ensures }
 
 slice-relend-prefix-part : tie.Need-slice-relend-prefix-part
 slice-relend-prefix-part c = told c .inside
@@ -52,8 +52,8 @@ returns-2 c =
     let l = told (c .before .before .before .before .before .before .before .before .before .before .before) in
     let d = c .before .before .before .before .before .before .before .before .draw-range in
     record {
-      drew =
-          drew-range (room-of st) (tables-of st) (st .args .edge) (st .args .r) (length (now (st .args .chain))) _ (st .pre .3) _ _ (c .before .before .before .before .before .before .before .before .before .before .before .before .before .usable .given .1)
+      drawn =
+          into-range (room-of st) (tables-of st) (st .args .edge) (st .args .r) (length (now (st .args .chain))) _ (st .pre .3) _ _ (c .before .before .before .before .before .before .before .before .before .before .before .before .before .usable .given .1)
           (l .size ∙ n .ensures) (d .ensures .0);
       cleared = cleared-whole (n .result) (d .last .1 .1 .1 .1 .1 .1 .1 .1 .1 .0) (now (st .args .scratch)) (l .inside) (d .ensures .1) (c .before .before .clear-from2 .ensures);
     }

@@ -10,7 +10,7 @@ use Rattle.edge_sample.specs.Sample.{sampled}
 use Rattle.draw_spec.specs.Edge.{edgeCurve}
 use Rattle.brep.specs.Rows.{Tables, lent}
 use Rattle.base_lists.specs.Result.{Result}
-use Rattle.edge_discretise.proofs.Drawing.{Sampling, sampling-some, part-room, part-length, cleared-used, placed-room, held, drew-as, drew-some, drew-none, none-listed}
+use Rattle.edge_discretise.proofs.Drawing.{Sampling, sampling-some, part-room, part-length, cleared-used, placed-room, held, into-as, into-some, into-none, none-listed}
 use Rattle.edge_discretise.proofs.draw_range.Statement.{statement}
 use Rattle.edge_discretise.proofs.draw_range.Tie as tie
 
@@ -40,7 +40,7 @@ returns c =
     let t = c .before .before .before .before .before .before .before .before .before .before .sample-params in
     let p = t .ensures .0 in
     let e = c .before .before .before .before .enum-told .given .1 in
-    (drew-as (t .kept .1 .1 .1 .1 .1 .1 .1 .1 .1 .0) (drew-none (sampling st) _ _ (t .last .1 .1 .1 .1 .1 .1 .1 .1 .1 .0) _ (p .0) e (c .before .before .clear-from .ensures)), none-listed _ (sampling st) _ (p .0) e (p .1))
+    (into-as (t .kept .1 .1 .1 .1 .1 .1 .1 .1 .1 .0) (into-none (sampling st) _ _ (t .last .1 .1 .1 .1 .1 .1 .1 .1 .1 .0) _ (p .0) e (c .before .before .clear-from .ensures)), none-listed _ (sampling st) _ (p .0) e (p .1))
 
 slice-reshare-prefix-params : tie.Need-slice-reshare-prefix-params
 slice-reshare-prefix-params c = part-room (told (c .before))
@@ -79,7 +79,7 @@ returns-2 c =
     let s = told (c .before .before .before .before .before .before .before .before .before .before .before .before .before .before) in
     let st = c .before .before .before .before .before .before .before .before .before .before .before .before .before .before .before .before .before .before .before .before .before .before .before .before .before .before .before .before .before .before in
     let t = c .before .before .before .before .before .before .before .before .before .before .before .before .before .before .before .before .before .before .before .before .sample-params in (
-      drew-as (t .kept .1 .1 .1 .1 .1 .1 .1 .1 .1 .0) (drew-some (tables-of st) (st .args .edge) (st .args .r) (st .args .range) s (t .last .1 .1 .1 .1 .1 .1 .1 .1 .1 .0) _ (omega (arith, s .fits, st .pre .1, t .kept .1 .1 .1 .1 .1 .1 .1 .1 .1 .0)) (c .before .before .before .before .before .before .before .before .before .before .place .ensures) _ _ (c .before .before .finish .ensures)),
+      into-as (t .kept .1 .1 .1 .1 .1 .1 .1 .1 .1 .0) (into-some (tables-of st) (st .args .edge) (st .args .r) (st .args .range) s (t .last .1 .1 .1 .1 .1 .1 .1 .1 .1 .0) _ (omega (arith, s .fits, st .pre .1, t .kept .1 .1 .1 .1 .1 .1 .1 .1 .1 .0)) (c .before .before .before .before .before .before .before .before .before .before .place .ensures) _ _ (c .before .before .finish .ensures)),
       cleared-used s (c .before .before .before .before .before .before .clear-from2 .ensures),
     )
 

@@ -4,7 +4,8 @@ use mathlib.Core.List.{List, []}
 use Prim.Native.Nat.{ℕ}
 use lib.ListN.{length}
 use lib.Ieee.{Float}
-use Rattle.base_lists.specs.Result.{Result, refused, got}
+use Rattle.base_lists.specs.Result.{Result}
+use Rattle.base_lists.specs.Own.ListOf.{listOf}
 use Rattle.base_lists.specs.Room.{filled}
 use Rattle.edge_record.specs.declared.Sample.{Sample}
 use Rattle.edge_record.specs.declared.Counted.{Counted}
@@ -12,17 +13,12 @@ use Rattle.edge_record.specs.Own.Stored.{countedOf}
 use Rattle.edge_record.specs.Chain.{flat}
 use Rattle.draw_spec.specs.Draw.{roomOf}
 
--- the chain that an answer holds; none in a refusal
-abbrev pub chainOf : Result (List Sample) → List Sample
-chainOf (refused n) = []
-chainOf (got l) = l
-
 -- what is answered of D, and what a chain buffer of n floats then holds: its chain, if any, and +0.0 behind it
 pub record ChainInto (n : ℕ) (D : Result (List Sample)) (answer : Counted) (chain : List Float) : Type 0 where
   pub answered : answer ≡ countedOf D
-  pub holds : chain ≡ filled n (flat (chainOf D))
+  pub holds : chain ≡ filled n (flat (listOf D))
 
 -- of a D that depends on the room of both buffers, with +0.0 in all of scratch
 pub record DiscretisedInto (D : ℕ → Result (List Sample)) (chain scratch : List Float) (answer : Counted) (chain' scratch' : List Float) : Type 0 where
-  pub drew : ChainInto (length chain) (D (roomOf (length chain) (length scratch))) answer chain'
+  pub drawn : ChainInto (length chain) (D (roomOf (length chain) (length scratch))) answer chain'
   pub cleared : scratch' ≡ filled (length scratch) []

@@ -32,7 +32,7 @@ loop-again c =
       omega arith,
       λ (limit : Float) h.
           passed (beyond limit z) (a .chain .now) (a .n) (l .i) (c .before .before .before .before .before .loop-test .taken)
-          (rw (c .before .before .length-squared .ensures, c .before .before .before .sub .ensures, c .before .before .before .before .point-at .ensures)) (h (c .before .before .length-squared .result) (search needs) (c .before .if1 .taken) (c .if2 .taken))
+          (rw (c .before .before .length-squared .ensures, c .before .before .before .sub .ensures, c .before .before .before .before .record-point .ensures)) (h (c .before .before .length-squared .result) (search needs) (c .before .if1 .taken) (c .if2 .taken))
           ∙ l .inv .1 limit h,
     )
 

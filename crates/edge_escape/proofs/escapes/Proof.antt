@@ -29,7 +29,7 @@ unfolding vLength
 returns-2 c =
     let a = c .before .before .before .before .before .before .before .before .before .before .before .before .before .before .args in
     let l = c .before .before .before .before .before .before .loop in
-    found (beyond _ _) (a .chain .now) (a .n) (l .i) (c .before .before .before .before .before .loop-test .taken) (rw (c .before .is-above .ensures, c .before .before .length-squared .ensures, c .before .before .before .sub .ensures, c .before .before .before .before .point-at .ensures)) (c .if2 .taken)
+    found (beyond _ _) (a .chain .now) (a .n) (l .i) (c .before .before .before .before .before .loop-test .taken) (rw (c .before .is-above .ensures, c .before .before .length-squared .ensures, c .before .before .before .sub .ensures, c .before .before .before .before .record-point .ensures)) (c .if2 .taken)
     ∙ l .inv .1
     ∙ escapes-whole (a .chain .now) (a .n) (a .r) _ _ (a .reference) (rw (c .before .before .before .before .before .before .before .before .before .before .diagonal .ensures)) (c .before .before .before .before .before .before .before .before .centre .ensures)
 
@@ -38,7 +38,7 @@ unfolding vLength
 loop-again c =
     let a = c .before .before .before .before .before .before .before .before .before .before .before .before .before .before .args in
     let l = c .before .before .before .before .before .before .loop in
-    (omega arith, passed (beyond _ _) (a .chain .now) (a .n) (l .i) (c .before .before .before .before .before .loop-test .taken) (rw (c .before .is-above .ensures, c .before .before .length-squared .ensures, c .before .before .before .sub .ensures, c .before .before .before .before .point-at .ensures)) (c .if2 .left) ∙ l .inv .1)
+    (omega arith, passed (beyond _ _) (a .chain .now) (a .n) (l .i) (c .before .before .before .before .before .loop-test .taken) (rw (c .before .is-above .ensures, c .before .before .length-squared .ensures, c .before .before .before .sub .ensures, c .before .before .before .before .record-point .ensures)) (c .if2 .left) ∙ l .inv .1)
 
 returns-3 : tie.Need-returns-3 Inv-loop μ-loop
 returns-3 c =

@@ -26,7 +26,7 @@ unfolding vLength
 returns c =
     let a = c .before .before .before .before .before .before .before .before .before .before .before .args in
     let l = c .before .before .before .before .before .before .loop in
-    found (close _ _) (a .chain .now) (a .n) (l .i) (c .before .before .before .before .before .loop-test .taken) (rw (c .before .is-within .ensures, c .before .before .length-squared .ensures, c .before .before .before .sub .ensures, c .before .before .before .before .point-at .ensures)) (c .if1 .taken)
+    found (close _ _) (a .chain .now) (a .n) (l .i) (c .before .before .before .before .before .loop-test .taken) (rw (c .before .is-within .ensures, c .before .before .length-squared .ensures, c .before .before .before .sub .ensures, c .before .before .before .before .record-point .ensures)) (c .if1 .taken)
     ∙ l .inv .1
     ∙ reaches-whole (a .chain .now) (a .n) (a .r) _ _ (a .edge) (c .before .before .before .before .before .before .before .before .max .ensures)
 
@@ -35,7 +35,7 @@ unfolding vLength
 loop-again c =
     let a = c .before .before .before .before .before .before .before .before .before .before .before .args in
     let l = c .before .before .before .before .before .before .loop in
-    (omega arith, passed (close _ _) (a .chain .now) (a .n) (l .i) (c .before .before .before .before .before .loop-test .taken) (rw (c .before .is-within .ensures, c .before .before .length-squared .ensures, c .before .before .before .sub .ensures, c .before .before .before .before .point-at .ensures)) (c .if1 .left) ∙ l .inv .1)
+    (omega arith, passed (close _ _) (a .chain .now) (a .n) (l .i) (c .before .before .before .before .before .loop-test .taken) (rw (c .before .is-within .ensures, c .before .before .length-squared .ensures, c .before .before .before .sub .ensures, c .before .before .before .before .record-point .ensures)) (c .if1 .left) ∙ l .inv .1)
 
 returns-2 : tie.Need-returns-2 Inv-loop μ-loop
 returns-2 c =

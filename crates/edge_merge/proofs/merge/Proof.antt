@@ -23,7 +23,7 @@ returns : tie.Need-returns Inv-loop μ-loop
 returns c = as-it-was _ _ _ (few _ _ _ (c .if1 .taken))
 
 loop-holds : tie.Need-loop-holds Inv-loop μ-loop
-loop-holds c = (refl, kept-first _ _ _ (c .before .before .before .before .if1 .left) _ (c .point-at .ensures))
+loop-holds c = (refl, kept-first _ _ _ (c .before .before .before .before .if1 .left) _ (c .record-point .ensures))
 
 is-apart-requires : tie.Need-is-apart-requires Inv-loop μ-loop
 is-apart-requires c κs = root-beyond _ (c .before .before .before .before .before .before .root .ensures)

@@ -7,7 +7,7 @@ use borrow.Author.Needs.{needs}
 use Rattle.edge_params.specs.declared.Listed.the-variants.{Count}
 use Rattle.edge_params.specs.Params.{steps}
 use Rattle.edge_params.specs.Own.Written.{ListWritten}
-use Rattle.edge_params.proofs.Written.{held-length}
+use Rattle.edge_params.proofs.Written.{written-length}
 use Rattle.edge_params.proofs.Steps.{steps-none, steps-push, steps-stop, steps-done}
 use Rattle.edge_params.proofs.evenly.Statement.{statement}
 use Rattle.edge_params.proofs.evenly.Tie as tie
@@ -35,7 +35,7 @@ loop-again c =
     let a = c .before .before .before .before .before .before .before .args in
     let l = c .before .before .before .before .loop in
     let h = steps-push (a .range) (a .n) (l .i) (l .inv .2) (c .at .result) (rw (c .at .ensures, c .before .nearest-u64-to-f642 .ensures, c .before .before .before .before .before .nearest-u64-to-f64 .ensures)) (search needs) in
-    (search needs, held-length h, h)
+    (search needs, written-length h, h)
 
 same-length-2 : tie.Need-same-length-2 Inv-loop μ-loop
 same-length-2 c = c .before .loop .inv .1

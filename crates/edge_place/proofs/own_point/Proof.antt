@@ -8,7 +8,7 @@ use Rattle.edge_place.proofs.own_point.Statement.{statement}
 use Rattle.edge_place.proofs.own_point.Tie as tie
 
 returns : tie.Need-returns
-returns c = let a = c .before .before .before .before .before .before .before .before .before .args in c .point-at .ensures ∙ c .before .before .before .before .before .before .before .before .before .pre .3 (c .before .if1 .taken) .point (a .i) (c .before .before .before .before .before .before .before .before .before .pre .0)
+returns c = let a = c .before .before .before .before .before .before .before .before .before .args in c .record-point .ensures ∙ c .before .before .before .before .before .before .before .before .before .pre .3 (c .before .if1 .taken) .point (a .i) (c .before .before .before .before .before .before .before .before .before .pre .0)
 
 returns-2 : tie.Need-returns-2
 returns-2 c =

@@ -29,7 +29,7 @@ returns-3 c =
     let own = c .before .before .before .before .param-at .ensures in
     record-between T (a .edge) (now (a .params)) (a .reversed)
     (a .i) _ _ own (c .before .before .before .if1 .left) (c .before .before .if2 .left)
-    (c .point-at .ensures ∙ s .pre .3 (c .before .if3 .taken) ∙ ap (pointAt (edgeCurve T (a .edge))) (sym own))
+    (c .record-point .ensures ∙ s .pre .3 (c .before .if3 .taken) ∙ ap (pointAt (edgeCurve T (a .edge))) (sym own))
 
 returns-4 : tie.Need-returns-4
 returns-4 c =

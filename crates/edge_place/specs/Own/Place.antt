@@ -11,7 +11,7 @@ use Rattle.brep.specs.Rows.{Tables, tables}
 use Rattle.brep.specs.Tree.{CurveTree}
 use Rattle.curve.specs.Eval.{pointAt}
 use Rattle.edge_record.specs.declared.Sample.{Sample}
-use Rattle.edge_record.specs.Own.Stored.{pointAt as inChain}
+use Rattle.edge_record.specs.Own.Stored.{recordPoint}
 use Rattle.draw_spec.specs.Edge.{edgeCurve, edgeStart, edgeEnd, isReversed}
 
 -- the points alone, which is all that a vertex needs
@@ -43,4 +43,4 @@ recordAt T e params reversed i = record {
 
 -- the records of a chain hold the curve's points at the parameters
 pub record PointsKnown (c : CurveTree) (params chain : List Float) : Type 0 where
-  pub point : (i : ℕ) → i < length params → inChain chain i ≡ pointAt c (getD params i nan)
+  pub point : (i : ℕ) → i < length params → recordPoint chain i ≡ pointAt c (getD params i nan)

@@ -10,7 +10,7 @@ returns c = rw (c .enum-told .given .1)
 
 returns-2 : tie.Need-returns-2
 unfolding withinDomain
-returns-2 c = rw (c .before .enum-told2 .given .1) (c .held-to .ensures)
+returns-2 c = rw (c .before .enum-told2 .given .1) (c .clamped-to-domain .ensures)
 
 pub within-domain-spec : {M : Type 1} → statement M
 within-domain-spec = tie.close (tie.spec (λ c. search needs) (λ c. search needs) (λ c κs. search needs) returns returns-2)

@@ -1,4 +1,4 @@
--- `sample_at` meets its contract: the point is that of `point_at`, with the parameter behind it. Assumes nothing.
+-- `sample_at` meets its contract: the point is that of `record_point`, with the parameter behind it. Assumes nothing.
 use borrow.Author.Needs.{needs}
 use Rattle.edge_record.specs.Chain.{sampleAt}
 use Rattle.edge_record.proofs.sample_at.Statement.{statement}
@@ -6,7 +6,7 @@ use Rattle.edge_record.proofs.sample_at.Tie as tie
 
 returns : tie.Need-returns
 unfolding sampleAt
-returns c = rw (c .before .point-at .ensures)
+returns c = rw (c .before .record-point .ensures)
 
 pub sample-at-spec : {M : Type 1} → statement M
 sample-at-spec =

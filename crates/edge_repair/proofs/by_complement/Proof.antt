@@ -1,5 +1,5 @@
 -- `edge_repair::by_complement` meets its contract: the records in the second buffer are the arc that was drawn. Assumes nothing.
-use Rattle.edge_repair.proofs.Buffers.{drew, drew-room, drew-own, drew-reads, drew-escapes, redrawn-refused, redrawn-is, redrawn-from, redrawn-second, kept-second, second-is}
+use Rattle.edge_repair.proofs.Buffers.{drawn-chain, chain-room, chain-floats, chain-reads, chain-escapes, redrawn-refused, redrawn-is, redrawn-from, redrawn-second, kept-second, second-is}
 use Rattle.edge_repair.proofs.Ways.{complement-none, complement-bind, complement-escapes, complement-stays}
 use Rattle.draw_spec.specs.declared.Way.the-variants.{Complement}
 use Rattle.draw_spec.specs.Repair.{by}
@@ -27,7 +27,7 @@ returns c =
     redrawn-is (c .before .before .before .before .by-short-arc .ensures) _ (complement-none (tables-of s) (s .args .edge) (s .args .r) (room-of s) (s .args .p) (c .before .before .before .before .before .before .before .before .span .ensures) (c .before .before .before .before .before .before .before .if1 .taken))
 
 escapes-requires : tie.Need-escapes-requires
-escapes-requires c κs = omega (arith, drew-room (drew (c .before .before .before .before .before .before .before .before .before .redraw .ensures) _ (c .before .before .before .drawn2 .given .1) (c .before .before .before .before .before .before .second2 .given)))
+escapes-requires c κs = omega (arith, chain-room (drawn-chain (c .before .before .before .before .before .before .before .before .before .redraw .ensures) _ (c .before .before .before .drawn2 .given .1) (c .before .before .before .before .before .before .second2 .given)))
 
 by-short-arc-requires-2 : tie.Need-by-short-arc-requires-2
 by-short-arc-requires-2 c κs = let p = c .before .before .before .before .before .before .before .before .before .before .before .before .before .before .before .before .before .before .before .before .before .before .before .before .before .before .pre in (omega (arith, p .0), omega (arith, p .1), p .2)
@@ -36,10 +36,10 @@ returns-2 : tie.Need-returns-2
 returns-2 c =
     let s = c .before .before .before .before .before .before .before .before .before .before .before .before .before .before .before .before .before .before .before .before .before .before .before .before .before .before .before .before .before .before .before in
     let l = c .before .before .before .before .before .before .before .before .before .before .before .before .before .before .before .second2 .given in
-    let d = drew (c .before .before .before .before .before .before .before .before .before .before .before .before .before .before .before .before .before .before .redraw .ensures) _ (c .before .before .before .before .before .before .before .before .before .before .before .before .drawn2 .given .1) l in
+    let d = drawn-chain (c .before .before .before .before .before .before .before .before .before .before .before .before .before .before .before .before .before .before .redraw .ensures) _ (c .before .before .before .before .before .before .before .before .before .before .before .before .drawn2 .given .1) l in
     redrawn-is (redrawn-from (c .before .before .before .before .by-short-arc2 .ensures) (now (s .args .first)) (now (s .args .second)) (c .before .before .before .before .before .before .before .before .before .before .before .before .before .before .before .before .before .first2 .given) l) _
     (complement-escapes (tables-of s) (s .args .edge) (s .args .r) (room-of s) (s .args .p) (c .before .before .before .before .before .before .before .before .before .before .before .before .before .before .before .before .before .before .before .before .before .before .span .ensures) (c .before .before .before .before .before .before .before .before .before .before .before .before .before .before .before .before .before .before .before .before .before .if1 .left) (d .chain) (d .is)
-    (drew-escapes d (s .args .r) _ _ _ _ (c .before .before .before .before .before .before .before .before .before .before .reference .ensures) (c .before .before .before .before .before .before .before .before .escapes .ensures) (c .before .before .before .before .before .before .before .if2 .taken)))
+    (chain-escapes d (s .args .r) _ _ _ _ (c .before .before .before .before .before .before .before .before .before .before .reference .ensures) (c .before .before .before .before .before .before .before .before .escapes .ensures) (c .before .before .before .before .before .before .before .if2 .taken)))
 
 returns-3 : tie.Need-returns-3
 returns-3 c =
@@ -51,10 +51,10 @@ returns-4 c =
     let s = c .before .before .before .before .before .before .before .before .before .before .before .before .before .before .before .before .before .before .before .before .before .before .before .before in
     let t = c .before .before .before .before .before .before .before .before .before .before .before .redraw .ensures in
     let l = c .before .before .before .before .before .before .before .before .second2 .given in
-    let d = drew t _ (c .before .before .before .before .before .drawn2 .given .1) l in
-    redrawn-second (second-is (kept-second Complement _ _ refl (drew-own d)) _ (ap (by Complement) (drew-reads d))) _ (now (s .args .first)) (now (s .args .second)) _ l (t .firstHolds)
+    let d = drawn-chain t _ (c .before .before .before .before .before .drawn2 .given .1) l in
+    redrawn-second (second-is (kept-second Complement _ _ refl (chain-floats d)) _ (ap (by Complement) (chain-reads d))) _ (now (s .args .first)) (now (s .args .second)) _ l (t .firstHolds)
     (complement-stays (tables-of s) (s .args .edge) (s .args .r) (room-of s) (s .args .p) (c .before .before .before .before .before .before .before .before .before .before .before .before .before .before .before .span .ensures) (c .before .before .before .before .before .before .before .before .before .before .before .before .before .before .if1 .left) (d .chain) (d .is)
-    (drew-escapes d (s .args .r) _ _ _ _ (c .before .before .before .reference .ensures) (c .before .escapes .ensures) (c .if2 .left)))
+    (chain-escapes d (s .args .r) _ _ _ _ (c .before .before .before .reference .ensures) (c .before .escapes .ensures) (c .if2 .left)))
 
 pub by-complement-spec : {M : Type 1} → statement M
 by-complement-spec =

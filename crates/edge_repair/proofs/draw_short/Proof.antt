@@ -1,5 +1,5 @@
 -- `edge_repair::draw_short` meets its contract: the records in the second buffer are the arc that was drawn. Assumes nothing.
-use Rattle.edge_repair.proofs.Buffers.{drew, drew-room, drew-own, drew-reads, redrawn-refused, redrawn-second, second-is}
+use Rattle.edge_repair.proofs.Buffers.{drawn-chain, chain-room, chain-floats, chain-reads, redrawn-refused, redrawn-second, second-is}
 use Rattle.edge_repair.proofs.Ways.{arc-points, short-bind, short-drawn}
 use Rattle.draw_spec.specs.Repair.{arcOrChord}
 use Rattle.draw_spec.specs.Draw.{roomOf}
@@ -22,8 +22,8 @@ room-of s = roomOf (length (now (s .args .first))) (length (now (s .args .second
 
 arc-or-chord-requires : tie.Need-arc-or-chord-requires
 arc-or-chord-requires c κs =
-    let d = drew (c .before .before .before .before .before .before .before .before .redraw .ensures) _ (c .before .before .drawn2 .given .1) (c .before .before .before .before .before .second .given) in
-    (omega (arith, c .before .before .before .before .before .before .before .before .before .before .before .before .before .before .before .before .before .before .pre .1), drew-room d, drew-own d)
+    let d = drawn-chain (c .before .before .before .before .before .before .before .before .redraw .ensures) _ (c .before .before .drawn2 .given .1) (c .before .before .before .before .before .second .given) in
+    (omega (arith, c .before .before .before .before .before .before .before .before .before .before .before .before .before .before .before .before .before .before .pre .1), chain-room d, chain-floats d)
 
 returns : tie.Need-returns
 returns c =
@@ -35,9 +35,9 @@ returns-2 c =
     let s = c .before .before .before .before .before .before .before .before .before .before .before .before .before .before .before .before .before .before .before .before .before in
     let t = c .before .before .before .before .before .before .before .before .before .before .before .redraw .ensures in
     let l = c .before .before .before .before .before .before .before .before .second .given in
-    let d = drew t _ (c .before .before .before .before .before .drawn2 .given .1) l in
+    let d = drawn-chain t _ (c .before .before .before .before .before .drawn2 .given .1) l in
     redrawn-second
-    (second-is (c .before .before .arc-or-chord .ensures) _ (arc-points (tables-of s) (s .args .edge) (s .args .r) _ ∙ ap (arcOrChord (tables-of s) (s .args .edge) (s .args .r)) (drew-reads d)))
+    (second-is (c .before .before .arc-or-chord .ensures) _ (arc-points (tables-of s) (s .args .edge) (s .args .r) _ ∙ ap (arcOrChord (tables-of s) (s .args .edge) (s .args .r)) (chain-reads d)))
     _ (now (s .args .first)) (now (s .args .second)) _ l (t .firstHolds)
     (short-drawn (tables-of s) (s .args .edge) (s .args .r) (room-of s) (s .pre .3) (s .pre .4) (d .chain) (d .is))
 

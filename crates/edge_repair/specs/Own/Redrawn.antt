@@ -6,6 +6,7 @@ use Prim.Native.Nat.{ℕ, _<_}
 use lib.ListN.{length}
 use lib.Ieee.{Float}
 use Rattle.base_lists.specs.Result.{Result, got}
+use Rattle.base_lists.specs.Own.ListOf.{listOf}
 use Rattle.base_lists.specs.Room.{filled}
 use Rattle.edge_record.specs.declared.Sample.{Sample}
 use Rattle.edge_record.specs.declared.Counted.{Counted}
@@ -16,13 +17,12 @@ use Rattle.draw_spec.specs.declared.Drawn.{Drawn}
 use Rattle.draw_spec.specs.declared.Drawn.the-variants.{Refused}
 use Rattle.draw_spec.specs.Repair.{Got}
 use Rattle.draw_spec.specs.Draw.{roomOf, answerOf, inFirst, firstAfter, secondAfter}
-use Rattle.edge_discretise.specs.Own.Discretised.{chainOf}
 
 -- a chain X that is drawn into the second buffer, with the first as scratch; no refusal is below 8
 pub record RedrawnChain (X : Result (List Sample)) (first second : List Float) (answer : Counted) (first' second' : List Float) : Type 0 where
   pub answered : answer ≡ countedOf X
   pub firstHolds : first' ≡ filled (length first) []
-  pub secondHolds : second' ≡ filled (length second) (flat (chainOf X))
+  pub secondHolds : second' ≡ filled (length second) (flat (listOf X))
   pub late : (n : ℕ) → answer ≡ counts.Refused n → 7 < n
 
 -- an answer and both buffers by the definition

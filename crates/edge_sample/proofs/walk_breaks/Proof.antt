@@ -4,6 +4,7 @@ use lib.Seq.{length-take-le}
 use borrow.Author.Needs.{needs}
 use Rattle.brep.specs.Rows.{tables}
 use Rattle.brep.specs.Tree.{CurveTree, tree}
+use Rattle.knots_sort.specs.Own.Sortable.{mostKnots}
 use Rattle.edge_sample.proofs.Broken.{not-many, kept-room, kept-list}
 use Rattle.edge_sample.proofs.walk_breaks.Statement.{statement}
 use Rattle.edge_sample.proofs.walk_breaks.Tie as tie
@@ -17,14 +18,14 @@ curve-of st =
 returns : tie.Need-returns
 returns c =
     let st = c .before .before .before .before .before .before .before .before .before .before .before in
-    absurd (not-many (curve-of st) (st .args .range .lo) (st .args .range .hi) (st .args .r .sag) 8192
+    absurd (not-many (curve-of st) (st .args .range .lo) (st .args .range .hi) (st .args .r .sag) mostKnots
     (c .before .before .before .kept-breaks .result) (st .pre) (c .before .before .before .kept-breaks .ensures .0)
     (c .enum-told .given .1))
 
 array-share-prefix-breaks : tie.Need-array-share-prefix-breaks
 array-share-prefix-breaks c =
     let st = c .before .before .before .before .before .before .before .before .before .before .before .before in
-    kept-room (curve-of st) (st .args .range .lo) (st .args .range .hi) (st .args .r .sag) 8192
+    kept-room (curve-of st) (st .args .range .lo) (st .args .range .hi) (st .args .r .sag) mostKnots
     (c .before .before .before .before .kept-breaks .result) (st .pre) (c .before .before .before .before .kept-breaks .ensures .0) _ _ refl
     (c .before .before .before .before .kept-breaks .ensures .1) _ (c .before .kept .given .1) (c .before .before .before .breaks2 .given)
 
@@ -32,12 +33,12 @@ slice-aggregate-walk : tie.Need-slice-aggregate-walk
 slice-aggregate-walk c =
     let st = c .before .before .before .before .before .before .before .before .before .before .before .before .before in
     sym (length-take-le _ _
-    (kept-room (curve-of st) (st .args .range .lo) (st .args .range .hi) (st .args .r .sag) 8192 (c .before .before .before .before .before .kept-breaks .result) (st .pre) (c .before .before .before .before .before .kept-breaks .ensures .0) _ _ refl (c .before .before .before .before .before .kept-breaks .ensures .1) _ (c .before .before .kept .given .1) (c .before .before .before .before .breaks2 .given)))
+    (kept-room (curve-of st) (st .args .range .lo) (st .args .range .hi) (st .args .r .sag) mostKnots (c .before .before .before .before .before .kept-breaks .result) (st .pre) (c .before .before .before .before .before .kept-breaks .ensures .0) _ _ refl (c .before .before .before .before .before .kept-breaks .ensures .1) _ (c .before .before .kept .given .1) (c .before .before .before .before .breaks2 .given)))
 
 walk-requires : tie.Need-walk-requires
 walk-requires c κs =
     let st = c .before .before .before .before .before .before .before .before .before .before .before .before .before .before in
-    kept-list (curve-of st) (st .args .range .lo) (st .args .range .hi) (st .args .r .sag) 8192
+    kept-list (curve-of st) (st .args .range .lo) (st .args .range .hi) (st .args .r .sag) mostKnots
     (c .before .before .before .before .before .before .kept-breaks .result) (st .pre)
     (c .before .before .before .before .before .before .kept-breaks .ensures .0) _ _ refl
     (c .before .before .before .before .before .before .kept-breaks .ensures .1) _ (c .before .before .before .kept .given .1)

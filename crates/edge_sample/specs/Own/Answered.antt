@@ -11,7 +11,7 @@ use Rattle.math.specs.declared.Interval.{Interval}
 use Rattle.edge_params.specs.declared.Listed.{Listed}
 use Rattle.edge_params.specs.declared.Listed.the-variants.{Count, Refused}
 use Rattle.edge_params.specs.Own.Written.{said}
-use Rattle.edge_sample.specs.Own.ListOf.{listOf}
+use Rattle.base_lists.specs.Own.ListOf.{listOf}
 
 -- the length of the list, or the refusal; in a buffer of so many floats the list, and +0.0 behind it
 abbrev pub SampledInto : ℕ → Result (List Float) → Listed → List Float → Type 0

@@ -12,7 +12,7 @@ use Rattle.edge_params.specs.declared.Closed.{Closed}
 use Rattle.edge_params.specs.declared.Closed.the-variants.{Unknown, Segments}
 use Rattle.edge_params.specs.Params.{evenly, fitting}
 use Rattle.edge_range.specs.Usable.{analyticSegments}
-use Rattle.edge_sample.specs.Own.ListOf.{listOf}
+use Rattle.base_lists.specs.Own.ListOf.{listOf}
 use Rattle.edge_sample.specs.Sample.{worstMiss}
 
 -- of a list that fits: whether it stays within the sag

@@ -6,7 +6,7 @@ use mathlib.Core.Path.{_≡_, refl, sym, ap, _∙_}
 use mathlib.Core.Bool.{true}
 use Prim.Native.Nat.{_≤_, _<_, _+_, _-_}
 use lib.ListN.{length, length-set}
-use Rattle.edge_record.specs.Own.Stored.{pointAt}
+use Rattle.edge_record.specs.Own.Stored.{recordPoint}
 use Rattle.edge_thin_mark.specs.Spans.{flagged}
 use Rattle.edge_thin_mark.proofs.Walk.{unset, done, span, leave, refuse, split-inside, split-unset, split}
 use Rattle.edge_thin_mark.proofs.Flags.{decides, Marking, marking-none}
@@ -107,7 +107,7 @@ returns c =
     let g : length (a .keep .now) - 1 < length (l .keep) = omega arith in
     let f = c .before .before .before .next-kept .ensures in
     let n : length (a .keep .now) - 1 + 1 ≡ length (a .keep .now) = omega arith in
-    refuse D (l .inv .3) h g f (c .before .before .decide .ensures) (c .enum-told2 .given .1) ∙ ap (flagged (pointAt (a .chain .now)) (a .tolerance) (a .angle)) n
+    refuse D (l .inv .3) h g f (c .before .before .decide .ensures) (c .enum-told2 .given .1) ∙ ap (flagged (recordPoint (a .chain .now)) (a .tolerance) (a .angle)) n
 
 same-length-2 : tie.Need-same-length-2 Inv-loop μ-loop
 same-length-2 c = c .before .loop .inv .0 ∙ simp length-set
@@ -117,7 +117,7 @@ returns-2 c =
     let a = c .before .before .before .before .args in
     let l = c .before .loop in
     let n : length (a .keep .now) - 1 + 1 ≡ length (a .keep .now) = omega arith in
-    done (decides (a .chain .now) (a .tolerance) (a .angle)) (c .loop-test .left) (l .inv .3) ∙ ap (flagged (pointAt (a .chain .now)) (a .tolerance) (a .angle)) n
+    done (decides (a .chain .now) (a .tolerance) (a .angle)) (c .loop-test .left) (l .inv .3) ∙ ap (flagged (recordPoint (a .chain .now)) (a .tolerance) (a .angle)) n
 
 pub mark-spec : {M : Type 1} → statement M
 mark-spec =

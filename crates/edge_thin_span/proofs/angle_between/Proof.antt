@@ -1,6 +1,6 @@
 -- `angle_between` meets its contract: the product of the two, clamped, and its arc cosine. Assumes nothing.
 use borrow.Author.Needs.{needs}
-use Rattle.edge_thin_span.specs.Span.{angleBetween}
+use Rattle.math.specs.Math.{angleBetween}
 use Rattle.edge_thin_span.proofs.angle_between.Statement.{statement}
 use Rattle.edge_thin_span.proofs.angle_between.Tie as tie
 

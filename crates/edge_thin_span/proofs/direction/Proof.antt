@@ -4,7 +4,7 @@ use Rattle.edge_thin_span.proofs.direction.Statement.{statement}
 use Rattle.edge_thin_span.proofs.direction.Tie as tie
 
 returns : tie.Need-returns
-returns c = rw (c .try-normalized .ensures, c .before .sub .ensures, c .before .before .point-at2 .ensures, c .before .before .before .point-at .ensures)
+returns c = rw (c .try-normalized .ensures, c .before .sub .ensures, c .before .before .record-point2 .ensures, c .before .before .before .record-point .ensures)
 
 pub direction-spec : {M : Type 1} → statement M
 direction-spec =

@@ -23,9 +23,9 @@ use Rattle.draw_spec.proofs.Sound.{Binary, drawn-sound, drawn-fits}
 use Rattle.draw_spec.proofs.Table.{lowest, none-applies}
 
 -- ---- the chain of the answer is read back from the buffer that holds it
-pub held : (first second : List Float) (g : Got) → chainIn (firstAfter first (got g)) (secondAfter second (got g)) (answerOf (got g)) ≡ g .chain
+pub read-back : (first second : List Float) (g : Got) → chainIn (firstAfter first (got g)) (secondAfter second (got g)) (answerOf (got g)) ≡ g .chain
 unfolding chainIn firstAfter secondAfter answerOf
-held first second g = go (inFirst (g .way))
+read-back first second g = go (inFirst (g .way))
   where
     read : (n : ℕ) → samples (length (g .chain)) (filled n (flat (g .chain))) ≡ g .chain
     read n = reads (g .chain) (replicate (n - length (flat (g .chain))) (ofBits binary64 0))
@@ -51,15 +51,15 @@ module _ (t : Tables) (e : Edge) (o : Options) (first second : List Float) where
       (answered : answer ≡ answerOf (drawn t e o (length first) (length second)))
       (firstHolds : first' ≡ firstAfter first (drawn t e o (length first) (length second)))
       (secondHolds : second' ≡ secondAfter second (drawn t e o (length first) (length second))) where
-    held-sound : Binary t e → (way : Way) (n : ℕ) → answer ≡ Chain way n → Sound t e (mergeFloor (e .tolerance) (localOptions t e o .sag)) (chainIn first' second' answer)
+    read-sound : Binary t e → (way : Way) (n : ℕ) → answer ≡ Chain way n → Sound t e (mergeFloor (e .tolerance) (localOptions t e o .sag)) (chainIn first' second' answer)
     unfolding answerOf
-    held-sound b way n is = go (drawn t e o (length first) (length second)) refl (sym answered ∙ is)
+    read-sound b way n is = go (drawn t e o (length first) (length second)) refl (sym answered ∙ is)
       where
         go : (r : Result Got) → drawn t e o (length first) (length second) ≡ r → answerOf (drawn t e o (length first) (length second)) ≡ Chain way n
             → Sound t e (mergeFloor (e .tolerance) (localOptions t e o .sag)) (chainIn first' second' answer)
         go (refused k) q z = absurd (let w : Refused k ≡ Chain way n = sym (ap answerOf q) ∙ z in let x : _≡_ {A = ℕ} 0 1 = cc in omega arith)
         go (got g) q z =
-            rw (answered, firstHolds, secondHolds, q, held first second g) (drawn-sound t e o (length first) (length second) g b q)
+            rw (answered, firstHolds, secondHolds, q, read-back first second g) (drawn-sound t e o (length first) (length second) g b q)
 
     -- the answer's own result
     drawn-refused : (n : ℕ) → answer ≡ Refused n → drawn t e o (length first) (length second) ≡ refused n
@@ -86,5 +86,5 @@ module _ (t : Tables) (e : Edge) (o : Options) (first second : List Float) where
       secondHolds = secondHolds;
       refuses = λ n is. lowest t e o (length first) (length second) n (drawn-refused n is);
       accepts = drawn-got;
-      sound = held-sound b;
+      sound = read-sound b;
     }
