@@ -1,4 +1,5 @@
 -- The laws of the root that callers cite: it is monotone, so comparisons of roots are comparisons of what stands under them. Assumes nothing.
+use mathlib.Core.Path.{_≡_, refl}
 use Prim.Native.Nat.{ℕ, zero, suc, _+_, _*_, _^_, _≤_, _<_}
 use native.Mathlib.Nat.{zero-mul, add-comm, mul-pos, mul-le-mul-right, le-of-mul-le-mul-right, lt-of-lt-of-le, lt-of-le-of-lt, lt-irrefl, le-of-lt, zero-lt-suc}
 use native.Mathlib.Omega.{arith}
@@ -96,6 +97,10 @@ root-monotone x y F G p h = go x y F G (kind x p) (kind y (le-trans zeroF x y p 
     go x y F G top (zeros t d) h = absurd (unfold le in h)
     go x y F G top (above n d q) h = absurd (unfold le in h)
     go x y F G top top h = unfold rootOf in h
+
+pub root-zero : rootOf zeroF ≡ zeroF
+unfolding rootOf
+root-zero = refl
 
 -- what has a root is not below zero
 rooted : (x : Float) → T (number (rootOf x)) → T (le zeroF x)

@@ -97,7 +97,7 @@ pub fn reaches(edge: Edge, r: Resolved, p: Vec3, chain: &[f64], n: usize) -> boo
 {
     let limit = arith::max(r.sag, edge.tolerance * 10.0);
     // A little above the square, so that the cut's root is above the limit.
-    let cut = limit * limit * 1.000001;
+    let cut = limit * limit * arith_root_limit::A_LITTLE_MORE;
     let has_cut = limit < arith_root::root(cut);
     for i in 0..n {
         let q = edge_record::point_at(chain, i);

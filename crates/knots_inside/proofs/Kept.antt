@@ -42,9 +42,6 @@ retained-sub above below (k ∷ l) = go (isStrict above below k) (retained-sub a
     go true h = keep h
     go false h = skip h
 
-pub finite-number : (k : Float) → T (finite k) → Number k
-finite-number (fin s m e) h = tt
-
 -- ---- dedup
 apart-sub : (epsilon last : Float) (l : List Float) → Sub (apart epsilon last l) l
 unfolding apart
