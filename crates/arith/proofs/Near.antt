@@ -7,7 +7,7 @@ use native.Mathlib.Omega.{arith}
 use mathlib.Core.Bool.{true, false}
 use lib.IntN.{pos, negsuc}
 use lib.Dec.{T, leb, eqb, leb→le, le→leb, leb·suc-suc, lit<, lit≤, not-T}
-use lib.Ieee.{Float, nan, inf, fin, binary64, up, down, minus, add, lt, le, ofInt}
+use lib.Ieee.{Float, nan, inf, fin, binary64, up, down, minus, lt, le, ofInt}
 use lib.Ieee.Bits.{is-true, is-false}
 use lib.Ieee.Fits.{ofInt-fits, add-fits}
 use lib.Ieee.Scale.{finite}

@@ -1,12 +1,12 @@
 -- lo + (hi - lo) * (i / n), each operation rounded, goes one way as i grows. Assumes nothing.
 use mathlib.Core.Path.{_≡_, refl, sym, _∙_, subst}
 use Prim.Native.Nat.{ℕ, zero, suc, _+_, _*_, _^_, _≤_, _<_}
-use native.Mathlib.Nat.{add-zero, zero-add, zero-mul, mul-zero, one-mul, mul-one, le-trans, zero-lt-suc, mul-le-mul-right, mul-le-mul-left, mul-pos, mul-comm}
+use native.Mathlib.Nat.{add-zero, zero-add, zero-mul, mul-zero, one-mul, mul-one, le-trans, zero-lt-suc, mul-le-mul-right, mul-le-mul-left, mul-pos}
 use native.Mathlib.Omega.{arith}
 use mathlib.Core.Bool.{Bool, true, false}
 use lib.IntN.{pos}
 use lib.Dec.{T}
-use lib.Ieee.{Float, nan, inf, fin, Format, prec, binary32, binary64, up, down, unlike, round, add, sub, mul, div, le, fits, ofInt}
+use lib.Ieee.{Float, nan, inf, fin, Format, prec, binary32, binary64, up, down, round, add, sub, mul, div, le, fits, ofInt}
 use lib.Ieee.Fits.{sub-fits}
 use lib.Ieee.Exact.{HasValue}
 use lib.Ieee.Back.{round-whole}

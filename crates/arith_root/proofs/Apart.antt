@@ -88,7 +88,7 @@ finite-apart x y F G p q h =
     (D .below) (C .above)))
 
 -- ---- and for all
-pub above-zero : (m : ℕ) (e : ℤ) → T (lt zeroF (fin false m e)) → T (positive (fin false m e))
+above-zero : (m : ℕ) (e : ℤ) → T (lt zeroF (fin false m e)) → T (positive (fin false m e))
 unfolding lt
 above-zero zero e h = absurd (none (up e) (down e) (ltb→lt (0 * 1 * down e) (0 * up e * 1) h))
   where

@@ -1,5 +1,5 @@
 -- In the fixed steps too, an angle whose half has a tangent y up to 1/4 is at least 1.958 y, and at least 0.368 beyond. Assumes nothing.
-use mathlib.Core.Path.{_≡_, refl, sym, subst}
+use mathlib.Core.Path.{_≡_, refl, subst}
 use mathlib.Core.Bool.{Bool, true, false, cond, not, _&&_}
 use mathlib.Core.Logic.{_⊎_, inl, inr}
 use mathlib.Core.List.{[], _∷_}
@@ -11,7 +11,7 @@ use lib.Ieee.Scale.{finite}
 use Rattle.arith_order.proofs.Signed.{zeroF, oneF}
 use Rattle.arith_order.proofs.Mono.{add-mono-right, sub-turns, mul-mono, mul-mono-right, div-mono, div-turns, div-low}
 use Rattle.arith_order.proofs.Middle.{zero-fits, between}
-use Rattle.arith_order.proofs.Laws.{refuted, le-trans, le-total, lt-le-trans, le-lt-trans, lt→le, lt→nle, nlt→le, number-left, number-right}
+use Rattle.arith_order.proofs.Laws.{refuted, le-trans, le-total, lt-le-trans, lt→le, lt→nle, nlt→le, number-left, number-right}
 use Rattle.arith.proofs.Cmp.{holds, fails}
 use Rattle.arith.specs.Notation.{_⊕_, _⊖_, _⊗_, _⊘_, bits, plusZero, half, one, count}
 use Rattle.arith_root.specs.Root.{rootOf}

@@ -1,15 +1,15 @@
 -- In the fixed steps too, no arc cosine is above twice the tangent of half its angle. Assumes nothing.
-use mathlib.Core.Path.{_≡_, refl, sym, subst}
+use mathlib.Core.Path.{_≡_, refl, sym}
 use mathlib.Core.Bool.{Bool, true, false, cond, _||_}
 use mathlib.Core.List.{[], _∷_}
-use Prim.Native.Nat.{ℕ, _+_, _*_, _≤_, _<_}
+use Prim.Native.Nat.{ℕ, _+_, _*_, _≤_}
 use native.Mathlib.Nat.{zero-mul, mul-zero, add-zero, mul-one, mul-pos, mul-le-mul-left}
 use native.Mathlib.Omega.{arith}
 use lib.IntN.{pos}
 use lib.Dec.{T}
-use lib.Ieee.{Float, nan, fin, binary64, ofBits, ofInt, fits, le, lt, eq, neg, add, sub, mul, div}
+use lib.Ieee.{Float, nan, fin, binary64, ofBits, ofInt, fits, le, lt, eq, neg, add, mul, div}
 use lib.Ieee.Bits.{is-true}
-use lib.Ieee.Fits.{add-fits, sub-fits, mul-fits, div-fits}
+use lib.Ieee.Fits.{add-fits, sub-fits, div-fits}
 use lib.Ieee.Scale.{finite}
 use lib.Ieee.Positive.{den, den-pos}
 use Rattle.arith_order.proofs.Signed.{plus, neg', le→, no-sign, zeroF, oneF, ring}
@@ -19,14 +19,14 @@ use Rattle.arith_order.proofs.Middle.{zero-fits, above, under, between}
 use Rattle.arith_order.proofs.Modest.{sub-up}
 use Rattle.arith_order.proofs.Laws.{le-trans, lt-le-trans, lt→nle, number-right}
 use Rattle.arith.proofs.Cmp.{holds}
-use Rattle.arith.specs.Notation.{_⊕_, _⊖_, _⊗_, _⊘_, plusZero, one, two, count}
+use Rattle.arith.specs.Notation.{_⊕_, _⊖_, _⊗_, _⊘_, plusZero, one, count}
 use Rattle.arith_root.specs.Root.{rootOf}
 use Rattle.arith_root.proofs.Laws.{root-zero, root-monotone}
 use Rattle.arith_trig.specs.Trig.{halved, summed, arcOf, angleOf, acosBy, acosOf, pi}
 use Rattle.arith_turn_limit.specs.Own.Limit.{tangentSquare, twiceTangent, cutFor, turnCut, Serves}
 use Rattle.arith_root_limit.specs.Own.Limit.{cutIf}
 
--- ---- a float not below zero, and one from 0 to 1
+-- ---- a float from 0 to 1
 abbrev pub Part : Float → Type 0
 Part x = T (le zeroF x) × T (le x oneF)
 
@@ -69,7 +69,7 @@ square-part y p = (
       (mul-mono binary64 y oneF y (part-finite y p) tt (part-finite y p) (p .0) (p .1)) (scaled-high oneF y tt tt p one-fits),
 )
 
--- ---- 1, 2 and 4 as floats
+-- ---- 2 and 4 as floats
 abbrev pub twoF : Float
 twoF = fin false 1 (pos 1)
 
@@ -143,7 +143,7 @@ pub half-mono : (x y : Float) → T (finite x) → T (finite y) → T (le x y) �
 unfolding lt
 half-mono x y X Y h = div-mono binary64 x y twoF X Y tt tt h
 
-pub half-part : (y : Float) → Part y → Part (y ⊘ twoF)
+half-part : (y : Float) → Part y → Part (y ⊘ twoF)
 unfolding le
 half-part y p = (div-low binary64 y twoF (part-finite y p) tt (p .0) tt, half-high y p)
 

@@ -54,7 +54,8 @@ pub fn over_cut(limit: f64) -> f64
     // So much that the least turn at the cut is above the limit.
     let half = limit * OVER_HALF;
     let cut = half * half;
-    let least = 16.0 * (arith_root::root(cut) / FIRST_DIVISOR / SECOND_DIVISOR / THIRD_DIVISOR * LEAST_SERIES);
+    let least = 16.0
+        * (arith_root::root(cut) / FIRST_DIVISOR / SECOND_DIVISOR / THIRD_DIVISOR * LEAST_SERIES);
     arith_root_limit::cut_if(
         limit < LARGEST_LIMIT,
         arith_root_limit::cut_if(0.0 <= cut, arith_root_limit::cut_if(limit < least, cut)),

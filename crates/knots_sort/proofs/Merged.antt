@@ -3,7 +3,7 @@ use mathlib.Core.Path.{_≡_, refl, sym, ap, subst, _∙_}
 use mathlib.Core.Bool.{Bool, true, false, cond}
 use mathlib.Core.List.{List, [], _∷_, _++_}
 use lib.Dec.{T}
-use lib.Ieee.{Float, lt, le}
+use lib.Ieee.{Float, lt}
 use lib.Ieee.Bits.{is-true}
 use Rattle.arith_order.proofs.Signed.{refuted, le-trans, lt→le, lt→nle, nlt→le, lt-le-trans}
 use Rattle.base_lists.specs.All.{All, none, more}

@@ -1,6 +1,5 @@
 -- `arith_turn_limit::is_turn_over` meets its contract. Assumes nothing.
 use Rattle.arith_turn_limit.specs.Own.Limit.{isOver}
-use borrow.Author.Needs.{needs}
 use Rattle.arith_turn_limit.proofs.is_turn_over.Statement.{statement}
 use Rattle.arith_turn_limit.proofs.is_turn_over.Tie as tie
 
