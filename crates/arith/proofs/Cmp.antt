@@ -3,7 +3,7 @@ use mathlib.Core.Path.{_≡_, refl, sym, ap, _∙_, subst}
 use Prim.Native.Nat.{ℕ, zero, suc, _+_, _*_, _^_, _≤_, _<_}
 use native.Mathlib.Nat.{zero-lt-suc, mul-pos, mul-one, one-mul, pow-suc}
 use native.Mathlib.Omega.{arith}
-use mathlib.Core.Bool.{Bool, true, false, not, _||_, Bool·beq, cond}
+use mathlib.Core.Bool.{Bool, true, false, not, _||_, Bool·beq}
 use lib.IntN.{ℤ, pos, negsuc}
 use lib.Dec.{T, ltb, eqb, eqb-refl, eqb→eq, ltb→lt, nltb→le}
 use lib.Ieee.{Float, nan, inf, fin, Format, up, down, ne, eq, lt, le, neg, isNan, fits}

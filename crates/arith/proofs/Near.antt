@@ -7,7 +7,7 @@ use native.Mathlib.Omega.{arith}
 use mathlib.Core.Bool.{true, false}
 use lib.IntN.{pos, negsuc}
 use lib.Dec.{T, leb, eqb, leb→le, le→leb, leb·suc-suc, lit<, lit≤, not-T}
-use lib.Ieee.{Float, nan, inf, fin, binary64, up, down, minus, add, lt, le, ofInt}
+use lib.Ieee.{Float, nan, inf, fin, binary64, up, down, minus, lt, le, ofInt}
 use lib.Ieee.Bits.{is-true, is-false}
 use lib.Ieee.Fits.{ofInt-fits, add-fits}
 use lib.Ieee.Scale.{finite}
@@ -16,6 +16,7 @@ use borrow.Author.Tests.{eq-eqb}
 use Rattle.arith_order.proofs.Signed.{plus, neg', le→, lt→}
 use Rattle.arith_order.proofs.Rounds.{Rounds, add-rounds}
 use Rattle.arith_order.proofs.Lerp.{whole}
+use Rattle.arith_order.proofs.Laws.{add-parts}
 use Rattle.arith_order.proofs.Middle.{above, under}
 use Rattle.arith.specs.Floor.{floorOf}
 use Rattle.arith.specs.Notation.{_⊕_, _⊖_, count}
@@ -31,12 +32,6 @@ abbrev pub baseF : Float
 baseF = fin false 3 (pos 51)
 
 -- ---- S, the sum rounded, is less than 1 from x + base
-finite-of : (x : Float) → T (finite (x ⊕ baseF)) → T (finite x)
-unfolding add
-finite-of nan h = h
-finite-of (inf s) h = h
-finite-of (fin s m e) h = tt
-
 pub record Near (x : Float) (S : ℕ) : Type 0 where
   pub isFinite : T (finite x)
   pub over : S * den x + neg' x < plus x + base * den x + den x
@@ -55,7 +50,7 @@ module _ (p n d k dk pk nk : ℕ) (a : pk ≡ k * dk) (b : nk ≡ 0) where
 
 module _ (x : Float) (S : ℕ) (l : 1 ≤ S) (h : S < 2 ^ 53) (e : x ⊕ baseF ≡ count S) where
   is-finite : T (finite x)
-  is-finite = finite-of x (subst (λ (z : Float). T (finite z)) (sym e) (whole binary64 S (le-of-lt h) .0))
+  is-finite = add-parts binary64 x baseF (subst (λ (z : Float). T (finite z)) (sym e) (whole binary64 S (le-of-lt h) .0)) .0
 
   abbrev Sum : Float → Type 0
   Sum z = Rounds binary64 z (plus x * 1 + base * den x) (neg' x * 1 + 0 * den x) (den x * 1)

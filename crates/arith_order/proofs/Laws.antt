@@ -18,10 +18,17 @@ pub use Rattle.arith_order.proofs.Middle.{between}
 pub use Rattle.arith_order.proofs.Signed.{neg-le}
 -- rounding is monotone for both signs: ±a / c ≤ ±b / d stays so when both are rounded
 pub use Rattle.arith_order.proofs.Rounds.{round-le}
+-- a test that cannot hold is false
+pub use Rattle.arith_order.proofs.Signed.{refuted}
+-- a finite sum or product has finite parts
+pub use Rattle.arith_order.proofs.Rounds.{add-parts, mul-parts}
+-- a sum with what is not below zero is not below the other part, and a difference not above it
+pub use Rattle.arith_order.proofs.Mono.{add-grows, sub-shrinks}
 -- a sum is monotone in each part, a difference in its first; in its second it turns the order
 pub use Rattle.arith_order.proofs.Mono.{add-mono, add-mono-right, sub-mono, sub-turns}
--- a product with a number not below zero is monotone, with one not above zero it turns the order; a quotient by a number above zero is monotone
-pub use Rattle.arith_order.proofs.Mono.{mul-mono, mul-turns, div-mono}
+-- a product with a number not below zero is monotone, with one not above zero it turns the order; a quotient by a number above zero is monotone,
+-- and of one not below zero it turns the order of divisors from 1 on, and is not below zero
+pub use Rattle.arith_order.proofs.Mono.{mul-mono, mul-mono-right, mul-turns, mul-turns-right, div-mono, div-turns, div-low}
 -- n as f64 is finite and exact up to 2 ^ 53, and its order is that of the numbers
 pub use Rattle.arith_order.proofs.Lerp.{whole, whole-le}
 -- the midpoint 0.5 * (a + b) of two modest floats lies between them, whichever is the smaller

@@ -1,23 +1,23 @@
 -- lo + (hi - lo) * (i / n), each operation rounded, goes one way as i grows. Assumes nothing.
 use mathlib.Core.Path.{_≡_, refl, sym, _∙_, subst}
 use Prim.Native.Nat.{ℕ, zero, suc, _+_, _*_, _^_, _≤_, _<_}
-use native.Mathlib.Nat.{add-zero, zero-add, zero-mul, mul-zero, one-mul, mul-one, le-trans, zero-lt-suc, mul-le-mul-right, mul-le-mul-left, mul-pos, mul-comm}
+use native.Mathlib.Nat.{add-zero, zero-add, zero-mul, mul-zero, one-mul, mul-one, le-trans, zero-lt-suc, mul-le-mul-right, mul-le-mul-left, mul-pos}
 use native.Mathlib.Omega.{arith}
 use mathlib.Core.Bool.{Bool, true, false}
 use lib.IntN.{pos}
 use lib.Dec.{T}
-use lib.Ieee.{Float, nan, inf, fin, Format, prec, binary32, binary64, up, down, unlike, round, add, sub, mul, div, le, fits, ofInt}
+use lib.Ieee.{Float, nan, inf, fin, Format, prec, binary32, binary64, up, down, round, add, sub, mul, div, le, fits, ofInt}
 use lib.Ieee.Fits.{sub-fits}
 use lib.Ieee.Exact.{HasValue}
 use lib.Ieee.Back.{round-whole}
 use lib.Ieee.Order.{round-mono}
 use lib.Ieee.Scale.{finite}
 use lib.Ieee.Positive.{den, den-pos}
-use Rattle.arith_order.proofs.Signed.{P, N, plus, neg', le→, ring}
-pub use Rattle.arith_order.proofs.Signed.{zeroF, oneF}
+use Rattle.arith_order.proofs.Signed.{P, N, plus, neg', le→, no-sign, ring}
+pub use Rattle.arith_order.proofs.Signed.{zeroF, oneF, no-minus}
 use Rattle.arith_order.proofs.Rounds.{mul-rounds, div-rounds}
-use Rattle.arith_order.proofs.Mono.{add-mono-right, mul-mono, mul-turns, div-mono-by}
-use Rattle.arith_order.proofs.Middle.{above, under, between}
+use Rattle.arith_order.proofs.Mono.{add-mono-right, mul-mono-right, mul-turns-right, div-mono-by}
+use Rattle.arith_order.proofs.Middle.{zero-fits, above, under, between}
 
 -- ---- a whole number up to 2 ^ prec, as a float
 abbrev Whole : Float → ℕ → Type 0
@@ -40,11 +40,6 @@ unfolding ofInt
 whole-le f i j h = round-mono f i 1 j 1 (zero-lt-suc 0) (zero-lt-suc 0) (mul-le-mul-right 1 h)
 
 -- ---- i / n for i ≤ n is from 0 to 1
--- every format holds 0.0
-pub zero-fits : (f : Format) → T (fits f zeroF)
-unfolding fits
-zero-fits f = tt
-
 one-fits : (f : Format) → T (fits f oneF)
 unfolding fits
 one-fits binary32 = tt
@@ -85,21 +80,6 @@ module _ (f : Format) (n : ℕ) (np : 0 < n) (nb : n ≤ 2 ^ prec f) where
   quot-mono i j h k = div-mono-by f (ofInt f (pos i)) (ofInt f (pos j)) (ofInt f (pos n)) (whole f i (le-trans (le-trans h k) nb) .0)
       (whole f j (le-trans k nb) .0) n-finite above-zero (whole-le f i j h)
 
--- ---- a product of finite floats, in either order
-unlike-comm : (s t : Bool) → unlike s t ≡ unlike t s
-unlike-comm true true = refl
-unlike-comm true false = refl
-unlike-comm false true = refl
-unlike-comm false false = refl
-
-pub mul-swap : (f : Format) (x y : Float) → T (finite x) → T (finite y) → mul f x y ≡ mul f y x
-unfolding mul
-mul-swap f nan y a b = absurd a
-mul-swap f (inf s) y a b = absurd a
-mul-swap f (fin s m e) nan a b = absurd b
-mul-swap f (fin s m e) (inf t) a b = absurd b
-mul-swap f (fin s m e) (fin t n d) a b = rw (unlike-comm s t, mul-comm (m * up e) (n * up d), mul-comm (down e) (down d))
-
 -- ---- d * q for a q from 0 to 1 is no further from 0 than d: so it is finite
 abbrev with-sign : Bool → Float → Float
 with-sign s nan = nan
@@ -113,13 +93,6 @@ sized f s (inf t) h = h
 sized f s (fin t zero e) h = h
 sized f s (fin t (suc m) e) h = h
 
--- what is not negative has no minus part
-pub no-minus : (q : Float) → neg' q ≤ plus q → neg' q ≡ 0
-no-minus nan h = refl
-no-minus (inf s) h = refl
-no-minus (fin true m e) h = omega arith
-no-minus (fin false m e) h = refl
-
 -- a * (b * c) with b at most d
 under-law : (a b c d : ℕ) → b ≤ d → a * b * c ≤ a * (c * d)
 under-law a b c d h = let k = mul-le-mul-left (a * c) h in simp ring (simp ring at k)
@@ -129,7 +102,7 @@ part-finite f nan q F D Q l h = absurd D
 part-finite f (inf s) q F D Q l h = absurd D
 part-finite f (fin s m e) q F D Q l h =
     let d = fin s m e in
-    let z : neg' q ≡ 0 = no-minus q (omega (arith, le→ zeroF q tt Q l, zero-mul (den q))) in
+    let z = no-sign q Q l in
     let k : plus q ≤ den q = omega (arith, le→ q oneF Q tt h, z, zero-mul (den q), mul-one (plus q)) in
     let R = mul-rounds f d q D Q in
     between (fin true m e) (mul f d q) (fin false m e) tt tt
@@ -166,7 +139,7 @@ module _ (f : Format) (lo hi : Float) (n i j : ℕ) (L : T (finite lo)) (D : T (
       let X = quot-finite f n np nb i (le-trans h k) in
       let Y = quot-finite f n np nb j k in
       add-mono-right f (mul f d x) (mul f d y) lo (part i (le-trans h k)) (part j k) L
-      (rw (mul-swap f d x D X, mul-swap f d y D Y) (mul-mono f x y d X Y D p (quot-mono f n np nb i j h k)))
+      (mul-mono-right f x y d X Y D p (quot-mono f n np nb i j h k))
 
   pub lerp-falls : T (le (sub f hi lo) zeroF) → T (le (lerp f lo hi j n) (lerp f lo hi i n))
   lerp-falls p =
@@ -176,4 +149,4 @@ module _ (f : Format) (lo hi : Float) (n i j : ℕ) (L : T (finite lo)) (D : T (
       let X = quot-finite f n np nb i (le-trans h k) in
       let Y = quot-finite f n np nb j k in
       add-mono-right f (mul f d y) (mul f d x) lo (part j k) (part i (le-trans h k)) L
-      (rw (mul-swap f d x D X, mul-swap f d y D Y) (mul-turns f x y d X Y D p (quot-mono f n np nb i j h k)))
+      (mul-turns-right f x y d X Y D p (quot-mono f n np nb i j h k))

@@ -12,7 +12,7 @@ use lib.Ieee.Fits.{and-l, and-r, up-pos, down-pos}
 use lib.Ieee.Exact.{HasValue, round-exact}
 use lib.Ieee.Scale.{finite}
 use lib.Ieee.Positive.{den, den-pos}
-use Rattle.arith_order.proofs.Signed.{P, N, P-mul, N-mul, plus, neg', le→, le←, le-trans, ring}
+use Rattle.arith_order.proofs.Signed.{P, N, P-mul, N-mul, plus, neg', zeroF, le→, le←, le-trans, ring}
 use Rattle.arith_order.proofs.Rounds.{Rounds, rounds-le, add-rounds, mul-rounds}
 
 -- ---- what `fits` says of fin s m e
@@ -121,6 +121,11 @@ both-parts f nan F p = absurd p
 both-parts f (inf s) F p = absurd p
 both-parts f (fin true m e) F p = let h = parts f true m e F .2 in omega arith
 both-parts f (fin false m e) F p = let h = parts f false m e F .2 in omega arith
+
+-- every format holds 0.0
+pub zero-fits : (f : Format) → T (fits f zeroF)
+unfolding fits
+zero-fits f = tt
 
 -- a float of the format that is at most the fraction is at most what it rounds to; and the other way round
 pub above : (f : Format) (a z : Float) (p n c : ℕ) → T (fits f a) → T (finite a) → Rounds f z p n c → 0 < c

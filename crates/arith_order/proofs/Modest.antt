@@ -11,8 +11,8 @@ use lib.Ieee.Scale.{finite}
 use lib.Ieee.Positive.{den, den-pos}
 use Rattle.arith_order.proofs.Signed.{plus, neg', le→, ring}
 use Rattle.arith_order.proofs.Rounds.{sub-rounds, add-swap}
-use Rattle.arith_order.proofs.Middle.{Room, above, under, between, half, middle-low, middle-high}
-use Rattle.arith_order.proofs.Lerp.{zeroF, zero-fits, lerp, lerp-rises, lerp-falls}
+use Rattle.arith_order.proofs.Middle.{Room, zero-fits, above, under, between, half, middle-low, middle-high}
+use Rattle.arith_order.proofs.Lerp.{zeroF, lerp, lerp-rises, lerp-falls}
 
 -- ±2 ^ k
 abbrev pub big : ℕ → Bool → Float

@@ -3,14 +3,15 @@
 -- Assumes nothing.
 use mathlib.Core.Path.{_≡_}
 use Prim.Native.Nat.{ℕ, _+_, _-_, _*_, _≤_, _<_}
-use native.Mathlib.Nat.{zero-mul, mul-le-mul-right, mul-pos}
+use native.Mathlib.Nat.{zero-mul, add-zero, mul-one, mul-le-mul-right, mul-le-mul-left, mul-pos}
 use native.Mathlib.Omega.{arith}
 use lib.Dec.{T}
-use lib.Ieee.{Float, Format, neg, add, sub, mul, div, le, lt}
+use lib.Ieee.{Float, Format, fits, neg, add, sub, mul, div, le, lt}
 use lib.Ieee.Scale.{finite}
 use lib.Ieee.Positive.{den, den-pos}
-use Rattle.arith_order.proofs.Signed.{plus, neg', le→, lt→, neg-le, zeroF, ring}
-use Rattle.arith_order.proofs.Rounds.{rounds-le, add-rounds, mul-rounds, div-rounds, add-swap, neg-finite}
+use Rattle.arith_order.proofs.Signed.{plus, neg', le→, lt→, neg-le, no-minus, no-sign, le-trans, zeroF, oneF, ring}
+use Rattle.arith_order.proofs.Rounds.{rounds-le, add-rounds, sub-rounds, mul-rounds, div-rounds, add-swap, mul-swap, neg-finite}
+use Rattle.arith_order.proofs.Middle.{zero-fits, above, under}
 
 add-law : (px nx dx py ny dy pz nz dz : ℕ) → px * dy + ny * dx ≤ py * dx + nx * dy
     → (px * dz + pz * dx) * (dy * dz) + (ny * dz + nz * dy) * (dx * dz) ≤ (py * dz + pz * dy) * (dx * dz) + (nx * dz + nz * dx) * (dy * dz)
@@ -37,6 +38,24 @@ sub-mono f x y z a b c h = add-mono f x y (neg z) a b (neg-finite z c) h
 pub sub-turns : (f : Format) (x y z : Float) → T (finite x) → T (finite y) → T (finite z) → T (le x y) → T (le (sub f z y) (sub f z x))
 unfolding sub
 sub-turns f x y z a b c h = add-mono-right f (neg y) (neg x) z (neg-finite y b) (neg-finite x a) c (neg-le x y h)
+
+-- ---- a + e is not below a, a - e not above a, for an e that is not negative
+grows-law : (pa na da pe de : ℕ) → pa * (da * de) + (na * de + 0 * da) * da ≤ (pa * de + pe * da) * da + na * (da * de)
+grows-law pa na da pe de = simp (ring, zero-mul, add-zero) (omega arith)
+
+shrinks-law : (pa na da pe de : ℕ) → (pa * de + 0 * da) * da + na * (da * de) ≤ pa * (da * de) + (na * de + pe * da) * da
+shrinks-law pa na da pe de = simp (ring, zero-mul, add-zero) (omega arith)
+
+module _ (f : Format) (a e : Float) (F : T (fits f a)) (A : T (finite a)) (E : T (finite e)) (h : T (le zeroF e)) where
+  pub add-grows : T (le a (add f a e))
+  add-grows =
+      above f a (add f a e) (plus a * den e + plus e * den a) (neg' a * den e + neg' e * den a) (den a * den e) F A (add-rounds f a e A E) (mul-pos (den-pos a) (den-pos e))
+      (rw (no-sign e E h) (grows-law (plus a) (neg' a) (den a) (plus e) (den e)))
+
+  pub sub-shrinks : T (le (sub f a e) a)
+  sub-shrinks =
+      under f a (sub f a e) (plus a * den e + neg' e * den a) (neg' a * den e + plus e * den a) (den a * den e) F A (sub-rounds f a e A E) (mul-pos (den-pos a) (den-pos e))
+      (rw (no-sign e E h) (shrinks-law (plus a) (neg' a) (den a) (plus e) (den e)))
 
 -- ---- products
 mul-law : (px nx dx py ny dy w nz dz : ℕ) → px * dy + ny * dx ≤ py * dx + nx * dy
@@ -83,6 +102,15 @@ pub mul-turns : (f : Format) (x y z : Float) → T (finite x) → T (finite y) �
     → T (le (mul f y z) (mul f x z))
 mul-turns f x y z a b c g h = mul-turns-by f x y z a b c (omega (arith, le→ z zeroF c tt g, zero-mul (den z))) h
 
+-- z * x ≤ z * y, and z * y ≤ z * x
+pub mul-mono-right : (f : Format) (x y z : Float) → T (finite x) → T (finite y) → T (finite z) → T (le zeroF z) → T (le x y)
+    → T (le (mul f z x) (mul f z y))
+mul-mono-right f x y z a b c g h = rw (mul-swap f z x c a, mul-swap f z y c b) (mul-mono f x y z a b c g h)
+
+pub mul-turns-right : (f : Format) (x y z : Float) → T (finite x) → T (finite y) → T (finite z) → T (le z zeroF) → T (le x y)
+    → T (le (mul f z y) (mul f z x))
+mul-turns-right f x y z a b c g h = rw (mul-swap f z x c a, mul-swap f z y c b) (mul-turns f x y z a b c g h)
+
 -- ---- quotients
 div-law : (px nx dx py ny dy pz dz : ℕ) → px * dy + ny * dx ≤ py * dx + nx * dy
     → px * dz * (pz * dy) + ny * dz * (pz * dx) ≤ py * dz * (pz * dx) + nx * dz * (pz * dy)
@@ -98,3 +126,30 @@ div-mono-by f x y z a b c g h =
 pub div-mono : (f : Format) (x y z : Float) → T (finite x) → T (finite y) → T (finite z) → T (lt zeroF z) → T (le x y)
     → T (le (div f x z) (div f y z))
 div-mono f x y z a b c g h = div-mono-by f x y z a b c (omega (arith, lt→ zeroF z tt c g, zero-mul (den z))) h
+
+-- ---- the greater the divisor, the less the quotient
+turns-law : (px dx py dy pz dz : ℕ) → py * dz ≤ pz * dy → px * dz * (py * dx) + 0 * dy * (pz * dx) ≤ px * dy * (pz * dx) + 0 * dz * (py * dx)
+turns-law px dx py dy pz dz h = let k = mul-le-mul-left (px * dx) h in simp (ring, zero-mul, add-zero) (simp ring at k)
+
+-- what is at least 1 is above zero
+over-one : (z : Float) → T (finite z) → T (le oneF z) → (0 < plus z) × (neg' z ≡ 0)
+over-one z F h =
+    let k : den z + neg' z ≤ plus z = omega (arith, le→ oneF z tt F h, zero-mul (den z), mul-one (plus z), mul-one (neg' z)) in
+    (omega (arith, k, den-pos z), no-minus z (omega (arith, k)))
+
+-- x / z ≤ x / y from 1 ≤ y ≤ z
+pub div-turns : (f : Format) (x y z : Float) → T (finite x) → T (finite y) → T (finite z) → T (le zeroF x) → T (le oneF y) → T (le y z) → T (le (div f x z) (div f x y))
+div-turns f x y z X Y Z x0 y1 h =
+    let u = over-one y Y y1 in
+    let v = over-one z Z (le-trans oneF y z y1 h) in
+    rounds-le f (div f x z) (div f x y) (plus x * den z) (neg' x * den z) (plus z * den x) (plus x * den y) (neg' x * den y) (plus y * den x)
+    (div-rounds f x z X Z (v .0)) (div-rounds f x y X Y (u .0)) (mul-pos (v .0) (den-pos x)) (mul-pos (u .0) (den-pos x))
+    (rw (no-sign x X x0) (turns-law (plus x) (den x) (plus y) (den y) (plus z) (den z)
+    (omega (arith, rw (u .1, v .1) at (le→ y z Y Z h), zero-mul (den y), zero-mul (den z)))))
+
+-- and x / z is not below zero
+pub div-low : (f : Format) (x z : Float) → T (finite x) → T (finite z) → T (le zeroF x) → T (le oneF z) → T (le zeroF (div f x z))
+div-low f x z X Z x0 z1 =
+    let v = over-one z Z z1 in
+    above f zeroF (div f x z) (plus x * den z) (neg' x * den z) (plus z * den x) (zero-fits f) tt (div-rounds f x z X Z (v .0))
+    (mul-pos (v .0) (den-pos x)) (rw (no-sign x X x0) (omega (arith, zero-mul (plus z * den x), zero-mul (den z))))

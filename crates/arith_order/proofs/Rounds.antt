@@ -6,7 +6,7 @@ use Prim.Native.Nat.{ℕ, zero, suc, _+_, _-_, _*_, _^_, _≤_, _<_}
 use native.Mathlib.Nat.{zero-mul, eq-zero-or-pos, le-of-eq, lt-irrefl, lt-of-lt-of-le, mul-pos, mul-comm, add-mul, add-comm}
 use native.Mathlib.Omega.{arith}
 use mathlib.Core.Bool.{Bool, true, false, true≢false, not, cond}
-use lib.Dec.{T, ltb, ltb→lt, nltb→le, eqb·suc-zero}
+use lib.Dec.{T, ltb, eqb, ltb→lt, nltb→le, eqb·suc-zero}
 use lib.Pow.{pow-pos}
 use lib.Ieee.{Float, nan, inf, fin, Format, prec, emax, low, up, down, unlike, odd, units, round, neg, sum, add, sub, mul, div, le}
 use lib.Ieee.Fits.{round-is}
@@ -242,3 +242,47 @@ add-swap f (inf s) y a b = absurd a
 add-swap f (fin s m e) nan a b = absurd b
 add-swap f (fin s m e) (inf t) a b = absurd b
 add-swap f (fin s m e) (fin t n d) a b = rw (mul-comm (down e) (down d)) (sum-swap f s (m * up e * down d) t (n * up d * down e) (down d * down e))
+
+-- ---- and a product
+unlike-comm : (s t : Bool) → unlike s t ≡ unlike t s
+unlike-comm true true = refl
+unlike-comm true false = refl
+unlike-comm false true = refl
+unlike-comm false false = refl
+
+pub mul-swap : (f : Format) (x y : Float) → T (finite x) → T (finite y) → mul f x y ≡ mul f y x
+unfolding mul
+mul-swap f nan y a b = absurd a
+mul-swap f (inf s) y a b = absurd a
+mul-swap f (fin s m e) nan a b = absurd b
+mul-swap f (fin s m e) (inf t) a b = absurd b
+mul-swap f (fin s m e) (fin t n d) a b = rw (unlike-comm s t, mul-comm (m * up e) (n * up d), mul-comm (down e) (down d))
+
+-- ---- a sum that is finite has finite parts
+pub add-parts : (f : Format) (x y : Float) → T (finite (add f x y)) → T (finite x) × T (finite y)
+unfolding add
+add-parts f nan y h = absurd h
+add-parts f (inf s) nan h = absurd h
+add-parts f (inf true) (inf true) h = absurd h
+add-parts f (inf true) (inf false) h = absurd h
+add-parts f (inf false) (inf true) h = absurd h
+add-parts f (inf false) (inf false) h = absurd h
+add-parts f (inf s) (fin t n d) h = absurd h
+add-parts f (fin s m e) nan h = absurd h
+add-parts f (fin s m e) (inf t) h = absurd h
+add-parts f (fin s m e) (fin t n d) h = (tt, tt)
+
+-- and so does a product
+neither : (b u : Bool) → T (finite (cond b nan (inf u))) → ⊥
+neither true u h = h
+neither false u h = h
+
+pub mul-parts : (f : Format) (x y : Float) → T (finite (mul f x y)) → T (finite x) × T (finite y)
+unfolding mul
+mul-parts f nan y h = absurd h
+mul-parts f (inf s) nan h = absurd h
+mul-parts f (inf s) (inf t) h = absurd h
+mul-parts f (inf s) (fin t n d) h = absurd (neither (eqb n 0) (unlike s t) h)
+mul-parts f (fin s m e) nan h = absurd h
+mul-parts f (fin s m e) (inf t) h = absurd (neither (eqb m 0) (unlike s t) h)
+mul-parts f (fin s m e) (fin t n d) h = (tt, tt)

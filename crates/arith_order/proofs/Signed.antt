@@ -7,8 +7,9 @@ use native.Mathlib.Nat.{zero-mul, eq-zero-or-pos, eq-or-lt-of-le, le-of-lt, le-a
 use native.Mathlib.Omega.{arith}
 use mathlib.Core.Bool.{Bool, true, false, not, _&&_, _||_}
 use lib.IntN.{pos}
-use lib.Dec.{T, leb, leb→le, nleb→lt, nltb→le, ltb, eqb, eqb→eq, ltb→lt, lt→ltb}
+use lib.Dec.{T, not-T, leb, leb→le, nleb→lt, nltb→le, ltb, eqb, eqb→eq, ltb→lt, lt→ltb}
 use lib.Ieee.{Float, nan, inf, fin, up, down, below, level, lt, eq, le, neg}
+use lib.Ieee.Bits.{is-false}
 use lib.Ieee.Fits.{and-l, and-r, and-i, eq→eqb}
 use lib.Ieee.Scale.{finite}
 use lib.Ieee.Positive.{den, den-pos}
@@ -49,6 +50,10 @@ abbrev pub oneF : Float
 oneF = fin false 1 (pos 0)
 
 -- ---- Bool tests
+-- a test that cannot hold
+pub refuted : (b : Bool) → (T b → ⊥) → b ≡ false
+refuted b h = is-false b (not-T b h)
+
 or-cases : (p q : Bool) → T (p || q) → T p ⊎ T q
 or-cases true q t = inl tt
 or-cases false q t = inr t
@@ -120,6 +125,16 @@ le← (fin s m e) (inf t) a b h = absurd b
 le← (fin s m e) (fin t n d) a b h =
     test← s (m * up e * down d) t (n * up d * down e)
     (rw (P-mul s (m * up e) (down d), N-mul t (n * up d) (down e), P-mul t (n * up d) (down e), N-mul s (m * up e) (down d)) h)
+
+-- what is not negative has no minus part
+pub no-minus : (q : Float) → neg' q ≤ plus q → neg' q ≡ 0
+no-minus nan h = refl
+no-minus (inf s) h = refl
+no-minus (fin true m e) h = omega arith
+no-minus (fin false m e) h = refl
+
+pub no-sign : (x : Float) → T (finite x) → T (le zeroF x) → neg' x ≡ 0
+no-sign x f p = no-minus x (omega (arith, le→ zeroF x tt f p, zero-mul (den x)))
 
 -- ---- the order on all floats but NaN
 -- the equations that bring a sum of products to one form

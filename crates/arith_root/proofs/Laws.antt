@@ -1,4 +1,5 @@
 -- The laws of the root that callers cite: it is monotone, so comparisons of roots are comparisons of what stands under them. Assumes nothing.
+use mathlib.Core.Path.{_≡_, refl}
 use Prim.Native.Nat.{ℕ, zero, suc, _+_, _*_, _^_, _≤_, _<_}
 use native.Mathlib.Nat.{zero-mul, add-comm, mul-pos, mul-le-mul-right, le-of-mul-le-mul-right, lt-of-lt-of-le, lt-of-le-of-lt, lt-irrefl, le-of-lt, zero-lt-suc}
 use native.Mathlib.Omega.{arith}
@@ -96,6 +97,19 @@ root-monotone x y F G p h = go x y F G (kind x p) (kind y (le-trans zeroF x y p 
     go x y F G top (zeros t d) h = absurd (unfold le in h)
     go x y F G top (above n d q) h = absurd (unfold le in h)
     go x y F G top top h = unfold rootOf in h
+
+-- a root is a float of the format too
+pub root-fits : (x : Float) → T (fits binary64 x) → T (fits binary64 (rootOf x))
+root-fits nan F = unfold rootOf in F
+root-fits (inf true) F = unfold rootOf fits in tt
+root-fits (inf false) F = unfold rootOf in F
+root-fits (fin s zero e) F = unfold rootOf in F
+root-fits (fin true (suc m) e) F = unfold rootOf fits in tt
+root-fits (fin false (suc m) e) F = nearest-root (fin false (suc m) e) F (lt→ltb 0 (suc m) (zero-lt-suc m)) .2 .format
+
+pub root-zero : rootOf zeroF ≡ zeroF
+unfolding rootOf
+root-zero = refl
 
 -- what has a root is not below zero
 rooted : (x : Float) → T (number (rootOf x)) → T (le zeroF x)

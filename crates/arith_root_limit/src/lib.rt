@@ -6,6 +6,9 @@ ghost use lib.Ieee.{lt, le};
 ghost use Rattle.arith_root.specs.Root.{rootOf};
 ghost use Rattle.arith_root_limit.specs.Own.Limit.{cutIf, limitOf, Stands};
 
+// A millionth more: what is above zero, and times this is below another number, has a smaller root than that.
+pub const A_LITTLE_MORE: f64 = 1.000001;
+
 // A limit for roots, with a cut on either side of it; a cut that does not serve is a NaN.
 pub struct Limit {
     pub at: f64,
@@ -26,7 +29,7 @@ pub fn is_above(s: f64, limit: f64, cut: f64, has_cut: bool) -> bool
     arith_root::root(s) > limit
 }
 
-// The same. A cut whose own root is above the limit answers for every s from there on.
+// Whether the root of s is above the limit. A cut whose own root is answers for every s from there on.
 pub fn is_over(s: f64, limit: f64, cut: f64, has_cut: bool) -> bool
     requires { ⌜ («has_cut» ≡ true → lt limit (rootOf cut) ≡ true) ⌝ }
     ensures { λ b. ⌜ b ≡ lt limit (rootOf s) ⌝ }
@@ -59,7 +62,7 @@ pub fn is_below(s: f64, t: f64) -> bool
 {
     if s < t {
         if 0.0 < s {
-            if s * 1.000001 < t {
+            if s * A_LITTLE_MORE < t {
                 return true;
             }
         }
@@ -81,7 +84,7 @@ pub fn limit_of(at: f64) -> Limit
 {
     let square = at * at;
     // A little above the square, so that its root is above the limit.
-    let above = square * 1.000001;
+    let above = square * A_LITTLE_MORE;
     let low = cut_if(arith_root::root(square) <= at, square);
     let high = cut_if(at < arith_root::root(above), above);
     Limit { at, low, high }

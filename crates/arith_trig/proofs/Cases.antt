@@ -1,6 +1,6 @@
 -- What is picked by k mod 4: a factor times one of the two series. Assumes nothing.
 use mathlib.Core.Path.{_≡_, refl, sym, ap, _∙_, subst}
-use mathlib.Core.List.{List, [], _∷_}
+use mathlib.Core.List.{[], _∷_}
 use Prim.Native.Nat.{ℕ, zero, suc, _+_, _%_, _<_}
 use native.Mathlib.Omega.{arith}
 use lib.Dec.{T}

@@ -1,17 +1,17 @@
 -- Products with one, and with a factor of the other sign. Assumes nothing.
 use mathlib.Core.Path.{_≡_, refl, sym, ap, _∙_, subst}
 use mathlib.Core.Logic.{inl, inr}
-use Prim.Native.Nat.{ℕ, zero, suc, _*_, _^_, _<_}
+use Prim.Native.Nat.{ℕ, zero, suc, _*_, _<_}
 use native.Mathlib.Nat.{zero-mul, one-mul, mul-one, mul-pos, zero-lt-suc, lt-irrefl}
 use mathlib.Core.Bool.{Bool, true, false, not, _||_, Bool·beq, cond}
-use lib.IntN.{ℤ, pos}
+use lib.IntN.{ℤ}
 use lib.Dec.{T, eqb, lit<, lit≤}
 use lib.Ieee.{Float, nan, inf, fin, binary64, up, down, unlike, round, neg, mul, eq, fits, ofBits}
 use lib.Ieee.Fits.{up-pos, down-pos, round-fits, and-i, eq→eqb}
 use lib.Ieee.Exact.{HasValue}
 use lib.Ieee.Back.{round-whole, whole-unique}
 use lib.Ieee.Scale.{round-same}
-use Rattle.arith_order.proofs.Equal.{Zeros, eq→same}
+use Rattle.arith_order.proofs.Equal.{eq→same}
 use Rattle.arith_order.proofs.Middle.{parts, scaled}
 use Rattle.arith_order.proofs.Rounds.{round-neg}
 use Rattle.arith.specs.Notation.{_⊗_, one}

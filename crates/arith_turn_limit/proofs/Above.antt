@@ -1,26 +1,34 @@
--- In the fixed steps too, an arc cosine is not far below twice the tangent of half its angle. Assumes nothing.
-use mathlib.Core.Path.{_≡_, refl, sym, subst}
-use mathlib.Core.Bool.{Bool, true, false, cond, not}
+-- In the fixed steps too, an angle whose half has a tangent y up to 1/4 is at least 1.958 y, and at least 0.368 beyond. Assumes nothing.
+use mathlib.Core.Path.{_≡_, refl, subst}
+use mathlib.Core.Bool.{Bool, true, false, cond, not, _&&_}
 use mathlib.Core.Logic.{_⊎_, inl, inr}
 use mathlib.Core.List.{[], _∷_}
 use lib.Dec.{T}
 use lib.Ieee.{Float, nan, inf, fin, binary64, ofBits, ofInt, fits, le, lt, eq, neg, add, sub, mul, div}
-use lib.Ieee.Fits.{add-fits, mul-fits, div-fits}
+use lib.Ieee.Bits.{is-false}
+use lib.Ieee.Fits.{add-fits, mul-fits, div-fits, and-l, and-r}
 use lib.Ieee.Scale.{finite}
 use Rattle.arith_order.proofs.Signed.{zeroF, oneF}
-use Rattle.arith_order.proofs.Mono.{add-mono-right, mul-mono, div-mono, sub-turns}
-use Rattle.arith_order.proofs.Middle.{between}
-use Rattle.arith_order.proofs.Lerp.{mul-swap}
-use Rattle.arith_order.proofs.Laws.{le-trans, le-total, lt-le-trans, le-lt-trans, lt→le, lt→nle, nlt→le, number-left, number-right}
-use Rattle.arith.proofs.Cmp.{holds}
-use Rattle.arith.specs.Notation.{_⊕_, _⊖_, _⊗_, _⊘_, bits, plusZero, one, two, count}
+use Rattle.arith_order.proofs.Mono.{add-mono-right, sub-turns, mul-mono, mul-mono-right, div-mono, div-turns, div-low}
+use Rattle.arith_order.proofs.Middle.{zero-fits, between}
+use Rattle.arith_order.proofs.Laws.{refuted, le-trans, le-total, lt-le-trans, lt→le, lt→nle, nlt→le, number-left, number-right}
+use Rattle.arith.proofs.Cmp.{holds, fails}
+use Rattle.arith.specs.Notation.{_⊕_, _⊖_, _⊗_, _⊘_, bits, plusZero, half, one, count}
 use Rattle.arith_root.specs.Root.{rootOf}
-use Rattle.arith_root.proofs.Laws.{root-monotone}
+use Rattle.arith_root.proofs.Laws.{root-zero, root-monotone}
 use Rattle.arith_trig.specs.Trig.{halved, summed, arcOf, angleOf, acosBy, acosOf, pi}
-use Rattle.arith.proofs.Cmp.{fails}
-use Rattle.arith_turn_limit.specs.Own.Limit.{tangentSquare, leastTurn, overFor, overCut, Exceeds}
-use Rattle.arith_turn_limit.proofs.Bound.{Part, part-finite, square-part, div-turns, quotient-low, twoF, divisor-low, divisor-finite, square-finite, root-finite, halved-high, halved-part, half-mono, thrice, Below, next, term, term-fits, first, scaled-low, scaled-high, sixteen-mono, angle-high, eighths, half-part, one-fits, series-part}
+use Rattle.arith_turn_limit.specs.Own.Limit.{tangentSquare, firstDivisor, secondDivisor, thirdDivisor, leastSeries, leastTurn, overHalf, overFor, largestLimit, overCut, isOver, Exceeds}
+use Rattle.arith_turn_limit.proofs.Bound.{Part, part-finite, square-part, scaled-low, scaled-high, part-times, twoF, square-finite, root-finite, divisor-low, divisor-finite, halved-high, halved-part, halved-fits, half-mono, thrice, term, term-fits, series-three, seriesOf, series-part, sixteen-mono, eighths, eighths-mono, angle-high}
 use Rattle.arith_root_limit.specs.Own.Limit.{cutIf}
+
+abbrev quarter : Float
+quarter = bits 0x3FD0000000000000
+
+abbrev eighth : Float
+eighth = bits 0x3FC0000000000000
+
+abbrev sixteenth : Float
+sixteenth = bits 0x3FB0000000000000
 
 -- ---- a part at most u, halved: what it is divided by is at most d
 record Step (u d : Float) : Type 0 where
@@ -39,7 +47,7 @@ square-mono x y p q h =
     let X = part-finite x p in
     let Y = part-finite y q in
     le-trans (x ⊗ x) (y ⊗ x) (y ⊗ y) (mul-mono binary64 x y x X Y X (p .0) h)
-    (subst (λ (z : Float). T (le z (y ⊗ y))) (mul-swap binary64 x y X Y) (mul-mono binary64 x y y X Y Y (q .0) h))
+    (mul-mono-right binary64 x y y X Y Y (q .0) h)
 
 module _ (y u d : Float) (p : Part y) (s : Step u d) (h : T (le y u)) where
   within : T (le (oneF ⊕ y ⊗ y) (s .square))
@@ -66,7 +74,7 @@ module _ (y u d : Float) (p : Part y) (s : Step u d) (h : T (le y u)) where
   unfolding halved ofBits
   halved-low k K g D =
       le-trans (k ⊘ d) (y ⊘ d) (halved y) (div-mono binary64 k y d K (part-finite y p) (s .number) D g)
-      (div-turns y (oneF ⊕ rootOf (oneF ⊕ y ⊗ y)) d (part-finite y p) (divisor-finite y p) (s .number) (p .0) one-under divisor-within)
+      (div-turns binary64 y (oneF ⊕ rootOf (oneF ⊕ y ⊗ y)) d (part-finite y p) (divisor-finite y p) (s .number) (p .0) one-under divisor-within)
 
   halved-within : (w : Float) → T (le (u ⊘ twoF) w) → T (le (halved y) w)
   halved-within w g =
@@ -74,19 +82,6 @@ module _ (y u d : Float) (p : Part y) (s : Step u d) (h : T (le y u)) where
       (le-trans (y ⊘ twoF) (u ⊘ twoF) w (half-mono y u (part-finite y p) (part-finite u (s .part)) h) g)
 
 -- ---- the series of a part at most z is at least 1 less a third of z
-series-three : (z : Float) → Part z → Below (summed z (one ⊘ count 15) (13 ∷ 11 ∷ 9 ∷ 7 ∷ 5 ∷ 3 ∷ [])) (term 3)
-unfolding summed ofBits le div ofInt
-series-three z p =
-    let v13 = next z (term 15) (term 15) (term 13) p first tt tt tt (term-fits 13) in
-    let v11 = next z _ (term 13) (term 11) p v13 tt tt tt (term-fits 11) in
-    let v9 = next z _ (term 11) (term 9) p v11 tt tt tt (term-fits 9) in
-    let v7 = next z _ (term 9) (term 7) p v9 tt tt tt (term-fits 7) in
-    let v5 = next z _ (term 7) (term 5) p v7 tt tt tt (term-fits 5) in
-    next z _ (term 5) (term 3) p v5 tt tt tt (term-fits 3)
-
-abbrev seriesOf : Float → Float
-seriesOf z = summed z (one ⊘ count 15) (13 ∷ 11 ∷ 9 ∷ 7 ∷ 5 ∷ 3 ∷ 1 ∷ [])
-
 series-low : (z m v : Float) → Part z → Part m → T (le z m) → T (le v (term 1 ⊖ m ⊗ term 3)) → T (le v (seriesOf z))
 unfolding summed ofBits div ofInt le
 series-low z m v p q h e =
@@ -96,20 +91,14 @@ series-low z m v p q h e =
     let M = part-finite m q in
     let W = between zeroF w (term 3) tt tt (s .low) (s .high) in
     let less : T (le (z ⊗ w) (m ⊗ term 3)) =
-    le-trans (z ⊗ w) (m ⊗ w) (m ⊗ term 3) (mul-mono binary64 z m w Z M W (s .low) h)
-    (subst (λ (x : Float). T (le x (m ⊗ term 3))) (mul-swap binary64 w m W M)
-    (subst (λ (x : Float). T (le (w ⊗ m) x)) (mul-swap binary64 (term 3) m tt M) (mul-mono binary64 w (term 3) m W tt M (q .0) (s .high)))) in
+    le-trans (z ⊗ w) (m ⊗ w) (m ⊗ term 3) (mul-mono binary64 z m w Z M W (s .low) h) (mul-mono-right binary64 w (term 3) m W tt M (q .0) (s .high)) in
     le-trans v (term 1 ⊖ m ⊗ term 3) (seriesOf z) e
     (sub-turns binary64 (z ⊗ w) (m ⊗ term 3) (term 1) (product z w p W (s .format) (s .low)) (product m (term 3) q tt (term-fits 3) tt) tt less)
   where
     product : (x y : Float) → Part x → T (finite y) → T (fits binary64 y) → T (le zeroF y) → T (finite (x ⊗ y))
-    product x y a Y F b = subst (λ (z : Float). T (finite z)) (mul-swap binary64 y x Y (part-finite x a))
-        (between zeroF (y ⊗ x) y tt Y (scaled-low y x Y b a) (scaled-high y x Y b a F))
+    product x y a Y F b = let t = part-times x y a Y F b in between zeroF (x ⊗ y) y tt Y (t .0) (t .1)
 
 -- ---- three halvings and the series: what no angle is below whose tangent is from k to the first u
-halved-fits : (y : Float) → T (fits binary64 (halved y))
-halved-fits y = unfold halved in div-fits binary64 y (one ⊕ rootOf (one ⊕ y ⊗ y))
-
 record Steps (a b c d e f g m v : Float) : Type 0 where
   one-step : Step a d
   two-step : Step b e
@@ -135,7 +124,7 @@ module _ (a b c d e f g m v : Float) (s : Steps a b c d e f g m v) (y k : Float)
       → T (le (n ⊘ w) (halved x)) × (T (finite (n ⊘ w)) × T (le zeroF (n ⊘ w)))
   step x n z w q t i o N n0 j =
       let r = halved-low x z w q t i n N j (positive w o) in
-      let l = quotient-low n w N (t .number) n0 o in
+      let l = div-low binary64 n w N (t .number) n0 o in
       (r, (between zeroF (n ⊘ w) (halved x) tt (part-finite (halved x) (halved-part x q)) l r, l))
 
   one-done : T (le (k ⊘ d) (halved y)) × (T (finite (k ⊘ d)) × T (le zeroF (k ⊘ d)))
@@ -171,10 +160,7 @@ module _ (a b c d e f g m v : Float) (s : Steps a b c d e f g m v) (y k : Float)
       let N = three-done .1 .0 in
       let N0 = three-done .1 .1 in
       let i : T (le (n ⊗ v) (x ⊗ v)) = mul-mono binary64 n x v N X vf (s .v-part .0) (three-done .0) in
-      let j : T (le (x ⊗ v) (x ⊗ S)) =
-      subst (λ (z : Float). T (le z (x ⊗ S))) (mul-swap binary64 v x vf X)
-      (subst (λ (z : Float). T (le (v ⊗ x) z)) (mul-swap binary64 S x (part-finite S Q) X)
-      (mul-mono binary64 v S x vf (part-finite S Q) X (thrice y p .0) t)) in
+      let j : T (le (x ⊗ v) (x ⊗ S)) = mul-mono-right binary64 v S x vf (part-finite S Q) X (thrice y p .0) t in
       sixteen-mono (n ⊗ v) (x ⊗ S)
       (between zeroF (n ⊗ v) n tt N (scaled-low n v N N0 (s .v-part)) (scaled-high n v N N0 (s .v-part) (div-fits binary64 (k ⊘ d ⊘ e) f)))
       (between zeroF (x ⊗ S) x tt X (scaled-low x S X (thrice y p .0) Q) (scaled-high x S X (thrice y p .0) Q (halved-fits (halved (halved y)))))
@@ -185,24 +171,24 @@ step-one : Step oneF (bits 0x4004000000000000)
 unfolding ofBits le lt add mul fits rootOf
 step-one = record { part = (tt, tt); square = bits 0x4002000000000000; root = bits 0x3FF8000000000000; format = tt; over = tt; is = refl; known = tt; last = tt; number = tt }
 
-step-half : Step (bits 0x3FE0000000000000) (bits 0x4001000000000000)
+step-half : Step half (bits 0x4001000000000000)
 unfolding ofBits le lt add mul fits rootOf
 step-half = record { part = (tt, tt); square = bits 0x3FF4400000000000; root = bits 0x3FF2000000000000; format = tt; over = tt; is = refl; known = tt; last = tt; number = tt }
 
-step-quarter : Step (bits 0x3FD0000000000000) (bits 0x4000400000000000)
+step-quarter : Step quarter firstDivisor
 unfolding ofBits le lt add mul fits rootOf
 step-quarter = record { part = (tt, tt); square = bits 0x3FF1040000000000; root = bits 0x3FF0800000000000; format = tt; over = tt; is = refl; known = tt; last = tt; number = tt }
 
-step-eighth : Step (bits 0x3FC0000000000000) (bits 0x4000100000000000)
+step-eighth : Step eighth secondDivisor
 unfolding ofBits le lt add mul fits rootOf
 step-eighth = record { part = (tt, tt); square = bits 0x3FF0404000000000; root = bits 0x3FF0200000000000; format = tt; over = tt; is = refl; known = tt; last = tt; number = tt }
 
-step-sixteenth : Step (bits 0x3FB0000000000000) (bits 0x4000040000000000)
+step-sixteenth : Step sixteenth thirdDivisor
 unfolding ofBits le lt add mul fits rootOf
 step-sixteenth = record { part = (tt, tt); square = bits 0x3FF0100400000000; root = bits 0x3FF0080000000000; format = tt; over = tt; is = refl; known = tt; last = tt; number = tt }
 
-near-steps : Steps (bits 0x3FD0000000000000) (bits 0x3FC0000000000000) (bits 0x3FB0000000000000) (bits 0x4000400000000000) (bits 0x4000100000000000) (bits 0x4000040000000000)
-    (bits 0x3FA0000000000000) (bits 0x3F50000000000000) (bits 0x3FEFFBE76C8B4396)
+near-steps : Steps quarter eighth sixteenth firstDivisor secondDivisor thirdDivisor
+    (bits 0x3FA0000000000000) (bits 0x3F50000000000000) leastSeries
 unfolding ofBits ofInt le lt add sub mul div
 near-steps = record {
   one-step = step-quarter;
@@ -221,8 +207,8 @@ near-steps = record {
   v-low = tt;
 }
 
-far-steps : Steps oneF (bits 0x3FE0000000000000) (bits 0x3FD0000000000000) (bits 0x4004000000000000) (bits 0x4001000000000000) (bits 0x4000400000000000)
-    (bits 0x3FC0000000000000) (bits 0x3F90000000000000) (bits 0x3FEFCED916872B02)
+far-steps : Steps oneF half quarter (bits 0x4004000000000000) (bits 0x4001000000000000) firstDivisor
+    eighth (bits 0x3F90000000000000) (bits 0x3FEFCED916872B02)
 unfolding ofBits ofInt le lt add sub mul div
 far-steps = record {
   one-step = step-one;
@@ -242,17 +228,6 @@ far-steps = record {
 }
 
 -- ---- an angle whose half has a tangent above 1
-eighths-mono : (x y : Float) → Part x → Part y → T (le x y) → T (le (eighths x) (eighths y))
-eighths-mono x y p q h =
-    let a = half-part x p in
-    let b = half-part y q in
-    let c = half-part (x ⊘ twoF) a in
-    let d = half-part (y ⊘ twoF) b in
-    sixteen-mono (x ⊘ twoF ⊘ twoF ⊘ twoF) (y ⊘ twoF ⊘ twoF ⊘ twoF) (part-finite (x ⊘ twoF ⊘ twoF ⊘ twoF) (half-part (x ⊘ twoF ⊘ twoF) c))
-    (part-finite (y ⊘ twoF ⊘ twoF ⊘ twoF) (half-part (y ⊘ twoF ⊘ twoF) d))
-    (half-mono (x ⊘ twoF ⊘ twoF) (y ⊘ twoF ⊘ twoF) (part-finite (x ⊘ twoF ⊘ twoF) c) (part-finite (y ⊘ twoF ⊘ twoF) d)
-    (half-mono (x ⊘ twoF) (y ⊘ twoF) (part-finite (x ⊘ twoF) a) (part-finite (y ⊘ twoF) b) (half-mono x y (part-finite x p) (part-finite y q) h)))
-
 one-part : Part oneF
 unfolding le
 one-part = (tt, tt)
@@ -269,36 +244,28 @@ turned-part (inf true) h = absurd h
 turned-part (fin s m e) h =
     let y = fin s m e in
     let g = lt→le oneF y h in
-    (quotient-low oneF y tt tt tt g, le-trans (oneF ⊘ y) (oneF ⊘ oneF) oneF (div-turns oneF oneF y tt tt tt tt tt g) tt)
+    (div-low binary64 oneF y tt tt tt g, le-trans (oneF ⊘ y) (oneF ⊘ oneF) oneF (div-turns binary64 oneF oneF y tt tt tt tt tt g) tt)
 
 -- an angle of a part is not below zero, and finite
 angle-zero : (y : Float) → Part y → T (le zeroF (angleOf y))
 unfolding le mul div ofInt ofBits
 angle-zero y p = angle-low _ _ _ _ _ _ _ _ _ far-steps y zeroF p tt tt (p .0) (p .1)
 
-far-off : (y : Float) → T (lt oneF y) → T (le (bits 0x3FD78D4FDF3B645A) (pi ⊖ angleOf (oneF ⊘ y)))
+far-off : (y : Float) → T (lt oneF y) → T (le largestLimit (pi ⊖ angleOf (oneF ⊘ y)))
 unfolding le mul div sub ofInt ofBits
 far-off y h =
     let x = oneF ⊘ y in
     let p = turned-part y h in
     let t : T (le (angleOf x) (eighths oneF)) = le-trans (angleOf x) (eighths x) (eighths oneF) (angle-high x p) (eighths-mono x oneF p one-part (p .1)) in
-    le-trans (bits 0x3FD78D4FDF3B645A) (pi ⊖ eighths oneF) (pi ⊖ angleOf x) tt
+    le-trans largestLimit (pi ⊖ eighths oneF) (pi ⊖ angleOf x) tt
     (sub-turns binary64 (angleOf x) (eighths oneF) pi (between zeroF (angleOf x) (eighths oneF) tt tt (angle-zero x p) t) tt tt t)
 
 -- ---- from the cut on
-module _ (a limit cut : Float) (F : T (fits binary64 cut)) (low : T (le zeroF cut)) (small : T (lt limit (bits 0x3FD78D4FDF3B645A)))
+module _ (a limit cut : Float) (F : T (fits binary64 cut)) (low : T (le zeroF cut)) (small : T (lt limit largestLimit))
     (least : T (lt limit (leastTurn (rootOf cut)))) (h : T (le cut (tangentSquare a))) where
-  root-zero : rootOf zeroF ≡ zeroF
-  unfolding rootOf
-  root-zero = refl
-
-  zero-fits : T (fits binary64 zeroF)
-  unfolding fits
-  zero-fits = tt
-
   cut-low : T (le zeroF (rootOf cut))
   unfolding le
-  cut-low = rw root-zero at (root-monotone zeroF cut zero-fits F tt low)
+  cut-low = rw root-zero at (root-monotone zeroF cut (zero-fits binary64) F tt low)
 
   tangent-low : T (le (rootOf cut) (rootOf (tangentSquare a)))
   tangent-low = root-monotone cut (tangentSquare a) F (div-fits binary64 (one ⊖ a) (one ⊕ a)) low h
@@ -311,9 +278,9 @@ module _ (a limit cut : Float) (F : T (fits binary64 cut)) (low : T (le zeroF cu
   unfolding le mul div ofInt ofBits
   up-to-one g =
       let y = rootOf (tangentSquare a) in
-      go (le-total y (bits 0x3FD0000000000000) (number-right zeroF y tangent-zero) tt)
+      go (le-total y quarter (number-right zeroF y tangent-zero) tt)
     where
-      go : T (le (rootOf (tangentSquare a)) (bits 0x3FD0000000000000)) ⊎ T (le (bits 0x3FD0000000000000) (rootOf (tangentSquare a))) → T (lt limit (angleOf (rootOf (tangentSquare a))))
+      go : T (le (rootOf (tangentSquare a)) quarter) ⊎ T (le quarter (rootOf (tangentSquare a))) → T (lt limit (angleOf (rootOf (tangentSquare a))))
       go (inl n) =
           let y = rootOf (tangentSquare a) in
           let k = rootOf cut in
@@ -321,38 +288,44 @@ module _ (a limit cut : Float) (F : T (fits binary64 cut)) (low : T (le zeroF cu
           (angle-low _ _ _ _ _ _ _ _ _ near-steps y k (tangent-zero, g) (between zeroF k y tt (part-finite y (tangent-zero, g)) cut-low tangent-low) cut-low tangent-low n)
       go (inr n) =
           let y = rootOf (tangentSquare a) in
-          lt-le-trans limit (bits 0x3FD78D4FDF3B645A) (angleOf y) small
-          (le-trans (bits 0x3FD78D4FDF3B645A) (count 16 ⊗ (bits 0x3FD0000000000000 ⊘ bits 0x4004000000000000 ⊘ bits 0x4001000000000000 ⊘ bits 0x4000400000000000 ⊗ bits 0x3FEFCED916872B02)) (angleOf y) tt (angle-low _ _ _ _ _ _ _ _ _ far-steps y (bits 0x3FD0000000000000) (tangent-zero, g) tt tt n g))
+          lt-le-trans limit largestLimit (angleOf y) small
+          (le-trans largestLimit (count 16 ⊗ (quarter ⊘ bits 0x4004000000000000 ⊘ bits 0x4001000000000000 ⊘ firstDivisor ⊗ bits 0x3FEFCED916872B02)) (angleOf y) tt (angle-low _ _ _ _ _ _ _ _ _ far-steps y quarter (tangent-zero, g) tt tt n g))
 
   over-limit : T (lt limit (acosBy (rootOf (tangentSquare a))))
   unfolding acosBy ofBits
   over-limit = go (lt one (rootOf (tangentSquare a))) refl
     where
       go : (b : Bool) → lt one (rootOf (tangentSquare a)) ≡ b → T (lt limit (cond b (pi ⊖ angleOf (one ⊘ rootOf (tangentSquare a))) (angleOf (rootOf (tangentSquare a)))))
-      go true e = lt-le-trans limit (bits 0x3FD78D4FDF3B645A) (pi ⊖ angleOf (one ⊘ rootOf (tangentSquare a))) small (far-off (rootOf (tangentSquare a)) (holds e))
+      go true e = lt-le-trans limit largestLimit (pi ⊖ angleOf (one ⊘ rootOf (tangentSquare a))) small (far-off (rootOf (tangentSquare a)) (holds e))
       go false e = up-to-one (nlt→le oneF (rootOf (tangentSquare a)) tt (number-right zeroF (rootOf (tangentSquare a)) tangent-zero) (fails e))
 
-  pub surely-over : eq a one ≡ false → eq a (neg one) ≡ false → le (acosOf a) limit ≡ false
+  surely-over : eq a one ≡ false → eq a (neg one) ≡ false → le (acosOf a) limit ≡ false
   unfolding acosOf
-  surely-over e f = rw (e, f) (is-false (le (acosBy (rootOf (tangentSquare a))) limit) (λ (t : T (le (acosBy (rootOf (tangentSquare a))) limit)). lt→nle limit (acosBy (rootOf (tangentSquare a))) over-limit t))
-    where
-      is-false : (b : Bool) → (T b → ⊥) → b ≡ false
-      is-false true g = absurd (g tt)
-      is-false false g = refl
+  surely-over e f = rw (e, f) (refuted (le (acosBy (rootOf (tangentSquare a))) limit) (lt→nle limit (acosBy (rootOf (tangentSquare a))) over-limit))
 
 -- ---- the cut for a limit serves
+parts : (a cut : Float) → isOver a cut ≡ true → (eq a one ≡ false) × (eq a (neg one) ≡ false) × T (le cut (tangentSquare a))
+unfolding isOver
+parts a cut h =
+    let p = not (eq a one) in
+    let q = not (eq a (neg one)) in
+    let r = le cut (tangentSquare a) in
+    let t = and-r p (q && r) (holds h) in
+    (is-false (eq a one) (and-l p (q && r) (holds h)), is-false (eq a (neg one)) (and-l q r t), and-r q r t)
+
 pub exceeds : (limit : Float) → Exceeds (overCut limit) limit
 unfolding overCut ofBits
-exceeds limit = go (lt limit (bits 0x3FD78D4FDF3B645A)) (le plusZero (overFor limit)) (lt limit (leastTurn (rootOf (overFor limit)))) refl refl refl
+exceeds limit = go (lt limit largestLimit) (le plusZero (overFor limit)) (lt limit (leastTurn (rootOf (overFor limit)))) refl refl refl
   where
     none : Exceeds nan limit
-    none = record { above = λ (a : Float) (e : eq a one ≡ false) (f : eq a (neg one) ≡ false) (h : le nan (tangentSquare a) ≡ true). absurd (number-left nan (tangentSquare a) (holds h)) }
+    none = record { above = λ (a : Float) (h : isOver a nan ≡ true). absurd (number-left nan (tangentSquare a) (parts a nan h .2)) }
 
-    go : (b c d : Bool) → lt limit (bits 0x3FD78D4FDF3B645A) ≡ b → le plusZero (overFor limit) ≡ c → lt limit (leastTurn (rootOf (overFor limit))) ≡ d
+    go : (b c d : Bool) → lt limit largestLimit ≡ b → le plusZero (overFor limit) ≡ c → lt limit (leastTurn (rootOf (overFor limit))) ≡ d
         → Exceeds (cutIf b (cutIf c (cutIf d (overFor limit)))) limit
     go true true true s l m = record {
-      above = λ (a : Float) (e : eq a one ≡ false) (f : eq a (neg one) ≡ false) (h : le (overFor limit) (tangentSquare a) ≡ true).
-          surely-over a limit (overFor limit) (mul-fits binary64 (limit ⊗ bits 0x3FE05E353F7CED91) (limit ⊗ bits 0x3FE05E353F7CED91)) (holds l) (holds s) (holds m) (holds h) e f;
+      above = λ (a : Float) (h : isOver a (overFor limit) ≡ true).
+          let t = parts a (overFor limit) h in
+          surely-over a limit (overFor limit) (mul-fits binary64 (limit ⊗ overHalf) (limit ⊗ overHalf)) (holds l) (holds s) (holds m) (t .2) (t .0) (t .1);
     }
     go true true false s l m = none
     go true false true s l m = none

@@ -1,9 +1,9 @@
-// An angle compared with a limit by its cosine, mostly without the arc cosine: no angle is above twice the tangent of its half.
+// An angle compared with a limit by its cosine, mostly without the arc cosine: no angle is above twice the tangent of its half, and
+// where it is small it is not far below it either.
 ghost use mathlib.Core.Path.{_≡_};
 ghost use lib.Ieee.{le};
 ghost use Rattle.arith_trig.specs.Trig.{acosOf};
-ghost use mathlib.Core.Bool.{true, false};
-ghost use Rattle.arith_turn_limit.specs.Own.Limit.{turnCut, Serves, overCut, Exceeds};
+ghost use Rattle.arith_turn_limit.specs.Own.Limit.{turnCut, Serves, overCut, isOver};
 
 // The cut for a limit, which costs a root: for many comparisons with one limit.
 pub fn turn_cut(limit: f64) -> f64
@@ -31,24 +31,41 @@ pub fn is_turn_within(a: f64, limit: f64, cut: f64) -> bool
     arith_trig::acos(a) <= limit
 }
 
+// Limits from here on have no cut: an angle whose half has a tangent above 1/4 is only known to be above this.
+const LARGEST_LIMIT: f64 = 0.368;
+
+// A little above a half: the least turn at a tangent y is 1.9587 y, and 1 / 1.9587 is 0.5106.
+const OVER_HALF: f64 = 0.5115;
+
+// A halving divides a tangent up to 1/4, up to 1/8 and up to 1/16 by at most these.
+const FIRST_DIVISOR: f64 = 2.03125;
+
+const SECOND_DIVISOR: f64 = 2.0078125;
+
+const THIRD_DIVISOR: f64 = 2.001953125;
+
+// The series of what is left is at least this.
+const LEAST_SERIES: f64 = 0.9995;
+
 // The cut from which on an angle is above the limit, which costs a root.
 pub fn over_cut(limit: f64) -> f64
     ensures { λ r. ⌜ r ≡ overCut limit ⌝ }
 {
-    // A little above half the limit, so that the bound at the cut is above the limit.
-    let half = limit * 0.5115;
+    // So much that the least turn at the cut is above the limit.
+    let half = limit * OVER_HALF;
     let cut = half * half;
-    let least = 16.0 * (arith_root::root(cut) / 2.03125 / 2.0078125 / 2.001953125 * 0.9995);
+    let least = 16.0
+        * (arith_root::root(cut) / FIRST_DIVISOR / SECOND_DIVISOR / THIRD_DIVISOR * LEAST_SERIES);
     arith_root_limit::cut_if(
-        limit < 0.368,
+        limit < LARGEST_LIMIT,
         arith_root_limit::cut_if(0.0 <= cut, arith_root_limit::cut_if(limit < least, cut)),
     )
 }
 
-// Whether the angle whose cosine is a is surely above the limit that the cut is for. `false` says nothing.
-pub fn is_turn_over(a: f64, limit: f64, cut: f64) -> bool
-    requires { ⌜ Exceeds cut limit ⌝ }
-    ensures { λ b. ⌜ (b ≡ true → le (acosOf a) limit ≡ false) ⌝ }
+// Whether the square of the tangent of half the angle whose cosine is a is at or above the cut. For an over_cut the angle is then above
+// the limit. Of the cosines 1 and -1 no tangent is taken.
+pub fn is_turn_over(a: f64, cut: f64) -> bool
+    ensures { λ b. ⌜ b ≡ isOver a cut ⌝ }
 {
     if a == 1.0 {
         return false;

@@ -23,13 +23,12 @@ use Rattle.base_lists.specs.All.{All, none, more}
 use Rattle.brep.specs.declared.Curve.{Curve}
 use Rattle.brep.specs.declared.Curve.the-variants.{Line, Circle, Ellipse, Parabola, Polyline, Trimmed, Composite}
 use Rattle.brep.specs.declared.Edge.{Edge}
-use Rattle.brep.specs.Rows.{Tables, segmentOf, kindOf, curveOf}
+use Rattle.brep.specs.Rows.{Tables, segmentOf, mostPoints, kindOf, curveOf}
 use Rattle.brep.specs.Tree.{CurveTree, polyline, run, segments, rowIn, grown, below, tree}
 use Rattle.brep.proofs.Laws.{lower, length-run}
 use Rattle.causes_bounds.specs.Bounds.{largest}
 use Rattle.causes_form.specs.Forms.{pointCount, curveCount, segmentCount, targets}
 use Rattle.options.specs.declared.Options.{Options}
-use Rattle.causes.specs.Causes.{mostPoints}
 use Rattle.causes.proofs.Checked.{Bounded, Checked}
 use Rattle.draw_spec.specs.Own.Binary.{AllBinary64}
 use Rattle.curve.specs.declared.Repeats.the-variants.{Every, Never}

@@ -6,7 +6,8 @@ use Prim.Native.Nat.{ℕ, suc, _+_, _-_, _<_, _≤_}
 use native.Mathlib.Numerals.{add-one}
 use native.Mathlib.Omega.{arith}
 use lib.Ieee.{Float, lt, le}
-use Rattle.arith.specs.Notation.{_⊗_, bits}
+use Rattle.arith.specs.Notation.{_⊗_}
+use Rattle.arith.specs.Constants.{ten}
 use Rattle.arith.specs.Pick.{maxOf}
 use Rattle.math.specs.declared.Vec3.{Vec3}
 use Rattle.math.specs.declared.Aabb.{Aabb}
@@ -51,7 +52,7 @@ module _ (P : Vec3 → Bool) (c : List Float) (n : ℕ) where
     none h = let q : n - i ≡ 0 = omega arith in rw q
 
 abbrev near : Edge → Resolved → Float
-near e r = maxOf (r .sag) (e .tolerance ⊗ bits 0x4024000000000000)
+near e r = maxOf (r .sag) (e .tolerance ⊗ ten)
 
 escapes-list : (box : Aabb) (r : Resolved) (l : List Sample) → someOf (beyond (escapeLimit box r) (centre box)) l ≡ escapes box r l
 unfolding escapes

@@ -8,7 +8,7 @@ use lib.Ieee.{Float, lt}
 use Rattle.arith_root.specs.Root.{rootOf}
 use Rattle.math.specs.declared.Vec3.{Vec3}
 use Rattle.math.specs.declared.Interval.{Interval}
-use Rattle.math.specs.Math.{vSub, vLengthSquared, vLength, distance}
+use Rattle.math.specs.Math.{vLength, distance}
 use Rattle.brep.specs.Tree.{CurveTree}
 use Rattle.curve.specs.Eval.{naturalRange, pointAt}
 use Rattle.curve_prepared.specs.declared.Prepared.{Prepared}

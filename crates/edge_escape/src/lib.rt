@@ -8,13 +8,12 @@ ghost use mathlib.Core.Path.{_≡_};
 ghost use mathlib.Core.Bool.{true, false};
 ghost use Prim.Native.Nat.{_*_, _≤_};
 ghost use lib.ListN.{length};
-ghost use lib.Ieee.{lt, le};
-ghost use Rattle.arith.specs.Notation.{bits, plusZero};
-ghost use Rattle.math.specs.Math.{vLengthSquared, boxSize};
+ghost use lib.Ieee.{le};
+ghost use Rattle.arith_root.specs.Root.{rootOf};
 ghost use Rattle.brep.specs.Rows.{given};
 ghost use Rattle.brep.specs.Tree.{tree};
 ghost use Rattle.edge_record.specs.Chain.{width, samples};
-ghost use Rattle.draw_spec.specs.Repair.{escapes, reaches, sweepAt, nearest};
+ghost use Rattle.draw_spec.specs.Repair.{escapeLimit, escapes, reaches, sweepAt, nearest};
 ghost use Rattle.edge_escape.specs.Own.Best.{measured, nearerOf};
 
 // How many steps `nearest` takes along the natural range.
@@ -32,13 +31,10 @@ pub struct Ends {
     pub end: f64,
 }
 
-// Beyond this no square is compared with another.
-const MODEST: f64 = 1e300;
-
-// Whether no point of the chain lies further from the box's centre than its diagonal, by the squares. `false` says nothing.
+// Whether no point of the chain lies further from the box's centre than its diagonal, whose square is given, by the squares. `false` says
+// nothing.
 fn all_near(reference: Aabb, r: Resolved, square: f64, chain: &[f64], n: usize) -> bool
-    requires { ⌜ (width * n ≤ length (now chain)) × (le plusZero (r .sag) ≡ true) × (le (r .sag) (bits 0x7E37E43C8800759C) ≡ true)
-        × (lt plusZero square ≡ true) × (le square (bits 0x7E37E43C8800759C) ≡ true) × (square ≡ vLengthSquared (boxSize reference)) ⌝ }
+    requires { ⌜ (width * n ≤ length (now chain)) × (le (rootOf square) (escapeLimit reference r) ≡ true) ⌝ }
     ensures { λ b. ⌜ (b ≡ true → false ≡ escapes reference r (samples n (now (chain .entry)))) ⌝ }
 {
     let centre = reference.centre();
@@ -46,7 +42,7 @@ fn all_near(reference: Aabb, r: Resolved, square: f64, chain: &[f64], n: usize) 
     while i < n {
         let p = edge_record::record_point(chain, i);
         let s = p.sub(centre).length_squared();
-        if 0.0 <= s && s <= square {
+        if s <= square {
             i += 1;
         } else {
             return false;
@@ -55,14 +51,15 @@ fn all_near(reference: Aabb, r: Resolved, square: f64, chain: &[f64], n: usize) 
     true
 }
 
-// Whether the squares can tell, for this box and sag, that no point of the chain lies further than that. `false` says nothing.
+// Whether the squares tell that no point of the chain lies further from the box's centre than its diagonal and 16 sags. `false` says
+// nothing.
 fn is_near(reference: Aabb, r: Resolved, chain: &[f64], n: usize) -> bool
     requires { ⌜ width * n ≤ length (now chain) ⌝ }
     ensures { λ b. ⌜ (b ≡ true → false ≡ escapes reference r (samples n (now (chain .entry)))) ⌝ }
 {
     let square = reference.size().length_squared();
     let sag = r.sag;
-    if 0.0 <= sag && sag <= MODEST && 0.0 < square && square <= MODEST {
+    if 0.0 <= sag && 0.0 <= square {
         return all_near(reference, r, square, chain, n);
     }
     false
@@ -97,7 +94,7 @@ pub fn reaches(edge: Edge, r: Resolved, p: Vec3, chain: &[f64], n: usize) -> boo
 {
     let limit = arith::max(r.sag, edge.tolerance * 10.0);
     // A little above the square, so that the cut's root is above the limit.
-    let cut = limit * limit * 1.000001;
+    let cut = limit * limit * arith_root_limit::A_LITTLE_MORE;
     let has_cut = limit < arith_root::root(cut);
     for i in 0..n {
         let q = edge_record::record_point(chain, i);

@@ -7,7 +7,8 @@ use lib.Dec.{T}
 use lib.Ieee.{Float, nan, inf, fin, lt, le, isNan}
 use Rattle.arith_order.proofs.Laws.{lt→nle, number-right}
 use Rattle.arith.proofs.Cmp.{holds}
-use Rattle.arith.specs.Notation.{_⊘_, bits, count}
+use Rattle.arith.specs.Notation.{_⊘_, count}
+use Rattle.arith.specs.Constants.{eight}
 use Rattle.arith.specs.Pick.{minOf, maxOf}
 use Rattle.math.specs.declared.Vec3.{Vec3}
 use Rattle.math.specs.declared.Aabb.{Aabb}
@@ -25,7 +26,7 @@ use Rattle.draw_spec.specs.Edge.{edgeCurve, edgeStart, edgeEnd, probed, extentB
 
 module _ (c : CurveTree) (range : Interval) (b : Aabb) (i : ℕ) {found : Aabb} (e : found ≡ probed c range b i) where
   -- the curve was prepared once
-  pub one-more : {r : Prepared} → r ≡ preparedOf c → {t : Float} → t ≡ at range (count i ⊘ bits 0x4020000000000000) → {p : Vec3} → p ≡ preparedPoint r c t → {next : Aabb} → next ≡ cond (vFinite p) (addPoint found p) found → next ≡ probed c range b (i + 1)
+  pub one-more : {r : Prepared} → r ≡ preparedOf c → {t : Float} → t ≡ at range (count i ⊘ eight) → {p : Vec3} → p ≡ preparedPoint r c t → {next : Aabb} → next ≡ cond (vFinite p) (addPoint found p) found → next ≡ probed c range b (i + 1)
   unfolding probed
   one-more made et ep en =
       let one : suc i ≡ i + 1 = omega arith in

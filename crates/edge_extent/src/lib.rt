@@ -18,8 +18,8 @@ ghost use Rattle.curve_prepared.specs.Own.Prepared.{preparedOf};
 ghost use Rattle.edge_range.specs.Usable.{usableRange};
 ghost use Rattle.draw_spec.specs.Edge.{probed, extentBox, edgeExtent};
 
-// The range is probed at each eighth, both ends included.
-const PROBES: u32 = 8;
+// The range is probed at each eighth, both ends included: nine probes, from 0 on.
+const LAST_PROBE: u32 = 8;
 
 const EIGHTHS: f64 = 8.0;
 
@@ -49,27 +49,24 @@ fn add_outside(b: Aabb, p: Vec3) -> Aabb
     b
 }
 
-// 2^60: within it sums and products of a range's ends stay finite.
+// 2^60: between ends up to it the probes' parameters rise (`rises` in crates/arith_order/proofs/Modest.antt).
 const MODEST: f64 = 1152921504606846976.0;
 
 // Whether o + d * t is from low to high for every t from first to last, by those two: it rises or falls with t. `false` says nothing.
 fn is_between(o: f64, d: f64, first: f64, last: f64, low: f64, high: f64) -> bool
     ensures { λ w. ⌜ (w ≡ true → (t : Float) → T (le first t) → T (le t last) → (le low (o ⊕ d ⊗ t) ≡ true) × (le (o ⊕ d ⊗ t) high ≡ true)) ⌝ }
 {
-    let a = d * first;
-    let c = d * last;
-    if arith::is_finite(first)
-        && arith::is_finite(last)
-        && arith::is_finite(o)
-        && arith::is_finite(d)
-        && arith::is_finite(a)
-        && arith::is_finite(c)
+    let p = o + d * first;
+    let q = o + d * last;
+    // Where a sum is finite, so are its parts.
+    if arith::is_finite(p)
+        && arith::is_finite(q)
+        && low <= p
+        && p <= high
+        && low <= q
+        && q <= high
     {
-        let p = o + a;
-        let q = o + c;
-        if low <= p && p <= high && low <= q && q <= high {
-            return true;
-        }
+        return true;
     }
     false
 }
@@ -99,7 +96,7 @@ fn probe_line(origin: Vec3, direction: Vec3, range: Interval, b: Aabb) -> Aabb
 {
     let mut found = b;
     let mut i: u32 = 0;
-    while i <= PROBES {
+    while i <= LAST_PROBE {
         let t = range.at(i as f64 / EIGHTHS);
         let p = origin.add(direction.scale(t));
         found = add_finite(found, p);
@@ -125,7 +122,7 @@ fn probe_each(
 {
     let mut found = b;
     let mut i: u32 = 0;
-    while i <= PROBES {
+    while i <= LAST_PROBE {
         let t = range.at(i as f64 / EIGHTHS);
         let p = curve_prepared::point_of(prepared, points, curves, reals, parts, ranges, row, t);
         found = add_finite(found, p);

@@ -2,7 +2,7 @@
 use mathlib.Core.Path.{_≡_, refl}
 use mathlib.Core.List.{List, [], _∷_}
 use lib.Ieee.{Float, isNan, ofBits, add, sub, mul, lt, le}
-use Rattle.arith.specs.Notation.{bits, plusZero, half, one, two}
+use Rattle.arith.specs.Notation.{bits, plusZero, one, two}
 use Rattle.arith_root.specs.Root.{rootOf}
 use Rattle.math.specs.Math.{vec, vDot, vSub, vLength}
 use Rattle.edge_record.specs.declared.Sample.{Sample}

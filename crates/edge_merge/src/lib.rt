@@ -59,7 +59,7 @@ pub fn merge(chain: &mut [f64], n: usize, floor: f64) -> usize
     }
     if floor > 0.0 {
         // A little above the square, so that the cut's root is above the floor.
-        let cut = floor * floor * 1.000001;
+        let cut = floor * floor * arith_root_limit::A_LITTLE_MORE;
         let has_cut = floor < arith_root::root(cut);
         let mut last = edge_record::record_point(chain, 0);
         let mut k = 1usize;

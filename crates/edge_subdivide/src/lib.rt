@@ -103,7 +103,7 @@ fn turns_over(a: Direction, b: Direction, limit: f64, cut: f64) -> bool
     let Direction::Unit(tb) = b else {
         return false;
     };
-    arith_turn_limit::is_turn_over(arith::clamp(ta.dot(tb), -1.0, 1.0), limit, cut)
+    arith_turn_limit::is_turn_over(arith::clamp(ta.dot(tb), -1.0, 1.0), cut)
 }
 
 // Whether the span from a to b, whose middle has the point pm, is within budget. The sag is compared by its square.

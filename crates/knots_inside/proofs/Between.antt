@@ -2,20 +2,17 @@
 use mathlib.Core.Path.{_≡_, refl, subst}
 use mathlib.Core.Bool.{Bool, true, false, cond, not}
 use mathlib.Core.List.{List, []}
-use Prim.Native.Nat.{ℕ, _+_, _*_, _≤_}
-use native.Mathlib.Nat.{mul-pos, zero-mul, mul-le-mul-right}
+use Prim.Native.Nat.{_≤_}
 use native.Mathlib.Omega.{arith}
 use lib.Dec.{T}
 use lib.Ieee.{Float, binary64, fits, mul, ofBits, lt, le}
 use lib.Ieee.Scale.{finite}
 use lib.Ieee.Fits.{sub-fits}
-use lib.Ieee.Positive.{den, den-pos}
-use Rattle.arith_order.proofs.Signed.{plus, neg', ring, le→, le-trans, lt→le, lt→nle, nlt→le, number-left}
-use Rattle.arith_order.proofs.Rounds.{add-rounds, sub-rounds}
-use Rattle.arith_order.proofs.Mono.{mul-mono-by}
-use Rattle.arith_order.proofs.Middle.{above, under}
+use Rattle.arith_order.proofs.Signed.{plus, neg', le-trans, lt→le, lt→nle, nlt→le, number-left}
+use Rattle.arith_order.proofs.Mono.{add-grows, sub-shrinks, mul-mono-by}
 use Rattle.arith_order.proofs.Lerp.{zeroF, oneF, part-finite}
 use Rattle.arith_order.proofs.Modest.{big, Modest, modest-finite, sub-finite, sub-up}
+use Rattle.arith.proofs.Cmp.{finite-number}
 use Rattle.arith.specs.Notation.{_⊕_, _⊖_, _⊗_, plusZero}
 use Rattle.base_lists.specs.Own.Way.{Up}
 use Rattle.base_lists.specs.All.{All}
@@ -27,28 +24,7 @@ use Rattle.knots_sort.proofs.Merged.{sorted-all}
 use Rattle.knots_sort.proofs.Sorted.{sorted-pairs}
 use Rattle.arith.specs.Constants.{billionth}
 use Rattle.knots_inside.specs.Breaks.{retainedKnots, deduped, insideUpward, insideOf}
-use Rattle.knots_inside.proofs.Kept.{Strict, retained-all, finite-number, deduped-sub}
-
--- ---- a + e is not below a, b - e not above b, for an e that is not negative
-sum-law : (pa na da pe ne de : ℕ) → ne ≤ pe → pa * (da * de) + (na * de + ne * da) * da ≤ (pa * de + pe * da) * da + na * (da * de)
-sum-law pa na da pe ne de h = let k = mul-le-mul-right (da * da) h in simp ring (omega (arith, simp ring at k))
-
-diff-law : (pa na da pe ne de : ℕ) → ne ≤ pe → (pa * de + ne * da) * da + na * (da * de) ≤ pa * (da * de) + (na * de + pe * da) * da
-diff-law pa na da pe ne de h = let k = mul-le-mul-right (da * da) h in simp ring (omega (arith, simp ring at k))
-
-module _ (a e : Float) (F : T (fits binary64 a)) (A : T (finite a)) (E : T (finite e)) (h : T (le zeroF e)) where
-  not-minus : neg' e ≤ plus e
-  not-minus = omega (arith, le→ zeroF e tt E h, zero-mul (den e))
-
-  add-up : T (le a (a ⊕ e))
-  add-up =
-      above binary64 a (a ⊕ e) (plus a * den e + plus e * den a) (neg' a * den e + neg' e * den a) (den a * den e) F A (add-rounds binary64 a e A E) (mul-pos (den-pos a) (den-pos e))
-      (sum-law (plus a) (neg' a) (den a) (plus e) (neg' e) (den e) not-minus)
-
-  sub-down : T (le (a ⊖ e) a)
-  sub-down =
-      under binary64 a (a ⊖ e) (plus a * den e + neg' e * den a) (neg' a * den e + plus e * den a) (den a * den e) F A (sub-rounds binary64 a e A E) (mul-pos (den-pos a) (den-pos e))
-      (diff-law (plus a) (neg' a) (den a) (plus e) (neg' e) (den e) not-minus)
+use Rattle.knots_inside.proofs.Kept.{Strict, retained-all, deduped-sub}
 
 -- ---- 1e-9, and the width of a range times it
 record Small : Type 0 where
@@ -100,10 +76,10 @@ module _ (knots : List Float) where
       strict = retained-all (a ⊕ e) (b ⊖ e) knots
 
       low : (k : Float) → Strict (a ⊕ e) (b ⊖ e) k → Up a k
-      low k p = le-trans a (a ⊕ e) k (add-up a e F (modest-finite a A) E Z) (lt→le (a ⊕ e) k (p .over))
+      low k p = le-trans a (a ⊕ e) k (add-grows binary64 a e F (modest-finite a A) E Z) (lt→le (a ⊕ e) k (p .over))
 
       high : (k : Float) → Strict (a ⊕ e) (b ⊖ e) k → Up k b
-      high k p = le-trans k (b ⊖ e) b (lt→le k (b ⊖ e) (p .under)) (sub-down b e G (modest-finite b B) E Z)
+      high k p = le-trans k (b ⊖ e) b (lt→le k (b ⊖ e) (p .under)) (sub-shrinks binary64 b e G (modest-finite b B) E Z)
 
       all : Within Up a (sorted kept) b
       all = record {

@@ -2,14 +2,13 @@
 use mathlib.Core.Bool.{Bool, true, false, cond, _&&_}
 use mathlib.Core.List.{List, [], _∷_}
 use lib.Dec.{T}
-use lib.Ieee.{Float, fin, lt, le}
+use lib.Ieee.{Float, lt, le}
 use lib.Ieee.Scale.{finite}
 use lib.Ieee.Fits.{and-l, and-r}
 use Rattle.arith.specs.Notation.{_⊕_, _⊖_, _⊗_, plusZero}
 use Rattle.base_lists.specs.All.{All, none, more}
 use Rattle.base_lists.specs.Own.Sub.{Sub, end, keep, skip}
 use Rattle.base_lists.proofs.Order.{sub-all}
-use Rattle.knots_sort.specs.Own.Sortable.{Number}
 use Rattle.knots_sort.specs.Sort.{sorted}
 use Rattle.knots_sort.proofs.Merged.{sorted-all}
 use Rattle.arith.specs.Constants.{billionth}
@@ -41,9 +40,6 @@ retained-sub above below (k ∷ l) = go (isStrict above below k) (retained-sub a
     go : (b : Bool) → Sub (retainedKnots above below l) l → Sub (elim b [ true ↦ k ∷ retainedKnots above below l | false ↦ retainedKnots above below l ]) (k ∷ l)
     go true h = keep h
     go false h = skip h
-
-pub finite-number : (k : Float) → T (finite k) → Number k
-finite-number (fin s m e) h = tt
 
 -- ---- dedup
 apart-sub : (epsilon last : Float) (l : List Float) → Sub (apart epsilon last l) l

@@ -16,7 +16,8 @@ use Rattle.knots_sort.specs.Sort.{sorted}
 use Rattle.knots_sort.proofs.Sorted.{sorted-length}
 use Rattle.arith.specs.Constants.{billionth}
 use Rattle.knots_inside.specs.Breaks.{retainedKnots, deduped, insideUpward, insideOf}
-use Rattle.knots_inside.proofs.Kept.{retained-all, finite-number}
+use Rattle.arith.proofs.Cmp.{finite-number}
+use Rattle.knots_inside.proofs.Kept.{retained-all}
 
 -- k: the knots; r: after retain, which answered n
 pub record Retained (k r : List Float) (n : ℕ) (above below : Float) : Type 0 where

@@ -3,8 +3,9 @@ use mathlib.Core.Path.{_≡_, refl, sym, ap, subst, _∙_}
 use mathlib.Core.Bool.{Bool, true, false, cond}
 use mathlib.Core.List.{List, [], _∷_, _++_}
 use lib.Dec.{T}
-use lib.Ieee.{Float, lt, le}
-use Rattle.arith_order.proofs.Signed.{le-trans, lt→le, lt→nle, nlt→le, lt-le-trans}
+use lib.Ieee.{Float, lt}
+use lib.Ieee.Bits.{is-true}
+use Rattle.arith_order.proofs.Signed.{refuted, le-trans, lt→le, lt→nle, nlt→le, lt-le-trans}
 use Rattle.base_lists.specs.All.{All, none, more}
 use Rattle.knots_sort.specs.Own.Sortable.{Number}
 use Rattle.knots_sort.specs.Sort.{inserted, sorted}
@@ -20,19 +21,12 @@ unfolding mergedRuns before
 merged-cons x l y k = refl
 
 -- ---- the order's laws, as tests
-pub is-true : (b : Bool) → T b → b ≡ true
-is-true true h = refl
-
-pub is-false : (b : Bool) → (T b → ⊥) → b ≡ false
-is-false true h = absurd (h tt)
-is-false false h = refl
-
 lt-trans-test : (x y z : Float) → lt x y ≡ true → lt y z ≡ true → lt x z ≡ true
 lt-trans-test x y z p q = is-true (lt x z) (lt-le-trans x y z (subst T (sym p) tt) (lt→le y z (subst T (sym q) tt)))
 
 -- y is not below x, and z not below y: z is not below x
 nlt-trans-test : (x y z : Float) → Number x → Number y → Number z → lt y x ≡ false → lt z y ≡ false → lt z x ≡ false
-nlt-trans-test x y z X Y Z p q = is-false (lt z x) (λ h. lt→nle z x h (le-trans x y z (nlt→le y x Y X (rw p tt)) (nlt→le z y Z Y (rw q tt))))
+nlt-trans-test x y z X Y Z p q = refuted (lt z x) (λ h. lt→nle z x h (le-trans x y z (nlt→le y x Y X (rw p tt)) (nlt→le z y Z Y (rw q tt))))
 
 -- ---- one step of each
 pub put-below : (x y : Float) (l : List Float) → lt y x ≡ true → inserted x (y ∷ l) ≡ y ∷ inserted x l

@@ -7,7 +7,7 @@ use native.Mathlib.Omega.{arith}
 use lib.ListN.{length}
 use lib.Dec.{T}
 use lib.Ieee.{Float, lt, le}
-use Rattle.arith_order.proofs.Signed.{le-trans, lt→le, lt→nle, nlt→le}
+use Rattle.arith_order.proofs.Signed.{refuted, le-trans, lt→le, lt→nle, nlt→le}
 use Rattle.base_lists.specs.All.{All, none, more}
 use Rattle.base_lists.specs.Own.Sub.{Pairwise, empty, first}
 use Rattle.base_lists.proofs.Joined.{all-map}
@@ -15,7 +15,7 @@ use Rattle.base_lists.specs.Own.Way.{Up}
 use Rattle.knots_sort.specs.Own.Sortable.{Number}
 use Rattle.knots_sort.specs.Sort.{inserted, sorted}
 use Rattle.knots_sort.specs.Own.Merge.{inOrder}
-use Rattle.knots_sort.proofs.Merged.{is-false, put-all, sorted-all}
+use Rattle.knots_sort.proofs.Merged.{put-all, sorted-all}
 
 put-pairs : (x : Float) (l : List Float) → Number x → All Number l → Pairwise Up l → Pairwise Up (inserted x l)
 unfolding inserted
@@ -35,7 +35,7 @@ sorted-pairs (x ∷ l) (more X L) = put-pairs x (sorted l) X (sorted-all l L) (s
 put-first : (x : Float) (l : List Float) → All (Up x) l → inserted x l ≡ x ∷ l
 unfolding inserted
 put-first x [] none = refl
-put-first x (y ∷ l) (more p h) = rw (is-false (lt y x) (λ q. lt→nle y x q p))
+put-first x (y ∷ l) (more p h) = rw (refuted (lt y x) (λ q. lt→nle y x q p))
 
 pub sorted-same : (l : List Float) → Pairwise Up l → sorted l ≡ l
 unfolding sorted

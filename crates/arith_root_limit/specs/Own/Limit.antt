@@ -10,9 +10,13 @@ use Rattle.arith_root_limit.specs.declared.Limit.{Limit}
 abbrev pub cutIf : Bool → Float → Float
 cutIf serves x = cond serves x nan
 
+-- 1.000001: what is above zero, and times this is below another number, has a smaller root than that (`apart` in crates/arith_root/proofs/Apart.antt)
+abbrev pub aLittleMore : Float
+aLittleMore = bits 0x3FF000010C6F7A0B
+
 -- the square, and a millionth more
 abbrev pub aboveSquare : Float → Float
-aboveSquare at = at ⊗ at ⊗ bits 0x3FF000010C6F7A0B
+aboveSquare at = at ⊗ at ⊗ aLittleMore
 
 -- the limit with its cuts, those that stand on their sides of it
 unfoldable pub limitOf : Float → Limit

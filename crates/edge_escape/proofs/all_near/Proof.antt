@@ -1,13 +1,14 @@
--- `edge_escape::all_near` meets its contract. The invariant: for any limit that no point in reach is beyond, the records from i on answer as the whole chain does. Assumes nothing.
-use mathlib.Core.Path.{_≡_, refl, sym, ap, _∙_}
+-- `edge_escape::all_near` meets its contract. The invariant: for any limit that the square's root is within, the records from i on answer as the whole chain does. Assumes nothing.
+use mathlib.Core.Path.{_≡_, refl, sym, _∙_}
+use mathlib.Core.Bool.{true}
 use Prim.Native.Nat.{_≤_, _-_}
 use native.Mathlib.Omega.{arith}
-use lib.Ieee.{Float, lt, le}
+use lib.Ieee.{Float, le}
 use Rattle.arith_root.specs.Root.{rootOf}
 use Rattle.arith.proofs.Cmp.{holds}
-use Rattle.math.specs.Math.{vLength, diagonal}
+use Rattle.arith_root_limit.proofs.Roots.{not-above}
+use Rattle.math.specs.Math.{vLength}
 use Rattle.edge_escape.proofs.Search.{beyond, left, passed, none, escapes-whole}
-use Rattle.edge_escape.proofs.Near.{Inside, not-beyond}
 use Rattle.draw_spec.specs.Repair.{escapeLimit}
 use borrow.Author.Needs.{needs}
 use Rattle.edge_escape.proofs.all_near.Statement.{statement}
@@ -15,7 +16,7 @@ use Rattle.edge_escape.proofs.all_near.Tie as tie
 
 abbrev Inv-loop : tie.InvT-loop
 Inv-loop square chain n centre i₀ i =
-    (i ≤ n) × ((limit : Float) → Inside limit square → left (beyond limit centre) chain n i ≡ left (beyond limit centre) chain n 0)
+    (i ≤ n) × ((limit : Float) → le (rootOf square) limit ≡ true → left (beyond limit centre) chain n i ≡ left (beyond limit centre) chain n 0)
 
 abbrev μ-loop : tie.MeasureT-loop
 μ-loop square chain n centre i₀ i = n - i
@@ -26,13 +27,14 @@ loop-holds c = (omega arith, λ (limit : Float) h. refl)
 loop-again : tie.Need-loop-again Inv-loop μ-loop
 unfolding vLength
 loop-again c =
-    let a = c .before .before .before .before .before .before .before .before .before .args in
-    let l = c .before .before .before .before .before .before .loop in
-    let z = c .before .before .before .before .before .before .before .centre .result in (
+    let a = c .before .before .before .before .before .before .before .before .args in
+    let l = c .before .before .before .before .before .loop in
+    let z = c .before .before .before .before .before .before .centre .result in (
       omega arith,
       λ (limit : Float) h.
-          passed (beyond limit z) (a .chain .now) (a .n) (l .i) (c .before .before .before .before .before .loop-test .taken)
-          (rw (c .before .before .length-squared .ensures, c .before .before .before .sub .ensures, c .before .before .before .before .record-point .ensures)) (h (c .before .before .length-squared .result) (search needs) (c .before .if1 .taken) (c .if2 .taken))
+          passed (beyond limit z) (a .chain .now) (a .n) (l .i) (c .before .before .before .before .loop-test .taken)
+          (rw (c .before .length-squared .ensures, c .before .before .sub .ensures, c .before .before .before .record-point .ensures))
+          (sym (not-above (c .before .length-squared .result) (a .square) limit (search needs) (search needs) h (c .if1 .taken)))
           ∙ l .inv .1 limit h,
     )
 
@@ -40,17 +42,13 @@ returns : tie.Need-returns Inv-loop μ-loop
 returns c = λ e. absurd (holds e)
 
 returns-2 : tie.Need-returns-2 Inv-loop μ-loop
-unfolding vLength diagonal
 returns-2 c = λ e.
     let a = c .before .before .before .before .args in
-    let q = c .before .before .before .before .pre in
     let l = c .before .loop in
     let limit = escapeLimit (a .reference) (a .r) in
     let z = c .before .before .centre .result in
-    let h : Inside limit (a .square) = λ (s : Float) F low high.
-    rw (sym (q .5)) (not-beyond (a .square) (a .r .sag) s (search needs) F (q .1) (q .2) (q .3) (q .4) low high) in
     none (beyond limit z) (a .chain .now) (a .n) (l .i) (c .loop-test .left)
-    ∙ l .inv .1 limit h
+    ∙ l .inv .1 limit (c .before .before .before .before .pre .1)
     ∙ escapes-whole (a .chain .now) (a .n) (a .r) limit z (a .reference) refl (c .before .before .centre .ensures)
 
 pub all-near-spec : {M : Type 1} → statement M

@@ -1,14 +1,18 @@
 -- `edge_escape::is_near` meets its contract. Assumes nothing.
-use mathlib.Core.Path.{ap, _∙_}
+use mathlib.Core.Path.{sym, ap, _∙_}
 use Rattle.arith.proofs.Cmp.{holds}
-use Rattle.math.specs.Math.{vLengthSquared}
+use Rattle.math.specs.Math.{vLength, vLengthSquared, diagonal}
+use Rattle.edge_escape.proofs.Near.{in-limit}
 use borrow.Author.Needs.{needs}
 use Rattle.edge_escape.proofs.is_near.Statement.{statement}
 use Rattle.edge_escape.proofs.is_near.Tie as tie
 
 all-near-requires : tie.Need-all-near-requires
+unfolding vLength diagonal
 all-near-requires c κs =
-    (search needs, c .before .before .before .if1 .taken, c .before .before .if2 .taken, c .before .if3 .taken, c .if4 .taken, c .before .before .before .before .length-squared .ensures ∙ ap vLengthSquared (c .before .before .before .before .before .size .ensures))
+    let l = c .before .before in
+    let e = l .length-squared .ensures ∙ ap vLengthSquared (l .before .size .ensures) in
+    (search needs, rw (sym e) (in-limit (l .length-squared .result) (l .before .before .before .args .r .sag) (search needs) (c .before .if1 .taken) (c .if2 .taken)))
 
 returns : tie.Need-returns
 returns c = c .all-near .ensures

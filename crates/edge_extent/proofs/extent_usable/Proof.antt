@@ -1,4 +1,4 @@
--- `edge_extent::extent_over` meets its contract. Assumes nothing.
+-- `edge_extent::extent_usable` meets its contract. Assumes nothing.
 use Rattle.edge_extent.proofs.Laws.{longest-side}
 use borrow.Author.Needs.{needs}
 use Rattle.edge_extent.proofs.extent_usable.Statement.{statement}

@@ -1,6 +1,5 @@
 -- `edge_merge::before_end` meets its contract. Assumes nothing.
-use mathlib.Core.Path.{sym, _∙_}
-use lib.Ieee.{le}
+use mathlib.Core.Path.{sym}
 use borrow.Author.Needs.{needs}
 use borrow.Author.Tests.{lt-ltb, le-ltb}
 use Rattle.edge_merge.proofs.before_end.Statement.{statement}

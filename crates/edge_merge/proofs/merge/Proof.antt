@@ -1,7 +1,6 @@
 -- `merge` meets its contract. The loop's invariant: the first k records are what is kept of those before i, and k is at least 1.
 -- The measure is what is left of the records. Assumes nothing.
 use borrow.Author.Needs.{needs}
-use native.Mathlib.Omega.{arith}
 use mathlib.Core.Path.{_≡_, refl, ap, _∙_}
 use mathlib.Core.Logic.{⊎-elim}
 use Prim.Native.Nat.{_-_, _*_}

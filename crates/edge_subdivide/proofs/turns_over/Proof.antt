@@ -9,11 +9,6 @@ use Rattle.arith.proofs.Cmp.{holds}
 use borrow.Author.Needs.{needs}
 use Rattle.edge_subdivide.proofs.turns_over.Statement.{statement}
 use Rattle.edge_subdivide.proofs.turns_over.Tie as tie
-use Rattle.edge_subdivide.proofs.turns_over.Reads as reads
-use Rattle.edge_subdivide.proofs.turns_over.Lts as lts
-use Rattle.arith.proofs.clamp.Reads as clamp-reads
-use Rattle.math.proofs.Vec3.dot.Reads as dot-reads
-use Rattle.arith_turn_limit.proofs.is_turn_over.Reads as is-turn-over-reads
 
 returns : tie.Need-returns
 returns c = λ e. absurd (holds e)
@@ -26,7 +21,7 @@ returns-3 c = λ e.
     let a = c .before .before .before .before .before .before .before .before .before .args in
     sym (turn-both (a .a) (a .b) (a .limit) (c .before .before .before .before .before .before .before .a .given .0 .0) (c .before .before .before .before .b .given .0 .0) (c .before .before .before .before .before .before .before .a .given .1) (c .before .before .before .before .b .given .1))
     ∙ sym (ap (λ (x : Float). le (acosOf x) (a .limit)) (c .before .clamp .ensures ∙ ap (λ (x : Float). clampOf x (neg one) one) (c .before .before .dot .ensures)))
-    ∙ c .is-turn-over .ensures e
+    ∙ c .before .before .before .before .before .before .before .before .before .pre .above (c .before .clamp .result) (sym (c .is-turn-over .ensures) ∙ e)
 
 pub turns-over-spec : {M : Type 1} → statement M
 turns-over-spec =
