@@ -136,7 +136,7 @@ fn starts(text: &[u8], place: usize, word: &[u8]) -> bool
 }
 
 // The place behind the line at a place.
-fn behind(text: &[u8], place: usize) -> usize
+fn next_line(text: &[u8], place: usize) -> usize
     requires { ⌜ place < length (now text) ⌝ }
     ensures { λ r. ⌜ place < r ⌝ }
 {
@@ -175,31 +175,31 @@ fn floats_at(text: &[u8], place: usize, letters: &[u8]) -> Floats
 // Lines written.
 
 fn put_malformed(out: &mut [u8; 4096], at: usize) -> usize {
-    replay_text::word(out, at, b"?\n")
+    replay_text::put_word(out, at, b"?\n")
 }
 
 fn put_refusal(cause: u32, out: &mut [u8; 4096], at: usize) -> usize {
-    let n = replay_text::word(out, at, b"refusal\n");
-    replay_text::decimal_then(out, n, cause as u64, b'\n')
+    let n = replay_text::put_word(out, at, b"refusal\n");
+    replay_text::put_decimal(out, n, cause as u64, b'\n')
 }
 
 fn put_flag(b: bool, out: &mut [u8; 4096], at: usize) -> usize {
     if b {
-        replay_text::word(out, at, b"1\n")
+        replay_text::put_word(out, at, b"1\n")
     } else {
-        replay_text::word(out, at, b"0\n")
+        replay_text::put_word(out, at, b"0\n")
     }
 }
 
 // A line of floats behind its name.
 fn put_floats(name: &[u8], list: &[f64], out: &mut [u8; 4096], at: usize) -> usize {
-    let mut n = replay_text::word(out, at, name);
+    let mut n = replay_text::put_word(out, at, name);
     let mut i = 0usize;
     while i < list.len() {
         let x = list[i];
         i += 1;
         let end = if i < list.len() { b' ' } else { b'\n' };
-        n = replay_text::float_then(out, n, x, end);
+        n = replay_text::put_float(out, n, x, end);
     }
     n
 }
@@ -215,7 +215,7 @@ fn put_kind(kind: u32, out: &mut [u8; 4096], at: usize) -> usize {
     let mut i = ((kind % 8) as usize) * 10;
     while i < words.len() {
         let b = words[i];
-        n = replay_text::put(out, n, b);
+        n = replay_text::put_byte(out, n, b);
         i += 1;
         if b == b' ' {
             break;
@@ -229,16 +229,16 @@ fn put_whole(letter: u8, n: u32, end: u8, out: &mut [u8; 4096], at: usize) -> us
     if letter == b'k' {
         put_kind(n, out, at)
     } else {
-        replay_text::decimal_then(out, at, n as u64, end)
+        replay_text::put_decimal(out, at, n as u64, end)
     }
 }
 
 // A whole number of 64 bits: in decimal (l), or its bits.
 fn put_long(letter: u8, n: u64, end: u8, out: &mut [u8; 4096], at: usize) -> usize {
     if letter == b'l' {
-        replay_text::decimal_then(out, at, n, end)
+        replay_text::put_decimal(out, at, n, end)
     } else {
-        replay_text::hex_then(out, at, n, end)
+        replay_text::put_hex(out, at, n, end)
     }
 }
 
@@ -257,7 +257,7 @@ fn put_cell(
     let l = next.long;
     if letter == b'f' {
         if f < floats.len() {
-            let n = replay_text::float_then(out, next.out, floats[f], end);
+            let n = replay_text::put_float(out, next.out, floats[f], end);
             return Next {
                 float: f + 1,
                 whole: w,
@@ -317,7 +317,7 @@ fn put_rows(
     out: &mut [u8; 4096],
     at: usize,
 ) -> usize {
-    let n = replay_text::word(out, at, names);
+    let n = replay_text::put_word(out, at, names);
     let mut next = Next {
         float: 0,
         whole: 0,
@@ -385,7 +385,7 @@ fn value_at(text: &[u8], place: usize) -> Value {
 // The answer to the line at a place.
 fn put_value(text: &[u8], place: usize, out: &mut [u8; 4096], at: usize) -> usize {
     match value_at(text, place) {
-        Value::Of(x) => replay_text::float_then(out, at, x, b'\n'),
+        Value::Of(x) => replay_text::put_float(out, at, x, b'\n'),
         Value::Malformed => put_malformed(out, at),
     }
 }
@@ -395,7 +395,7 @@ fn put_arith(text: &[u8], out: &mut [u8; 4096], at: usize) -> usize {
     let mut place = 0usize;
     while place < text.len() {
         n = put_value(text, place, out, n);
-        place = behind(text, place);
+        place = next_line(text, place);
     }
     n
 }
@@ -419,7 +419,7 @@ fn first_line(text: &[u8]) -> First {
     let row = sheet_layout::line(text, 0, b"ffwlwf");
     if row.ok {
         let numbers = row.numbers;
-        let options = sheet::options_from(sheet_row::options_of(&numbers));
+        let options = sheet::options_from(sheet_row::raw_options_of(&numbers));
         return First::Of(options.resolve());
     }
     preset(text)
@@ -466,7 +466,7 @@ fn put_degrees(text: &[u8], place: usize, out: &mut [u8; 4096], at: usize) -> us
     let a = floats_at(text, p, b"f");
     if a.ok {
         let angle = Angle::degrees(a.x);
-        let n = replay_text::float_then(out, at, angle.to_radians(), b' ');
+        let n = replay_text::put_float(out, at, angle.to_radians(), b' ');
         put_flag(angle.is_clamped(), out, n)
     } else {
         put_malformed(out, at)
@@ -490,7 +490,7 @@ fn put_arcs(r: Resolved, text: &[u8], from: usize, out: &mut [u8; 4096], at: usi
     let mut place = from;
     while place < text.len() {
         n = put_arc_at(r, text, place, out, n);
-        place = behind(text, place);
+        place = next_line(text, place);
     }
     n
 }
@@ -502,7 +502,7 @@ fn put_options(text: &[u8], out: &mut [u8; 4096], at: usize) -> usize {
     match first_line(text) {
         First::Of(r) => {
             let n = put_resolved(r, out, at);
-            put_arcs(r, text, behind(text, 0), out, n)
+            put_arcs(r, text, next_line(text, 0), out, n)
         }
         First::Malformed => put_malformed(out, at),
     }
@@ -594,14 +594,14 @@ fn put_tables(
 fn put_period(repeats: Repeats, out: &mut [u8; 4096], at: usize) -> usize {
     match repeats {
         Repeats::Every(span) => put_floats(b"period ", &[span], out, at),
-        Repeats::Never => replay_text::word(out, at, b"period none\n"),
+        Repeats::Never => replay_text::put_word(out, at, b"period none\n"),
     }
 }
 
 fn put_tangent(tangent: Direction, out: &mut [u8; 4096], at: usize) -> usize {
     match tangent {
         Direction::Unit(v) => put_vector(b"tangent ", v, out, at),
-        Direction::Nothing => replay_text::word(out, at, b"tangent none\n"),
+        Direction::Nothing => replay_text::put_word(out, at, b"tangent none\n"),
     }
 }
 
@@ -612,9 +612,9 @@ fn put_found(name: &[u8], found: Knots, list: &[f64], out: &mut [u8; 4096], at: 
             if list.len() < n {
                 return at;
             }
-            let m = replay_text::word(out, at, name);
+            let m = replay_text::put_word(out, at, name);
             let end = if 0 < n { b' ' } else { b'\n' };
-            let k = replay_text::decimal_then(out, m, n as u64, end);
+            let k = replay_text::put_decimal(out, m, n as u64, end);
             put_floats(b"", &list[..n], out, k)
         }
         Knots::TooMany => at,
@@ -635,7 +635,7 @@ fn put_usable(
     at: usize,
 ) -> usize {
     let Usable::Range(r) = range else {
-        return replay_text::word(out, at, b"usable none\n");
+        return replay_text::put_word(out, at, b"usable none\n");
     };
     let lo = r.lo;
     let hi = r.hi;
@@ -672,7 +672,7 @@ fn put_curve(
     let natural = curve::natural_range(points, curves, reals, parts, ranges, row);
     let n = put_floats(b"natural ", &[natural.lo, natural.hi], out, at);
     let closed = curve::is_closed(points, curves, reals, parts, ranges, row);
-    let k = replay_text::word(out, n, b"closed ");
+    let k = replay_text::put_word(out, n, b"closed ");
     let m = put_flag(closed, out, k);
     let repeats = curve::period(points, curves, reals, parts, ranges, row);
     put_period(repeats, out, m)
@@ -724,8 +724,8 @@ fn put_at(
     at: usize,
 ) -> usize {
     let t = sheet_row::float_of(pattern);
-    let n = replay_text::word(out, at, b"at ");
-    let m = replay_text::hex_then(out, n, pattern, b'\n');
+    let n = replay_text::put_word(out, at, b"at ");
+    let m = replay_text::put_hex(out, n, pattern, b'\n');
     let p = curve::point_at(points, curves, reals, parts, ranges, row, t);
     let k = put_vector(b"point ", p, out, m);
     let d = curve_tangent::derivative_at(points, curves, reals, parts, ranges, row, t);
@@ -753,7 +753,7 @@ fn put_parameters(
             Num::Got(t, _) => put_at(points, curves, reals, parts, ranges, row, t, out, n),
             Num::Bad => put_malformed(out, n),
         };
-        place = behind(lines, place);
+        place = next_line(lines, place);
     }
     n
 }
@@ -939,7 +939,7 @@ fn begun(kind: u64, out: &mut [u8; 4096], at: usize) -> Kept {
         text: 0,
         equals: 0,
         kind,
-        out: replay_text::word(out, at, b"====\n"),
+        out: replay_text::put_word(out, at, b"====\n"),
     }
 }
 

@@ -119,17 +119,17 @@ fn nan_at(i: usize, start: u64, end: u64) -> u64 {
 }
 
 // The bits of x, or `nan` if it is NaN, then the byte `end`.
-fn put_float(x: f64, nan: u64, end: u8, out: &mut [u8; 4096], at: usize) -> usize {
+fn put_float_or(x: f64, nan: u64, end: u8, out: &mut [u8; 4096], at: usize) -> usize {
     if x != x {
-        return replay_text::hex_then(out, at, nan, end);
+        return replay_text::put_hex(out, at, nan, end);
     }
-    replay_text::float_then(out, at, x, end)
+    replay_text::put_float(out, at, x, end)
 }
 
 // All floats of a buffer on one line. `start` and `end` are the bits of a chord's parameters if they are NaN.
 fn put_floats(buffer: &[f64], start: u64, end: u64, out: &mut [u8; 4096], at: usize) -> usize {
     if buffer.len() == 0 {
-        return replay_text::word(out, at, b"\n");
+        return replay_text::put_word(out, at, b"\n");
     }
     let mut n = at;
     let mut i = 0usize;
@@ -137,23 +137,23 @@ fn put_floats(buffer: &[f64], start: u64, end: u64, out: &mut [u8; 4096], at: us
         let x = buffer[i];
         let nan = nan_at(i, start, end);
         i += 1;
-        n = put_float(x, nan, if i < buffer.len() { b' ' } else { b'\n' }, out, n);
+        n = put_float_or(x, nan, if i < buffer.len() { b' ' } else { b'\n' }, out, n);
     }
     n
 }
 
 fn put_refusal(cause: u32, out: &mut [u8; 4096], at: usize) -> usize {
-    let n = replay_text::word(out, at, b"refusal ");
-    replay_text::decimal_then(out, n, cause as u64, b'\n')
+    let n = replay_text::put_word(out, at, b"refusal ");
+    replay_text::put_decimal(out, n, cause as u64, b'\n')
 }
 
 fn put_way(way: Way, out: &mut [u8; 4096], at: usize) -> usize {
     match way {
-        Way::AsDrawn => replay_text::word(out, at, b"as drawn"),
-        Way::Chord => replay_text::word(out, at, b"chord for want of a range"),
-        Way::Complement => replay_text::word(out, at, b"complement"),
-        Way::ShortArc => replay_text::word(out, at, b"short arc"),
-        Way::Runaway => replay_text::word(out, at, b"runaway chord"),
+        Way::AsDrawn => replay_text::put_word(out, at, b"as drawn"),
+        Way::Chord => replay_text::put_word(out, at, b"chord for want of a range"),
+        Way::Complement => replay_text::put_word(out, at, b"complement"),
+        Way::ShortArc => replay_text::put_word(out, at, b"short arc"),
+        Way::Runaway => replay_text::put_word(out, at, b"runaway chord"),
     }
 }
 
@@ -162,10 +162,10 @@ fn put_drawn(drawn: Drawn, out: &mut [u8; 4096], at: usize) -> usize {
     match drawn {
         Drawn::Refused(cause) => put_refusal(cause, out, at),
         Drawn::Chain(way, count) => {
-            let word = replay_text::word(out, at, b"way ");
+            let word = replay_text::put_word(out, at, b"way ");
             let told = put_way(way, out, word);
-            let points = replay_text::word(out, told, b" points ");
-            replay_text::decimal_then(out, points, count as u64, b'\n')
+            let points = replay_text::put_word(out, told, b" points ");
+            replay_text::put_decimal(out, points, count as u64, b'\n')
         }
     }
 }

@@ -9,7 +9,7 @@ ghost use Rattle.replay_text.specs.Own.Waiting.{waits, putOne, puts};
 use libc::STDOUT_FILENO;
 
 // One byte.
-pub fn put(out: &mut [u8; 4096], at: usize, b: u8) -> usize
+pub fn put_byte(out: &mut [u8; 4096], at: usize, b: u8) -> usize
     ensures { λ r. ⌜ waits (now (out .exit)) r ≡ putOne b (waits (now (out .entry)) at) ⌝ }
 {
     if at < 4096 {
@@ -22,20 +22,20 @@ pub fn put(out: &mut [u8; 4096], at: usize, b: u8) -> usize
 }
 
 // The bytes of w.
-pub fn word(out: &mut [u8; 4096], at: usize, w: &[u8]) -> usize
+pub fn put_word(out: &mut [u8; 4096], at: usize, w: &[u8]) -> usize
     ensures { λ r. ⌜ waits (now (out .exit)) r ≡ puts (now (w .entry)) (waits (now (out .entry)) at) ⌝ }
 {
     let mut n = at;
     let mut i = 0usize;
     while i < w.len() {
-        n = put(out, n, w[i]);
+        n = put_byte(out, n, w[i]);
         i += 1;
     }
     n
 }
 
 // The `left` digits of v, the first of which counts units of base^(left - 1).
-fn digits(out: &mut [u8; 4096], at: usize, v: u64, base: u64, left: usize, unit: u64) -> usize
+fn put_digits(out: &mut [u8; 4096], at: usize, v: u64, base: u64, left: usize, unit: u64) -> usize
     requires { ⌜ (1 < base) × (base ≤ 16) × (1 ≤ left) × (unit ≡ base ^ (left - 1)) × (v < base ^ left) ⌝ }
     ensures { λ r. ⌜ waits (now (out .exit)) r ≡ puts (digits base left v) (waits (now (out .entry)) at) ⌝ }
 {
@@ -45,7 +45,7 @@ fn digits(out: &mut [u8; 4096], at: usize, v: u64, base: u64, left: usize, unit:
     let mut i = left;
     while 0 < i {
         i -= 1;
-        n = put(out, n, text_format::char_of((rest / u) as u8));
+        n = put_byte(out, n, text_format::char_of((rest / u) as u8));
         rest = rest % u;
         u = u / base;
     }
@@ -53,11 +53,11 @@ fn digits(out: &mut [u8; 4096], at: usize, v: u64, base: u64, left: usize, unit:
 }
 
 // Sixteen hex digits, then the byte `end`.
-pub fn hex_then(out: &mut [u8; 4096], at: usize, v: u64, end: u8) -> usize
+pub fn put_hex(out: &mut [u8; 4096], at: usize, v: u64, end: u8) -> usize
     ensures { λ r. ⌜ waits (now (out .exit)) r ≡ puts (hex16 .write v ++ (end ∷ [])) (waits (now (out .entry)) at) ⌝ }
 {
-    let n = digits(out, at, v, 16, 16, 0x1000000000000000);
-    put(out, n, end)
+    let n = put_digits(out, at, v, 16, 16, 0x1000000000000000);
+    put_byte(out, n, end)
 }
 
 // The bits of x, with one pattern for every NaN.
@@ -72,10 +72,10 @@ fn bits(x: f64) -> u64
 }
 
 // The bits of x, then the byte `end`.
-pub fn float_then(out: &mut [u8; 4096], at: usize, x: f64, end: u8) -> usize
+pub fn put_float(out: &mut [u8; 4096], at: usize, x: f64, end: u8) -> usize
     ensures { λ r. ⌜ waits (now (out .exit)) r ≡ puts (hex16 .write (toBits binary64 x) ++ (end ∷ [])) (waits (now (out .entry)) at) ⌝ }
 {
-    hex_then(out, at, bits(x), end)
+    put_hex(out, at, bits(x), end)
 }
 
 // How many decimal digits n has, and what the first of them counts.
@@ -97,12 +97,12 @@ fn width_of(n: u64) -> Width
 }
 
 // A plain decimal, then the byte `end`.
-pub fn decimal_then(out: &mut [u8; 4096], at: usize, v: u64, end: u8) -> usize
+pub fn put_decimal(out: &mut [u8; 4096], at: usize, v: u64, end: u8) -> usize
     ensures { λ r. ⌜ waits (now (out .exit)) r ≡ puts (decimal v ++ (end ∷ [])) (waits (now (out .entry)) at) ⌝ }
 {
     let w = width_of(v);
-    let n = digits(out, at, v, 10, w.digits, w.unit);
-    put(out, n, end)
+    let n = put_digits(out, at, v, 10, w.digits, w.unit);
+    put_byte(out, n, end)
 }
 
 // Writes the bytes that wait: none do afterwards.
