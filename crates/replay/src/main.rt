@@ -24,7 +24,6 @@ use causes::Verdict;
 use curve::Repeats;
 use edge_range::Usable;
 use knots::Knots;
-use libc::STDIN_FILENO;
 use math::Direction;
 use math::Vec3;
 use options::Angle;
@@ -87,6 +86,15 @@ struct Next {
     out: usize,
 }
 
+fn next_of(float: usize, whole: usize, long: usize, out: usize) -> Next {
+    Next {
+        float,
+        whole,
+        long,
+        out,
+    }
+}
+
 // How many rows of each table a sheet has.
 struct Rows {
     points: usize,
@@ -114,11 +122,8 @@ enum First {
     Malformed,
 }
 
-// How many bytes of the part are kept, how many equals signs end them (at most 5), the kind, and how many bytes of the output
-// wait.
-struct Kept {
-    text: usize,
-    equals: usize,
+// The kind of the parts to come, and how many bytes of the output wait.
+struct Batch {
     kind: u64,
     out: usize,
 }
@@ -258,31 +263,16 @@ fn put_cell(
     if letter == b'f' {
         if f < floats.len() {
             let n = replay_text::put_float(out, next.out, floats[f], end);
-            return Next {
-                float: f + 1,
-                whole: w,
-                long: l,
-                out: n,
-            };
+            return next_of(f + 1, w, l, n);
         }
     } else if letter == b'w' || letter == b'k' {
         if w < wholes.len() {
             let n = put_whole(letter, wholes[w], end, out, next.out);
-            return Next {
-                float: f,
-                whole: w + 1,
-                long: l,
-                out: n,
-            };
+            return next_of(f, w + 1, l, n);
         }
     } else if l < longs.len() {
         let n = put_long(letter, longs[l], end, out, next.out);
-        return Next {
-            float: f,
-            whole: w,
-            long: l + 1,
-            out: n,
-        };
+        return next_of(f, w, l + 1, n);
     }
     next
 }
@@ -318,12 +308,7 @@ fn put_rows(
     at: usize,
 ) -> usize {
     let n = replay_text::put_word(out, at, names);
-    let mut next = Next {
-        float: 0,
-        whole: 0,
-        long: 0,
-        out: n,
-    };
+    let mut next = next_of(0, 0, 0, n);
     let mut row = 0usize;
     while row < rows {
         next = put_row(letters, floats, wholes, longs, next, out);
@@ -547,6 +532,19 @@ fn put_ends(ends: Ends, out: &mut [u8; 4096], at: usize) -> usize {
     )
 }
 
+// A table without whole numbers of 64 bits.
+fn put_table(
+    names: &[u8],
+    letters: &[u8],
+    rows: usize,
+    floats: &[f64],
+    wholes: &[u32],
+    out: &mut [u8; 4096],
+    at: usize,
+) -> usize {
+    put_rows(names, letters, rows, floats, wholes, &NO_LONGS, out, at)
+}
+
 fn put_tables(
     points: &[f64],
     curves: &[u32],
@@ -556,37 +554,13 @@ fn put_tables(
     out: &mut [u8; 4096],
     at: usize,
 ) -> usize {
-    let n = put_rows(
-        b"x y z\n",
-        b"fff",
-        points.len() / 3,
-        points,
-        &NO_WHOLES,
-        &NO_LONGS,
-        out,
-        at,
-    );
+    let n3 = points.len() / 3;
+    let m3 = curves.len() / 3;
+    let k2 = parts.len() / 2;
+    let n = put_table(b"x y z\n", b"fff", n3, points, &NO_WHOLES, out, at);
     let names = b"\nkind first count p q\n";
-    let m = put_rows(
-        names,
-        b"kwwff",
-        curves.len() / 3,
-        reals,
-        curves,
-        &NO_LONGS,
-        out,
-        n,
-    );
-    put_rows(
-        b"\ncurve lo hi sense\n",
-        b"wffw",
-        parts.len() / 2,
-        ranges,
-        parts,
-        &NO_LONGS,
-        out,
-        m,
-    )
+    let m = put_table(names, b"kwwff", m3, reals, curves, out, n);
+    put_table(b"\ncurve lo hi sense\n", b"wffw", k2, ranges, parts, out, m)
 }
 
 // Curves.
@@ -795,7 +769,7 @@ fn put_read(
     put_parameters(points, curves, reals, parts, ranges, row, lines, out, m)
 }
 
-// The same, of tables with so many rows of the sheet's.
+// The answer to a sheet whose tables are the leading rows of those lent.
 fn put_filled(
     points: &[f64],
     curves: &[u32],
@@ -827,8 +801,8 @@ fn put_filled(
     )
 }
 
-// The same, of the tables that a sheet was read into. They hold every sheet's rows, but the contract of `read` names the rows and
-// not how many they are at most.
+// The answer to a sheet that was read into these tables. They hold every sheet's rows, but the contract of `read` names the rows
+// and not how many they are at most.
 fn put_counted(
     points: &[f64; sheet::POINTS],
     curves: &[u32; sheet::CURVES],
@@ -864,21 +838,18 @@ fn put_counted(
     )
 }
 
-// The answer to a sheet, and to lines of parameters, if there are any.
-fn put_sheet(sheet: &[u8], lines: &[u8], out: &mut [u8; 4096], at: usize) -> usize {
-    let mut points = [0.0f64; sheet::POINTS];
-    let mut curves = [0u32; sheet::CURVES];
-    let mut reals = [0.0f64; sheet::REALS];
-    let mut parts = [0u32; sheet::PARTS];
-    let mut ranges = [0.0f64; sheet::RANGES];
-    let read = sheet::read(
-        sheet,
-        &mut points,
-        &mut curves,
-        &mut reals,
-        &mut parts,
-        &mut ranges,
-    );
+// The answer to what was read into these tables, and to lines of parameters, if there are any.
+fn put_answer(
+    read: Sheet,
+    points: &[f64; sheet::POINTS],
+    curves: &[u32; sheet::CURVES],
+    reals: &[f64; sheet::REALS],
+    parts: &[u32; sheet::PARTS],
+    ranges: &[f64; sheet::RANGES],
+    lines: &[u8],
+    out: &mut [u8; 4096],
+    at: usize,
+) -> usize {
     match read {
         Sheet::Read {
             points: n,
@@ -901,11 +872,11 @@ fn put_sheet(sheet: &[u8], lines: &[u8], out: &mut [u8; 4096], at: usize) -> usi
                 hi,
             };
             put_counted(
-                &points,
-                &curves,
-                &reals,
-                &parts,
-                &ranges,
+                points,
+                curves,
+                reals,
+                parts,
+                ranges,
                 rows,
                 ends,
                 lines,
@@ -915,6 +886,34 @@ fn put_sheet(sheet: &[u8], lines: &[u8], out: &mut [u8; 4096], at: usize) -> usi
         }
         Sheet::Refused(cause) => put_refusal(cause, out, at),
     }
+}
+
+// The answer to a sheet, and to lines of parameters, if there are any.
+fn put_sheet(sheet: &[u8], lines: &[u8], out: &mut [u8; 4096], at: usize) -> usize {
+    let mut points = [0.0f64; sheet::POINTS];
+    let mut curves = [0u32; sheet::CURVES];
+    let mut reals = [0.0f64; sheet::REALS];
+    let mut parts = [0u32; sheet::PARTS];
+    let mut ranges = [0.0f64; sheet::RANGES];
+    let read = sheet::read(
+        sheet,
+        &mut points,
+        &mut curves,
+        &mut reals,
+        &mut parts,
+        &mut ranges,
+    );
+    put_answer(
+        read,
+        &points,
+        &curves,
+        &reals,
+        &parts,
+        &ranges,
+        lines,
+        out,
+        at,
+    )
 }
 
 // The answer to a sheet and the parameters behind the line that begins them.
@@ -934,10 +933,8 @@ fn put_parted(text: &[u8], out: &mut [u8; 4096], at: usize) -> usize {
 // The batch.
 
 // A part of a kind that begins behind a separator.
-fn begun(kind: u64, out: &mut [u8; 4096], at: usize) -> Kept {
-    Kept {
-        text: 0,
-        equals: 0,
+fn begun(kind: u64, out: &mut [u8; 4096], at: usize) -> Batch {
+    Batch {
         kind,
         out: replay_text::put_word(out, at, b"====\n"),
     }
@@ -971,96 +968,40 @@ fn answer(kind: u64, text: &[u8], out: &mut [u8; 4096], at: usize) -> usize {
 }
 
 // A part, and the line behind its answer.
-fn part(text: &[u8], out: &mut [u8; 4096], kept: Kept) -> Kept {
-    let kind = kept.kind;
+fn part(text: &[u8], out: &mut [u8; 4096], batch: Batch) -> Batch {
+    let kind = batch.kind;
     let asked = asked_kind(text);
     if asked == 0 {
-        let n = answer(kind, text, out, kept.out);
+        let n = answer(kind, text, out, batch.out);
         return begun(kind, out, n);
     }
-    begun(asked, out, kept.out)
+    begun(asked, out, batch.out)
 }
 
-// The end of a part: the equals signs of its separator are the last bytes kept.
-fn part_end(text: &[u8], out: &mut [u8; 4096], kept: Kept) -> Kept {
-    let n = kept.text;
-    if n < 4 {
-        return kept;
+// The part that the first n bytes of the text are.
+fn part_of(text: &[u8], n: usize, out: &mut [u8; 4096], batch: Batch) -> Batch {
+    if text.len() < n {
+        return batch;
     }
-    let end = n - 4;
-    if text.len() < end {
-        return kept;
-    }
-    part(&text[..end], out, kept)
+    part(&text[..n], out, batch)
 }
 
-// One byte more of a part. Of a part that is too long, the last four places of the text count for what ends it.
-fn push(b: u8, text: &mut [u8; SIZE], kept: Kept) -> Kept {
-    let n = kept.text;
-    let more = if n < SIZE {
-        text[n] = b;
-        n + 1
-    } else {
-        n
-    };
-    let equals = if b == b'=' {
-        if kept.equals < 5 { kept.equals + 1 } else { 5 }
-    } else {
-        0
-    };
-    Kept {
-        text: more,
-        equals,
-        kind: kept.kind,
-        out: kept.out,
-    }
-}
-
-// One byte more of the input.
-fn step(b: u8, text: &mut [u8; SIZE], out: &mut [u8; 4096], kept: Kept) -> Kept {
-    if b == b'\n' {
-        if kept.equals == 4 {
-            return part_end(text, out, kept);
-        }
-    }
-    push(b, text, kept)
-}
-
-fn feed(chunk: &[u8], text: &mut [u8; SIZE], out: &mut [u8; 4096], start: Kept) -> Kept {
-    let mut kept = start;
-    let mut i = 0usize;
-    while i < chunk.len() {
-        kept = step(chunk[i], text, out, kept);
-        i += 1;
-    }
-    kept
-}
-
-// The input's end. A part that no separator ended has no answer.
-fn finish(out: &[u8; 4096], kept: Kept) {
-    replay_text::flush(out, kept.out);
-}
-
-// All of the input, chunk by chunk. The loop counts its turns down, from a number that no run uses up, since nothing says
-// that an input ends.
+// All of the input, part by part. A part that no separator ended has no answer. The loop counts its turns down, from a number
+// that no run uses up, since nothing says that an input ends.
 fn main() {
-    let mut chunk = io::buffer();
+    let mut chunk = io::large_buffer();
     let mut text = [0u8; SIZE];
     let mut out = io::buffer();
-    let mut kept = Kept {
-        text: 0,
-        equals: 0,
-        kind: 0,
-        out: 0,
-    };
+    let mut batch = Batch { kind: 0, out: 0 };
+    let mut next = replay_text::no_part();
     let mut turns = u64::MAX;
     while 0 < turns {
-        let n = io::count(libc::read(STDIN_FILENO, &mut chunk), &chunk);
-        if n == 0 {
+        next = replay_text::next_part(&mut text, &mut chunk, next, true);
+        if !next.ended {
             break;
         }
-        kept = feed(&chunk[..n], &mut text, &mut out, kept);
+        batch = part_of(&text, next.bytes, &mut out, batch);
         turns -= 1;
     }
-    finish(&out, kept);
+    replay_text::flush(&out, batch.out);
 }
