@@ -74,7 +74,7 @@ fn with_many_segments(seen: &mut Seen, sheet: &Sheet, random: &mut Random) {
     let room = room.min(16_384) - random.below(room.min(3) - 1);
     let mut sheet = sheet.clone();
     sheet.options.segments = (room + 1 - random.below(4)) as u64;
-    compare(seen, &sheet, (4 * room + random.below(4), 4 * room + random.below(4)));
+    compare(seen, &sheet, (cs::WIDTH * room + random.below(4), cs::WIDTH * room + random.below(4)));
 }
 
 fn any_length(random: &mut Random) -> usize {
@@ -148,7 +148,7 @@ fn compare(seen: &mut Seen, sheet: &Sheet, (m, n): (usize, usize)) -> usize {
             seen.payloads += u64::from(chain.iter().any(|p| copied(p[3])));
             *seen.answers.entry(format!("{:?}", chain.way())).or_default() += 1;
             seen.longest = seen.longest.max(count);
-            4 * count
+            cs::WIDTH * count
         }
         (got, _) => panic!("{got:?} for {expected:?}, buffers {m} {n}:\n{sheet:?}"),
     };
@@ -188,7 +188,7 @@ fn tables_cause(tables: &Tables) -> Option<u32> {
 
 /// A walk passes the chain's points, there and back.
 fn walk(chain: &cs::Chain) {
-    let bits = |p: [f64; 4]| p.map(f64::to_bits);
+    let bits = |p: cs::Point| p.map(f64::to_bits);
     assert!(chain.forwards().map(bits).eq(chain.iter().map(|p| bits(*p))));
     assert!(chain.backwards().map(bits).eq(chain.iter().rev().map(|p| bits(*p))));
 }

@@ -122,12 +122,13 @@ static void answer(double *first, size_t m, double *second, size_t n) {
         printf("refusal\n%" PRIu32 "\n", refusal);
         return;
     }
-    double *const chain = cs_chain(way, first, second), *const rest = chain + 4 * count;
+    double *const chain = cs_chain(way, first, second), *const rest = chain + CS_WIDTH * count;
     double *const end = chain == first ? first + m : second + n, *const other = chain == first ? second : first;
     demand(all(rest, end, 0) && all(other, other + (chain == first ? n : m), 0), "buffers after a chain");
     puts("x y z t");
-    double p[4];
-    for (size_t at = cs_start(chain, 4 * count, true); cs_step(chain, 4 * count, true, &at, p);) {
+    double p[CS_WIDTH];
+    const size_t length = CS_WIDTH * count;
+    for (size_t at = cs_start(chain, length, true); cs_step(chain, length, true, &at, p);) {
         printf("%016" PRIx64 " %016" PRIx64 " %016" PRIx64 " %016" PRIx64 "\n", bits_of(p[0]), bits_of(p[1]), bits_of(p[2]),
                bits_of(p[3]));
     }

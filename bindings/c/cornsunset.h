@@ -81,6 +81,11 @@ typedef struct {
     double scale;      /* size of the part; not finite or not above 0: none */
 } cs_options;
 
+/* ---- chains */
+
+/* The doubles of a point in a chain: x y z t. */
+enum { CS_WIDTH = 4 };
+
 /* ---- refusals and ways */
 
 enum {
@@ -92,7 +97,7 @@ enum {
     CS_UNORDERED = 4,    /* a trim's base, or the curve of a composite's segment, is not in a lower row than its own */
     CS_TOO_DEEP = 5,     /* trims and composites are nested deeper than 8 */
     CS_MISSING = 6,      /* the edge's curve, start, end, low or high is outside its table */
-    CS_SHORT_BUFFER = 7, /* a chain buffer is shorter than 8 floats */
+    CS_SHORT_BUFFER = 7, /* a chain buffer is shorter than two points, 2 * CS_WIDTH doubles */
     CS_NO_ROOM = 8,      /* a list of parameters is longer than the buffers have room for, or than 16,384 */
     CS_ENDLESS = 9       /* a span would be split without end, since no distance in it is above zero */
 };
@@ -130,7 +135,7 @@ static inline const char *cs_sentence(uint32_t refusal) {
 
 /* Draws an edge into the two chain buffers: 0, or the number of the refusal that applies, the lowest from 1 to 7, else 8 or 9
  * as drawing meets it. *way is the way in which the chain was got (0 for a refusal) and *count how many points it has (0).
- * A chain is four doubles a point, x y z t, from the start of the buffer that its way names; every other double of both
+ * A chain is CS_WIDTH doubles a point, x y z t, from the start of the buffer that its way names; every other double of both
  * buffers is then +0.0. Refusals 1 to 7 leave both buffers as they were; 8 and 9 leave them all +0.0. */
 uint32_t cs_flat_draw(
     const double *points, size_t points_len, const uint32_t *curves, size_t curves_len, const double *reals, size_t reals_len,
@@ -173,7 +178,7 @@ void cs_flat_fine(double *deflection, double *radians, uint32_t *relative, uint6
 size_t cs_start(const double *chain, size_t chain_len, bool forward);
 
 /* A step from *at: 1, the point that it passed as x y z t, and *at behind it; or 0 where none is left, with nothing changed. */
-uint32_t cs_step(const double *chain, size_t chain_len, bool forward, size_t *at, double point[4]);
+uint32_t cs_step(const double *chain, size_t chain_len, bool forward, size_t *at, double point[CS_WIDTH]);
 
 /* ---- drawing and checking */
 

@@ -16,20 +16,21 @@ int main(void) {
     options.deflection = 0.02;
     options.angle = cs_angle_degrees(20);
 
-    double first[4 * 256], second[4 * 256];
+    enum { LENGTH = CS_WIDTH * 256 };
+    double first[LENGTH], second[LENGTH];
     uint32_t way;
     size_t count;
-    const uint32_t refusal = cs_draw(&tables, &edge, &options, first, 4 * 256, second, 4 * 256, &way, &count);
+    const uint32_t refusal = cs_draw(&tables, &edge, &options, first, LENGTH, second, LENGTH, &way, &count);
     if (refusal != CS_DRAWN) {
         puts(cs_sentence(refusal));
         return 1;
     }
     const double *chain = cs_chain(way, first, second);
     printf("way %u, %zu points\n", way, count);
-    double point[4];
+    double point[CS_WIDTH];
     for (int forward = 1; forward >= 0; forward--) {
-        size_t at = cs_start(chain, 4 * count, forward);
-        while (cs_step(chain, 4 * count, forward, &at, point)) {
+        size_t at = cs_start(chain, CS_WIDTH * count, forward);
+        while (cs_step(chain, CS_WIDTH * count, forward, &at, point)) {
             printf("%9.6f %9.6f %9.6f  t %.6f\n", point[0], point[1], point[2], point[3]);
         }
     }

@@ -244,7 +244,13 @@ impl Way {
     }
 }
 
-/// A chain: the part of the caller's buffer that holds it. It is a slice of points, x y z t each.
+/// How many floats a point of a chain has.
+pub const WIDTH: usize = 4;
+
+/// A point of a chain: x y z t.
+pub type Point = [f64; WIDTH];
+
+/// A chain: the part of the caller's buffer that holds it. It is a slice of points.
 #[derive(Debug, Clone, Copy)]
 pub struct Chain<'b> {
     floats: &'b [f64],
@@ -258,9 +264,9 @@ impl<'b> Chain<'b> {
     }
 
     /// Its points.
-    pub fn points(&self) -> &'b [[f64; 4]] {
-        let whole = self.floats.len() / 4;
-        // SAFETY: an array lies as its floats do, and there are four times so many.
+    pub fn points(&self) -> &'b [Point] {
+        let whole = self.floats.len() / WIDTH;
+        // SAFETY: an array lies as its floats do, and there are WIDTH times so many.
         unsafe { std::slice::from_raw_parts(self.floats.as_ptr().cast(), whole) }
     }
 
@@ -281,9 +287,9 @@ impl<'b> Chain<'b> {
 }
 
 impl Deref for Chain<'_> {
-    type Target = [[f64; 4]];
+    type Target = [Point];
 
-    fn deref(&self) -> &[[f64; 4]] {
+    fn deref(&self) -> &[Point] {
         self.points()
     }
 }
@@ -311,10 +317,10 @@ impl<'a> Walk<'a> {
 }
 
 impl Iterator for Walk<'_> {
-    type Item = [f64; 4];
+    type Item = Point;
 
-    fn next(&mut self) -> Option<[f64; 4]> {
-        let (chain, mut point) = (self.chain, [0.0; 4]);
+    fn next(&mut self) -> Option<Point> {
+        let (chain, mut point) = (self.chain, [0.0; WIDTH]);
         // SAFETY: a slice is lent for the call, and two values of its own to write.
         let passed = unsafe { raw::cs_step(chain.as_ptr(), chain.len(), self.forward, &mut self.at, &mut point) };
         (passed == 1).then_some(point)
@@ -323,8 +329,8 @@ impl Iterator for Walk<'_> {
 
 /// Draws an edge into one of two buffers, and returns the part that holds its chain.
 ///
-/// Four floats make a point, so that a buffer of n floats has room for n / 4 points. The shorter buffer says what room there
-/// is, 16,384 points at most. Whatever of the buffers is not the chain is +0.0 afterwards.
+/// [`WIDTH`] floats make a point, so that a buffer of n floats has room for n / WIDTH points. The shorter buffer says what room
+/// there is, 16,384 points at most. Whatever of the buffers is not the chain is +0.0 afterwards.
 pub fn draw<'b>(
     tables: &Tables,
     edge: &Edge,
@@ -351,7 +357,7 @@ fn drawn<'b>(
     let way = Way::of(way);
     // The points are proved to fit.
     let buffer = if way.in_first() { first } else { second };
-    Ok(Chain { floats: &buffer[..4 * count], way })
+    Ok(Chain { floats: &buffer[..WIDTH * count], way })
 }
 
 /// The lowest of the refusals 1 to 6 that applies to an edge: what drawing it looks at before it looks at its buffers.

@@ -1,5 +1,7 @@
 //! The library's functions over numbers, as bindings/c/cornsunset.h describes them. A slice is a pointer and a length.
 
+use crate::Point;
+
 /// Declares functions that take tables, an edge and options, and then what is named here, and return a refusal's number or 0.
 macro_rules! edge_functions {
     ($($name:ident($($more:ident: $kind:ty),*);)*) => {
@@ -8,7 +10,7 @@ macro_rules! edge_functions {
                 points: *const f64, points_len: usize, curves: *const u32, curves_len: usize, reals: *const f64, reals_len: usize,
                 parts: *const u32, parts_len: usize, ranges: *const f64, ranges_len: usize,
                 curve: u32, start: u32, end: u32, sense: u32, lo: f64, hi: f64, tolerance: f64, low: u32, high: u32,
-                deflection: f64, angle: f64, relative: u32, segments: u64, depth: u32, scale: f64,
+                deflection: f64, radians: f64, relative: u32, segments: u64, depth: u32, scale: f64,
                 $($more: $kind),*
             ) -> u32;)*
         }
@@ -17,12 +19,12 @@ macro_rules! edge_functions {
 
 /// Calls one of them; the angle, in radians, stands beside the options, and then what else it takes.
 macro_rules! call {
-    ($name:ident, $t:expr, $e:expr, $o:expr, $angle:expr $(, $more:expr)*) => {
+    ($name:ident, $t:expr, $e:expr, $o:expr, $radians:expr $(, $more:expr)*) => {
         $crate::raw::$name(
             $t.points.as_ptr(), $t.points.len(), $t.curves.as_ptr(), $t.curves.len(), $t.reals.as_ptr(), $t.reals.len(),
             $t.parts.as_ptr(), $t.parts.len(), $t.ranges.as_ptr(), $t.ranges.len(),
             $e.curve, $e.start, $e.end, $e.sense, $e.lo, $e.hi, $e.tolerance, $e.low, $e.high,
-            $o.deflection, $angle, $o.relative, $o.segments, $o.depth, $o.scale $(, $more)*
+            $o.deflection, $radians, $o.relative, $o.segments, $o.depth, $o.scale $(, $more)*
         )
     };
 }
@@ -42,7 +44,7 @@ macro_rules! presets {
     ($($name:ident),*) => {
         unsafe extern "C" {
             $(pub fn $name(
-                deflection: &mut f64, angle: &mut f64, relative: &mut u32, segments: &mut u64, depth: &mut u32, scale: &mut f64,
+                deflection: &mut f64, radians: &mut f64, relative: &mut u32, segments: &mut u64, depth: &mut u32, scale: &mut f64,
             );)*
         }
     };
@@ -65,8 +67,8 @@ unsafe extern "C" {
     ) -> u32;
 
     pub fn cs_start(chain: *const f64, chain_len: usize, forward: bool) -> usize;
-    pub fn cs_step(chain: *const f64, chain_len: usize, forward: bool, at: &mut usize, point: &mut [f64; 4]) -> u32;
+    pub fn cs_step(chain: *const f64, chain_len: usize, forward: bool, at: &mut usize, point: &mut Point) -> u32;
 
     pub fn cs_degrees(x: f64) -> f64;
-    pub fn cs_is_clamped(angle: f64) -> bool;
+    pub fn cs_is_clamped(radians: f64) -> bool;
 }

@@ -1,5 +1,5 @@
 //! The safe API by itself: refusals, buffers, tables that are checked once, NaN parameters, walks, angles and presets.
-use cornsunset::{check, check_tables, draw, draw_over, Angle, Edge, Options, Refusal, Tables, Walk, Way};
+use cornsunset::{check, check_tables, draw, draw_over, Angle, Edge, Options, Point, Refusal, Tables, Walk, Way};
 
 /// What no drawing writes.
 const MARK: f64 = f64::from_bits(0x7ff4_dead_0000_beef);
@@ -41,7 +41,7 @@ fn a_line_is_drawn_into_the_first_buffer() {
     let chain = draw(&LINE, &EDGE, &options(), &mut first, &mut second).unwrap();
     assert_eq!((chain.way(), chain.len()), (Way::AsDrawn, 5));
     assert_eq!(chain.floats().as_ptr(), start);
-    let expected: Vec<[f64; 4]> = (0..5).map(|i| [2.5 * i as f64, 0.0, 0.0, 1.25 * i as f64]).collect();
+    let expected: Vec<Point> = (0..5).map(|i| [2.5 * i as f64, 0.0, 0.0, 1.25 * i as f64]).collect();
     assert_eq!(chain.points(), expected);
     assert!(all(&first[20..], 0.0) && all(&second, 0.0));
 }
@@ -179,7 +179,7 @@ fn a_walk_goes_both_ways_over_whole_points() {
     let floats: Vec<f64> = (0..15).map(f64::from).collect();
     let there: Vec<f64> = Walk::new(&floats, true).map(|p| p[0]).collect();
     assert_eq!(there, [0.0, 4.0, 8.0]);
-    let back: Vec<[f64; 4]> = Walk::new(&floats, false).collect();
+    let back: Vec<Point> = Walk::new(&floats, false).collect();
     assert_eq!(back, [[8.0, 9.0, 10.0, 11.0], [4.0, 5.0, 6.0, 7.0], [0.0, 1.0, 2.0, 3.0]]);
     let mut walk = Walk::new(&floats, true);
     assert_eq!(walk.by_ref().count(), 3);

@@ -3,7 +3,7 @@ use libc::STDIN_FILENO;
 use libc::STDOUT_FILENO;
 
 // One byte more than a sheet may have: a text that fills it is too long.
-const SIZE: usize = 65537;
+const SIZE: usize = sheet_layout::SIZE + 1;
 
 // Reads what a text that is too long has left, so that whoever writes it can end. The loop counts its turns down, from a
 // number that no run uses up, since nothing says that an input ends.

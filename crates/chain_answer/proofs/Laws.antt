@@ -16,7 +16,7 @@ use Rattle.brep.specs.Rows.{Tables}
 use Rattle.brep.specs.declared.Edge.{Edge}
 use Rattle.options.specs.declared.Options.{Options}
 use Rattle.edge_record.specs.Chain.{width, flat, samples}
-use Rattle.text_listing.specs.Listing.{listing, refusal}
+use Rattle.text_listing.specs.Listing.{floatBytes, lineBytes, refusalBytes, listing, refusal}
 use Rattle.draw_spec.specs.declared.Way.{Way}
 use Rattle.draw_spec.specs.declared.Drawn.{Drawn}
 use Rattle.draw_spec.specs.declared.Drawn.the-variants.{Refused, Chain}
@@ -26,7 +26,7 @@ use Rattle.draw_spec.proofs.Sound.{drawn-fits}
 use Rattle.draw_spec.proofs.ReadBack.{read-back}
 use Rattle.draw_spec.specs.Draw.{chainFloats}
 use Rattle.chain_answer.specs.Own.Shown.{shown}
-use Rattle.chain_answer.specs.Printed.{lastBits, printedDrawn, drawnOf, printedRead, firstLeft, secondLeft, Prints}
+use Rattle.chain_answer.specs.Printed.{lastBits, printedDrawn, drawnOf, printedRead, firstAfterSheet, secondAfterSheet, Prints}
 
 -- bytes at the start of a buffer, and how many they are
 abbrev pub Put : ℕ → List ℕ → List ℕ → List ℕ → Type 0
@@ -77,8 +77,8 @@ module _ (t : Tables) (e : Edge) (o : Options) (first second : List Float) (d : 
           let w = filled-long (length second) (cond (inFirst (g .way)) [] (flat (g .chain))) in
           (omega arith, omega arith)
 
-  pub held-in-room : (bytes : ℕ) → 19 + 68 * roomOf (length first) (length second) ≤ bytes
-      → (chainFloats d ≤ length f) × (chainFloats d ≤ length s) × (19 + 17 * chainFloats d ≤ bytes)
+  pub held-in-room : (bytes : ℕ) → refusalBytes + lineBytes * roomOf (length first) (length second) ≤ bytes
+      → (chainFloats d ≤ length f) × (chainFloats d ≤ length s) × (refusalBytes + floatBytes * chainFloats d ≤ bytes)
   held-in-room bytes fits = let k = floats-few in (buffers-hold .0, buffers-hold .1, omega arith)
 
   -- what is shown of the answer and the buffers is what is printed for the drawing
@@ -95,7 +95,7 @@ module _ (t : Tables) (e : Edge) (o : Options) (first second : List Float) (d : 
 module _ (text : List ℕ) (first second : List Float) (out : List ℕ) (r : ℕ) (out' : List ℕ) where
   -- no sheet was read
   pub no-sheet : (cause : ℕ) → readSheet text ≡ refused cause → Put r out out' (refusal cause) → Prints text first second out r first second out'
-  unfolding printedRead firstLeft secondLeft
+  unfolding printedRead firstAfterSheet secondAfterSheet
   no-sheet cause q h = record { count = rw q (h .0); bytes = rw q (h .1); firstHolds = rw q; secondHolds = rw q }
 
   -- a sheet was read, and its edge was drawn
@@ -109,7 +109,7 @@ module _ (text : List ℕ) (first second : List Float) (out : List ℕ) (r : ℕ
     bytes-are = rw (read .is) (shown-is (leading n m k t) e o first second d f s h lo hi ∙ rw (read .lo-is, read .hi-is, made-is))
 
     pub sheet-drawn : Put r out out' (shown lo hi d (chainIn f s d)) → Prints text first second out r f s out'
-    unfolding firstLeft secondLeft
+    unfolding firstAfterSheet secondAfterSheet
     sheet-drawn p = record {
       count = p .0 ∙ ap length bytes-are;
       bytes = p .1 ∙ ap (sets out 0) bytes-are;

@@ -44,17 +44,17 @@ abbrev pub printed : List ℕ → ℕ → ℕ → List ℕ
 printed text first second = printedRead first second (readSheet text)
 
 -- ---- the chain buffers afterwards: as before where there is no sheet
-unfoldable pub firstLeft : List Float → ℕ → Result RawSheet → List Float
-firstLeft first second (refused cause) = first
-firstLeft first second (got raw) = firstAfter first (drawnOf raw (length first) second)
+unfoldable pub firstAfterSheet : List Float → ℕ → Result RawSheet → List Float
+firstAfterSheet first second (refused cause) = first
+firstAfterSheet first second (got raw) = firstAfter first (drawnOf raw (length first) second)
 
-unfoldable pub secondLeft : ℕ → List Float → Result RawSheet → List Float
-secondLeft first second (refused cause) = second
-secondLeft first second (got raw) = secondAfter second (drawnOf raw first (length second))
+unfoldable pub secondAfterSheet : ℕ → List Float → Result RawSheet → List Float
+secondAfterSheet first second (refused cause) = second
+secondAfterSheet first second (got raw) = secondAfter second (drawnOf raw first (length second))
 
 -- ---- the whole answer: how many bytes, those bytes at the start of `out`, and both buffers
 pub record Prints (text : List ℕ) (first second : List Float) (out : List ℕ) (n : ℕ) (first' second' : List Float) (out' : List ℕ) : Type 0 where
   pub count : n ≡ length (printed text (length first) (length second))
   pub bytes : out' ≡ sets out 0 (printed text (length first) (length second))
-  pub firstHolds : first' ≡ firstLeft first (length second) (readSheet text)
-  pub secondHolds : second' ≡ secondLeft (length first) second (readSheet text)
+  pub firstHolds : first' ≡ firstAfterSheet first (length second) (readSheet text)
+  pub secondHolds : second' ≡ secondAfterSheet (length first) second (readSheet text)

@@ -6,8 +6,8 @@ ghost use lib.ListN.{length};
 ghost use lib.Seq.{sets};
 ghost use Rattle.brep.specs.Rows.{lent, given};
 ghost use Rattle.sheet.specs.Own.Leading.{leading};
-ghost use Rattle.draw_spec.specs.Draw.{roomOf, chainIn, Outcome};
-ghost use Rattle.draw_spec.specs.Draw.{programFloats, chainFloats};
+ghost use Rattle.draw_spec.specs.Draw.{roomOf, chainIn, programFloats, chainFloats, Outcome};
+ghost use Rattle.text_listing.specs.Listing.{floatBytes, lineBytes, refusalBytes};
 ghost use Rattle.chain_answer.specs.Own.Shown.{shown};
 ghost use Rattle.chain_answer.specs.Printed.{printed, Prints};
 ghost use Rattle.chain_answer.specs.Own.ReadTables.{WasRead, SomeText};
@@ -17,18 +17,19 @@ use draw_spec::Way;
 use options::Options;
 use sheet::Sheet;
 
-// The records of each chain buffer of the program, and their floats.
+// The records of each chain buffer of the program.
 const POINTS: usize = 2048;
 
+// The floats of each chain buffer of the program.
 pub const FLOATS: usize = edge_record::WIDTH * POINTS;
 
-// Enough for every listing of the program: 17 bytes a float, and 19 for its names or a refusal.
-pub const BYTES: usize = 19 + 17 * FLOATS;
+// Room for every listing of the program: the floats' bytes, and those of a refusal, which are more than the names'.
+pub const BYTES: usize = text_listing::REFUSAL_BYTES + text_listing::FLOAT_BYTES * FLOATS;
 
 // The listing of an answer, whose chain lies in the first buffer or in the second. `lo` and `hi` are the bits of the edge's
 // range: a NaN parameter is a copy of one of them.
 fn show(drawn: Drawn, first: &[f64], second: &[f64], lo: u64, hi: u64, out: &mut [u8]) -> usize
-    requires { ⌜ (chainFloats drawn ≤ length (now first)) × (chainFloats drawn ≤ length (now second)) × (19 + 17 * chainFloats drawn ≤ length (now out)) ⌝ }
+    requires { ⌜ (chainFloats drawn ≤ length (now first)) × (chainFloats drawn ≤ length (now second)) × (refusalBytes + floatBytes * chainFloats drawn ≤ length (now out)) ⌝ }
     ensures { λ r. ⌜ (r ≡ length (shown lo hi drawn (chainIn (now (first .entry)) (now (second .entry)) drawn)))
         × (now (out .exit) ≡ sets (now (out .entry)) 0 (shown lo hi drawn (chainIn (now (first .entry)) (now (second .entry)) drawn))) ⌝ }
 {
@@ -45,7 +46,7 @@ fn show(drawn: Drawn, first: &[f64], second: &[f64], lo: u64, hi: u64, out: &mut
 }
 
 // Draws the edge of a sheet whose tables are the leading rows of those lent: n points, m curves, k segments.
-fn draw_rows(
+pub fn draw_rows(
     points: &[f64],
     curves: &[u32],
     reals: &[f64],
@@ -91,7 +92,7 @@ fn answer_read(
     second: &mut [f64],
     out: &mut [u8],
 ) -> usize
-    requires { ⌜ SomeText read (lent points curves reals parts ranges) × (19 + 68 * roomOf (length (now first)) (length (now second)) ≤ length (now out)) ⌝ }
+    requires { ⌜ SomeText read (lent points curves reals parts ranges) × (refusalBytes + lineBytes * roomOf (length (now first)) (length (now second)) ≤ length (now out)) ⌝ }
     ensures { λ r. ⌜ ((text : List ℕ) → WasRead text read (given points curves reals parts ranges)
         → Prints text (now (first .entry)) (now (second .entry)) (now (out .entry)) r (now (first .exit)) (now (second .exit)) (now (out .exit))) ⌝ }
 {
@@ -127,7 +128,7 @@ fn answer_read(
 
 // THE ANSWER to a sheet: the bytes that the program prints, at the start of `out`, and how many they are.
 pub fn answer(text: &[u8], first: &mut [f64], second: &mut [f64], out: &mut [u8]) -> usize
-    requires { ⌜ 19 + 68 * roomOf (length (now first)) (length (now second)) ≤ length (now out) ⌝ }
+    requires { ⌜ refusalBytes + lineBytes * roomOf (length (now first)) (length (now second)) ≤ length (now out) ⌝ }
     ensures { λ r. ⌜ Prints (now (text .entry)) (now (first .entry)) (now (second .entry)) (now (out .entry)) r (now (first .exit)) (now (second .exit)) (now (out .exit)) ⌝ }
 {
     let mut points = [0.0f64; sheet::POINTS];
@@ -158,7 +159,7 @@ pub fn answer(text: &[u8], first: &mut [f64], second: &mut [f64], out: &mut [u8]
 
 // WHAT THE PROGRAM PRINTS for a text, and how many bytes: the answer, in chain buffers of `FLOATS` floats.
 pub fn print(text: &[u8], out: &mut [u8]) -> usize
-    requires { ⌜ 19 + 17 * programFloats ≤ length (now out) ⌝ }
+    requires { ⌜ refusalBytes + floatBytes * programFloats ≤ length (now out) ⌝ }
     ensures { λ r. ⌜ (r ≡ length (printed (now (text .entry)) programFloats programFloats))
         × (now (out .exit) ≡ sets (now (out .entry)) 0 (printed (now (text .entry)) programFloats programFloats)) ⌝ }
 {

@@ -37,11 +37,11 @@ way-numbers ShortArc = (omega arith, omega arith)
 way-numbers Runaway = (omega arith, omega arith)
 
 -- what a caller may rely on, of an answer's numbers
-abbrev Sound : ℕ → ℕ → Codes → Type 0
-Sound first second x = Numbered first second (x .refusal) (x .way) (x .count)
+abbrev CodesNumbered : ℕ → ℕ → Codes → Type 0
+CodesNumbered first second x = Numbered first second (x .refusal) (x .way) (x .count)
 
 module _ (T : Tables) (e : Edge) (o : Options) (first second : List Float) where
-  by-result : (d : Result Got) → drawn T e o (length first) (length second) ≡ d → Sound (length first) (length second) (codesOf (answerOf d))
+  by-result : (d : Result Got) → drawn T e o (length first) (length second) ≡ d → CodesNumbered (length first) (length second) (codesOf (answerOf d))
   unfolding answerOf codesOf
   by-result (refused n) q = let k = drawn-numbers T e o (length first) (length second) n q in inl (k .0, k .1, refl, refl)
   by-result (got g) q =
@@ -49,8 +49,8 @@ module _ (T : Tables) (e : Edge) (o : Options) (first second : List Float) where
       inr (refl, k .0, k .1, fits-first T e o first second g q, fits-second T e o first second g q)
 
   -- holds of every answer
-  sound : Sound (length first) (length second) (codesOf (answerTo T e o first second))
-  sound = by-result (drawn T e o (length first) (length second)) refl
+  codes-numbered : CodesNumbered (length first) (length second) (codesOf (answerTo T e o first second))
+  codes-numbered = by-result (drawn T e o (length first) (length second)) refl
 
 module _ (T : Tables) (first second : List Float) (x : Codes) (f s : List Float) where
   -- the answer's numbers are told of the answer that the definition gives
@@ -62,7 +62,7 @@ module _ (T : Tables) (first second : List Float) (x : Codes) (f s : List Float)
         itsRefusal = ap (λ (c : Codes). c .refusal) w;
         itsWay = ap (λ (c : Codes). c .way) w;
         itsCount = ap (λ (c : Codes). c .count) w;
-        numbered = subst (Sound (length first) (length second)) (sym w) (sound T e o first second);
+        numbered = subst (CodesNumbered (length first) (length second)) (sym w) (codes-numbered T e o first second);
         outcome = subst (λ (x : Drawn). Outcome T e o first second x f s) (h .answered) h;
       }
 

@@ -7,7 +7,7 @@ ghost use mathlib.Core.Path.{_≡_};
 ghost use Rattle.brep.specs.Rows.{lent, given};
 ghost use Rattle.causes.specs.declared.Verdict.the-variants.{Accepted};
 ghost use Rattle.causes.specs.Causes.{verdict, tablesVerdict};
-ghost use Rattle.options.specs.Options.{radians, degrees, isClamped, defaultOptions, draftOptions, fineOptions};
+ghost use Rattle.options.specs.Options.{radians as inRadians, degrees, isClamped, defaultOptions, draftOptions, fineOptions};
 ghost use Rattle.edge_walker.specs.Walk.{startOf, stepped};
 ghost use Rattle.ffi_numbers.specs.Numbers.{edgeOf, optionsOf, causeOf, passed, pointAfter};
 ghost use Rattle.ffi.specs.Numbered.{NumberedOutcome};
@@ -30,7 +30,7 @@ pub extern "C" fn cs_flat_draw(
     low: u32,
     high: u32,
     deflection: f64,
-    angle: f64,
+    radians: f64,
     relative: u32,
     segments: u64,
     depth: u32,
@@ -40,10 +40,10 @@ pub extern "C" fn cs_flat_draw(
     way: &mut u32,
     count: &mut usize,
 ) -> u32
-    ensures { λ r. ⌜ NumberedOutcome (given points curves reals parts ranges) (edgeOf curve start end sense lo hi tolerance low high) (optionsOf deflection angle relative segments depth scale) (now (first .entry)) (now (second .entry)) r (now (way .exit)) (now (count .exit)) (now (first .exit)) (now (second .exit)) ⌝ }
+    ensures { λ r. ⌜ NumberedOutcome (given points curves reals parts ranges) (edgeOf curve start end sense lo hi tolerance low high) (optionsOf deflection radians relative segments depth scale) (now (first .entry)) (now (second .entry)) r (now (way .exit)) (now (count .exit)) (now (first .exit)) (now (second .exit)) ⌝ }
 {
     let edge = ffi_numbers::edge_of(curve, start, end, sense, lo, hi, tolerance, low, high);
-    let options = ffi_numbers::options_of(deflection, angle, relative, segments, depth, scale);
+    let options = ffi_numbers::options_of(deflection, radians, relative, segments, depth, scale);
     let drawn = draw::draw(
         points,
         curves,
@@ -80,7 +80,7 @@ pub extern "C" fn cs_flat_draw_over(
     low: u32,
     high: u32,
     deflection: f64,
-    angle: f64,
+    radians: f64,
     relative: u32,
     segments: u64,
     depth: u32,
@@ -91,7 +91,7 @@ pub extern "C" fn cs_flat_draw_over(
     count: &mut usize,
 ) -> u32
     requires { ⌜ tablesVerdict (lent points curves reals parts ranges) ≡ Accepted ⌝ }
-    ensures { λ r. ⌜ NumberedOutcome (given points curves reals parts ranges) (edgeOf curve start end sense lo hi tolerance low high) (optionsOf deflection angle relative segments depth scale) (now (first .entry)) (now (second .entry)) r (now (way .exit)) (now (count .exit)) (now (first .exit)) (now (second .exit)) ⌝ }
+    ensures { λ r. ⌜ NumberedOutcome (given points curves reals parts ranges) (edgeOf curve start end sense lo hi tolerance low high) (optionsOf deflection radians relative segments depth scale) (now (first .entry)) (now (second .entry)) r (now (way .exit)) (now (count .exit)) (now (first .exit)) (now (second .exit)) ⌝ }
 {
     let drawn = draw::draw_over(
         points,
@@ -100,7 +100,7 @@ pub extern "C" fn cs_flat_draw_over(
         parts,
         ranges,
         ffi_numbers::edge_of(curve, start, end, sense, lo, hi, tolerance, low, high),
-        ffi_numbers::options_of(deflection, angle, relative, segments, depth, scale),
+        ffi_numbers::options_of(deflection, radians, relative, segments, depth, scale),
         first,
         second,
     );
@@ -128,16 +128,16 @@ pub extern "C" fn cs_flat_check(
     low: u32,
     high: u32,
     deflection: f64,
-    angle: f64,
+    radians: f64,
     relative: u32,
     segments: u64,
     depth: u32,
     scale: f64,
 ) -> u32
-    ensures { λ r. ⌜ r ≡ causeOf (verdict (given points curves reals parts ranges) (edgeOf curve start end sense lo hi tolerance low high) (optionsOf deflection angle relative segments depth scale)) ⌝ }
+    ensures { λ r. ⌜ r ≡ causeOf (verdict (given points curves reals parts ranges) (edgeOf curve start end sense lo hi tolerance low high) (optionsOf deflection radians relative segments depth scale)) ⌝ }
 {
     let e = ffi_numbers::edge_of(curve, start, end, sense, lo, hi, tolerance, low, high);
-    let o = ffi_numbers::options_of(deflection, angle, relative, segments, depth, scale);
+    let o = ffi_numbers::options_of(deflection, radians, relative, segments, depth, scale);
     ffi_numbers::cause_of(causes::check(points, curves, reals, parts, ranges, e, o))
 }
 
@@ -166,7 +166,12 @@ pub extern "C" fn cs_start(chain: &[f64], forward: bool) -> usize
 
 // A step of a walk: 1 and the point that it passed, or 0 where none is left.
 #[no_mangle]
-pub extern "C" fn cs_step(chain: &[f64], forward: bool, at: &mut usize, point: &mut [f64; 4]) -> u32
+pub extern "C" fn cs_step(
+    chain: &[f64],
+    forward: bool,
+    at: &mut usize,
+    point: &mut [f64; edge_record::WIDTH],
+) -> u32
     ensures { λ r. ⌜ (r ≡ passed (stepped (now (chain .entry)) (now (at .entry)) forward .step))
         × (now (at .exit) ≡ stepped (now (chain .entry)) (now (at .entry)) forward .at)
         × (now (point .exit) ≡ pointAfter (now (point .entry)) (stepped (now (chain .entry)) (now (at .entry)) forward .step)) ⌝ }
@@ -182,17 +187,17 @@ pub extern "C" fn cs_step(chain: &[f64], forward: bool, at: &mut usize, point: &
 #[no_mangle]
 pub extern "C" fn cs_flat_default(
     deflection: &mut f64,
-    angle: &mut f64,
+    radians: &mut f64,
     relative: &mut u32,
     segments: &mut u64,
     depth: &mut u32,
     scale: &mut f64,
 )
-    ensures { λ _. ⌜ optionsOf (now (deflection .exit)) (now (angle .exit)) (now (relative .exit)) (now (segments .exit)) (now (depth .exit)) (now (scale .exit)) ≡ defaultOptions ⌝ }
+    ensures { λ _. ⌜ optionsOf (now (deflection .exit)) (now (radians .exit)) (now (relative .exit)) (now (segments .exit)) (now (depth .exit)) (now (scale .exit)) ≡ defaultOptions ⌝ }
 {
     let default = Options::default();
     *deflection = default.deflection;
-    *angle = default.angle.to_radians();
+    *radians = default.angle.to_radians();
     *relative = default.relative;
     *segments = default.segments;
     *depth = default.depth;
@@ -203,17 +208,17 @@ pub extern "C" fn cs_flat_default(
 #[no_mangle]
 pub extern "C" fn cs_flat_draft(
     deflection: &mut f64,
-    angle: &mut f64,
+    radians: &mut f64,
     relative: &mut u32,
     segments: &mut u64,
     depth: &mut u32,
     scale: &mut f64,
 )
-    ensures { λ _. ⌜ optionsOf (now (deflection .exit)) (now (angle .exit)) (now (relative .exit)) (now (segments .exit)) (now (depth .exit)) (now (scale .exit)) ≡ draftOptions ⌝ }
+    ensures { λ _. ⌜ optionsOf (now (deflection .exit)) (now (radians .exit)) (now (relative .exit)) (now (segments .exit)) (now (depth .exit)) (now (scale .exit)) ≡ draftOptions ⌝ }
 {
     let draft = Options::draft();
     *deflection = draft.deflection;
-    *angle = draft.angle.to_radians();
+    *radians = draft.angle.to_radians();
     *relative = draft.relative;
     *segments = draft.segments;
     *depth = draft.depth;
@@ -224,17 +229,17 @@ pub extern "C" fn cs_flat_draft(
 #[no_mangle]
 pub extern "C" fn cs_flat_fine(
     deflection: &mut f64,
-    angle: &mut f64,
+    radians: &mut f64,
     relative: &mut u32,
     segments: &mut u64,
     depth: &mut u32,
     scale: &mut f64,
 )
-    ensures { λ _. ⌜ optionsOf (now (deflection .exit)) (now (angle .exit)) (now (relative .exit)) (now (segments .exit)) (now (depth .exit)) (now (scale .exit)) ≡ fineOptions ⌝ }
+    ensures { λ _. ⌜ optionsOf (now (deflection .exit)) (now (radians .exit)) (now (relative .exit)) (now (segments .exit)) (now (depth .exit)) (now (scale .exit)) ≡ fineOptions ⌝ }
 {
     let fine = Options::fine();
     *deflection = fine.deflection;
-    *angle = fine.angle.to_radians();
+    *radians = fine.angle.to_radians();
     *relative = fine.relative;
     *segments = fine.segments;
     *depth = fine.depth;
@@ -251,8 +256,8 @@ pub extern "C" fn cs_degrees(x: f64) -> f64
 
 // Whether drawing changes an angle of so many radians, as it does with 8 that was meant as degrees.
 #[no_mangle]
-pub extern "C" fn cs_is_clamped(angle: f64) -> bool
-    ensures { λ r. ⌜ r ≡ isClamped (radians angle) ⌝ }
+pub extern "C" fn cs_is_clamped(radians: f64) -> bool
+    ensures { λ r. ⌜ r ≡ isClamped (inRadians radians) ⌝ }
 {
-    Angle::radians(angle).is_clamped()
+    Angle::radians(radians).is_clamped()
 }

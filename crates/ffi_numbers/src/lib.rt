@@ -39,17 +39,17 @@ pub fn edge_of(
 // Options by their six numbers, the angle in radians.
 pub fn options_of(
     deflection: f64,
-    angle: f64,
+    radians: f64,
     relative: u32,
     segments: u64,
     depth: u32,
     scale: f64,
 ) -> Options
-    ensures { λ r. ⌜ r ≡ optionsOf deflection angle relative segments depth scale ⌝ }
+    ensures { λ r. ⌜ r ≡ optionsOf deflection radians relative segments depth scale ⌝ }
 {
     Options {
         deflection,
-        angle: Angle::radians(angle),
+        angle: Angle::radians(radians),
         relative,
         segments,
         depth,
@@ -115,7 +115,7 @@ pub fn has_passed(step: Step) -> u32
 }
 
 // The point that a step passed; without one the point stays.
-pub fn point_after(point: [f64; 4], step: Step) -> [f64; 4]
+pub fn point_after(point: [f64; edge_record::WIDTH], step: Step) -> [f64; edge_record::WIDTH]
     ensures { λ r. ⌜ r ≡ pointAfter point step ⌝ }
 {
     match step {

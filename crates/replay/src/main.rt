@@ -24,7 +24,6 @@ use causes::Verdict;
 use curve::Repeats;
 use edge_range::Usable;
 use knots::Knots;
-use libc::STDIN_FILENO;
 use math::Direction;
 use math::Vec3;
 use options::Angle;
@@ -87,6 +86,15 @@ struct Next {
     out: usize,
 }
 
+fn next_of(float: usize, whole: usize, long: usize, out: usize) -> Next {
+    Next {
+        float,
+        whole,
+        long,
+        out,
+    }
+}
+
 // How many rows of each table a sheet has.
 struct Rows {
     points: usize,
@@ -114,11 +122,8 @@ enum First {
     Malformed,
 }
 
-// How many bytes of the part are kept, how many equals signs end them (at most 5), the kind, and how many bytes of the output
-// wait.
-struct Kept {
-    text: usize,
-    equals: usize,
+// The kind of the parts to come, and how many bytes of the output wait.
+struct Batch {
     kind: u64,
     out: usize,
 }
@@ -136,7 +141,7 @@ fn starts(text: &[u8], place: usize, word: &[u8]) -> bool
 }
 
 // The place behind the line at a place.
-fn behind(text: &[u8], place: usize) -> usize
+fn next_line(text: &[u8], place: usize) -> usize
     requires { ⌜ place < length (now text) ⌝ }
     ensures { λ r. ⌜ place < r ⌝ }
 {
@@ -175,31 +180,31 @@ fn floats_at(text: &[u8], place: usize, letters: &[u8]) -> Floats
 // Lines written.
 
 fn put_malformed(out: &mut [u8; 4096], at: usize) -> usize {
-    replay_text::word(out, at, b"?\n")
+    replay_text::put_word(out, at, b"?\n")
 }
 
 fn put_refusal(cause: u32, out: &mut [u8; 4096], at: usize) -> usize {
-    let n = replay_text::word(out, at, b"refusal\n");
-    replay_text::decimal_then(out, n, cause as u64, b'\n')
+    let n = replay_text::put_word(out, at, b"refusal\n");
+    replay_text::put_decimal(out, n, cause as u64, b'\n')
 }
 
 fn put_flag(b: bool, out: &mut [u8; 4096], at: usize) -> usize {
     if b {
-        replay_text::word(out, at, b"1\n")
+        replay_text::put_word(out, at, b"1\n")
     } else {
-        replay_text::word(out, at, b"0\n")
+        replay_text::put_word(out, at, b"0\n")
     }
 }
 
 // A line of floats behind its name.
 fn put_floats(name: &[u8], list: &[f64], out: &mut [u8; 4096], at: usize) -> usize {
-    let mut n = replay_text::word(out, at, name);
+    let mut n = replay_text::put_word(out, at, name);
     let mut i = 0usize;
     while i < list.len() {
         let x = list[i];
         i += 1;
         let end = if i < list.len() { b' ' } else { b'\n' };
-        n = replay_text::float_then(out, n, x, end);
+        n = replay_text::put_float(out, n, x, end);
     }
     n
 }
@@ -215,7 +220,7 @@ fn put_kind(kind: u32, out: &mut [u8; 4096], at: usize) -> usize {
     let mut i = ((kind % 8) as usize) * 10;
     while i < words.len() {
         let b = words[i];
-        n = replay_text::put(out, n, b);
+        n = replay_text::put_byte(out, n, b);
         i += 1;
         if b == b' ' {
             break;
@@ -229,16 +234,16 @@ fn put_whole(letter: u8, n: u32, end: u8, out: &mut [u8; 4096], at: usize) -> us
     if letter == b'k' {
         put_kind(n, out, at)
     } else {
-        replay_text::decimal_then(out, at, n as u64, end)
+        replay_text::put_decimal(out, at, n as u64, end)
     }
 }
 
 // A whole number of 64 bits: in decimal (l), or its bits.
 fn put_long(letter: u8, n: u64, end: u8, out: &mut [u8; 4096], at: usize) -> usize {
     if letter == b'l' {
-        replay_text::decimal_then(out, at, n, end)
+        replay_text::put_decimal(out, at, n, end)
     } else {
-        replay_text::hex_then(out, at, n, end)
+        replay_text::put_hex(out, at, n, end)
     }
 }
 
@@ -257,32 +262,17 @@ fn put_cell(
     let l = next.long;
     if letter == b'f' {
         if f < floats.len() {
-            let n = replay_text::float_then(out, next.out, floats[f], end);
-            return Next {
-                float: f + 1,
-                whole: w,
-                long: l,
-                out: n,
-            };
+            let n = replay_text::put_float(out, next.out, floats[f], end);
+            return next_of(f + 1, w, l, n);
         }
     } else if letter == b'w' || letter == b'k' {
         if w < wholes.len() {
             let n = put_whole(letter, wholes[w], end, out, next.out);
-            return Next {
-                float: f,
-                whole: w + 1,
-                long: l,
-                out: n,
-            };
+            return next_of(f, w + 1, l, n);
         }
     } else if l < longs.len() {
         let n = put_long(letter, longs[l], end, out, next.out);
-        return Next {
-            float: f,
-            whole: w,
-            long: l + 1,
-            out: n,
-        };
+        return next_of(f, w, l + 1, n);
     }
     next
 }
@@ -317,13 +307,8 @@ fn put_rows(
     out: &mut [u8; 4096],
     at: usize,
 ) -> usize {
-    let n = replay_text::word(out, at, names);
-    let mut next = Next {
-        float: 0,
-        whole: 0,
-        long: 0,
-        out: n,
-    };
+    let n = replay_text::put_word(out, at, names);
+    let mut next = next_of(0, 0, 0, n);
     let mut row = 0usize;
     while row < rows {
         next = put_row(letters, floats, wholes, longs, next, out);
@@ -385,7 +370,7 @@ fn value_at(text: &[u8], place: usize) -> Value {
 // The answer to the line at a place.
 fn put_value(text: &[u8], place: usize, out: &mut [u8; 4096], at: usize) -> usize {
     match value_at(text, place) {
-        Value::Of(x) => replay_text::float_then(out, at, x, b'\n'),
+        Value::Of(x) => replay_text::put_float(out, at, x, b'\n'),
         Value::Malformed => put_malformed(out, at),
     }
 }
@@ -395,7 +380,7 @@ fn put_arith(text: &[u8], out: &mut [u8; 4096], at: usize) -> usize {
     let mut place = 0usize;
     while place < text.len() {
         n = put_value(text, place, out, n);
-        place = behind(text, place);
+        place = next_line(text, place);
     }
     n
 }
@@ -419,7 +404,7 @@ fn first_line(text: &[u8]) -> First {
     let row = sheet_layout::line(text, 0, b"ffwlwf");
     if row.ok {
         let numbers = row.numbers;
-        let options = sheet::options_from(sheet_row::options_of(&numbers));
+        let options = sheet::options_from(sheet_row::raw_options_of(&numbers));
         return First::Of(options.resolve());
     }
     preset(text)
@@ -466,7 +451,7 @@ fn put_degrees(text: &[u8], place: usize, out: &mut [u8; 4096], at: usize) -> us
     let a = floats_at(text, p, b"f");
     if a.ok {
         let angle = Angle::degrees(a.x);
-        let n = replay_text::float_then(out, at, angle.to_radians(), b' ');
+        let n = replay_text::put_float(out, at, angle.to_radians(), b' ');
         put_flag(angle.is_clamped(), out, n)
     } else {
         put_malformed(out, at)
@@ -490,7 +475,7 @@ fn put_arcs(r: Resolved, text: &[u8], from: usize, out: &mut [u8; 4096], at: usi
     let mut place = from;
     while place < text.len() {
         n = put_arc_at(r, text, place, out, n);
-        place = behind(text, place);
+        place = next_line(text, place);
     }
     n
 }
@@ -502,7 +487,7 @@ fn put_options(text: &[u8], out: &mut [u8; 4096], at: usize) -> usize {
     match first_line(text) {
         First::Of(r) => {
             let n = put_resolved(r, out, at);
-            put_arcs(r, text, behind(text, 0), out, n)
+            put_arcs(r, text, next_line(text, 0), out, n)
         }
         First::Malformed => put_malformed(out, at),
     }
@@ -547,6 +532,19 @@ fn put_ends(ends: Ends, out: &mut [u8; 4096], at: usize) -> usize {
     )
 }
 
+// A table without whole numbers of 64 bits.
+fn put_table(
+    names: &[u8],
+    letters: &[u8],
+    rows: usize,
+    floats: &[f64],
+    wholes: &[u32],
+    out: &mut [u8; 4096],
+    at: usize,
+) -> usize {
+    put_rows(names, letters, rows, floats, wholes, &NO_LONGS, out, at)
+}
+
 fn put_tables(
     points: &[f64],
     curves: &[u32],
@@ -556,37 +554,13 @@ fn put_tables(
     out: &mut [u8; 4096],
     at: usize,
 ) -> usize {
-    let n = put_rows(
-        b"x y z\n",
-        b"fff",
-        points.len() / 3,
-        points,
-        &NO_WHOLES,
-        &NO_LONGS,
-        out,
-        at,
-    );
+    let n3 = points.len() / 3;
+    let m3 = curves.len() / 3;
+    let k2 = parts.len() / 2;
+    let n = put_table(b"x y z\n", b"fff", n3, points, &NO_WHOLES, out, at);
     let names = b"\nkind first count p q\n";
-    let m = put_rows(
-        names,
-        b"kwwff",
-        curves.len() / 3,
-        reals,
-        curves,
-        &NO_LONGS,
-        out,
-        n,
-    );
-    put_rows(
-        b"\ncurve lo hi sense\n",
-        b"wffw",
-        parts.len() / 2,
-        ranges,
-        parts,
-        &NO_LONGS,
-        out,
-        m,
-    )
+    let m = put_table(names, b"kwwff", m3, reals, curves, out, n);
+    put_table(b"\ncurve lo hi sense\n", b"wffw", k2, ranges, parts, out, m)
 }
 
 // Curves.
@@ -594,14 +568,14 @@ fn put_tables(
 fn put_period(repeats: Repeats, out: &mut [u8; 4096], at: usize) -> usize {
     match repeats {
         Repeats::Every(span) => put_floats(b"period ", &[span], out, at),
-        Repeats::Never => replay_text::word(out, at, b"period none\n"),
+        Repeats::Never => replay_text::put_word(out, at, b"period none\n"),
     }
 }
 
 fn put_tangent(tangent: Direction, out: &mut [u8; 4096], at: usize) -> usize {
     match tangent {
         Direction::Unit(v) => put_vector(b"tangent ", v, out, at),
-        Direction::Nothing => replay_text::word(out, at, b"tangent none\n"),
+        Direction::Nothing => replay_text::put_word(out, at, b"tangent none\n"),
     }
 }
 
@@ -612,9 +586,9 @@ fn put_found(name: &[u8], found: Knots, list: &[f64], out: &mut [u8; 4096], at: 
             if list.len() < n {
                 return at;
             }
-            let m = replay_text::word(out, at, name);
+            let m = replay_text::put_word(out, at, name);
             let end = if 0 < n { b' ' } else { b'\n' };
-            let k = replay_text::decimal_then(out, m, n as u64, end);
+            let k = replay_text::put_decimal(out, m, n as u64, end);
             put_floats(b"", &list[..n], out, k)
         }
         Knots::TooMany => at,
@@ -635,7 +609,7 @@ fn put_usable(
     at: usize,
 ) -> usize {
     let Usable::Range(r) = range else {
-        return replay_text::word(out, at, b"usable none\n");
+        return replay_text::put_word(out, at, b"usable none\n");
     };
     let lo = r.lo;
     let hi = r.hi;
@@ -672,7 +646,7 @@ fn put_curve(
     let natural = curve::natural_range(points, curves, reals, parts, ranges, row);
     let n = put_floats(b"natural ", &[natural.lo, natural.hi], out, at);
     let closed = curve::is_closed(points, curves, reals, parts, ranges, row);
-    let k = replay_text::word(out, n, b"closed ");
+    let k = replay_text::put_word(out, n, b"closed ");
     let m = put_flag(closed, out, k);
     let repeats = curve::period(points, curves, reals, parts, ranges, row);
     put_period(repeats, out, m)
@@ -724,8 +698,8 @@ fn put_at(
     at: usize,
 ) -> usize {
     let t = sheet_row::float_of(pattern);
-    let n = replay_text::word(out, at, b"at ");
-    let m = replay_text::hex_then(out, n, pattern, b'\n');
+    let n = replay_text::put_word(out, at, b"at ");
+    let m = replay_text::put_hex(out, n, pattern, b'\n');
     let p = curve::point_at(points, curves, reals, parts, ranges, row, t);
     let k = put_vector(b"point ", p, out, m);
     let d = curve_tangent::derivative_at(points, curves, reals, parts, ranges, row, t);
@@ -753,7 +727,7 @@ fn put_parameters(
             Num::Got(t, _) => put_at(points, curves, reals, parts, ranges, row, t, out, n),
             Num::Bad => put_malformed(out, n),
         };
-        place = behind(lines, place);
+        place = next_line(lines, place);
     }
     n
 }
@@ -795,7 +769,7 @@ fn put_read(
     put_parameters(points, curves, reals, parts, ranges, row, lines, out, m)
 }
 
-// The same, of tables with so many rows of the sheet's.
+// The answer to a sheet whose tables are the leading rows of those lent.
 fn put_filled(
     points: &[f64],
     curves: &[u32],
@@ -827,8 +801,8 @@ fn put_filled(
     )
 }
 
-// The same, of the tables that a sheet was read into. They hold every sheet's rows, but the contract of `read` names the rows and
-// not how many they are at most.
+// The answer to a sheet that was read into these tables. They hold every sheet's rows, but the contract of `read` names the rows
+// and not how many they are at most.
 fn put_counted(
     points: &[f64; sheet::POINTS],
     curves: &[u32; sheet::CURVES],
@@ -864,21 +838,18 @@ fn put_counted(
     )
 }
 
-// The answer to a sheet, and to lines of parameters, if there are any.
-fn put_sheet(sheet: &[u8], lines: &[u8], out: &mut [u8; 4096], at: usize) -> usize {
-    let mut points = [0.0f64; sheet::POINTS];
-    let mut curves = [0u32; sheet::CURVES];
-    let mut reals = [0.0f64; sheet::REALS];
-    let mut parts = [0u32; sheet::PARTS];
-    let mut ranges = [0.0f64; sheet::RANGES];
-    let read = sheet::read(
-        sheet,
-        &mut points,
-        &mut curves,
-        &mut reals,
-        &mut parts,
-        &mut ranges,
-    );
+// The answer to what was read into these tables, and to lines of parameters, if there are any.
+fn put_answer(
+    read: Sheet,
+    points: &[f64; sheet::POINTS],
+    curves: &[u32; sheet::CURVES],
+    reals: &[f64; sheet::REALS],
+    parts: &[u32; sheet::PARTS],
+    ranges: &[f64; sheet::RANGES],
+    lines: &[u8],
+    out: &mut [u8; 4096],
+    at: usize,
+) -> usize {
     match read {
         Sheet::Read {
             points: n,
@@ -901,11 +872,11 @@ fn put_sheet(sheet: &[u8], lines: &[u8], out: &mut [u8; 4096], at: usize) -> usi
                 hi,
             };
             put_counted(
-                &points,
-                &curves,
-                &reals,
-                &parts,
-                &ranges,
+                points,
+                curves,
+                reals,
+                parts,
+                ranges,
                 rows,
                 ends,
                 lines,
@@ -915,6 +886,34 @@ fn put_sheet(sheet: &[u8], lines: &[u8], out: &mut [u8; 4096], at: usize) -> usi
         }
         Sheet::Refused(cause) => put_refusal(cause, out, at),
     }
+}
+
+// The answer to a sheet, and to lines of parameters, if there are any.
+fn put_sheet(sheet: &[u8], lines: &[u8], out: &mut [u8; 4096], at: usize) -> usize {
+    let mut points = [0.0f64; sheet::POINTS];
+    let mut curves = [0u32; sheet::CURVES];
+    let mut reals = [0.0f64; sheet::REALS];
+    let mut parts = [0u32; sheet::PARTS];
+    let mut ranges = [0.0f64; sheet::RANGES];
+    let read = sheet::read(
+        sheet,
+        &mut points,
+        &mut curves,
+        &mut reals,
+        &mut parts,
+        &mut ranges,
+    );
+    put_answer(
+        read,
+        &points,
+        &curves,
+        &reals,
+        &parts,
+        &ranges,
+        lines,
+        out,
+        at,
+    )
 }
 
 // The answer to a sheet and the parameters behind the line that begins them.
@@ -934,12 +933,10 @@ fn put_parted(text: &[u8], out: &mut [u8; 4096], at: usize) -> usize {
 // The batch.
 
 // A part of a kind that begins behind a separator.
-fn begun(kind: u64, out: &mut [u8; 4096], at: usize) -> Kept {
-    Kept {
-        text: 0,
-        equals: 0,
+fn begun(kind: u64, out: &mut [u8; 4096], at: usize) -> Batch {
+    Batch {
         kind,
-        out: replay_text::word(out, at, b"====\n"),
+        out: replay_text::put_word(out, at, b"====\n"),
     }
 }
 
@@ -971,96 +968,40 @@ fn answer(kind: u64, text: &[u8], out: &mut [u8; 4096], at: usize) -> usize {
 }
 
 // A part, and the line behind its answer.
-fn part(text: &[u8], out: &mut [u8; 4096], kept: Kept) -> Kept {
-    let kind = kept.kind;
+fn part(text: &[u8], out: &mut [u8; 4096], batch: Batch) -> Batch {
+    let kind = batch.kind;
     let asked = asked_kind(text);
     if asked == 0 {
-        let n = answer(kind, text, out, kept.out);
+        let n = answer(kind, text, out, batch.out);
         return begun(kind, out, n);
     }
-    begun(asked, out, kept.out)
+    begun(asked, out, batch.out)
 }
 
-// The end of a part: the equals signs of its separator are the last bytes kept.
-fn part_end(text: &[u8], out: &mut [u8; 4096], kept: Kept) -> Kept {
-    let n = kept.text;
-    if n < 4 {
-        return kept;
+// The part that the first n bytes of the text are.
+fn part_of(text: &[u8], n: usize, out: &mut [u8; 4096], batch: Batch) -> Batch {
+    if text.len() < n {
+        return batch;
     }
-    let end = n - 4;
-    if text.len() < end {
-        return kept;
-    }
-    part(&text[..end], out, kept)
+    part(&text[..n], out, batch)
 }
 
-// One byte more of a part. Of a part that is too long, the last four places of the text count for what ends it.
-fn push(b: u8, text: &mut [u8; SIZE], kept: Kept) -> Kept {
-    let n = kept.text;
-    let more = if n < SIZE {
-        text[n] = b;
-        n + 1
-    } else {
-        n
-    };
-    let equals = if b == b'=' {
-        if kept.equals < 5 { kept.equals + 1 } else { 5 }
-    } else {
-        0
-    };
-    Kept {
-        text: more,
-        equals,
-        kind: kept.kind,
-        out: kept.out,
-    }
-}
-
-// One byte more of the input.
-fn step(b: u8, text: &mut [u8; SIZE], out: &mut [u8; 4096], kept: Kept) -> Kept {
-    if b == b'\n' {
-        if kept.equals == 4 {
-            return part_end(text, out, kept);
-        }
-    }
-    push(b, text, kept)
-}
-
-fn feed(chunk: &[u8], text: &mut [u8; SIZE], out: &mut [u8; 4096], start: Kept) -> Kept {
-    let mut kept = start;
-    let mut i = 0usize;
-    while i < chunk.len() {
-        kept = step(chunk[i], text, out, kept);
-        i += 1;
-    }
-    kept
-}
-
-// The input's end. A part that no separator ended has no answer.
-fn finish(out: &[u8; 4096], kept: Kept) {
-    replay_text::flush(out, kept.out);
-}
-
-// All of the input, chunk by chunk. The loop counts its turns down, from a number that no run uses up, since nothing says
-// that an input ends.
+// All of the input, part by part. A part that no separator ended has no answer. The loop counts its turns down, from a number
+// that no run uses up, since nothing says that an input ends.
 fn main() {
-    let mut chunk = io::buffer();
+    let mut chunk = io::large_buffer();
     let mut text = [0u8; SIZE];
     let mut out = io::buffer();
-    let mut kept = Kept {
-        text: 0,
-        equals: 0,
-        kind: 0,
-        out: 0,
-    };
+    let mut batch = Batch { kind: 0, out: 0 };
+    let mut next = replay_text::no_part();
     let mut turns = u64::MAX;
     while 0 < turns {
-        let n = io::count(libc::read(STDIN_FILENO, &mut chunk), &chunk);
-        if n == 0 {
+        next = replay_text::next_part(&mut text, &mut chunk, next, true);
+        if !next.ended {
             break;
         }
-        kept = feed(&chunk[..n], &mut text, &mut out, kept);
+        batch = part_of(&text, next.bytes, &mut out, batch);
         turns -= 1;
     }
-    finish(&out, kept);
+    replay_text::flush(&out, batch.out);
 }

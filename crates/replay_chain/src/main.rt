@@ -2,14 +2,14 @@
 // alike. A part that is one line with a setting holds for the sheets behind it and has an empty answer:
 //   buffers FIRST SECOND   the chain buffers have so many floats, each at most 65,536; 8,192 before the first such part
 //   ask chain              the answer is what the program `chain` prints, as before the first such part
-//   ask both               the answer is that of `draw` told whole, with every float of both buffers
-ghost use mathlib.Core.Path.{_≡_};
-ghost use Prim.Native.Nat.{_*_, _≤_};
+//   ask both               the answer is the whole of what `draw` answers, with every float of both buffers
+ghost use Prim.Native.Nat.{_+_, _*_, _≤_};
 ghost use lib.ListN.{length};
+ghost use Rattle.edge_record.specs.Chain.{width, most};
+ghost use Rattle.text_listing.specs.Listing.{lineBytes, refusalBytes};
 use brep::Edge;
 use draw_spec::Drawn;
 use draw_spec::Way;
-use libc::STDIN_FILENO;
 use libc::STDOUT_FILENO;
 use options::Options;
 use sheet::Sheet;
@@ -17,13 +17,18 @@ use sheet_layout::Row;
 use text_format::Num;
 
 // One byte more than a sheet may have, and four for the separator behind it.
-const SIZE: usize = 65541;
+const SIZE: usize = sheet_layout::SIZE + 5;
 
-// The most floats of a chain buffer: room for 16,384 points, the longest chain.
-const FLOATS: usize = 65536;
+// The most floats of a chain buffer: room for the longest chain.
+const FLOATS: usize = edge_record::WIDTH * edge_record::MOST;
 
-// Enough for every listing: 68 bytes a point, and 19 for its names or a refusal.
-const BYTES: usize = 1114131;
+// Room for every listing: the floats' bytes, and those of a refusal, which are more than the names'.
+const BYTES: usize = text_listing::REFUSAL_BYTES + text_listing::FLOAT_BYTES * FLOATS;
+
+// Where the parameters of a chord lie in its buffer: behind x y z of both records.
+const START: usize = 3;
+
+const END: usize = edge_record::WIDTH + START;
 
 // What both buffers hold before an edge is drawn, so that a float that is left as it was shows.
 const BEFORE: u64 = 0x4055555555555555;
@@ -36,13 +41,6 @@ struct Settings {
     first: usize,
     second: usize,
     both: bool,
-}
-
-// How many bytes of the part are kept, how many equals signs end them (at most 4), and how sheets are answered.
-struct Kept {
-    text: usize,
-    equals: usize,
-    settings: Settings,
 }
 
 // What a part is.
@@ -65,7 +63,8 @@ fn sizes_of(row: Row, n: usize, settings: Settings) -> Kind {
     let first = numbers[0];
     let second = numbers[1];
     if row.ok && row.next == n {
-        if first <= 65536 && second <= 65536 {
+        let most = FLOATS as u64;
+        if first <= most && second <= most {
             return Kind::Setting(Settings {
                 first: first as usize,
                 second: second as usize,
@@ -109,27 +108,27 @@ fn fill(buffer: &mut [f64]) {
 }
 
 // The bits of float i of a buffer if it is NaN. A NaN parameter is the copy of an end of the edge's range, of which a float does
-// not keep the bits: only a chord has one, and its parameters lie at 3 and 7.
+// not keep the bits: only a chord has one.
 fn nan_at(i: usize, start: u64, end: u64) -> u64 {
     match i {
-        3 => start,
-        7 => end,
+        START => start,
+        END => end,
         _ => QUIET,
     }
 }
 
 // The bits of x, or `nan` if it is NaN, then the byte `end`.
-fn put_float(x: f64, nan: u64, end: u8, out: &mut [u8; 4096], at: usize) -> usize {
+fn put_float_or(x: f64, nan: u64, end: u8, out: &mut [u8; 4096], at: usize) -> usize {
     if x != x {
-        return replay_text::hex_then(out, at, nan, end);
+        return replay_text::put_hex(out, at, nan, end);
     }
-    replay_text::float_then(out, at, x, end)
+    replay_text::put_float(out, at, x, end)
 }
 
 // All floats of a buffer on one line. `start` and `end` are the bits of a chord's parameters if they are NaN.
 fn put_floats(buffer: &[f64], start: u64, end: u64, out: &mut [u8; 4096], at: usize) -> usize {
     if buffer.len() == 0 {
-        return replay_text::word(out, at, b"\n");
+        return replay_text::put_word(out, at, b"\n");
     }
     let mut n = at;
     let mut i = 0usize;
@@ -137,23 +136,23 @@ fn put_floats(buffer: &[f64], start: u64, end: u64, out: &mut [u8; 4096], at: us
         let x = buffer[i];
         let nan = nan_at(i, start, end);
         i += 1;
-        n = put_float(x, nan, if i < buffer.len() { b' ' } else { b'\n' }, out, n);
+        n = put_float_or(x, nan, if i < buffer.len() { b' ' } else { b'\n' }, out, n);
     }
     n
 }
 
 fn put_refusal(cause: u32, out: &mut [u8; 4096], at: usize) -> usize {
-    let n = replay_text::word(out, at, b"refusal ");
-    replay_text::decimal_then(out, n, cause as u64, b'\n')
+    let n = replay_text::put_word(out, at, b"refusal ");
+    replay_text::put_decimal(out, n, cause as u64, b'\n')
 }
 
 fn put_way(way: Way, out: &mut [u8; 4096], at: usize) -> usize {
     match way {
-        Way::AsDrawn => replay_text::word(out, at, b"as drawn"),
-        Way::Chord => replay_text::word(out, at, b"chord for want of a range"),
-        Way::Complement => replay_text::word(out, at, b"complement"),
-        Way::ShortArc => replay_text::word(out, at, b"short arc"),
-        Way::Runaway => replay_text::word(out, at, b"runaway chord"),
+        Way::AsDrawn => replay_text::put_word(out, at, b"as drawn"),
+        Way::Chord => replay_text::put_word(out, at, b"chord for want of a range"),
+        Way::Complement => replay_text::put_word(out, at, b"complement"),
+        Way::ShortArc => replay_text::put_word(out, at, b"short arc"),
+        Way::Runaway => replay_text::put_word(out, at, b"runaway chord"),
     }
 }
 
@@ -162,49 +161,15 @@ fn put_drawn(drawn: Drawn, out: &mut [u8; 4096], at: usize) -> usize {
     match drawn {
         Drawn::Refused(cause) => put_refusal(cause, out, at),
         Drawn::Chain(way, count) => {
-            let word = replay_text::word(out, at, b"way ");
-            let told = put_way(way, out, word);
-            let points = replay_text::word(out, told, b" points ");
-            replay_text::decimal_then(out, points, count as u64, b'\n')
+            let n = replay_text::put_word(out, at, b"way ");
+            let m = put_way(way, out, n);
+            let points = replay_text::put_word(out, m, b" points ");
+            replay_text::put_decimal(out, points, count as u64, b'\n')
         }
     }
 }
 
-// Draws the edge of a sheet whose tables are the leading rows of those lent: n points, m curves, k segments.
-fn draw_rows(
-    points: &[f64],
-    curves: &[u32],
-    reals: &[f64],
-    parts: &[u32],
-    ranges: &[f64],
-    n: usize,
-    m: usize,
-    k: usize,
-    edge: Edge,
-    options: Options,
-    first: &mut [f64],
-    second: &mut [f64],
-) -> Drawn
-    requires { ⌜ (3 * n ≤ length (now points)) × (3 * m ≤ length (now curves)) × (2 * m ≤ length (now reals)) × (2 * k ≤ length (now parts)) × (2 * k ≤ length (now ranges)) ⌝ }
-{
-    let n3 = 3 * n;
-    let m3 = 3 * m;
-    let m2 = 2 * m;
-    let k2 = 2 * k;
-    draw::draw(
-        &points[..n3],
-        &curves[..m3],
-        &reals[..m2],
-        &parts[..k2],
-        &ranges[..k2],
-        edge,
-        options,
-        first,
-        second,
-    )
-}
-
-// The same, of the tables that a sheet was read into. It has no more rows than they hold: the tests are always false.
+// Draws the edge of a sheet that was read into these tables. It has no more rows than they hold: the tests are always false.
 fn draw_tables(
     points: &[f64; sheet::POINTS],
     curves: &[u32; sheet::CURVES],
@@ -228,7 +193,7 @@ fn draw_tables(
     if sheet::PARTS / 2 < k {
         return Drawn::Refused(0);
     }
-    draw_rows(
+    chain_answer::draw_rows(
         points,
         curves,
         reals,
@@ -242,6 +207,21 @@ fn draw_tables(
         first,
         second,
     )
+}
+
+// The answer of drawing and every float of both buffers. A chord for want of a range is in the first, its parameters lo and hi;
+// a runaway chord in the second, with lo twice.
+fn put_whole(
+    drawn: Drawn,
+    first: &[f64],
+    second: &[f64],
+    lo: u64,
+    hi: u64,
+    out: &mut [u8; 4096],
+) -> usize {
+    let n = put_drawn(drawn, out, 0);
+    let m = put_floats(first, lo, hi, out, n);
+    put_floats(second, lo, lo, out, m)
 }
 
 // The answer to what was read into the tables.
@@ -281,17 +261,9 @@ fn put_read(
                 first,
                 second,
             );
-            let told = put_drawn(drawn, out, 0);
-            // In the first buffer the chord for want of a range, from lo to hi; in the second the runaway chord, lo twice.
-            let half = put_floats(first, lo, hi, out, told);
-            put_floats(second, lo, lo, out, half)
+            put_whole(drawn, first, second, lo, hi, out)
         }
     }
-}
-
-// Writes the bytes that wait.
-fn flush(out: &[u8; 4096], at: usize) {
-    replay_text::flush(out, at);
 }
 
 // Writes the answer of `draw` to a sheet, drawn in these buffers, and every float of both: what a listing leaves out.
@@ -323,19 +295,19 @@ fn put_both(text: &[u8], first: &mut [f64], second: &mut [f64]) {
         second,
         &mut out,
     );
-    flush(&out, at);
+    replay_text::flush(&out, at);
 }
 
 // A size that a buffer has.
 fn at_most(n: usize) -> usize
-    ensures { λ r. ⌜ r ≤ 65536 ⌝ }
+    ensures { λ r. ⌜ r ≤ width * most ⌝ }
 {
     if n < FLOATS { n } else { FLOATS }
 }
 
 // Writes the answer to a sheet, drawn in these buffers.
 fn put_answer(text: &[u8], first: &mut [f64], second: &mut [f64], out: &mut [u8], both: bool)
-    requires { ⌜ length (now out) ≡ 1114131 ⌝ }
+    requires { ⌜ refusalBytes + lineBytes * most ≤ length (now out) ⌝ }
 {
     if both {
         put_both(text, first, second);
@@ -348,9 +320,9 @@ fn put_answer(text: &[u8], first: &mut [f64], second: &mut [f64], out: &mut [u8]
     }
 }
 
-// The same, drawn in the first floats of both buffers.
+// Writes the answer to a sheet, drawn in the first floats of both buffers.
 fn put_sheet(text: &[u8], first: &mut [f64], second: &mut [f64], out: &mut [u8], settings: Settings)
-    requires { ⌜ (length (now first) ≡ 65536) × (length (now second) ≡ 65536) × (length (now out) ≡ 1114131) ⌝ }
+    requires { ⌜ (width * most ≤ length (now first)) × (width * most ≤ length (now second)) × (refusalBytes + lineBytes * most ≤ length (now out)) ⌝ }
 {
     let n = at_most(settings.first);
     let m = at_most(settings.second);
@@ -390,130 +362,35 @@ fn part_of(
     part(&text[..n], first, second, out, settings)
 }
 
-// A separator: the four equals signs before its newline are the last bytes kept.
-fn separator(
-    text: &[u8],
-    first: &mut [f64; FLOATS],
-    second: &mut [f64; FLOATS],
-    out: &mut [u8; BYTES],
-    kept: Kept,
-) -> Kept {
-    let n = kept.text;
-    if n < 4 {
-        return kept;
-    }
-    let settings = kept.settings;
-    let next = part_of(text, n - 4, first, second, out, settings);
-    io::write_all(STDOUT_FILENO, b"====\n");
-    Kept {
-        text: 0,
-        equals: 0,
-        settings: next,
-    }
-}
-
-// One byte more of a part. Of a part that is too long, the last four places of the text count for what ends it.
-fn push(b: u8, text: &mut [u8; SIZE], kept: Kept) -> Kept {
-    let n = kept.text;
-    let more = if n < SIZE {
-        text[n] = b;
-        n + 1
-    } else {
-        n
-    };
-    let equals = if b == b'=' {
-        if kept.equals < 4 { kept.equals + 1 } else { 4 }
-    } else {
-        0
-    };
-    let settings = kept.settings;
-    Kept {
-        text: more,
-        equals,
-        settings,
-    }
-}
-
-// One byte more of the input.
-fn step(
-    b: u8,
-    text: &mut [u8; SIZE],
-    first: &mut [f64; FLOATS],
-    second: &mut [f64; FLOATS],
-    out: &mut [u8; BYTES],
-    kept: Kept,
-) -> Kept {
-    if b == b'\n' {
-        if kept.equals == 4 {
-            return separator(text, first, second, out, kept);
-        }
-    }
-    push(b, text, kept)
-}
-
-fn feed(
-    chunk: &[u8],
-    text: &mut [u8; SIZE],
-    first: &mut [f64; FLOATS],
-    second: &mut [f64; FLOATS],
-    out: &mut [u8; BYTES],
-    start: Kept,
-) -> Kept {
-    let mut kept = start;
-    let mut i = 0usize;
-    while i < chunk.len() {
-        kept = step(chunk[i], text, first, second, out, kept);
-        i += 1;
-    }
-    kept
-}
-
-// The part that the input's end ends.
-fn finish(
-    text: &[u8; SIZE],
-    first: &mut [f64; FLOATS],
-    second: &mut [f64; FLOATS],
-    out: &mut [u8; BYTES],
-    kept: Kept,
-) {
-    let n = kept.text;
-    let settings = kept.settings;
-    part_of(text, n, first, second, out, settings);
-}
-
-// All of the input, chunk by chunk. The loop counts its turns down, from a number that no run uses up, since nothing says
-// that an input ends.
+// All of the input, part by part; its end ends the last. The loop counts its turns down, from a number that no run uses up,
+// since nothing says that an input ends.
 fn main() {
     let mut chunk = io::large_buffer();
     let mut text = [0u8; SIZE];
     let mut first = [0.0f64; FLOATS];
     let mut second = [0.0f64; FLOATS];
     let mut out = [0u8; BYTES];
-    let settings = Settings {
+    let mut settings = Settings {
         first: chain_answer::FLOATS,
         second: chain_answer::FLOATS,
         both: false,
     };
-    let mut kept = Kept {
-        text: 0,
-        equals: 0,
-        settings,
-    };
+    let mut next = replay_text::no_part();
     let mut turns = u64::MAX;
     while 0 < turns {
-        let n = io::count(libc::read(STDIN_FILENO, &mut chunk), &chunk);
-        if n == 0 {
-            break;
-        }
-        kept = feed(
-            &chunk[..n],
-            &mut text,
+        next = replay_text::next_part(&mut text, &mut chunk, next, false);
+        settings = part_of(
+            &text,
+            next.bytes,
             &mut first,
             &mut second,
             &mut out,
-            kept,
+            settings,
         );
+        if !next.ended {
+            break;
+        }
+        io::write_all(STDOUT_FILENO, b"====\n");
         turns -= 1;
     }
-    finish(&text, &mut first, &mut second, &mut out, kept);
 }

@@ -11,7 +11,7 @@ use Rattle.text_format.specs.Format.{_then_, _before_, as-of, lines}
 use Rattle.text_format.specs.Table.{Column, fields, line, table}
 use Rattle.text_format.proofs.Lines.{lines-long}
 use Rattle.text_format.proofs.Tables.{Good}
-use Rattle.sheet_layout.specs.Layout.{RawSheet, pointColumns, curveColumns, segmentColumns, sheet, size, readSheet, Follows}
+use Rattle.sheet_layout.specs.Layout.{RawSheet, mostPoints, mostCurves, mostSegments, pointColumns, curveColumns, segmentColumns, sheet, size, readSheet, Follows}
 use Rattle.sheet_layout.specs.Padded.{padded}
 use Rattle.sheet_layout.proofs.Laws.{points-good, curves-good, segments-good, layout-read}
 use Rattle.sheet_row.specs.Rows.{isFloat, rawEdgeOf, rawOptionsOf}
@@ -22,7 +22,7 @@ use Rattle.brep.specs.Rows.{Tables}
 use Rattle.brep.specs.declared.Edge.{Edge}
 use Rattle.options.specs.declared.Options.{Options}
 use Rattle.sheet.specs.Own.Leading.{leading}
-use Rattle.sheet.specs.Sheet.{floatOf, edgeFrom, optionsFrom, answer, tablesOf, stored, left}
+use Rattle.sheet.specs.Sheet.{floatOf, edgeFrom, optionsFrom, answer, tablesOf, stored, tablesAfter}
 use Rattle.sheet.specs.declared.Sheet.the-variants.{Read, Refused}
 
 -- ---- how many rows a table has within 65,536 bytes
@@ -42,15 +42,15 @@ module _ (text : List ℕ) (raw : RawSheet) (f : Follows text raw) where
       let l = simp length-append at (ap length (f .is)) in
       (omega arith, omega arith, omega arith)
 
-  pub points-few : length (raw .points) ≤ 1285
+  pub points-few : length (raw .points) ≤ mostPoints
   unfolding sheet as-of _then_ fields isFloat least
   points-few = let l = long .0 in let h = rows-few pointColumns points-good (raw .points) (f .valid .0 .0) in omega arith
 
-  pub curves-few : length (raw .curves) ≤ 1638
+  pub curves-few : length (raw .curves) ≤ mostCurves
   unfolding sheet as-of _then_ fields isFloat least
   curves-few = let l = long .1 in let h = rows-few curveColumns curves-good (raw .curves) (f .valid .0 .1 .0) in omega arith
 
-  pub segments-few : length (raw .segments) ≤ 1724
+  pub segments-few : length (raw .segments) ≤ mostSegments
   unfolding sheet as-of _then_ fields isFloat least
   segments-few = let l = long .2 in let h = rows-few segmentColumns segments-good (raw .segments) (f .valid .0 .1 .1) in omega arith
 
@@ -68,7 +68,7 @@ leading-is text raw f =
     let r = floats-length (fields curveColumns) (raw .curves) (f .valid .0 .1 .0) in
     let w = wholes-length (fields segmentColumns) (raw .segments) (f .valid .0 .1 .1) in
     let g = floats-length (fields segmentColumns) (raw .segments) (f .valid .0 .1 .1) in
-    rw (first-part 3855 _ (floatOf 0) _ p, first-part {E = ℕ} 4914 _ 0 _ c, first-part 3276 _ (floatOf 0) _ r, first-part {E = ℕ} 3448 _ 0 _ w, first-part 3448 _ (floatOf 0) _ g)
+    rw (first-part (3 * mostPoints) _ (floatOf 0) _ p, first-part {E = ℕ} (3 * mostCurves) _ 0 _ c, first-part (2 * mostCurves) _ (floatOf 0) _ r, first-part {E = ℕ} (2 * mostSegments) _ 0 _ w, first-part (2 * mostSegments) _ (floatOf 0) _ g)
 
 -- ---- THE law for callers
 -- a sheet was read: the text follows it, its rows are few, its tables are the leading rows of t
@@ -76,9 +76,9 @@ pub record SheetRead (text : List ℕ) (n m k : ℕ) (e : Edge) (o : Options) (l
   pub raw : RawSheet
   pub is : readSheet text ≡ got raw
   pub follows : Follows text raw
-  pub points-few : n ≤ 1285
-  pub curves-few : m ≤ 1638
-  pub segments-few : k ≤ 1724
+  pub points-few : n ≤ mostPoints
+  pub curves-few : m ≤ mostCurves
+  pub segments-few : k ≤ mostSegments
   pub tables-are : leading n m k t ≡ tablesOf raw
   pub edge-is : e ≡ edgeFrom (rawEdgeOf (raw .edge))
   pub options-is : o ≡ optionsFrom (rawOptionsOf (raw .options))
@@ -87,11 +87,11 @@ pub record SheetRead (text : List ℕ) (n m k : ℕ) (e : Edge) (o : Options) (l
 
 module _ (text : List ℕ) where
   pub sheet-read : (n m k : ℕ) (e : Edge) (o : Options) (lo hi : ℕ) (t : Tables) → Read n m k e o lo hi ≡ answer (readSheet text)
-      → t ≡ left (readSheet text) → SheetRead text n m k e o lo hi t
-  unfolding answer left
+      → t ≡ tablesAfter (readSheet text) → SheetRead text n m k e o lo hi t
+  unfolding answer tablesAfter
   sheet-read n m k e o lo hi t a b = go (readSheet text) refl a b
     where
-      go : (r : Result RawSheet) → readSheet text ≡ r → Read n m k e o lo hi ≡ answer r → t ≡ left r → SheetRead text n m k e o lo hi t
+      go : (r : Result RawSheet) → readSheet text ≡ r → Read n m k e o lo hi ≡ answer r → t ≡ tablesAfter r → SheetRead text n m k e o lo hi t
       go (refused cause) i a b = absurd (let z : _≡_ {A = ℕ} 0 1 = cc in omega arith)
       go (got raw) i a b =
           let f = layout-read text raw i in

@@ -1,17 +1,17 @@
 -- The parts of the reader: what is told of the three tables and held of them, and the sheet that its tables and its ends make. Assumes nothing.
 use mathlib.Core.Path.{_≡_, refl, sym, ap, subst, _∙_}
 use mathlib.Core.List.{List, []}
-use Prim.Native.Nat.{ℕ, _-_, _<_, _≤_}
+use Prim.Native.Nat.{ℕ, _*_, _-_, _<_, _≤_}
 use native.Mathlib.Numerals.{lt-of-le-of-ne}
 use native.Mathlib.Omega.{arith}
 use lib.ListN.{length, drop, length-drop, drop-of-length-le}
 use lib.Seq.{drop-cons}
 use lib.Ieee.{Float}
 use borrow.Author.Tests.{le-leb, lt-leb}
-use Rattle.base_lists.specs.Result.{Result, refused, got as accepted}
-use Rattle.text_format.specs.Format.{Parsed, bad, got, _then_, all, whole}
+use Rattle.base_lists.specs.Result.{Result, refused, got}
+use Rattle.text_format.specs.Format.{Parsed, bad, parsed, _then_, all, wholeText}
 use Rattle.text_format.specs.Table.{fields}
-use Rattle.sheet_layout.specs.Layout.{RawSheet, pointColumns, curveColumns, segmentColumns, tablesFormat, ends, sheet, size, readSheet}
+use Rattle.sheet_layout.specs.Layout.{RawSheet, mostPoints, mostCurves, mostSegments, pointColumns, curveColumns, segmentColumns, tablesFormat, ends, sheet, size, readSheet}
 use Rattle.sheet_layout.specs.Padded.{padded}
 use Rattle.sheet_layout.proofs.Laws.{tables-law, ends-law}
 use Rattle.sheet_row.specs.Rows.{floatsOf, wholesOf, rawEdgeOf, rawOptionsOf}
@@ -26,15 +26,15 @@ use Rattle.sheet_edge.specs.declared.Last.the-variants.{Pair, NoPair}
 use Rattle.brep.specs.Rows.{Tables, tables as tables-of}
 use Rattle.brep.specs.declared.Edge.{Edge}
 use Rattle.options.specs.declared.Options.{Options}
-use Rattle.sheet.specs.Sheet.{floatOf, edgeFrom, optionsFrom, answer, tablesOf, noTables, stored, left}
-use Rattle.sheet.specs.Own.Answers.{Three, parsedTables, onlyTables, TablesStored, Kept}
+use Rattle.sheet.specs.Sheet.{floatOf, edgeFrom, optionsFrom, answer, tablesOf, noTables, stored, tablesAfter}
+use Rattle.sheet.specs.Own.Answers.{Three, parsedTables, onlyTables, TablesStored, SheetStored}
 use Rattle.sheet.specs.declared.Sheet.the-variants.{Read as ReadSheet, Refused}
-use Rattle.sheet.specs.declared.Counted.the-variants.{Counts, NoTables}
+use Rattle.sheet.specs.declared.TableCounts.the-variants.{Counts, NoTables}
 
 -- ---- a table of n places that was read
-pub held-part : {A E : Type 0} (numbers : A → List E) (z : E) (n : ℕ) (q : Parsed A) (l : A) (rest : List ℕ) (old new : List E) → length old ≡ n
-    → q ≡ got l rest → TableStored numbers z q (length old) new → new ≡ padded n z (numbers l)
-held-part numbers z n q l rest old new e f g = rw (← e) (table-is numbers z q (length old) new l rest f g)
+pub table-stored : {A E : Type 0} (numbers : A → List E) (z : E) (n : ℕ) (q : Parsed A) (l : A) (rest : List ℕ) (old new : List E) → length old ≡ n
+    → q ≡ parsed l rest → TableStored numbers z q (length old) new → new ≡ padded n z (numbers l)
+table-stored numbers z n q l rest old new e f g = rw (← e) (table-is numbers z q (length old) new l rest f g)
 
 -- ---- the three tables
 module _ (s : List ℕ) (q : Parsed Three) where
@@ -51,31 +51,31 @@ module _ (s : List ℕ) (q : Parsed Three) where
       let same : Counts n m k p ≡ Counts (length a) (length b) (length c) (length s - length (drop p s)) = cc in
       same ∙ ap (parsedTables s) (sym (r .is))
 
-  pub held-bad : (new : Tables) → q ≡ bad → TablesStored q new
+  pub tables-stored-bad : (new : Tables) → q ≡ bad → TablesStored q new
   unfolding TablesStored
-  held-bad new e = rw (e, TablesStored) tt
+  tables-stored-bad new e = rw (e, TablesStored) tt
 
-  pub held-got : (t : Three) (rest : List ℕ) (new : Tables) → q ≡ got t rest → new ≡ stored (tablesOf (onlyTables t)) → TablesStored q new
+  pub tables-stored-parsed : (t : Three) (rest : List ℕ) (new : Tables) → q ≡ parsed t rest → new ≡ stored (tablesOf (onlyTables t)) → TablesStored q new
   unfolding TablesStored
-  held-got t rest new e f = rw (e, TablesStored) f
+  tables-stored-parsed t rest new e f = rw (e, TablesStored) f
 
-  pub held-is : (t : Three) (rest : List ℕ) (new : Tables) → q ≡ got t rest → TablesStored q new → new ≡ stored (tablesOf (onlyTables t))
+  pub tables-stored-is : (t : Three) (rest : List ℕ) (new : Tables) → q ≡ parsed t rest → TablesStored q new → new ≡ stored (tablesOf (onlyTables t))
   unfolding TablesStored
-  held-is t rest new e h = subst (λ z. TablesStored z new) e h
+  tables-stored-is t rest new e h = subst (λ z. TablesStored z new) e h
 
 pub stored-is : (a b c : List (List ℕ)) (points : List Float) (curves : List ℕ) (reals : List Float) (parts : List ℕ) (ranges : List Float)
-    → points ≡ padded 3855 (floatOf 0) (flattened (floatsOf (fields pointColumns)) a)
-    → curves ≡ padded 4914 0 (flattened (wholesOf (fields curveColumns)) b)
-    → reals ≡ padded 3276 (floatOf 0) (flattened (floatsOf (fields curveColumns)) b)
-    → parts ≡ padded 3448 0 (flattened (wholesOf (fields segmentColumns)) c)
-    → ranges ≡ padded 3448 (floatOf 0) (flattened (floatsOf (fields segmentColumns)) c)
+    → points ≡ padded (3 * mostPoints) (floatOf 0) (flattened (floatsOf (fields pointColumns)) a)
+    → curves ≡ padded (3 * mostCurves) 0 (flattened (wholesOf (fields curveColumns)) b)
+    → reals ≡ padded (2 * mostCurves) (floatOf 0) (flattened (floatsOf (fields curveColumns)) b)
+    → parts ≡ padded (2 * mostSegments) 0 (flattened (wholesOf (fields segmentColumns)) c)
+    → ranges ≡ padded (2 * mostSegments) (floatOf 0) (flattened (floatsOf (fields segmentColumns)) c)
     → tables-of points curves reals parts ranges ≡ stored (tablesOf (onlyTables (a, (b, c))))
 unfolding stored tablesOf
 stored-is a b c points curves reals parts ranges d e f g h = rw (d, e, f, g, h)
 
 pub cleared : (points : List Float) (curves : List ℕ) (reals : List Float) (parts : List ℕ) (ranges : List Float)
-    → points ≡ padded 3855 (floatOf 0) [] → curves ≡ padded 4914 0 [] → reals ≡ padded 3276 (floatOf 0) [] → parts ≡ padded 3448 0 []
-    → ranges ≡ padded 3448 (floatOf 0) [] → tables-of points curves reals parts ranges ≡ stored noTables
+    → points ≡ padded (3 * mostPoints) (floatOf 0) [] → curves ≡ padded (3 * mostCurves) 0 [] → reals ≡ padded (2 * mostCurves) (floatOf 0) [] → parts ≡ padded (2 * mostSegments) 0 []
+    → ranges ≡ padded (2 * mostSegments) (floatOf 0) [] → tables-of points curves reals parts ranges ≡ stored noTables
 unfolding stored
 cleared points curves reals parts ranges d e f g h = rw (d, e, f, g, h)
 
@@ -96,7 +96,7 @@ module _ (s : List ℕ) where
     where
       go : (q : Parsed Three) → tablesFormat .read s ≡ q → Counts n m k p ≡ parsedTables s q → TablesRead s n m k p
       go bad f e = absurd (let z : _≡_ {A = ℕ} 0 1 = cc in omega arith)
-      go (got t rest) f e =
+      go (parsed t rest) f e =
           let j : p ≡ length s - length rest = cc in
           record {
             points = t .0;
@@ -114,7 +114,7 @@ module _ (s : List ℕ) where
     where
       go : (q : Parsed Three) → NoTables ≡ parsedTables s q → q ≡ bad
       go bad e = refl
-      go (got t rest) e = absurd (let z : _≡_ {A = ℕ} 0 1 = cc in omega arith)
+      go (parsed t rest) e = absurd (let z : _≡_ {A = ℕ} 0 1 = cc in omega arith)
 
 -- ---- the edge and the options
 pub record EndsRead (s : List ℕ) (at : ℕ) (e : RawEdge) (o : RawOptions) (p : ℕ) : Type 0 where
@@ -131,7 +131,7 @@ module _ (s : List ℕ) (at : ℕ) where
     where
       go : (q : Parsed (List ℕ × List ℕ)) → ends .read (drop at s) ≡ q → Pair e o p ≡ parsedEnds s q → EndsRead s at e o p
       go bad f t = absurd (let z : _≡_ {A = ℕ} 0 1 = cc in omega arith)
-      go (got r rest) f t =
+      go (parsed r rest) f t =
           let j : p ≡ length s - length rest = cc in
           record { edge = r .0; options = r .1; edge-is = cc; options-is = cc; is = rw j (placed s ends ends-law at r rest h f) }
 
@@ -141,7 +141,7 @@ module _ (s : List ℕ) (at : ℕ) where
     where
       go : (q : Parsed (List ℕ × List ℕ)) → NoPair ≡ parsedEnds s q → q ≡ bad
       go bad t = refl
-      go (got r rest) t = absurd (let z : _≡_ {A = ℕ} 0 1 = cc in omega arith)
+      go (parsed r rest) t = absurd (let z : _≡_ {A = ℕ} 0 1 = cc in omega arith)
 
 -- ---- the sheet
 -- the sheet of its five blocks
@@ -155,7 +155,7 @@ module _ (s : List ℕ) where
 
   module _ (fits : length s ≤ size) where
     pub no-sheet : sheet .read s ≡ bad → readSheet s ≡ refused 10
-    unfolding readSheet whole all
+    unfolding readSheet wholeText all
     no-sheet e = rw (le-leb (length s) size fits, e)
 
     pub no-tables : tablesFormat .read s ≡ bad → readSheet s ≡ refused 10
@@ -173,15 +173,15 @@ module _ (s : List ℕ) where
         sheet-read = as-read s (tablesFormat then ends) _ _ 0 (t, (edge, options)) j (then-read s tablesFormat ends 0 t p r (edge, options) j e)
 
         -- nothing is left of the text
-        pub is-sheet : j ≡ length s → readSheet s ≡ accepted (sheetOf t edge options)
-        unfolding readSheet whole all
+        pub is-sheet : j ≡ length s → readSheet s ≡ got (sheetOf t edge options)
+        unfolding readSheet wholeText all
         is-sheet l =
             let noTables = drop-of-length-le s {i = j} (omega arith) in
             rw (le-leb (length s) size fits, sheet-read .is, noTables)
 
         -- something is left
         pub not-all : (j ≡ length s → ⊥) → readSheet s ≡ refused 10
-        unfolding readSheet whole all
+        unfolding readSheet wholeText all
         not-all n =
             let w = sheet-read .within in
             let more = drop-cons s j 0 (lt-of-le-of-ne w n) in
@@ -194,32 +194,32 @@ module _ (r : Result RawSheet) where
   answer-no cause e = rw e
 
   pub answer-is : (t : Three) (edge options : List ℕ) (n m k : ℕ) (e : RawEdge) (o : RawOptions) (x : Edge) (y : Options)
-      → r ≡ accepted (sheetOf t edge options) → n ≡ length (t .0) → m ≡ length (t .1 .0) → k ≡ length (t .1 .1) → e ≡ rawEdgeOf edge
+      → r ≡ got (sheetOf t edge options) → n ≡ length (t .0) → m ≡ length (t .1 .0) → k ≡ length (t .1 .1) → e ≡ rawEdgeOf edge
       → o ≡ rawOptionsOf options → x ≡ edgeFrom e → y ≡ optionsFrom o → ReadSheet n m k x y (e .lo) (e .hi) ≡ answer r
   unfolding answer
   answer-is t edge options n m k e o x y f a b c d g h i = rw (f, h, i, a, b, c, d, g)
 
-  pub kept-no : (cause : ℕ) (new : Tables) → r ≡ refused cause → Kept r new
-  unfolding Kept
-  kept-no cause new e = rw (e, Kept) tt
+  pub sheet-stored-no : (cause : ℕ) (new : Tables) → r ≡ refused cause → SheetStored r new
+  unfolding SheetStored
+  sheet-stored-no cause new e = rw (e, SheetStored) tt
 
-  pub kept-is : (t : Three) (edge options : List ℕ) (new : Tables) → r ≡ accepted (sheetOf t edge options) → new ≡ stored (tablesOf (onlyTables t)) → Kept r new
-  unfolding Kept tablesOf
-  kept-is t edge options new e f = rw (e, Kept) f
+  pub sheet-stored-is : (t : Three) (edge options : List ℕ) (new : Tables) → r ≡ got (sheetOf t edge options) → new ≡ stored (tablesOf (onlyTables t)) → SheetStored r new
+  unfolding SheetStored tablesOf
+  sheet-stored-is t edge options new e f = rw (e, SheetStored) f
 
   -- ---- at the end
-  pub left-no : (cause : ℕ) (new : Tables) → Refused cause ≡ answer r → new ≡ stored noTables → new ≡ left r
-  unfolding answer left
-  left-no cause new a e = go r a
+  pub tables-after-no : (cause : ℕ) (new : Tables) → Refused cause ≡ answer r → new ≡ stored noTables → new ≡ tablesAfter r
+  unfolding answer tablesAfter
+  tables-after-no cause new a e = go r a
     where
-      go : (r : Result RawSheet) → Refused cause ≡ answer r → new ≡ left r
+      go : (r : Result RawSheet) → Refused cause ≡ answer r → new ≡ tablesAfter r
       go (refused n) a = e
-      go (accepted raw) a = absurd (let z : _≡_ {A = ℕ} 0 1 = cc in omega arith)
+      go (got raw) a = absurd (let z : _≡_ {A = ℕ} 0 1 = cc in omega arith)
 
-  pub left-is : (n m k : ℕ) (e : Edge) (o : Options) (lo hi : ℕ) (new : Tables) → ReadSheet n m k e o lo hi ≡ answer r → Kept r new → new ≡ left r
-  unfolding answer left Kept
-  left-is n m k e o lo hi new a h = go r a h
+  pub tables-after-is : (n m k : ℕ) (e : Edge) (o : Options) (lo hi : ℕ) (new : Tables) → ReadSheet n m k e o lo hi ≡ answer r → SheetStored r new → new ≡ tablesAfter r
+  unfolding answer tablesAfter SheetStored
+  tables-after-is n m k e o lo hi new a h = go r a h
     where
-      go : (r : Result RawSheet) → ReadSheet n m k e o lo hi ≡ answer r → Kept r new → new ≡ left r
+      go : (r : Result RawSheet) → ReadSheet n m k e o lo hi ≡ answer r → SheetStored r new → new ≡ tablesAfter r
       go (refused cause) a h = absurd (let z : _≡_ {A = ℕ} 0 1 = cc in omega arith)
-      go (accepted raw) a h = h
+      go (got raw) a h = h

@@ -1,18 +1,20 @@
 -- What the reader of a sheet answers, and what its tables hold afterwards.
-use mathlib.Core.List.{[]}
-use Prim.Native.Nat.{ℕ}
+use mathlib.Core.List.{List, []}
+use Prim.Native.Nat.{ℕ, _*_}
 use lib.ListN.{length}
 use lib.Ieee.{Float, binary64, ofBits}
+use denote.Ref.{RefT}
+use denote.Triple.Both.{Both}
 use Rattle.base_lists.specs.Result.{Result, refused, got}
 use Rattle.text_format.specs.Table.{fields}
-use Rattle.sheet_layout.specs.Layout.{RawSheet, pointColumns, curveColumns, segmentColumns}
+use Rattle.sheet_layout.specs.Layout.{RawSheet, mostPoints, mostCurves, mostSegments, pointColumns, curveColumns, segmentColumns}
 use Rattle.sheet_layout.specs.Padded.{padded}
 use Rattle.sheet_row.specs.Rows.{floatsOf, wholesOf, rawEdgeOf, rawOptionsOf}
 use Rattle.sheet_row.specs.declared.RawEdge.{RawEdge}
 use Rattle.sheet_row.specs.declared.RawOptions.{RawOptions}
 use Rattle.sheet_tables.specs.Flattened.{flattened}
 use Rattle.math.specs.Math.{interval}
-use Rattle.brep.specs.Rows.{Tables, tables}
+use Rattle.brep.specs.Rows.{Tables, tables, lent}
 use Rattle.brep.specs.declared.Edge.{Edge}
 use Rattle.options.specs.declared.Options.{Options}
 use Rattle.options.specs.Options.{radians}
@@ -24,6 +26,7 @@ use Rattle.sheet.specs.declared.Sheet.the-variants.{Read, Refused}
 abbrev pub floatOf : ℕ → Float
 floatOf bits = ofBits binary64 bits
 
+-- the edge of its numbers
 abbrev pub edgeFrom : RawEdge → Edge
 edgeFrom raw = record {
   curve = raw .curve;
@@ -36,6 +39,7 @@ edgeFrom raw = record {
   high = raw .high;
 }
 
+-- the options of their numbers, the angle in radians
 abbrev pub optionsFrom : RawOptions → Options
 optionsFrom raw = record {
   deflection = floatOf (raw .deflection);
@@ -66,13 +70,18 @@ tablesOf raw =
 -- the numbers, then zeros, in the tables as they are lent
 unfoldable pub stored : Tables → Tables
 stored t =
-    tables (padded 3855 (floatOf 0) (t .points)) (padded 4914 0 (t .curves)) (padded 3276 (floatOf 0) (t .reals)) (padded 3448 0 (t .parts))
-    (padded 3448 (floatOf 0) (t .ranges))
+    tables (padded (3 * mostPoints) (floatOf 0) (t .points)) (padded (3 * mostCurves) 0 (t .curves)) (padded (2 * mostCurves) (floatOf 0) (t .reals)) (padded (2 * mostSegments) 0 (t .parts))
+    (padded (2 * mostSegments) (floatOf 0) (t .ranges))
 
+-- no rows at all
 abbrev pub noTables : Tables
 noTables = tables [] [] [] [] []
 
--- WHAT IS LEFT in the tables: those of the sheet that was read; zeros alone after a refusal
-unfoldable pub left : Result RawSheet → Tables
-left (refused cause) = stored noTables
-left (got raw) = stored (tablesOf raw)
+-- WHAT THE TABLES HOLD afterwards: those of the sheet that was read; zeros alone after a refusal
+unfoldable pub tablesAfter : Result RawSheet → Tables
+tablesAfter (refused cause) = stored noTables
+tablesAfter (got raw) = stored (tablesOf raw)
+
+-- the tables that a function was lent, as they are at its exit
+abbrev pub written : {A B C D E : Type 0} → Both A (RefT (List Float)) → Both B (RefT (List ℕ)) → Both C (RefT (List Float)) → Both D (RefT (List ℕ)) → Both E (RefT (List Float)) → Tables
+written points curves reals parts ranges = lent (points .exit) (curves .exit) (reals .exit) (parts .exit) (ranges .exit)

@@ -3,9 +3,8 @@ ghost use mathlib.Core.Path.{_≡_};
 ghost use Prim.Native.Nat.{_≤_};
 ghost use lib.ListN.{length};
 ghost use Rattle.sheet_layout.specs.Layout.{size, tablesFormat, readSheet, Means};
-ghost use Rattle.brep.specs.Rows.{lent};
-ghost use Rattle.sheet.specs.Sheet.{edgeFrom, optionsFrom, answer, noTables, stored, left};
-ghost use Rattle.sheet.specs.Own.Answers.{parsedTables, TablesStored, Kept};
+ghost use Rattle.sheet.specs.Sheet.{edgeFrom, optionsFrom, answer, noTables, stored, tablesAfter, written};
+ghost use Rattle.sheet.specs.Own.Answers.{parsedTables, TablesStored, SheetStored};
 use brep::Edge;
 use math::Interval;
 use options::Angle;
@@ -15,16 +14,20 @@ use sheet_row::RawEdge;
 use sheet_row::RawOptions;
 use text_format::Num;
 
-// What 65,536 bytes can hold at most: 1,285 points of 51 bytes, 1,638 curves of 40 or more, 1,724 segments of 38.
-pub const POINTS: usize = 3855;
+// Room in each table for every sheet's rows. The points: x y z.
+pub const POINTS: usize = 3 * sheet_layout::MOST_POINTS;
 
-pub const CURVES: usize = 4914;
+// The curves' whole numbers: kind first count.
+pub const CURVES: usize = 3 * sheet_layout::MOST_CURVES;
 
-pub const REALS: usize = 3276;
+// The curves' floats: p q.
+pub const REALS: usize = 2 * sheet_layout::MOST_CURVES;
 
-pub const PARTS: usize = 3448;
+// The segments' whole numbers: curve sense.
+pub const PARTS: usize = 2 * sheet_layout::MOST_SEGMENTS;
 
-pub const RANGES: usize = 3448;
+// The segments' floats: lo hi.
+pub const RANGES: usize = 2 * sheet_layout::MOST_SEGMENTS;
 
 // A sheet: how many rows its tables hold, its edge, its options, and the edge's lo and hi by their own 64 bits, since
 // the floats keep no NaN's bits. Or the cause for which it is turned away.
@@ -42,7 +45,7 @@ pub enum Sheet {
 }
 
 // How many rows the three tables have, and the place behind them.
-enum Counted {
+enum TableCounts {
     Counts(u64, u64, u64, usize),
     NoTables,
 }
@@ -89,21 +92,21 @@ fn three(
     reals: &mut [f64; REALS],
     parts: &mut [u32; PARTS],
     ranges: &mut [f64; RANGES],
-) -> Counted
+) -> TableCounts
     requires { ⌜ length (now text) ≤ size ⌝ }
     ensures { λ r. ⌜ (r ≡ parsedTables (now (text .entry)) (tablesFormat .read (now (text .entry))))
-        × TablesStored (tablesFormat .read (now (text .entry))) (lent (points .exit) (curves .exit) (reals .exit) (parts .exit) (ranges .exit)) ⌝ }
+        × TablesStored (tablesFormat .read (now (text .entry))) (written points curves reals parts ranges) ⌝ }
 {
     let Num::Got(n, p) = sheet_tables::points(text, 0, points) else {
-        return Counted::NoTables;
+        return TableCounts::NoTables;
     };
     let Num::Got(m, q) = sheet_tables::curves(text, p, curves, reals) else {
-        return Counted::NoTables;
+        return TableCounts::NoTables;
     };
     let Num::Got(k, next) = sheet_tables::segments(text, q, parts, ranges) else {
-        return Counted::NoTables;
+        return TableCounts::NoTables;
     };
-    Counted::Counts(n, m, k, next)
+    TableCounts::Counts(n, m, k, next)
 }
 
 // The sheet, its numbers in the tables. A refusal leaves in them what had been read.
@@ -116,12 +119,12 @@ fn try_sheet(
     ranges: &mut [f64; RANGES],
 ) -> Sheet
     ensures { λ r. ⌜ (r ≡ answer (readSheet (now (text .entry))))
-        × Kept (readSheet (now (text .entry))) (lent (points .exit) (curves .exit) (reals .exit) (parts .exit) (ranges .exit)) ⌝ }
+        × SheetStored (readSheet (now (text .entry))) (written points curves reals parts ranges) ⌝ }
 {
-    if 65536 < text.len() {
+    if sheet_layout::SIZE < text.len() {
         return Sheet::Refused(10);
     }
-    let Counted::Counts(n, m, k, at) = three(text, points, curves, reals, parts, ranges) else {
+    let TableCounts::Counts(n, m, k, at) = three(text, points, curves, reals, parts, ranges) else {
         return Sheet::Refused(10);
     };
     let Last::Pair(edge, options, end) = sheet_edge::ends(text, at) else {
@@ -150,7 +153,7 @@ fn clear(
     parts: &mut [u32; PARTS],
     ranges: &mut [f64; RANGES],
 )
-    ensures { λ _. ⌜ lent (points .exit) (curves .exit) (reals .exit) (parts .exit) (ranges .exit) ≡ stored noTables ⌝ }
+    ensures { λ _. ⌜ written points curves reals parts ranges ≡ stored noTables ⌝ }
 {
     base_lists::clear_from(points, 0);
     sheet_row::clear_wholes(curves, 0);
@@ -170,7 +173,7 @@ pub fn read(
     ranges: &mut [f64; RANGES],
 ) -> Sheet
     ensures { λ r. ⌜ (r ≡ answer (readSheet (now (text .entry))))
-        × (lent (points .exit) (curves .exit) (reals .exit) (parts .exit) (ranges .exit) ≡ left (readSheet (now (text .entry))))
+        × (written points curves reals parts ranges ≡ tablesAfter (readSheet (now (text .entry))))
         × Means (now (text .entry)) (readSheet (now (text .entry))) ⌝ }
 {
     let sheet = try_sheet(text, points, curves, reals, parts, ranges);

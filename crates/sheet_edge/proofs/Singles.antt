@@ -6,8 +6,8 @@ use Prim.Native.Nat.{ℕ, zero, suc, _+_, _-_, _^_, _<_, _≤_}
 use native.Mathlib.Omega.{arith}
 use lib.ListN.{length, getD, drop, replicate, length-drop}
 use Rattle.text_format.specs.Bytes.{bytes}
-use Rattle.text_format.specs.Format.{Format, Parsed, bad, got, plain, _and_, noItems as no-cells, ValidCons, _before_}
-use Rattle.text_format.specs.Table.{Field, float, whole, word, fields, behind, names, cell, line, single}
+use Rattle.text_format.specs.Format.{Format, Parsed, bad, parsed, plain, _and_, noItems as no-cells, ValidCons, _before_}
+use Rattle.text_format.specs.Table.{Field, float, whole, word, fields, endByte, names, cell, line, single}
 use Rattle.text_format.proofs.Laws.{Lawful}
 use Rattle.sheet_layout.specs.Layout.{edgeColumns, optionColumns}
 use Rattle.sheet_layout.specs.Padded.{padded}
@@ -27,11 +27,11 @@ use Rattle.sheet_edge.specs.declared.Last.{Last}
 use Rattle.sheet_edge.specs.declared.Last.the-variants.{Pair, NoPair}
 
 pub edge-same : singleOf (bytes "curve start end sense lo hi tolerance low high\n") (bytes "wwwwfffww") ≡ single edgeColumns
-unfolding bytes fields behind names fieldOf
+unfolding bytes fields endByte names fieldOf
 edge-same = refl
 
 pub options-same : singleOf (bytes "deflection angle relative segments depth scale\n") (bytes "ffwlwf") ≡ single optionColumns
-unfolding bytes fields behind names fieldOf
+unfolding bytes fields endByte names fieldOf
 options-same = refl
 
 -- ---- widths
@@ -39,7 +39,7 @@ whole-at : (fs : List Field) (row : List ℕ) (i most : ℕ) → line fs .valid 
 unfolding line _and_ no-cells ValidCons cell
 whole-at [] row i most v e = absurd (let z : _≡_ {A = ℕ} 0 1 = cc in omega arith)
 whole-at (f ∷ fs) [] i most v e = absurd v
-whole-at (f ∷ fs) (n ∷ row) zero most v e = let w : cell (whole most) (behind fs) .valid n = rw e at (v .0) in w
+whole-at (f ∷ fs) (n ∷ row) zero most v e = let w : cell (whole most) (endByte fs) .valid n = rw e at (v .0) in w
 whole-at (f ∷ fs) (n ∷ row) (suc i) most v e = whole-at fs row i most (v .1) e
 
 padded-at : (n : ℕ) (l : List ℕ) (i : ℕ) → getD (padded n 0 l) i 0 ≡ getD l i 0
@@ -85,8 +85,8 @@ edge-padded l =
 pub options-padded : (l : List ℕ) → rawOptionsOf (padded 9 0 l) ≡ rawOptionsOf l
 options-padded l = simp (padded-at 9 l 0, padded-at 9 l 1, padded-at 9 l 2, padded-at 9 l 3, padded-at 9 l 4, padded-at 9 l 5)
 
-pub left : (s : List ℕ) (p : ℕ) → p ≤ length s → p ≡ length s - length (drop p s)
-left s p h = simp length-drop (omega arith)
+pub place-is : (s : List ℕ) (p : ℕ) → p ≤ length s → p ≡ length s - length (drop p s)
+place-is s p h = simp length-drop (omega arith)
 
 -- ---- what is told of a line, and what was read by what was told
 module _ {X R : Type 0} (made : X → ℕ → R) (none : R) (value : List ℕ → X) (padded-value : (l : List ℕ) → value (padded 9 0 l) ≡ value l)
@@ -94,7 +94,7 @@ module _ {X R : Type 0} (made : X → ℕ → R) (none : R) (value : List ℕ �
   pub parsed-value : (q : Parsed (List ℕ)) (l : List ℕ) (p : ℕ) (row : List ℕ) → row ≡ padded 9 0 l → Read s q l p → made (value row) p ≡ parsedAs made none value s q
   unfolding parsedAs
   parsed-value q l p row e r =
-      ap (λ x. made x p) (ap value e ∙ padded-value l) ∙ ap (made (value l)) (left s p (r .within)) ∙ ap (parsedAs made none value s) (sym (r .is))
+      ap (λ x. made x p) (ap value e ∙ padded-value l) ∙ ap (made (value l)) (place-is s p (r .within)) ∙ ap (parsedAs made none value s) (sym (r .is))
 
   pub parsed-none : (q : Parsed (List ℕ)) → q ≡ bad → none ≡ parsedAs made none value s q
   unfolding parsedAs
@@ -112,14 +112,14 @@ module _ {X R : Type 0} (made : X → ℕ → R) (none : R) (value : List ℕ �
     where
       go : (q : Parsed (List ℕ)) → F .read (drop at s) ≡ q → made x p ≡ parsedAs made none value s q → ValueRead (F .read (drop at s)) x p
       go bad f t = absurd (other x p t)
-      go (got l rest) f t =
+      go (parsed l rest) f t =
           let e = same x (value l) p (length s - length rest) t in
           record { list = l; value-is = e .0; is = rw (e .1) (placed s F L at l rest h f) }
 
   pub read-none : (q : Parsed (List ℕ)) → none ≡ parsedAs made none value s q → q ≡ bad
   unfolding parsedAs
   read-none bad t = refl
-  read-none (got l rest) t = absurd (other (value l) (length s - length rest) (sym t))
+  read-none (parsed l rest) t = absurd (other (value l) (length s - length rest) (sym t))
 
 -- ---- of the edge and of the options
 pub same-edge : (x y : RawEdge) (p q : ℕ) → Edge x p ≡ Edge y q → (x ≡ y) × (p ≡ q)
@@ -172,7 +172,7 @@ module _ (s : List ℕ) where
       → Pair e o p ≡ parsedEnds s q
   unfolding parsedEnds
   parsed-ends q e o l m p d f r =
-      let j = left s p (r .within) in
+      let j = place-is s p (r .within) in
       let same : Pair e o p ≡ Pair (rawEdgeOf l) (rawOptionsOf m) (length s - length (drop p s)) = cc in
       same ∙ ap (parsedEnds s) (sym (r .is))
 

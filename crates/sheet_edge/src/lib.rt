@@ -57,7 +57,7 @@ fn edge(s: &[u8], at: usize) -> EdgeAt
     );
     if row.ok {
         let numbers = row.numbers;
-        EdgeAt::Edge(sheet_row::edge_of(&numbers), row.next)
+        EdgeAt::Edge(sheet_row::raw_edge_of(&numbers), row.next)
     } else {
         EdgeAt::NoEdge
     }
@@ -76,7 +76,7 @@ fn options(s: &[u8], at: usize) -> OptionsAt
     );
     if row.ok {
         let numbers = row.numbers;
-        OptionsAt::Options(sheet_row::options_of(&numbers), row.next)
+        OptionsAt::Options(sheet_row::raw_options_of(&numbers), row.next)
     } else {
         OptionsAt::NoOptions
     }

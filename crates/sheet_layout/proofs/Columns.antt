@@ -9,10 +9,10 @@ use lib.ListN.{length, getD, drop, length-append, drop-of-length-le}
 use lib.Seq.{drop-cons}
 use lib.Dec.{eqb}
 use Rattle.base_lists.specs.All.{All, none as all-none, more}
-use Rattle.text_format.specs.Format.{Parsed, bad, got, Format, andThen, _and_, noItems}
-use Rattle.text_format.specs.Table.{Field, float, whole, word, behind, cell, line}
+use Rattle.text_format.specs.Format.{Parsed, bad, parsed, Format, andThen, _and_, noItems}
+use Rattle.text_format.specs.Table.{Field, float, whole, word, endByte, cell, line}
 use Rattle.text_format.proofs.Laws.{Lawful}
-use Rattle.text_format.proofs.Tables.{Good, behind-no-digit, cell-law, line-law}
+use Rattle.text_format.proofs.Tables.{Good, end-byte-no-digit, cell-law, line-law}
 use Rattle.sheet_layout.specs.Layout.{u32, u64, kind}
 use Rattle.sheet_layout.specs.Own.Letters.{fieldOf, shapeOf}
 use Rattle.sheet_layout.proofs.Laws.{u32-good, u64-good, kind-good}
@@ -37,22 +37,22 @@ shape-good (c ∷ shape) = more (letter-good c) (shape-good shape)
 pub shape-law : (shape : List ℕ) → Lawful (line (shapeOf shape))
 shape-law shape = line-law (shapeOf shape) (shape-good shape)
 
-pub letter-law : (c : ℕ) (l : List ℕ) → Lawful (cell (fieldOf c) (behind l))
-letter-law c l = cell-law (fieldOf c) (letter-good c) (behind l) (behind-no-digit l)
+pub letter-law : (c : ℕ) (l : List ℕ) → Lawful (cell (fieldOf c) (endByte l))
+letter-law c l = cell-law (fieldOf c) (letter-good c) (endByte l) (end-byte-no-digit l)
 
 -- ---- the byte behind a cell
-pub behind-more : (l : List ℕ) (i : ℕ) → i < length l → 32 ≡ behind (drop i l)
-unfolding behind
-behind-more l i h = sym (ap behind (drop-cons l i 0 h))
+pub end-byte-more : (l : List ℕ) (i : ℕ) → i < length l → 32 ≡ endByte (drop i l)
+unfolding endByte
+end-byte-more l i h = sym (ap endByte (drop-cons l i 0 h))
 
-pub behind-last : (l : List ℕ) (i : ℕ) → length l ≤ i → 10 ≡ behind (drop i l)
-unfolding behind
-behind-last l i h = sym (ap behind (drop-of-length-le l h))
+pub end-byte-last : (l : List ℕ) (i : ℕ) → length l ≤ i → 10 ≡ endByte (drop i l)
+unfolding endByte
+end-byte-last l i h = sym (ap endByte (drop-of-length-le l h))
 
-behind-map : {A B : Type 0} (f : A → B) (l : List A) → behind (map f l) ≡ behind l
-unfolding behind
-behind-map f [] = refl
-behind-map f (a ∷ l) = refl
+end-byte-map : {A B : Type 0} (f : A → B) (l : List A) → endByte (map f l) ≡ endByte l
+unfolding endByte
+end-byte-map f [] = refl
+end-byte-map f (a ∷ l) = refl
 
 -- ---- the loop
 module _ (s shape : List ℕ) where
@@ -61,17 +61,17 @@ module _ (s shape : List ℕ) where
 
   -- column i
   abbrev pub column : ℕ → Format ℕ
-  column i = cell (fieldOf (getD shape i 0)) (behind (drop (i + 1) shape))
+  column i = cell (fieldOf (getD shape i 0)) (endByte (drop (i + 1) shape))
 
   -- the columns behind it, for the number v
   abbrev others : ℕ → ℕ → List ℕ → Parsed (List ℕ)
-  others i v rest = andThen (from (i + 1) .read rest) (λ l more. got (v ∷ l) more)
+  others i v rest = andThen (from (i + 1) .read rest) (λ l more. parsed (v ∷ l) more)
 
   split : (i : ℕ) → i < length shape → (bs : List ℕ) → from i .read bs ≡ andThen (column i .read bs) (others i)
   unfolding line _and_
   split i h bs =
       ap (λ l. line (shapeOf l) .read bs) (drop-cons shape i 0 h ∙ ap (λ k. getD shape i 0 ∷ drop k shape) (sym (add-one i)))
-      ∙ ap (λ e. andThen (cell (fieldOf (getD shape i 0)) e .read bs) (others i)) (behind-map fieldOf (drop (i + 1) shape))
+      ∙ ap (λ e. andThen (cell (fieldOf (getD shape i 0)) e .read bs) (others i)) (end-byte-map fieldOf (drop (i + 1) shape))
 
   -- i numbers were read from `at` on, and the next begins at p
   pub record Begun (at p i : ℕ) : Type 0 where
@@ -101,8 +101,8 @@ module _ (s shape : List ℕ) where
       abbrev pub one-cell : Begun at q (i + 1)
       one-cell = record { taken = b .taken ++ (v ∷ []); count = one-more; whole = one-whole }
 
-    pub all-cells : length shape ≤ i → line (shapeOf shape) .read (drop at s) ≡ got (b .taken) (drop p s)
+    pub all-cells : length shape ≤ i → line (shapeOf shape) .read (drop at s) ≡ parsed (b .taken) (drop p s)
     unfolding onto line noItems
     all-cells h =
         sym (b .whole) ∙ ap (λ l. onto (b .taken) (line (shapeOf l) .read (drop p s))) (drop-of-length-le shape h)
-        ∙ ap (λ l. got l (drop p s)) (append-nil (b .taken))
+        ∙ ap (λ l. parsed l (drop p s)) (append-nil (b .taken))

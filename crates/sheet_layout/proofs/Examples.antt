@@ -5,8 +5,8 @@ use Prim.Native.Nat.{ℕ}
 use Prim.Native.String.{String}
 use Rattle.base_lists.specs.Result.{Result, refused, got}
 use Rattle.text_format.specs.Bytes.{bytes}
-use Rattle.text_format.specs.Format.{when, andThen, orElse, expect, charOf, digitOf, digits, readDigits, widthUpTo, decimal, readDecimal, readPlain, readWord, _ending_, _before_, _then_, noItems, writeCons, _and_, as-of, writeLines, readLines, lines, all, whole}
-use Rattle.text_format.specs.Table.{fields, behind, names, cell, line}
+use Rattle.text_format.specs.Format.{when, andThen, orElse, expect, charOf, digitOf, digits, readDigits, widthUpTo, decimal, readDecimal, readPlain, readWord, _ending_, _before_, _then_, noItems, writeCons, _and_, as-of, writeLines, readLines, lines, all, wholeText}
+use Rattle.text_format.specs.Table.{fields, endByte, names, cell, line}
 use Rattle.sheet_layout.specs.Layout.{kinds, RawSheet, sheet, layout, readSheet}
 
 -- the sheet of the scope
@@ -42,11 +42,11 @@ abbrev joined : String → String → String → String → String → List ℕ
 joined a b c d e = bytes a ++ bytes b ++ bytes c ++ bytes d ++ bytes e
 
 its-text : layout example ≡ joined points curves segments edge options
-unfolding bytes charOf digits widthUpTo decimal _ending_ _before_ _then_ noItems writeCons _and_ as-of writeLines lines fields behind names cell line kinds sheet
+unfolding bytes charOf digits widthUpTo decimal _ending_ _before_ _then_ noItems writeCons _and_ as-of writeLines lines fields endByte names cell line kinds sheet
 its-text = refl
 
 is-read : readSheet (joined points curves segments edge options) ≡ got example
-unfolding bytes when andThen orElse expect digitOf readDigits readDecimal readPlain readWord _ending_ _before_ _then_ noItems _and_ as-of readLines lines all whole fields behind names cell line kinds sheet readSheet
+unfolding bytes when andThen orElse expect digitOf readDigits readDecimal readPlain readWord _ending_ _before_ _then_ noItems _and_ as-of readLines lines all wholeText fields endByte names cell line kinds sheet readSheet
 is-read = refl
 
 -- empty tables, and the largest numbers of each width
@@ -58,7 +58,7 @@ least : readSheet (joined "x y z\n\n" "kind first count p q\n\n" segments edge "
       edge = example .edge;
       options = 0x7ff0000000000001 ∷ 0xffffffffffffffff ∷ 4294967295 ∷ 18446744073709551615 ∷ 4294967295 ∷ 0 ∷ [];
     })
-unfolding bytes when andThen orElse expect digitOf readDigits readDecimal readPlain readWord _ending_ _before_ _then_ noItems _and_ as-of readLines lines all whole fields behind names cell line kinds sheet readSheet
+unfolding bytes when andThen orElse expect digitOf readDigits readDecimal readPlain readWord _ending_ _before_ _then_ noItems _and_ as-of readLines lines all wholeText fields endByte names cell line kinds sheet readSheet
 least = refl
 
 -- with one curve line, and with one options line
@@ -103,5 +103,5 @@ broken =
     ∷ []
 
 each-refused : broken ≡ map (λ _. refused 10) broken
-unfolding bytes when andThen orElse expect digitOf readDigits readDecimal readPlain readWord _ending_ _before_ _then_ noItems _and_ as-of readLines lines all whole fields behind names cell line kinds sheet readSheet
+unfolding bytes when andThen orElse expect digitOf readDigits readDecimal readPlain readWord _ending_ _before_ _then_ noItems _and_ as-of readLines lines all wholeText fields endByte names cell line kinds sheet readSheet
 each-refused = refl

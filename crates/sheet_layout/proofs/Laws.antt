@@ -10,7 +10,7 @@ use borrow.Author.Tests.{le-leb, leb-true}
 use Rattle.base_lists.specs.All.{All, none, more}
 use Rattle.base_lists.specs.Result.{Result, refused, got}
 use Rattle.text_format.specs.Bytes.{bytes}
-use Rattle.text_format.specs.Format.{Format, Parsed, bad, got as parsed, all, oneOf, _ending_, _then_, whole as whole-text}
+use Rattle.text_format.specs.Format.{Format, Parsed, bad, parsed, all, oneOf, _ending_, _then_, wholeText}
 use Rattle.text_format.specs.Table.{Field, Column, fields, line, table, single}
 use Rattle.text_format.proofs.Laws.{Lawful, Is, ending-law, then-law, as-law, whole-back, whole-was}
 use Rattle.text_format.proofs.Words.{oneOf-law}
@@ -101,7 +101,7 @@ pub layout-read : (text : List ℕ) (raw : RawSheet) → readSheet text ≡ got 
 unfolding readSheet
 layout-read text raw e = go (leb (length text) size) refl e
   where
-    go : (b : Bool) → leb (length text) size ≡ b → cond b (whole-text 10 sheet text) (refused 10) ≡ got raw → Follows text raw
+    go : (b : Bool) → leb (length text) size ≡ b → cond b (wholeText 10 sheet text) (refused 10) ≡ got raw → Follows text raw
     go true t e = let w = whole-was 10 sheet sheet-law text raw e in record { valid = w .right; is = w .text; fits = leb-true (length text) size t }
     go false t e = absurd (let z : _≡_ {A = ℕ} 0 1 = cc in omega arith)
 
@@ -119,7 +119,7 @@ refused-none text n e raw f =
 
 -- the cause is always 10
 pub refused-ten : (text : List ℕ) (n : ℕ) → readSheet text ≡ refused n → n ≡ 10
-unfolding readSheet whole-text all
+unfolding readSheet wholeText all
 refused-ten text n e = go (leb (length text) size) (sheet .read text) e
   where
     go : (b : Bool) (q : Parsed RawSheet) → cond b (all 10 q) (refused 10) ≡ refused n → n ≡ 10
@@ -137,7 +137,7 @@ means text = record {
 
 -- and no two sheets have one text
 pub layout-one : (a b : RawSheet) → Valid a → Valid b → layout a ≡ layout b → a ≡ b
-layout-one a b v w e = same (sym (whole-back 10 sheet sheet-law a v) ∙ ap (whole-text 10 sheet) e ∙ whole-back 10 sheet sheet-law b w)
+layout-one a b v w e = same (sym (whole-back 10 sheet sheet-law a v) ∙ ap (wholeText 10 sheet) e ∙ whole-back 10 sheet sheet-law b w)
   where
     same : got a ≡ got b → a ≡ b
     same e = cc

@@ -5,7 +5,7 @@ use Prim.Native.Nat.{ℕ, suc, _+_, _-_, _<_, _≤_}
 use native.Mathlib.Omega.{arith}
 use lib.ListN.{length, set, replicate, length-append, length-replicate}
 use lib.Seq.{sets, set-at, length-sets}
-use Rattle.text_format.specs.Format.{Parsed, bad, got}
+use Rattle.text_format.specs.Format.{Parsed, bad, parsed}
 use Rattle.text_format.proofs.Place.{Read}
 use Rattle.sheet_layout.specs.Padded.{padded}
 use Rattle.sheet_layout.specs.Own.Letters.{parsedRow}

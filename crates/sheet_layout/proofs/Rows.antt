@@ -5,7 +5,7 @@ use mathlib.Core.List.{List, [], _∷_}
 use Prim.Native.Nat.{ℕ, _-_, _≤_}
 use native.Mathlib.Omega.{arith}
 use lib.ListN.{length, drop, length-drop}
-use Rattle.text_format.specs.Format.{Parsed, bad, got, Format}
+use Rattle.text_format.specs.Format.{Parsed, bad, parsed, Format}
 use Rattle.text_format.proofs.Laws.{Lawful}
 use Rattle.text_format.proofs.Place.{Read, placed}
 use Rattle.sheet_layout.specs.Padded.{padded}
@@ -40,11 +40,11 @@ module _ (s : List ℕ) where
 
       go : (q : Parsed (List ℕ)) → F .read (drop at s) ≡ q → r ≡ parsedRow s q → RowRead (F .read (drop at s)) r
       go bad f e = no (sym (ap (λ x. x .ok) e) ∙ o)
-      go (got l rest) f e =
+      go (parsed l rest) f e =
           let p : length s - length rest ≡ r .next = sym (ap (λ x. x .next) e) in
           record { list = l; numbers-are = ap (λ x. x .numbers) e; is = rw p at (placed s F L at l rest h f) }
 
   pub no-row-read : (q : Parsed (List ℕ)) (r : Row) → r ≡ parsedRow s q → r .ok ≡ false → q ≡ bad
   unfolding parsedRow
   no-row-read bad r e o = refl
-  no-row-read (got l rest) r e o = absurd (let f : true ≡ false = sym (ap (λ x. x .ok) e) ∙ o in let z : _≡_ {A = ℕ} 0 1 = cc in omega arith)
+  no-row-read (parsed l rest) r e o = absurd (let f : true ≡ false = sym (ap (λ x. x .ok) e) ∙ o in let z : _≡_ {A = ℕ} 0 1 = cc in omega arith)

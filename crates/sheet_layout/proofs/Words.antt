@@ -4,7 +4,7 @@ use mathlib.Core.List.{List, [], _∷_}
 use Prim.Native.Nat.{ℕ, suc, _<_}
 use lib.ListN.{length, getD, drop}
 use lib.Seq.{drop-cons}
-use Rattle.text_format.specs.Format.{Parsed, bad, got, orElse, expect, readWord}
+use Rattle.text_format.specs.Format.{Parsed, bad, parsed, orElse, expect, readWord}
 use Rattle.text_format.specs.Own.Answers.{parsedAt}
 use Rattle.text_format.specs.declared.Num.{Num}
 use Rattle.text_format.specs.declared.Num.the-variants.{Got, Bad}
@@ -18,7 +18,7 @@ tried s bs first n (w ∷ ws) = tried s bs (orParsed first (parsedAt s (expect w
 or-parsed : (s : List ℕ) (p q : Parsed ℕ) → parsedAt s (orElse p q) ≡ orParsed (parsedAt s p) (parsedAt s q)
 unfolding parsedAt orElse orParsed
 or-parsed s bad q = refl
-or-parsed s (got v rest) q = refl
+or-parsed s (parsed v rest) q = refl
 
 or-assoc : (a b c : Num) → orParsed (orParsed a b) c ≡ orParsed a (orParsed b c)
 unfolding orParsed

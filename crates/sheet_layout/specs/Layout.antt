@@ -8,7 +8,7 @@ use lib.ListN.{length}
 use lib.Dec.{leb}
 use Rattle.base_lists.specs.Result.{Result, refused, got}
 use Rattle.text_format.specs.Bytes.{bytes}
-use Rattle.text_format.specs.Format.{Format, _ending_, _then_, as-of, whole as whole-text}
+use Rattle.text_format.specs.Format.{Format, _ending_, _then_, as-of, wholeText}
 use Rattle.text_format.specs.Table.{Field, float, whole, word, Column, _of_, table, single}
 
 -- the kinds' words, numbered from 1
@@ -59,6 +59,7 @@ tablesFormat = table pointColumns then table curveColumns then table segmentColu
 abbrev pub ends : Format (List ℕ × List ℕ)
 ends = single edgeColumns ending (10 ∷ []) then single optionColumns
 
+-- the five blocks, for a raw sheet
 unfoldable pub sheet : Format RawSheet
 sheet =
     as-of (tablesFormat then ends)
@@ -77,9 +78,19 @@ Valid = sheet .valid
 abbrev pub size : ℕ
 size = 65536
 
+-- the most rows that so many bytes hold: points of 51 bytes, curves of 40 or more, segments of 38
+abbrev pub mostPoints : ℕ
+mostPoints = 1285
+
+abbrev pub mostCurves : ℕ
+mostCurves = 1638
+
+abbrev pub mostSegments : ℕ
+mostSegments = 1724
+
 -- the sheet that a text stands for; cause 10 where it stands for none or is too long
 unfoldable pub readSheet : List ℕ → Result RawSheet
-readSheet text = cond (leb (length text) size) (whole-text 10 sheet text) (refused 10)
+readSheet text = cond (leb (length text) size) (wholeText 10 sheet text) (refused 10)
 
 -- ---- both directions
 -- the text is the sheet's

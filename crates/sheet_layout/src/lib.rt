@@ -3,11 +3,23 @@ ghost use mathlib.Core.Path.{_≡_};
 ghost use Prim.Native.Nat.{_+_, _<_, _≤_};
 ghost use lib.ListN.{length, drop};
 ghost use Rattle.text_format.specs.Format.{expect, readWord};
-ghost use Rattle.text_format.specs.Table.{behind, cell, line};
+ghost use Rattle.text_format.specs.Table.{endByte, cell, line};
 ghost use Rattle.text_format.specs.Own.Answers.{parsedAt};
 ghost use Rattle.sheet_layout.specs.Layout.{kinds};
 ghost use Rattle.sheet_layout.specs.Own.Letters.{orParsed, fieldOf, shapeOf, parsedRow};
 use text_format::Num;
+
+// The most bytes that a sheet may have.
+pub const SIZE: usize = 65536;
+
+// The most points that so many bytes hold, of 51 bytes each.
+pub const MOST_POINTS: usize = 1285;
+
+// The most curves, of 40 bytes or more.
+pub const MOST_CURVES: usize = 1638;
+
+// The most segments, of 38 bytes or more.
+pub const MOST_SEGMENTS: usize = 1724;
 
 // A line's numbers, zeros behind them, and the next place; no line where `ok` is false.
 pub struct Row {
@@ -64,7 +76,7 @@ fn cell(s: &[u8], at: usize, letter: u8, end: u8) -> Num
 // The byte behind the value of column i.
 fn end_of(shape: &[u8], i: usize) -> u8
     requires { ⌜ i < length (now shape) ⌝ }
-    ensures { λ r. ⌜ r ≡ behind (drop (i + 1) (now (shape .entry))) ⌝ }
+    ensures { λ r. ⌜ r ≡ endByte (drop (i + 1) (now (shape .entry))) ⌝ }
 {
     if i + 1 < shape.len() { b' ' } else { b'\n' }
 }

@@ -8,6 +8,7 @@ use Rattle.text_format.specs.Table.{Field, float, whole, word}
 use Rattle.sheet_row.specs.declared.RawEdge.{RawEdge}
 use Rattle.sheet_row.specs.declared.RawOptions.{RawOptions}
 
+-- whether a column holds floats
 unfoldable pub isFloat : Field → Bool
 isFloat float = true
 isFloat (whole most) = false

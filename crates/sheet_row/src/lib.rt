@@ -99,7 +99,7 @@ pub fn clear_wholes(out: &mut [u32], from: usize)
 }
 
 // The edge of its line's numbers.
-pub fn edge_of(row: &[u64; 9]) -> RawEdge
+pub fn raw_edge_of(row: &[u64; 9]) -> RawEdge
     requires { ⌜ Narrow (now row) (0 ∷ 1 ∷ 2 ∷ 3 ∷ 7 ∷ 8 ∷ []) ⌝ }
     ensures { λ r. ⌜ r ≡ rawEdgeOf (now (row .entry)) ⌝ }
 {
@@ -117,7 +117,7 @@ pub fn edge_of(row: &[u64; 9]) -> RawEdge
 }
 
 // The options of their line's numbers.
-pub fn options_of(row: &[u64; 9]) -> RawOptions
+pub fn raw_options_of(row: &[u64; 9]) -> RawOptions
     requires { ⌜ Narrow (now row) (2 ∷ 4 ∷ []) ⌝ }
     ensures { λ r. ⌜ r ≡ rawOptionsOf (now (row .entry)) ⌝ }
 {

@@ -5,7 +5,7 @@ use Prim.Native.Nat.{ℕ, _+_, _≤_}
 use native.Mathlib.Omega.{arith}
 use lib.ListN.{length, take, drop}
 use lib.Seq.{sets, sets-eq, length-sets, take-at}
-use Rattle.text_format.specs.Format.{Parsed, bad, got}
+use Rattle.text_format.specs.Format.{Parsed, bad, parsed}
 use Rattle.text_format.proofs.Buffer.{sets-append}
 use Rattle.sheet_layout.specs.Padded.{padded}
 use Rattle.sheet_tables.specs.Flattened.{flattened}
@@ -39,13 +39,13 @@ module _ {A E : Type 0} (row : A → List E) (zero : E) (q : Parsed A) (n : ℕ)
   unfolding TableStored
   stored-bad e = rw (e, TableStored) tt
 
-  pub stored-got : (a : A) (rest : List ℕ) → q ≡ got a rest → after ≡ padded n zero (row a) → TableStored row zero q n after
+  pub stored-parsed : (a : A) (rest : List ℕ) → q ≡ parsed a rest → after ≡ padded n zero (row a) → TableStored row zero q n after
   unfolding TableStored
-  stored-got a rest e f = rw (e, TableStored) f
+  stored-parsed a rest e f = rw (e, TableStored) f
 
   pub stored-same : (r : Parsed A) → q ≡ r → TableStored row zero q n after → TableStored row zero r n after
   stored-same r e t = subst (λ z. TableStored row zero z n after) e t
 
-  pub stored-is : (a : A) (rest : List ℕ) → q ≡ got a rest → TableStored row zero q n after → after ≡ padded n zero (row a)
+  pub stored-is : (a : A) (rest : List ℕ) → q ≡ parsed a rest → TableStored row zero q n after → after ≡ padded n zero (row a)
   unfolding TableStored
-  stored-is a rest e t = stored-same (got a rest) e t
+  stored-is a rest e t = stored-same (parsed a rest) e t

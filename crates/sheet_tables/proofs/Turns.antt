@@ -11,7 +11,7 @@ use lib.Seq.{sets, drop-cons, length-sets}
 use lib.Ieee.{Float, binary64, ofBits}
 use borrow.Author.Tests.{eq-eqb, ne-eqb}
 use Rattle.base_lists.specs.All.{All}
-use Rattle.text_format.specs.Format.{Parsed, bad, got, Format, andThen, readLines, lines}
+use Rattle.text_format.specs.Format.{Parsed, bad, parsed, Format, andThen, readLines, lines}
 use Rattle.text_format.specs.Table.{Field, line}
 use Rattle.text_format.proofs.Laws.{Lawful}
 use Rattle.text_format.proofs.Lines.{NoLine, line-some, turns}
@@ -41,14 +41,14 @@ module _ {A : Type 0} (F : Format A) (L : Lawful F) (N : NoLine F) (s : List ℕ
     unfolding lines
     next = ap (lines F .read) (drop-cons s p 0 h)
 
-    pub lines-empty : getD s p 0 ≡ 10 → lines F .read (drop p s) ≡ got [] (drop (p + 1) s)
+    pub lines-empty : getD s p 0 ≡ 10 → lines F .read (drop p s) ≡ parsed [] (drop (p + 1) s)
     unfolding readLines
-    lines-empty e = next ∙ rw (eq-eqb (getD s p 0) 10 e) (ap (λ z. got [] (drop z s)) (sym (add-one p)))
+    lines-empty e = next ∙ rw (eq-eqb (getD s p 0) 10 e) (ap (λ z. parsed [] (drop z s)) (sym (add-one p)))
 
     module _ (e : getD s p 0 ≡ 10 → ⊥) where
       -- the lines behind the line a, in at most k turns
       others : ℕ → A → List ℕ → Parsed (List A)
-      others k a rest = andThen (readLines k F rest) (λ l last. got (a ∷ l) last)
+      others k a rest = andThen (readLines k F rest) (λ l last. parsed (a ∷ l) last)
 
       first : lines F .read (drop p s) ≡ andThen (F .read (drop p s)) (others (length (drop (suc p) s)))
       unfolding readLines others
@@ -60,7 +60,7 @@ module _ {A : Type 0} (F : Format A) (L : Lawful F) (N : NoLine F) (s : List ℕ
       unfolding andThen
       lines-bad f = first ∙ ap (λ q. andThen q (others (length (drop (suc p) s)))) f
 
-      pub lines-turn : (a : A) (q : ℕ) → F .read (drop p s) ≡ got a (drop q s) → lines F .read (drop p s) ≡ onto (a ∷ []) (lines F .read (drop q s))
+      pub lines-turn : (a : A) (q : ℕ) → F .read (drop p s) ≡ parsed a (drop q s) → lines F .read (drop p s) ≡ onto (a ∷ []) (lines F .read (drop q s))
       unfolding andThen lines others
       lines-turn a q f =
           let k = length (drop (suc p) s) in
@@ -151,11 +151,11 @@ module _ (s shape : List ℕ) (at : ℕ) (wholes₀ : List ℕ) (floats₀ : Lis
       unfolding onto
       rows-bad h e b = sym (r .whole) ∙ ap (onto (r .taken)) (lines-bad F (shape-law shape) no-row s p h e b)
 
-      pub all-rows : p < length s → getD s p 0 ≡ 10 → lines F .read (drop at s) ≡ got (r .taken) (drop (p + 1) s)
+      pub all-rows : p < length s → getD s p 0 ≡ 10 → lines F .read (drop at s) ≡ parsed (r .taken) (drop (p + 1) s)
       unfolding onto
       all-rows h e =
           sym (r .whole) ∙ ap (onto (r .taken)) (lines-empty F (shape-law shape) no-row s p h e)
-          ∙ ap (λ l. got l (drop (p + 1) s)) (append-nil (r .taken))
+          ∙ ap (λ l. parsed l (drop (p + 1) s)) (append-nil (r .taken))
 
       -- one more row, l
       module _ (short-enough : length s ≤ size) (h : p < length s) (e : getD s p 0 ≡ 10 → ⊥) (l : List ℕ) (q : ℕ) (was : Read s (F .read (drop p s)) l q)

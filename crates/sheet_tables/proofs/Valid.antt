@@ -8,7 +8,7 @@ use lib.ListN.{length, getD, replicate, length-append}
 use lib.Dec.{eqb}
 use Rattle.base_lists.specs.All.{All, none as all-none, more}
 use Rattle.text_format.specs.Format.{_ending_, _and_, noItems, ValidCons, writeCons}
-use Rattle.text_format.specs.Table.{Field, float, whole, word, behind, cell, line}
+use Rattle.text_format.specs.Table.{Field, float, whole, word, endByte, cell, line}
 use Rattle.text_format.proofs.Digits.{digits-length, decimal-some}
 use Rattle.text_format.proofs.Words.{differ, differAll, differ-at, apart, and-left, no-truth}
 use Rattle.text_format.proofs.Tables.{Good}
@@ -70,7 +70,7 @@ narrow [] row s v = all-none
 narrow (c ∷ shape) [] s v = all-none
 narrow (c ∷ shape) (n ∷ row) s v =
     let e = short-first c shape s in
-    one-narrow (eqb c 102) (eqb c 119) (eqb c 108) (behind (shapeOf shape)) n (wholesOf (shapeOf shape) row) (e .0) (v .0) (narrow shape row (e .1) (v .1))
+    one-narrow (eqb c 102) (eqb c 119) (eqb c 108) (endByte (shapeOf shape)) n (wholesOf (shapeOf shape) row) (e .0) (v .0) (narrow shape row (e .1) (v .1))
 
 -- ---- bytes
 word-some : (w : List ℕ) → differ (10 ∷ []) w ≡ true → 1 ≤ length w
@@ -91,6 +91,6 @@ unfolding line _and_ noItems ValidCons writeCons least
 line-long [] all-none row v = omega arith
 line-long (f ∷ fs) (more g gs) [] v = absurd v
 line-long (f ∷ fs) (more g gs) (n ∷ row) v =
-    let a = cell-long f g (behind fs) n (v .0) in
+    let a = cell-long f g (endByte fs) n (v .0) in
     let b = line-long fs gs row (v .1) in
     simp length-append (omega arith)

@@ -11,8 +11,8 @@ use native.Mathlib.Nat.{add-mul, mul-add, mul-assoc, mul-comm, mul-left-comm, mu
 use lib.ListN.{length}
 use lib.Dec.{ltb, leb, eqb}
 use borrow.Author.Tests.{ltb-true, ltb-false, lt-ltb, le-ltb, leb-true, leb-false, le-leb, eqb-true, eqb-false, eq-eqb, ne-eqb}
-use Rattle.text_format.specs.Format.{Parsed, bad, got, Format, when, expect, charOf, digitOf, digits, readDigits, hex16, widthUpTo, decimal, readDecimal, readPlain, plain}
-use Rattle.text_format.proofs.Laws.{Was, Lawful, no-got, when-got, same-got, expect-back, expect-was}
+use Rattle.text_format.specs.Format.{Parsed, bad, parsed, Format, when, expect, charOf, digitOf, digits, readDigits, hex16, widthUpTo, decimal, readDecimal, readPlain, plain}
+use Rattle.text_format.proofs.Laws.{Was, Lawful, no-parsed, when-parsed, same-parsed, expect-back, expect-was}
 
 ruleset ring = (add-mul, mul-add, mul-assoc, mul-comm, mul-left-comm)
 
@@ -80,17 +80,17 @@ module _ (base : ℕ) (some : 0 < base) where
 
 -- ---- so many digits
 module _ (base : ℕ) (some : 0 < base) (few : base ≤ 16) where
-  pub digits-back : (k v n : ℕ) (rest : List ℕ) → n < base ^ k → readDigits base k v (digits base k n ++ rest) ≡ got (v * base ^ k + n) rest
+  pub digits-back : (k v n : ℕ) (rest : List ℕ) → n < base ^ k → readDigits base k v (digits base k n ++ rest) ≡ parsed (v * base ^ k + n) rest
   unfolding digits readDigits when
   digits-back zero v n rest h =
       let e = pow-zero base in
       let h2 : n < 1 = rw e at h in
-      ap (λ z. got z rest) (rw e (simp ring (omega arith)))
+      ap (λ z. parsed z rest) (rw e (simp ring (omega arith)))
   digits-back (suc k) v n rest h =
       let low = first-small base some k n h in
       rw (char-digit (n / base ^ k) (omega arith), lt-ltb (n / base ^ k) base low)
       (digits-back k (v * base + n / base ^ k) (n % base ^ k) rest (mod-lt n (one-le-pow k base some))
-      ∙ ap (λ z. got z rest) (regroup base some v (n / base ^ k) k (n % base ^ k) n (div-add-mod' n (base ^ k))))
+      ∙ ap (λ z. parsed z rest) (regroup base some v (n / base ^ k) k (n % base ^ k) n (div-add-mod' n (base ^ k))))
 
   pub record Digits (k v : ℕ) (bs : List ℕ) (n : ℕ) (rest : List ℕ) : Type 0 where
     pub low : ℕ
@@ -98,16 +98,16 @@ module _ (base : ℕ) (some : 0 < base) (few : base ≤ 16) where
     pub is : n ≡ v * base ^ k + low
     pub text : digits base k low ++ rest ≡ bs
 
-  pub digits-was : (k v : ℕ) (bs : List ℕ) (n : ℕ) (rest : List ℕ) → readDigits base k v bs ≡ got n rest → Digits k v bs n rest
+  pub digits-was : (k v : ℕ) (bs : List ℕ) (n : ℕ) (rest : List ℕ) → readDigits base k v bs ≡ parsed n rest → Digits k v bs n rest
   unfolding digits readDigits
   digits-was zero v bs n rest e =
-      let s = same-got v n bs rest e in
+      let s = same-parsed v n bs rest e in
       let p = pow-zero base in
       record { low = 0; fits = rw p (omega arith); is = rw p (simp ring (omega (arith, s .0))); text = sym (s .1) }
-  digits-was (suc k) v [] n rest e = no-got n rest e
+  digits-was (suc k) v [] n rest e = no-parsed n rest e
   digits-was (suc k) v (b ∷ bs) n rest e =
       let d = digitOf b in
-      let w = when-got (ltb d base) (readDigits base k (v * base + d) bs) n rest e in
+      let w = when-parsed (ltb d base) (readDigits base k (v * base + d) bs) n rest e in
       let lt = ltb-true d base (w .test) in
       let r = digits-was k (v * base + d) bs n rest (w .on) in
       record {
@@ -119,7 +119,7 @@ module _ (base : ℕ) (some : 0 < base) (few : base ≤ 16) where
 
 pub hex16-law : Lawful hex16
 hex16-law = record {
-  back = λ n rest v. digits-back 16 (omega arith) (omega arith) 16 0 n rest v ∙ ap (λ z. got z rest) (omega arith);
+  back = λ n rest v. digits-back 16 (omega arith) (omega arith) 16 0 n rest v ∙ ap (λ z. parsed z rest) (omega arith);
   was = λ bs n rest e.
       let d = digits-was 16 (omega arith) (omega arith) 16 0 bs n rest e in
       let q : d .low ≡ n = omega (arith, d .is) in
@@ -197,9 +197,9 @@ above-zero (suc v) z = omega arith
 -- ---- a plain decimal, up to a byte that is no digit
 module _ (most end : ℕ) (no-digit : 10 ≤ digitOf end) where
   pub decimal-back : (j v n : ℕ) (rest : List ℕ) → n < 10 ^ j → v * 10 ^ j + n ≤ most
-      → readDecimal most end v (digits 10 j n ++ end ∷ rest) ≡ got (v * 10 ^ j + n) rest
+      → readDecimal most end v (digits 10 j n ++ end ∷ rest) ≡ parsed (v * 10 ^ j + n) rest
   unfolding digits readDecimal when
-  decimal-back zero v n rest h g = rw (eq-eqb end end refl) (ap (λ z. got z rest) (omega arith))
+  decimal-back zero v n rest h g = rw (eq-eqb end end refl) (ap (λ z. parsed z rest) (omega arith))
   decimal-back (suc j) v n rest h g =
       let d = n / 10 ^ j in
       let P = one-le-pow j 10 (omega arith) in
@@ -209,7 +209,7 @@ module _ (most end : ℕ) (no-digit : 10 ≤ digitOf end) where
       let r = regroup 10 (omega arith) v d j (n % 10 ^ j) n (div-add-mod' n (10 ^ j)) in
       let s = mul-le-mul-left (v * 10 + d) P in
       rw (ne-eqb (charOf d) end other, c, lt-ltb d 10 low, le-leb (v * 10 + d) most (omega arith))
-      (decimal-back j (v * 10 + d) (n % 10 ^ j) rest (mod-lt n P) (rw r g) ∙ ap (λ z. got z rest) r)
+      (decimal-back j (v * 10 + d) (n % 10 ^ j) rest (mod-lt n P) (rw r g) ∙ ap (λ z. parsed z rest) r)
 
   pub record Decimal (v : ℕ) (bs : List ℕ) (n : ℕ) (rest : List ℕ) : Type 0 where
     pub count : ℕ
@@ -219,22 +219,22 @@ module _ (most end : ℕ) (no-digit : 10 ≤ digitOf end) where
     pub most-is : n ≤ most
     pub text : digits 10 count low ++ end ∷ rest ≡ bs
 
-  pub decimal-was : (v : ℕ) (bs : List ℕ) (n : ℕ) (rest : List ℕ) → v ≤ most → readDecimal most end v bs ≡ got n rest → Decimal v bs n rest
+  pub decimal-was : (v : ℕ) (bs : List ℕ) (n : ℕ) (rest : List ℕ) → v ≤ most → readDecimal most end v bs ≡ parsed n rest → Decimal v bs n rest
   unfolding digits readDecimal
-  decimal-was v [] n rest h e = no-got n rest e
+  decimal-was v [] n rest h e = no-parsed n rest e
   decimal-was v (b ∷ bs) n rest h e = go (eqb b end) refl e (λ g f. decimal-was (v * 10 + digitOf b) bs n rest g f)
     where
       next : ℕ
       next = v * 10 + digitOf b
 
-      go : (t : Bool) → eqb b end ≡ t → cond t (got v bs) (when (ltb (digitOf b) 10) (when (leb next most) (readDecimal most end next bs))) ≡ got n rest
-          → (next ≤ most → readDecimal most end next bs ≡ got n rest → Decimal next bs n rest) → Decimal v (b ∷ bs) n rest
+      go : (t : Bool) → eqb b end ≡ t → cond t (parsed v bs) (when (ltb (digitOf b) 10) (when (leb next most) (readDecimal most end next bs))) ≡ parsed n rest
+          → (next ≤ most → readDecimal most end next bs ≡ parsed n rest → Decimal next bs n rest) → Decimal v (b ∷ bs) n rest
       go true t e r =
-          let s = same-got v n bs rest e in
+          let s = same-parsed v n bs rest e in
           record { count = 0; low = 0; fits = omega arith; is = omega (arith, s .0); most-is = omega (arith, s .0); text = cc (eqb-true b end t, s .1) }
       go false t e r =
-          let w = when-got (ltb (digitOf b) 10) (when (leb next most) (readDecimal most end next bs)) n rest e in
-          let x = when-got (leb next most) (readDecimal most end next bs) n rest (w .on) in
+          let w = when-parsed (ltb (digitOf b) 10) (when (leb next most) (readDecimal most end next bs)) n rest e in
+          let x = when-parsed (leb next most) (readDecimal most end next bs) n rest (w .on) in
           let lt = ltb-true (digitOf b) 10 (w .test) in
           let d = r (leb-true next most (x .test)) (x .on) in
           record {
@@ -246,25 +246,25 @@ module _ (most end : ℕ) (no-digit : 10 ≤ digitOf end) where
             text = joined-text 10 (omega arith) (d .count) b (d .low) (end ∷ rest) bs (omega arith) (d .fits) (d .text);
           }
 
-  zero-test : (v n : ℕ) (rest : List ℕ) (a b : Parsed ℕ) → (v ≡ 0 → a ≡ got n rest) → (0 < v → b ≡ got n rest) → cond (eqb v 0) a b ≡ got n rest
+  zero-test : (v n : ℕ) (rest : List ℕ) (a b : Parsed ℕ) → (v ≡ 0 → a ≡ parsed n rest) → (0 < v → b ≡ parsed n rest) → cond (eqb v 0) a b ≡ parsed n rest
   zero-test v n rest a b f g = go (eqb v 0) refl
     where
-      go : (t : Bool) → eqb v 0 ≡ t → cond t a b ≡ got n rest
+      go : (t : Bool) → eqb v 0 ≡ t → cond t a b ≡ parsed n rest
       go true e = f (eqb-true v 0 e)
       go false e = g (above-zero v (eqb-false v 0 e))
 
   -- the first digit is 0 only if it is the only one
-  zeros : (j n : ℕ) (rest : List ℕ) → n / 10 ^ j ≡ 0 → (j ≡ 0) ⊎ (10 ^ j ≤ n) → expect (end ∷ []) 0 (digits 10 j (n % 10 ^ j) ++ end ∷ rest) ≡ got n rest
+  zeros : (j n : ℕ) (rest : List ℕ) → n / 10 ^ j ≡ 0 → (j ≡ 0) ⊎ (10 ^ j ≤ n) → expect (end ∷ []) 0 (digits 10 j (n % 10 ^ j) ++ end ∷ rest) ≡ parsed n rest
   unfolding digits
   zeros zero n rest z k =
       let q = div-lt-iff-lt-mul {k = 10 ^ 0} {x = n} {y = 1} (omega arith) .0 (omega arith) in
-      expect-back (end ∷ []) 0 rest ∙ ap (λ y. got y rest) (omega arith)
+      expect-back (end ∷ []) 0 rest ∙ ap (λ y. parsed y rest) (omega arith)
   zeros (suc j) n rest z (inl k) = absurd (omega arith)
   zeros (suc j) n rest z (inr k) =
       let q = div-lt-iff-lt-mul {k = 10 ^ suc j} {x = n} {y = 1} (one-le-pow (suc j) 10 (omega arith)) .0 (omega arith) in
       absurd (omega arith)
 
-  plain-first : (j n : ℕ) (rest : List ℕ) → n ≤ most → n < 10 ^ suc j → (j ≡ 0) ⊎ (10 ^ j ≤ n) → readPlain most end (digits 10 (suc j) n ++ end ∷ rest) ≡ got n rest
+  plain-first : (j n : ℕ) (rest : List ℕ) → n ≤ most → n < 10 ^ suc j → (j ≡ 0) ⊎ (10 ^ j ≤ n) → readPlain most end (digits 10 (suc j) n ++ end ∷ rest) ≡ parsed n rest
   unfolding digits readPlain when
   plain-first j n rest v h l =
       let d = n / 10 ^ j in
@@ -273,26 +273,26 @@ module _ (most end : ℕ) (no-digit : 10 ≤ digitOf end) where
       let m = div-add-mod' n (10 ^ j) in
       rw (char-digit d (omega arith), lt-ltb d 10 low)
       (zero-test d n rest _ _ (λ z. zeros j n rest z l)
-      (λ z. decimal-back j d (n % 10 ^ j) rest (mod-lt n P) (omega arith) ∙ ap (λ y. got y rest) m))
+      (λ z. decimal-back j d (n % 10 ^ j) rest (mod-lt n P) (omega arith) ∙ ap (λ y. parsed y rest) m))
 
-  pub plain-back : 9 ≤ most → most < 10 ^ 20 → (n : ℕ) (rest : List ℕ) → n ≤ most → readPlain most end ((decimal n ++ (end ∷ [])) ++ rest) ≡ got n rest
+  pub plain-back : 9 ≤ most → most < 10 ^ 20 → (n : ℕ) (rest : List ℕ) → n ≤ most → readPlain most end ((decimal n ++ (end ∷ [])) ++ rest) ≡ parsed n rest
   unfolding decimal
   plain-back nine twenty n rest v =
       let w = width 19 n (omega arith) in
       ap (readPlain most end) (append-assoc (decimal n) (end ∷ []) rest) ∙ ap (λ k. readPlain most end (digits 10 k n ++ end ∷ rest)) (w .is)
       ∙ plain-first (w .more) n rest v (w .below) (w .least)
 
-  pub plain-was : 9 ≤ most → most < 10 ^ 20 → (bs : List ℕ) (n : ℕ) (rest : List ℕ) → readPlain most end bs ≡ got n rest → Was (plain most end) bs n rest
+  pub plain-was : 9 ≤ most → most < 10 ^ 20 → (bs : List ℕ) (n : ℕ) (rest : List ℕ) → readPlain most end bs ≡ parsed n rest → Was (plain most end) bs n rest
   unfolding readPlain decimal digits widthUpTo charOf
-  plain-was nine twenty [] n rest e = no-got n rest e
+  plain-was nine twenty [] n rest e = no-parsed n rest e
   plain-was nine twenty (b ∷ bs) n rest e =
-      let w = when-got (ltb d 10) (cond (eqb d 0) (expect (end ∷ []) 0 bs) (readDecimal most end d bs)) n rest e in
+      let w = when-parsed (ltb d 10) (cond (eqb d 0) (expect (end ∷ []) 0 bs) (readDecimal most end d bs)) n rest e in
       go (eqb d 0) refl (ltb-true d 10 (w .test)) (w .on)
     where
       d : ℕ
       d = digitOf b
 
-      go : (t : Bool) → eqb d 0 ≡ t → d < 10 → cond t (expect (end ∷ []) 0 bs) (readDecimal most end d bs) ≡ got n rest → Was (plain most end) (b ∷ bs) n rest
+      go : (t : Bool) → eqb d 0 ≡ t → d < 10 → cond t (expect (end ∷ []) 0 bs) (readDecimal most end d bs) ≡ parsed n rest → Was (plain most end) (b ∷ bs) n rest
       go true t l e =
           let x = expect-was (end ∷ []) 0 bs n rest e in
           let c : charOf 0 ≡ b = ap charOf (sym (eqb-true d 0 t)) ∙ digit-char b (omega arith) in

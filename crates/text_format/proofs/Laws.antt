@@ -7,8 +7,8 @@ use Prim.Native.Nat.{ℕ}
 use native.Mathlib.Omega.{arith}
 use lib.Dec.{eqb}
 use borrow.Author.Tests.{eqb-true, eq-eqb}
-use Rattle.base_lists.specs.Result.{Result, refused, got as accepted}
-use Rattle.text_format.specs.Format.{Parsed, bad, got, Format, when, andThen, orElse, expect, _ending_, _before_, _then_, noItems, ValidCons, writeCons, _and_, as-of, whole, all}
+use Rattle.base_lists.specs.Result.{Result, refused, got}
+use Rattle.text_format.specs.Format.{Parsed, bad, parsed, Format, when, andThen, orElse, expect, _ending_, _before_, _then_, noItems, ValidCons, writeCons, _and_, as-of, wholeText, all}
 
 -- what is read: a valid value, and its text in front of what is left
 pub record Was {A : Type 0} (F : Format A) (bs : List ℕ) (a : A) (rest : List ℕ) : Type 0 where
@@ -16,39 +16,39 @@ pub record Was {A : Type 0} (F : Format A) (bs : List ℕ) (a : A) (rest : List 
   pub text : F .write a ++ rest ≡ bs
 
 pub record Lawful {A : Type 0} (F : Format A) : Type 0 where
-  pub back : (a : A) (rest : List ℕ) → F .valid a → F .read (F .write a ++ rest) ≡ got a rest
-  pub was : (bs : List ℕ) (a : A) (rest : List ℕ) → F .read bs ≡ got a rest → Was F bs a rest
+  pub back : (a : A) (rest : List ℕ) → F .valid a → F .read (F .write a ++ rest) ≡ parsed a rest
+  pub was : (bs : List ℕ) (a : A) (rest : List ℕ) → F .read bs ≡ parsed a rest → Was F bs a rest
 
 -- ---- reading on
-pub no-got : {A : Type 0} {X : Type 0} (a : A) (rest : List ℕ) → bad ≡ got a rest → X
-no-got a rest e = absurd (let z : _≡_ {A = ℕ} 0 1 = cc in omega arith)
+pub no-parsed : {A : Type 0} {X : Type 0} (a : A) (rest : List ℕ) → bad ≡ parsed a rest → X
+no-parsed a rest e = absurd (let z : _≡_ {A = ℕ} 0 1 = cc in omega arith)
 
 pub record When {A : Type 0} (b : Bool) (p : Parsed A) (a : A) (rest : List ℕ) : Type 0 where
   pub test : b ≡ true
-  pub on : p ≡ got a rest
+  pub on : p ≡ parsed a rest
 
-pub when-got : {A : Type 0} (b : Bool) (p : Parsed A) (a : A) (rest : List ℕ) → when b p ≡ got a rest → When b p a rest
+pub when-parsed : {A : Type 0} (b : Bool) (p : Parsed A) (a : A) (rest : List ℕ) → when b p ≡ parsed a rest → When b p a rest
 unfolding when
-when-got true p a rest e = record { test = refl; on = e }
-when-got false p a rest e = no-got a rest e
+when-parsed true p a rest e = record { test = refl; on = e }
+when-parsed false p a rest e = no-parsed a rest e
 
 pub record Then {A B : Type 0} (p : Parsed A) (f : A → List ℕ → Parsed B) (b : B) (rest : List ℕ) : Type 0 where
   pub value : A
   pub left : List ℕ
-  pub first : p ≡ got value left
-  pub on : f value left ≡ got b rest
+  pub first : p ≡ parsed value left
+  pub on : f value left ≡ parsed b rest
 
-pub then-got : {A B : Type 0} (p : Parsed A) (f : A → List ℕ → Parsed B) (b : B) (rest : List ℕ)
-    → andThen p f ≡ got b rest → Then p f b rest
+pub then-parsed : {A B : Type 0} (p : Parsed A) (f : A → List ℕ → Parsed B) (b : B) (rest : List ℕ)
+    → andThen p f ≡ parsed b rest → Then p f b rest
 unfolding andThen
-then-got bad f b rest e = no-got b rest e
-then-got (got a l) f b rest e = record { value = a; left = l; first = refl; on = e }
+then-parsed bad f b rest e = no-parsed b rest e
+then-parsed (parsed a l) f b rest e = record { value = a; left = l; first = refl; on = e }
 
-pub same-got : {A : Type 0} (a b : A) (l m : List ℕ) → got a l ≡ got b m → (a ≡ b) × (l ≡ m)
-same-got a b l m e = (cc, cc)
+pub same-parsed : {A : Type 0} (a b : A) (l m : List ℕ) → parsed a l ≡ parsed b m → (a ≡ b) × (l ≡ m)
+same-parsed a b l m e = (cc, cc)
 
 -- ---- texts
-pub expect-back : {A : Type 0} (w : List ℕ) (a : A) (rest : List ℕ) → expect w a (w ++ rest) ≡ got a rest
+pub expect-back : {A : Type 0} (w : List ℕ) (a : A) (rest : List ℕ) → expect w a (w ++ rest) ≡ parsed a rest
 unfolding expect when
 expect-back [] a rest = refl
 expect-back (c ∷ w) a rest = rw (eq-eqb c c refl) (expect-back w a rest)
@@ -58,12 +58,12 @@ pub record Began {A : Type 0} (w : List ℕ) (a : A) (bs : List ℕ) (b : A) (re
   pub text : w ++ rest ≡ bs
 
 pub expect-was : {A : Type 0} (w : List ℕ) (a : A) (bs : List ℕ) (b : A) (rest : List ℕ)
-    → expect w a bs ≡ got b rest → Began w a bs b rest
+    → expect w a bs ≡ parsed b rest → Began w a bs b rest
 unfolding expect
 expect-was [] a bs b rest e = record { same = cc; text = cc }
-expect-was (c ∷ w) a [] b rest e = no-got b rest e
+expect-was (c ∷ w) a [] b rest e = no-parsed b rest e
 expect-was (c ∷ w) a (d ∷ bs) b rest e =
-    let h = when-got (eqb d c) (expect w a bs) b rest e in
+    let h = when-parsed (eqb d c) (expect w a bs) b rest e in
     let r = expect-was w a bs b rest (h .on) in
     let q = eqb-true d c (h .test) in
     record { same = r .same; text = cc (r .text, q) }
@@ -74,9 +74,9 @@ unfolding _ending_ andThen
 ending-law F w L = record {
   back = λ a rest v. rw (append-assoc, L .back a (w ++ rest) v) (expect-back w a rest);
   was = λ bs a rest e.
-      let t = then-got (F .read bs) (expect w) a rest e in
+      let t = then-parsed (F .read bs) (expect w) a rest e in
       let x = expect-was w (t .value) (t .left) a rest (t .on) in
-      let y = L .was bs a (t .left) (t .first ∙ ap (λ z. got z (t .left)) (x .same)) in
+      let y = L .was bs a (t .left) (t .first ∙ ap (λ z. parsed z (t .left)) (x .same)) in
       record { right = y .right; text = append-assoc (F .write a) w rest ∙ ap (λ l. F .write a ++ l) (x .text) ∙ y .text };
 }
 
@@ -85,7 +85,7 @@ unfolding _before_ andThen
 before-law w F L = record {
   back = λ a rest v. rw (append-assoc, expect-back w (tt {0}) (F .write a ++ rest)) (L .back a rest v);
   was = λ bs a rest e.
-      let t = then-got (expect w (tt {0}) bs) (λ _ l. F .read l) a rest e in
+      let t = then-parsed (expect w (tt {0}) bs) (λ _ l. F .read l) a rest e in
       let x = expect-was w (tt {0}) bs (t .value) (t .left) (t .first) in
       let y = L .was (t .left) a rest (t .on) in
       record { right = y .right; text = append-assoc w (F .write a) rest ∙ ap (λ l. w ++ l) (y .text) ∙ x .text };
@@ -101,13 +101,13 @@ record Both {A B C : Type 0} (F : Format A) (G : Format B) (pair : A → B → C
   pub text : (F .write a ++ G .write b) ++ rest ≡ bs
 
 both : {A B C : Type 0} (F : Format A) (G : Format B) → Lawful F → Lawful G → (pair : A → B → C) (bs : List ℕ) (c : C) (rest : List ℕ)
-    → andThen (F .read bs) (λ a l. andThen (G .read l) (λ b more. got (pair a b) more)) ≡ got c rest → Both F G pair bs c rest
+    → andThen (F .read bs) (λ a l. andThen (G .read l) (λ b more. parsed (pair a b) more)) ≡ parsed c rest → Both F G pair bs c rest
 both F G L M pair bs c rest e =
-    let t = then-got (F .read bs) (λ a l. andThen (G .read l) (λ b more. got (pair a b) more)) c rest e in
-    let u = then-got (G .read (t .left)) (λ b more. got (pair (t .value) b) more) c rest (t .on) in
+    let t = then-parsed (F .read bs) (λ a l. andThen (G .read l) (λ b more. parsed (pair a b) more)) c rest e in
+    let u = then-parsed (G .read (t .left)) (λ b more. parsed (pair (t .value) b) more) c rest (t .on) in
     let x = L .was bs (t .value) (t .left) (t .first) in
     let y = M .was (t .left) (u .value) (u .left) (u .first) in
-    let s = same-got (pair (t .value) (u .value)) c (u .left) rest (u .on) in
+    let s = same-parsed (pair (t .value) (u .value)) c (u .left) rest (u .on) in
     record {
       a = t .value;
       b = u .value;
@@ -131,19 +131,19 @@ then-law F G L M = record {
 pub none-law : {A : Type 0} → Lawful (noItems {A = A})
 unfolding noItems
 none-law = record {
-  back = λ a rest v. ap (λ z. got z rest) (sym v);
-  was = λ bs a rest e. let s = same-got [] a bs rest e in record { right = sym (s .0); text = sym (s .1) };
+  back = λ a rest v. ap (λ z. parsed z rest) (sym v);
+  was = λ bs a rest e. let s = same-parsed [] a bs rest e in record { right = sym (s .0); text = sym (s .1) };
 }
 
 pub and-law : {A : Type 0} (F : Format A) (G : Format (List A)) → Lawful F → Lawful G → Lawful (F and G)
 unfolding _and_ andThen ValidCons writeCons
 and-law {A} F G L M = record { back = back; was = was }
   where
-    back : (l : List A) (rest : List ℕ) → ValidCons (F .valid) (G .valid) l → (F and G) .read (writeCons (F .write) (G .write) l ++ rest) ≡ got l rest
+    back : (l : List A) (rest : List ℕ) → ValidCons (F .valid) (G .valid) l → (F and G) .read (writeCons (F .write) (G .write) l ++ rest) ≡ parsed l rest
     back [] rest v = absurd v
     back (a ∷ l) rest v = rw (append-assoc, L .back a (G .write l ++ rest) (v .0), M .back l rest (v .1))
 
-    was : (bs : List ℕ) (l : List A) (rest : List ℕ) → (F and G) .read bs ≡ got l rest → Was (F and G) bs l rest
+    was : (bs : List ℕ) (l : List A) (rest : List ℕ) → (F and G) .read bs ≡ parsed l rest → Was (F and G) bs l rest
     was bs l rest e =
         let t = both F G L M (λ a m. a ∷ m) bs l rest e in
         subst (λ z. Was (F and G) bs z rest) (t .is) (record { right = (t .first, t .second); text = t .text })
@@ -153,10 +153,10 @@ pub as-law : {A B : Type 0} (F : Format A) (to : A → B) (from : B → A)
     → ((b : B) → to (from b) ≡ b) → ((a : A) → from (to a) ≡ a) → Lawful F → Lawful (as-of F to from)
 unfolding as-of andThen
 as-law F to from there back L = record {
-  back = λ b rest v. rw (L .back (from b) rest v) (ap (λ z. got z rest) (there b));
+  back = λ b rest v. rw (L .back (from b) rest v) (ap (λ z. parsed z rest) (there b));
   was = λ bs b rest e.
-      let t = then-got (F .read bs) (λ a more. got (to a) more) b rest e in
-      let s = same-got (to (t .value)) b (t .left) rest (t .on) in
+      let t = then-parsed (F .read bs) (λ a more. parsed (to a) more) b rest e in
+      let s = same-parsed (to (t .value)) b (t .left) rest (t .on) in
       let x = L .was bs (t .value) (t .left) (t .first) in
       let y = sym (back (t .value)) in
       let w : Was (as-of F to from) bs (to (t .value)) (t .left) = record {
@@ -167,25 +167,25 @@ as-law F to from there back L = record {
 }
 
 -- ---- a whole text
-pub whole-back : {A : Type 0} (n : ℕ) (F : Format A) → Lawful F → (a : A) → F .valid a → whole n F (F .write a) ≡ accepted a
-unfolding whole all
+pub whole-back : {A : Type 0} (n : ℕ) (F : Format A) → Lawful F → (a : A) → F .valid a → wholeText n F (F .write a) ≡ got a
+unfolding wholeText all
 whole-back n F L a v = rw (ap (F .read) (sym (append-nil (F .write a))) ∙ L .back a [] v)
 
 pub record Is {A : Type 0} (F : Format A) (bs : List ℕ) (a : A) : Type 0 where
   pub right : F .valid a
   pub text : F .write a ≡ bs
 
-pub whole-was : {A : Type 0} (n : ℕ) (F : Format A) → Lawful F → (bs : List ℕ) (a : A) → whole n F bs ≡ accepted a → Is F bs a
-unfolding whole all
+pub whole-was : {A : Type 0} (n : ℕ) (F : Format A) → Lawful F → (bs : List ℕ) (a : A) → wholeText n F bs ≡ got a → Is F bs a
+unfolding wholeText all
 whole-was {A} n F L bs a e = go (F .read bs) refl e
   where
-    no : {X : Type 0} → _≡_ {A = Result A} (refused n) (accepted a) → X
+    no : {X : Type 0} → _≡_ {A = Result A} (refused n) (got a) → X
     no e = absurd (let z : _≡_ {A = ℕ} 0 1 = cc in omega arith)
 
-    go : (p : Parsed A) → F .read bs ≡ p → all n p ≡ accepted a → Is F bs a
+    go : (p : Parsed A) → F .read bs ≡ p → all n p ≡ got a → Is F bs a
     go bad f e = no e
-    go (got b []) f e =
+    go (parsed b []) f e =
         let w = L .was bs b [] f in
         let q : b ≡ a = cc in
         subst (Is F bs) q (record { right = w .right; text = sym (append-nil (F .write b)) ∙ w .text })
-    go (got b (c ∷ l)) f e = no e
+    go (parsed b (c ∷ l)) f e = no e

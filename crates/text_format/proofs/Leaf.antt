@@ -10,7 +10,7 @@ use lib.ListN.{length, getD, drop, drop-of-length-le}
 use lib.Seq.{drop-cons}
 use lib.Dec.{leb}
 use borrow.Author.Tests.{leb-true, leb-false, lt-ltb, le-ltb, le-leb, lt-leb, eq-eqb, ne-eqb}
-use Rattle.text_format.specs.Format.{Parsed, bad, got, when, digitOf, readDigits, readDecimal, readPlain, expect}
+use Rattle.text_format.specs.Format.{Parsed, bad, parsed, when, digitOf, readDigits, readDecimal, readPlain, expect}
 
 ruleset ring = (add-mul, mul-add, mul-assoc, mul-comm, mul-left-comm)
 
@@ -70,14 +70,14 @@ module _ (s w : List ℕ) (n : ℕ) where
       let x : expect (drop (suc i) w) n (drop (suc p) s) ≡ expect (drop (i + 1) w) n (drop (p + 1) s) = cc (add-one i, add-one p) in
       sym (next i (drop p s) h ∙ ap (expect (getD w i 0 ∷ drop (suc i) w) n) (drop-cons s p 0 l) ∙ rw (eq-eqb (getD s p 0) (getD w i 0) e) x)
 
-  pub word-done : (i p : ℕ) → length w ≤ i → expect (drop i w) n (drop p s) ≡ got n (drop p s)
+  pub word-done : (i p : ℕ) → length w ≤ i → expect (drop i w) n (drop p s) ≡ parsed n (drop p s)
   unfolding expect
   word-done i p h = ap (λ z. expect z n (drop p s)) (drop-of-length-le w h)
 
 pub byte-stop : (s : List ℕ) (c n p : ℕ) → p < length s → (getD s p 0 ≡ c → ⊥) → expect (c ∷ []) n (drop p s) ≡ bad
 byte-stop s c n p h e = word-stop s (c ∷ []) n 0 p (omega arith) h e
 
-pub byte-done : (s : List ℕ) (c n p : ℕ) → p < length s → getD s p 0 ≡ c → expect (c ∷ []) n (drop p s) ≡ got n (drop (p + 1) s)
+pub byte-done : (s : List ℕ) (c n p : ℕ) → p < length s → getD s p 0 ≡ c → expect (c ∷ []) n (drop p s) ≡ parsed n (drop (p + 1) s)
 byte-done s c n p h e = sym (word-turn s (c ∷ []) n 0 p (omega arith) h e) ∙ word-done s (c ∷ []) n (0 + 1) (p + 1) (omega arith)
 
 -- ---- decimals
@@ -86,11 +86,11 @@ module _ (s : List ℕ) (most end : ℕ) where
   unfolding readDecimal
   dec-end v p h = ap (readDecimal most end v) (drop-of-length-le s h)
 
-  pub dec-done : (v p : ℕ) → p < length s → getD s p 0 ≡ end → readDecimal most end v (drop p s) ≡ got v (drop (p + 1) s)
+  pub dec-done : (v p : ℕ) → p < length s → getD s p 0 ≡ end → readDecimal most end v (drop p s) ≡ parsed v (drop (p + 1) s)
   unfolding readDecimal
   dec-done v p h e =
       ap (readDecimal most end v) (drop-cons s p 0 h)
-      ∙ rw (eq-eqb (getD s p 0) end e) (ap (λ z. got v (drop z s)) (sym (add-one p)))
+      ∙ rw (eq-eqb (getD s p 0) end e) (ap (λ z. parsed v (drop z s)) (sym (add-one p)))
 
   module _ (v p d : ℕ) (h : p < length s) (no : getD s p 0 ≡ end → ⊥) (e : d ≡ digitOf (getD s p 0)) where
     pub dec-stop : 10 ≤ d → readDecimal most end v (drop p s) ≡ bad

@@ -9,8 +9,8 @@ use lib.ListN.{length, length-append}
 use lib.Dec.{eqb}
 use borrow.Author.Tests.{eqb-true, ne-eqb}
 use Rattle.base_lists.specs.All.{All, none, more}
-use Rattle.text_format.specs.Format.{Parsed, bad, got, Format, andThen, writeLines, readLines, lines}
-use Rattle.text_format.proofs.Laws.{Lawful, no-got, then-got, same-got}
+use Rattle.text_format.specs.Format.{Parsed, bad, parsed, Format, andThen, writeLines, readLines, lines}
+use Rattle.text_format.proofs.Laws.{Lawful, no-parsed, then-parsed, same-parsed}
 
 -- a text that begins with the newline is no line
 abbrev pub NoLine : {A : Type 0} → Format A → Type 0
@@ -27,7 +27,7 @@ starts : {A : Type 0} (F : Format A) → Lawful F → NoLine F → (a : A) → F
 starts {A} F L N a v = go (F .write a) refl
   where
     never : {X : Type 0} (t : List ℕ) (rest : List ℕ) → F .write a ++ rest ≡ 10 ∷ t → X
-    never t rest e = no-got a rest (sym (N t) ∙ ap (F .read) (sym e) ∙ L .back a rest v)
+    never t rest e = no-parsed a rest (sym (N t) ∙ ap (F .read) (sym e) ∙ L .back a rest v)
 
     go : (w : List ℕ) → F .write a ≡ w → Starts F a
     go [] e = never [] (10 ∷ []) (ap (λ z. z ++ (10 ∷ [])) e)
@@ -35,11 +35,11 @@ starts {A} F L N a v = go (F .write a) refl
 
 module _ {A : Type 0} (F : Format A) (L : Lawful F) (N : NoLine F) where
   line-step : (k : ℕ) (bs : List ℕ) (b : ℕ) (t : List ℕ) (a : A) (l : List A) (mid rest : List ℕ) → bs ≡ b ∷ t → (b ≡ 10 → ⊥)
-      → F .read bs ≡ got a mid → readLines k F mid ≡ got l rest → readLines (suc k) F bs ≡ got (a ∷ l) rest
+      → F .read bs ≡ parsed a mid → readLines k F mid ≡ parsed l rest → readLines (suc k) F bs ≡ parsed (a ∷ l) rest
   unfolding readLines andThen
   line-step k bs b t a l mid rest e n f g = ap (readLines (suc k) F) e ∙ rw (ne-eqb b 10 n, ap (F .read) (sym e) ∙ f, g)
 
-  pub lines-back : (k : ℕ) (l : List A) (rest : List ℕ) → length l < k → All (F .valid) l → readLines k F (writeLines F l ++ rest) ≡ got l rest
+  pub lines-back : (k : ℕ) (l : List A) (rest : List ℕ) → length l < k → All (F .valid) l → readLines k F (writeLines F l ++ rest) ≡ parsed l rest
   unfolding readLines writeLines
   lines-back zero l rest h v = absurd (omega arith)
   lines-back (suc k) [] rest h v = refl
@@ -54,28 +54,28 @@ module _ {A : Type 0} (F : Format A) (L : Lawful F) (N : NoLine F) where
     pub each : All (F .valid) l
     pub text : writeLines F l ++ rest ≡ bs
 
-  empty : (b : ℕ) (bs : List ℕ) (l : List A) (rest : List ℕ) → eqb b 10 ≡ true → _≡_ {A = Parsed (List A)} (got [] bs) (got l rest) → Lines (b ∷ bs) l rest
+  empty : (b : ℕ) (bs : List ℕ) (l : List A) (rest : List ℕ) → eqb b 10 ≡ true → _≡_ {A = Parsed (List A)} (parsed [] bs) (parsed l rest) → Lines (b ∷ bs) l rest
   unfolding writeLines
   empty b bs l rest t e =
-      let s = same-got {A = List A} [] l bs rest e in
+      let s = same-parsed {A = List A} [] l bs rest e in
       subst (λ z. Lines (b ∷ bs) z rest) (s .0) (record { each = none; text = cc (eqb-true b 10 t, s .1) })
 
-  pub lines-was : (k : ℕ) (bs : List ℕ) (l : List A) (rest : List ℕ) → readLines k F bs ≡ got l rest → Lines bs l rest
+  pub lines-was : (k : ℕ) (bs : List ℕ) (l : List A) (rest : List ℕ) → readLines k F bs ≡ parsed l rest → Lines bs l rest
   unfolding readLines writeLines
-  lines-was zero bs l rest e = no-got l rest e
-  lines-was (suc k) [] l rest e = no-got l rest e
+  lines-was zero bs l rest e = no-parsed l rest e
+  lines-was (suc k) [] l rest e = no-parsed l rest e
   lines-was (suc k) (b ∷ bs) l rest e = go (eqb b 10) refl e (λ u m more f. lines-was k u m more f)
     where
       tail : A → List ℕ → Parsed (List A)
-      tail a u = andThen (readLines k F u) (λ m last. got (a ∷ m) last)
+      tail a u = andThen (readLines k F u) (λ m last. parsed (a ∷ m) last)
 
-      go : (t : Bool) → eqb b 10 ≡ t → cond t (got [] bs) (andThen (F .read (b ∷ bs)) tail) ≡ got l rest
-          → ((u : List ℕ) (m : List A) (last : List ℕ) → readLines k F u ≡ got m last → Lines u m last) → Lines (b ∷ bs) l rest
+      go : (t : Bool) → eqb b 10 ≡ t → cond t (parsed [] bs) (andThen (F .read (b ∷ bs)) tail) ≡ parsed l rest
+          → ((u : List ℕ) (m : List A) (last : List ℕ) → readLines k F u ≡ parsed m last → Lines u m last) → Lines (b ∷ bs) l rest
       go true t e r = empty b bs l rest t e
       go false t e r =
-          let x = then-got (F .read (b ∷ bs)) tail l rest e in
-          let y = then-got (readLines k F (x .left)) (λ m last. got (x .value ∷ m) last) l rest (x .on) in
-          let s = same-got (x .value ∷ y .value) l (y .left) rest (y .on) in
+          let x = then-parsed (F .read (b ∷ bs)) tail l rest e in
+          let y = then-parsed (readLines k F (x .left)) (λ m last. parsed (x .value ∷ m) last) l rest (x .on) in
+          let s = same-parsed (x .value ∷ y .value) l (y .left) rest (y .on) in
           let f = L .was (b ∷ bs) (x .value) (x .left) (x .first) in
           let g = r (x .left) (y .value) (y .left) (y .first) in
           let w : Lines (b ∷ bs) (x .value ∷ y .value) (y .left) = record {
@@ -88,7 +88,7 @@ module _ {A : Type 0} (F : Format A) (L : Lawful F) (N : NoLine F) where
   line-one : (a : A) → F .valid a → 1 ≤ length (F .write a)
   line-one a v = let i = ap length (starts F L N a v .is) in omega arith
 
-  pub line-some : (bs : List ℕ) (a : A) (rest : List ℕ) → F .read bs ≡ got a rest → length rest < length bs
+  pub line-some : (bs : List ℕ) (a : A) (rest : List ℕ) → F .read bs ≡ parsed a rest → length rest < length bs
   line-some bs a rest e =
       let w = L .was bs a rest e in
       let i = line-one a (w .right) in
@@ -105,17 +105,17 @@ module _ {A : Type 0} (F : Format A) (L : Lawful F) (N : NoLine F) where
   turns (suc k) zero (b ∷ bs) h g = absurd (omega arith)
   turns (suc k) (suc j) [] h g = refl
   turns (suc k) (suc j) (b ∷ bs) h g =
-      ap (λ p. cond (eqb b 10) (got [] bs) p) (same (F .read (b ∷ bs)) refl (λ rest x y. turns k j rest x y))
+      ap (λ p. cond (eqb b 10) (parsed [] bs) p) (same (F .read (b ∷ bs)) refl (λ rest x y. turns k j rest x y))
     where
       tail : ℕ → A → List ℕ → Parsed (List A)
-      tail i a rest = andThen (readLines i F rest) (λ l last. got (a ∷ l) last)
+      tail i a rest = andThen (readLines i F rest) (λ l last. parsed (a ∷ l) last)
 
       same : (p : Parsed A) → F .read (b ∷ bs) ≡ p → ((rest : List ℕ) → length rest ≤ k → length rest ≤ j → readLines k F rest ≡ readLines j F rest)
           → andThen p (tail k) ≡ andThen p (tail j)
       same bad e r = refl
-      same (got a rest) e r =
+      same (parsed a rest) e r =
           let m = line-some (b ∷ bs) a rest e in
-          ap (λ q. andThen q (λ l last. got (a ∷ l) last)) (r rest (omega arith) (omega arith))
+          ap (λ q. andThen q (λ l last. parsed (a ∷ l) last)) (r rest (omega arith) (omega arith))
 
 -- lines of w bytes and more, and the empty one
 pub lines-long : {A : Type 0} (F : Format A) (w : ℕ) → ((a : A) → F .valid a → w ≤ length (F .write a))

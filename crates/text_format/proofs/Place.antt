@@ -7,8 +7,8 @@ use native.Mathlib.Omega.{arith}
 use lib.ListN.{length, drop, length-drop, length-append}
 use lib.Seq.{drop-drop, drop-append-seam}
 use lib.Dec.{eqb}
-use Rattle.text_format.specs.Format.{Parsed, bad, got, Format, when, andThen, orElse, expect, _ending_, _before_, _then_, as-of}
-use Rattle.text_format.proofs.Laws.{Lawful, no-got, same-got, when-got, expect-was}
+use Rattle.text_format.specs.Format.{Parsed, bad, parsed, Format, when, andThen, expect, _ending_, _before_, _then_, as-of}
+use Rattle.text_format.proofs.Laws.{Lawful, no-parsed, same-parsed, when-parsed, expect-was}
 use Rattle.text_format.specs.Own.Answers.{parsedAt, parsedList}
 use Rattle.text_format.specs.declared.Num.{Num}
 use Rattle.text_format.specs.declared.Num.the-variants.{Got, Bad}
@@ -18,17 +18,17 @@ pub no-num : {X : Type 0} (v p : ℕ) → Got v p ≡ Bad → X
 no-num v p e = absurd (let z : _≡_ {A = ℕ} 0 1 = cc in omega arith)
 
 -- a text is there or not, whatever it stands for
-pub expect-any : {A B : Type 0} (w : List ℕ) (a : A) (b : B) (bs rest : List ℕ) → expect w a bs ≡ got a rest → expect w b bs ≡ got b rest
+pub expect-any : {A B : Type 0} (w : List ℕ) (a : A) (b : B) (bs rest : List ℕ) → expect w a bs ≡ parsed a rest → expect w b bs ≡ parsed b rest
 unfolding expect when
-expect-any [] a b bs rest e = ap (got b) (same-got a a bs rest e .1)
-expect-any (c ∷ w) a b [] rest e = no-got a rest e
+expect-any [] a b bs rest e = ap (parsed b) (same-parsed a a bs rest e .1)
+expect-any (c ∷ w) a b [] rest e = no-parsed a rest e
 expect-any (c ∷ w) a b (d ∷ bs) rest e =
-    let h = when-got (eqb d c) (expect w a bs) a rest e in
+    let h = when-parsed (eqb d c) (expect w a bs) a rest e in
     rw (h .test) (expect-any w a b bs rest (h .on))
 
 pub expect-none : {A B : Type 0} (w : List ℕ) (a : A) (b : B) (bs : List ℕ) → expect w a bs ≡ bad → expect w b bs ≡ bad
 unfolding expect when
-expect-none [] a b bs e = no-got a bs (sym e)
+expect-none [] a b bs e = no-parsed a bs (sym e)
 expect-none (c ∷ w) a b [] e = refl
 expect-none (c ∷ w) a b (d ∷ bs) e = go (eqb d c) e (λ f. expect-none w a b bs f)
   where
@@ -40,7 +40,7 @@ module _ (s : List ℕ) where
   -- a was read, and what is left of s begins at the place p
   pub record Read {A : Type 0} (q : Parsed A) (a : A) (p : ℕ) : Type 0 where
     pub within : p ≤ length s
-    pub is : q ≡ got a (drop p s)
+    pub is : q ≡ parsed a (drop p s)
 
   -- what is left of s behind w begins at the place that its length gives
   pub suffix : (w rest : List ℕ) (at : ℕ) → at ≤ length s → w ++ rest ≡ drop at s → rest ≡ drop (length s - length rest) s
@@ -50,19 +50,16 @@ module _ (s : List ℕ) where
       sym (drop-append-seam w rest) ∙ ap (drop (length w)) e ∙ drop-drop (length w) at s ∙ ap (λ z. drop z s) k
 
   pub placed : {A : Type 0} (F : Format A) → Lawful F → (at : ℕ) (a : A) (rest : List ℕ) → at ≤ length s
-      → F .read (drop at s) ≡ got a rest → Read (F .read (drop at s)) a (length s - length rest)
+      → F .read (drop at s) ≡ parsed a rest → Read (F .read (drop at s)) a (length s - length rest)
   placed F L at a rest h e = record {
     within = omega arith;
-    is = e ∙ ap (got a) (suffix (F .write a) rest at h (L .was (drop at s) a rest e .text));
+    is = e ∙ ap (parsed a) (suffix (F .write a) rest at h (L .was (drop at s) a rest e .text));
   }
 
   -- ---- a number
-  pub parsed-at : (v p : ℕ) → p ≤ length s → Got v p ≡ parsedAt s (got v (drop p s))
+  pub parsed-at : (v p : ℕ) → p ≤ length s → Got v p ≡ parsedAt s (parsed v (drop p s))
   unfolding parsedAt
   parsed-at v p h = ap (Got v) (simp length-drop (omega arith))
-
-  pub parsed-read : (q : Parsed ℕ) (v p : ℕ) → Read q v p → Got v p ≡ parsedAt s q
-  parsed-read q v p r = parsed-at v p (r .within) ∙ ap (parsedAt s) (sym (r .is))
 
   pub parsed-bad : (q : Parsed ℕ) → q ≡ bad → Bad ≡ parsedAt s q
   unfolding parsedAt
@@ -71,7 +68,7 @@ module _ (s : List ℕ) where
   pub read-bad : (q : Parsed ℕ) → Bad ≡ parsedAt s q → q ≡ bad
   unfolding parsedAt
   read-bad bad e = refl
-  read-bad (got u rest) e = no-num u (length s - length rest) (sym e)
+  read-bad (parsed u rest) e = no-num u (length s - length rest) (sym e)
 
   pub read-at : (F : Format ℕ) → Lawful F → (at v p : ℕ) → at ≤ length s → Got v p ≡ parsedAt s (F .read (drop at s)) → Read (F .read (drop at s)) v p
   unfolding parsedAt
@@ -82,7 +79,7 @@ module _ (s : List ℕ) where
 
       go : (q : Parsed ℕ) → F .read (drop at s) ≡ q → Got v p ≡ parsedAt s q → Read (F .read (drop at s)) v p
       go bad f e = no-num v p e
-      go (got u rest) f e = same u (length s - length rest) (cc) (cc) (placed F L at u rest h f)
+      go (parsed u rest) f e = same u (length s - length rest) (cc) (cc) (placed F L at u rest h f)
 
   -- ---- a list
   pub record ReadList {A : Type 0} (q : Parsed (List A)) (n p : ℕ) : Type 0 where
@@ -110,12 +107,12 @@ module _ (s : List ℕ) where
 
       go : (q : Parsed (List A)) → F .read (drop at s) ≡ q → Got n p ≡ parsedList s q → ReadList (F .read (drop at s)) n p
       go bad f e = no-num n p e
-      go (got l rest) f e = same l (length s - length rest) (cc) (cc) (placed F L at l rest h f)
+      go (parsed l rest) f e = same l (length s - length rest) (cc) (cc) (placed F L at l rest h f)
 
   pub read-no-list : {A : Type 0} (q : Parsed (List A)) → Bad ≡ parsedList s q → q ≡ bad
   unfolding parsedList
   read-no-list bad e = refl
-  read-no-list (got l rest) e = no-num (length l) (length s - length rest) (sym e)
+  read-no-list (parsed l rest) e = no-num (length l) (length s - length rest) (sym e)
 
   -- ---- a text, for any value
   pub names-read : (w : List ℕ) (n at v p : ℕ) → at ≤ length s → Got v p ≡ parsedAt s (expect w n (drop at s)) → Read (expect w (tt {0}) (drop at s)) (tt {0}) p
@@ -124,11 +121,11 @@ module _ (s : List ℕ) where
     where
       go : (q : Parsed ℕ) → expect w n (drop at s) ≡ q → Got v p ≡ parsedAt s q → Read (expect w (tt {0}) (drop at s)) (tt {0}) p
       go bad f e = no-num v p e
-      go (got u rest) f e =
+      go (parsed u rest) f e =
           let j : p ≡ length s - length rest = cc in
           let x = expect-was w n (drop at s) u rest f in
-          let y = expect-any w n (tt {0}) (drop at s) rest (f ∙ ap (λ z. got z rest) (sym (x .same))) in
-          record { within = omega arith; is = y ∙ ap (got (tt {0})) (suffix w rest at h (x .text) ∙ ap (λ z. drop z s) (sym j)) }
+          let y = expect-any w n (tt {0}) (drop at s) rest (f ∙ ap (λ z. parsed z rest) (sym (x .same))) in
+          record { within = omega arith; is = y ∙ ap (parsed (tt {0})) (suffix w rest at h (x .text) ∙ ap (λ z. drop z s) (sym j)) }
 
   pub names-bad : (w : List ℕ) (n at : ℕ) → Bad ≡ parsedAt s (expect w n (drop at s)) → expect w (tt {0}) (drop at s) ≡ bad
   names-bad w n at e = expect-none w n (tt {0}) (drop at s) (read-bad (expect w n (drop at s)) e)
@@ -184,13 +181,3 @@ module _ (s : List ℕ) where
     pub as-read : (a : A) (p : ℕ) → Read (F .read (drop at s)) a p → Read (as-of F to from .read (drop at s)) (to a) p
     unfolding as-of andThen
     as-read a p r = record { within = r .within; is = rw (r .is) }
-
-  -- ---- one word or another
-  pub or-read : (q r : Parsed ℕ) (v p : ℕ) → Got v p ≡ parsedAt s q → Got v p ≡ parsedAt s (orElse q r)
-  unfolding parsedAt orElse
-  or-read bad r v p e = no-num v p e
-  or-read (got u rest) r v p e = e
-
-  pub or-else : (q r : Parsed ℕ) → Bad ≡ parsedAt s q → orElse q r ≡ r
-  unfolding orElse
-  or-else q r e = ap (λ z. orElse z r) (read-bad q e)

@@ -7,8 +7,8 @@ use native.Mathlib.Omega.{arith}
 use lib.Dec.{eqb}
 use borrow.Author.Tests.{eqb-true, eqb-false, ne-eqb}
 use Rattle.base_lists.specs.All.{All, none as all-none, more}
-use Rattle.text_format.specs.Format.{Parsed, bad, got, Format, when, andThen, orElse, expect, digitOf, hex16, plain, oneOf, readDigits, readPlain, readWord, _ending_, _before_, _and_, noItems, lines}
-use Rattle.text_format.specs.Table.{Field, float, whole, word, Column, fields, behind, names, cell, line, table, single}
+use Rattle.text_format.specs.Format.{Parsed, bad, parsed, Format, when, andThen, orElse, expect, digitOf, hex16, plain, oneOf, readDigits, readPlain, readWord, _ending_, _before_, _and_, noItems, lines}
+use Rattle.text_format.specs.Table.{Field, float, whole, word, Column, fields, endByte, names, cell, line, table, single}
 use Rattle.text_format.proofs.Laws.{Lawful, ending-law, before-law, and-law, none-law}
 use Rattle.text_format.proofs.Digits.{hex16-law, plain-law}
 use Rattle.text_format.proofs.Words.{differ, differAll, apart, oneOf-law, and-left, and-right, no-truth}
@@ -20,10 +20,10 @@ Good float = Unit
 Good (whole most) = (9 ≤ most) × (most < 10 ^ 20)
 Good (word ws) = apart ((10 ∷ []) ∷ ws) ≡ true
 
-pub behind-no-digit : {A : Type 0} (l : List A) → 10 ≤ digitOf (behind l)
-unfolding behind digitOf
-behind-no-digit [] = omega arith
-behind-no-digit (a ∷ l) = omega arith
+pub end-byte-no-digit : {A : Type 0} (l : List A) → 10 ≤ digitOf (endByte l)
+unfolding endByte digitOf
+end-byte-no-digit [] = omega arith
+end-byte-no-digit (a ∷ l) = omega arith
 
 pub cell-law : (f : Field) → Good f → (end : ℕ) → 10 ≤ digitOf end → Lawful (cell f end)
 unfolding cell
@@ -34,7 +34,7 @@ cell-law (word ws) g end h = ending-law (oneOf ws) (end ∷ []) (oneOf-law ws (a
 pub line-law : (fs : List Field) → All Good fs → Lawful (line fs)
 unfolding line
 line-law [] all-none = none-law
-line-law (f ∷ fs) (more g gs) = and-law (cell f (behind fs)) (line fs) (cell-law f g (behind fs) (behind-no-digit fs)) (line-law fs gs)
+line-law (f ∷ fs) (more g gs) = and-law (cell f (endByte fs)) (line fs) (cell-law f g (endByte fs) (end-byte-no-digit fs)) (line-law fs gs)
 
 -- ---- the newline begins none of them
 no-word : (w : List ℕ) (n : ℕ) (bs : List ℕ) → differ (10 ∷ []) w ≡ true → expect w n (10 ∷ bs) ≡ bad
@@ -61,7 +61,7 @@ no-cell (word ws) g end bs = rw (no-words ws 1 bs (and-left (differAll (10 ∷ [
 
 pub no-line : (f : Field) (fs : List Field) → Good f → NoLine (line (f ∷ fs))
 unfolding line _and_ andThen
-no-line f fs g bs = rw (no-cell f g (behind fs) bs)
+no-line f fs g bs = rw (no-cell f g (endByte fs) bs)
 
 -- ---- tables
 pub table-law : (cs : List Column) → All Good (fields cs) → NoLine (line (fields cs)) → Lawful (table cs)

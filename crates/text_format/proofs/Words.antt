@@ -6,8 +6,8 @@ use Prim.Native.Nat.{ℕ, zero, suc, _+_, _-_, _<_, _≤_}
 use native.Mathlib.Omega.{arith}
 use lib.ListN.{length, getD}
 use lib.Dec.{eqb}
-use Rattle.text_format.specs.Format.{Parsed, bad, got, Format, when, expect, orElse, readWord, oneOf}
-use Rattle.text_format.proofs.Laws.{Lawful, no-got, same-got, expect-back, expect-was}
+use Rattle.text_format.specs.Format.{Parsed, bad, parsed, Format, when, expect, orElse, readWord, oneOf}
+use Rattle.text_format.proofs.Laws.{Lawful, no-parsed, same-parsed, expect-back, expect-was}
 
 abbrev pub differ : List ℕ → List ℕ → Bool
 differ [] v = false
@@ -48,13 +48,13 @@ differ-at w [] i e h = absurd (omega arith)
 differ-at w (v ∷ vs) zero e h = and-left (differ w v) (differAll w vs) e
 differ-at w (v ∷ vs) (suc i) e h = differ-at w vs i (and-right (differ w v) (differAll w vs) e) (omega arith)
 
-pub word-back : (ws : List (List ℕ)) (n i : ℕ) (rest : List ℕ) → apart ws ≡ true → i < length ws → readWord n ws (getD ws i [] ++ rest) ≡ got (n + i) rest
+pub word-back : (ws : List (List ℕ)) (n i : ℕ) (rest : List ℕ) → apart ws ≡ true → i < length ws → readWord n ws (getD ws i [] ++ rest) ≡ parsed (n + i) rest
 unfolding readWord orElse
 word-back [] n i rest e h = absurd (omega arith)
-word-back (w ∷ ws) n zero rest e h = rw (expect-back w n rest) (ap (λ z. got z rest) (omega arith))
+word-back (w ∷ ws) n zero rest e h = rw (expect-back w n rest) (ap (λ z. parsed z rest) (omega arith))
 word-back (w ∷ ws) n (suc i) rest e h =
     rw (expect-not w (getD ws i []) n rest (differ-at w ws i (and-left (differAll w ws) (apart ws) e) (omega arith)))
-    (word-back ws (suc n) i rest (and-right (differAll w ws) (apart ws) e) (omega arith) ∙ ap (λ z. got z rest) (omega arith))
+    (word-back ws (suc n) i rest (and-right (differAll w ws) (apart ws) e) (omega arith) ∙ ap (λ z. parsed z rest) (omega arith))
 
 pub record Word (ws : List (List ℕ)) (n : ℕ) (bs : List ℕ) (m : ℕ) (rest : List ℕ) : Type 0 where
   pub place : ℕ
@@ -62,21 +62,21 @@ pub record Word (ws : List (List ℕ)) (n : ℕ) (bs : List ℕ) (m : ℕ) (rest
   pub is : m ≡ n + place
   pub text : getD ws place [] ++ rest ≡ bs
 
-pub word-was : (ws : List (List ℕ)) (n : ℕ) (bs : List ℕ) (m : ℕ) (rest : List ℕ) → readWord n ws bs ≡ got m rest → Word ws n bs m rest
+pub word-was : (ws : List (List ℕ)) (n : ℕ) (bs : List ℕ) (m : ℕ) (rest : List ℕ) → readWord n ws bs ≡ parsed m rest → Word ws n bs m rest
 unfolding readWord orElse
-word-was [] n bs m rest e = no-got m rest e
+word-was [] n bs m rest e = no-parsed m rest e
 word-was (w ∷ ws) n bs m rest e = go (expect w n bs) refl e (λ f. word-was ws (suc n) bs m rest f)
   where
-    go : (p : Parsed ℕ) → expect w n bs ≡ p → orElse p (readWord (suc n) ws bs) ≡ got m rest → (readWord (suc n) ws bs ≡ got m rest → Word ws (suc n) bs m rest) → Word (w ∷ ws) n bs m rest
+    go : (p : Parsed ℕ) → expect w n bs ≡ p → orElse p (readWord (suc n) ws bs) ≡ parsed m rest → (readWord (suc n) ws bs ≡ parsed m rest → Word ws (suc n) bs m rest) → Word (w ∷ ws) n bs m rest
     go bad q f r = let x = r f in record { place = suc (x .place); inside = omega (arith, x .inside); is = omega (arith, x .is); text = x .text }
-    go (got a l) q f r =
+    go (parsed a l) q f r =
         let x = expect-was w n bs a l q in
-        let s = same-got a m l rest f in
+        let s = same-parsed a m l rest f in
         record { place = 0; inside = omega arith; is = omega (arith, x .same, s .0); text = ap (λ t. w ++ t) (sym (s .1)) ∙ x .text }
 
 pub oneOf-law : (ws : List (List ℕ)) → apart ws ≡ true → Lawful (oneOf ws)
 oneOf-law ws e = record {
-  back = λ n rest v. word-back ws 1 (n - 1) rest e (omega arith) ∙ ap (λ z. got z rest) (omega arith);
+  back = λ n rest v. word-back ws 1 (n - 1) rest e (omega arith) ∙ ap (λ z. parsed z rest) (omega arith);
   was = λ bs n rest f.
       let x = word-was ws 1 bs n rest f in
       let i = x .inside in

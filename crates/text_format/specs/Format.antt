@@ -7,12 +7,12 @@ use Prim.Native.Nat.{ℕ, zero, suc, _+_, _-_, _*_, _/_, _%_, _^_, _<_, _≤_}
 use lib.ListN.{length, getD}
 use lib.Dec.{ltb, leb, eqb}
 use Rattle.base_lists.specs.All.{All}
-use Rattle.base_lists.specs.Result.{Result, refused, got as accepted}
+use Rattle.base_lists.specs.Result.{Result, refused, got}
 
 -- what reading from the front of a text gives: nothing, or the value and what is left of the text
 pub data Parsed (A : Type 0) : Type 0 where
   bad : Parsed A
-  got : A → List ℕ → Parsed A
+  parsed : A → List ℕ → Parsed A
 
 -- the values that have a text, their texts, and the reader
 pub record Format (A : Type 0) : Type 1 where
@@ -29,16 +29,16 @@ when false p = bad
 -- what follows, where p was read
 unfoldable pub andThen : {A B : Type 0} → Parsed A → (A → List ℕ → Parsed B) → Parsed B
 andThen bad f = bad
-andThen (got a rest) f = f a rest
+andThen (parsed a rest) f = f a rest
 
 -- p, or else q
 unfoldable pub orElse : {A : Type 0} → Parsed A → Parsed A → Parsed A
 orElse bad q = q
-orElse (got a rest) q = got a rest
+orElse (parsed a rest) q = parsed a rest
 
 -- the text w, for the value a
 unfoldable pub expect : {A : Type 0} → List ℕ → A → List ℕ → Parsed A
-expect [] a bs = got a bs
+expect [] a bs = parsed a bs
 expect (c ∷ cs) a [] = bad
 expect (c ∷ cs) a (b ∷ bs) = when (eqb b c) (expect cs a bs)
 
@@ -58,7 +58,7 @@ digits base (suc k) n = charOf (n / base ^ k) ∷ digits base k (n % base ^ k)
 
 -- k digits are read, behind those that made v
 unfoldable pub readDigits : ℕ → ℕ → ℕ → List ℕ → Parsed ℕ
-readDigits base zero v bs = got v bs
+readDigits base zero v bs = parsed v bs
 readDigits base (suc k) v [] = bad
 readDigits base (suc k) v (b ∷ bs) = when (ltb (digitOf b) base) (readDigits base k (v * base + digitOf b) bs)
 
@@ -81,7 +81,7 @@ unfoldable pub readDecimal : ℕ → ℕ → ℕ → List ℕ → Parsed ℕ
 readDecimal most end v [] = bad
 readDecimal most end v (b ∷ bs) =
     let more = when (ltb (digitOf b) 10) (when (leb (v * 10 + digitOf b) most) (readDecimal most end (v * 10 + digitOf b) bs)) in
-    cond (eqb b end) (got v bs) more
+    cond (eqb b end) (parsed v bs) more
 
 -- a plain decimal of at most `most`, then the byte `end`. A leading zero stands alone
 unfoldable pub readPlain : ℕ → ℕ → List ℕ → Parsed ℕ
@@ -126,12 +126,12 @@ unfoldable pub _then_ : {A B : Type 0} → Format A → Format B → Format (A �
 _then_ F G = record {
   valid = λ p. F .valid (p .0) × G .valid (p .1);
   write = λ p. F .write (p .0) ++ G .write (p .1);
-  read = λ bs. andThen (F .read bs) (λ a rest. andThen (G .read rest) (λ b more. got (a, b) more));
+  read = λ bs. andThen (F .read bs) (λ a rest. andThen (G .read rest) (λ b more. parsed (a, b) more));
 }
 
 -- the empty list, as the empty text
 unfoldable pub noItems : {A : Type 0} → Format (List A)
-noItems = record { valid = λ l. l ≡ []; write = λ _. []; read = λ bs. got [] bs }
+noItems = record { valid = λ l. l ≡ []; write = λ _. []; read = λ bs. parsed [] bs }
 
 -- the valid lists and the text of `F and G`
 unfoldable pub ValidCons : {A : Type 0} → (A → Type 0) → (List A → Type 0) → List A → Type 0
@@ -147,15 +147,15 @@ unfoldable pub _and_ : {A : Type 0} → Format A → Format (List A) → Format 
 _and_ F G = record {
   valid = ValidCons (F .valid) (G .valid);
   write = writeCons (F .write) (G .write);
-  read = λ bs. andThen (F .read bs) (λ a rest. andThen (G .read rest) (λ l more. got (a ∷ l) more));
+  read = λ bs. andThen (F .read bs) (λ a rest. andThen (G .read rest) (λ l more. parsed (a ∷ l) more));
 }
 
--- the same texts, for the values of another type
+-- F, for the values of another type: `from` says whose text each has, `to` what was read
 unfoldable pub as-of : {A B : Type 0} → Format A → (A → B) → (B → A) → Format B
 as-of F to from = record {
   valid = λ b. F .valid (from b);
   write = λ b. F .write (from b);
-  read = λ bs. andThen (F .read bs) (λ a rest. got (to a) rest);
+  read = λ bs. andThen (F .read bs) (λ a rest. parsed (to a) rest);
 }
 
 -- ---- lines up to an empty one
@@ -168,8 +168,8 @@ unfoldable pub readLines : {A : Type 0} → ℕ → Format A → List ℕ → Pa
 readLines zero F bs = bad
 readLines (suc k) F [] = bad
 readLines (suc k) F (b ∷ bs) =
-    let more = andThen (F .read (b ∷ bs)) (λ a rest. andThen (readLines k F rest) (λ l last. got (a ∷ l) last)) in
-    cond (eqb b 10) (got [] bs) more
+    let more = andThen (F .read (b ∷ bs)) (λ a rest. andThen (readLines k F rest) (λ l last. parsed (a ∷ l) last)) in
+    cond (eqb b 10) (parsed [] bs) more
 
 -- any number of lines: a text has no more of them than bytes
 unfoldable pub lines : {A : Type 0} → Format A → Format (List A)
@@ -178,9 +178,9 @@ lines F = record { valid = All (F .valid); write = writeLines F; read = λ bs. r
 -- ---- a whole text
 unfoldable pub all : {A : Type 0} → ℕ → Parsed A → Result A
 all n bad = refused n
-all n (got a []) = accepted a
-all n (got a (b ∷ bs)) = refused n
+all n (parsed a []) = got a
+all n (parsed a (b ∷ bs)) = refused n
 
 -- the value that the text stands for; the refusal n where it stands for none
-unfoldable pub whole : {A : Type 0} → ℕ → Format A → List ℕ → Result A
-whole n F bs = all n (F .read bs)
+unfoldable pub wholeText : {A : Type 0} → ℕ → Format A → List ℕ → Result A
+wholeText n F bs = all n (F .read bs)

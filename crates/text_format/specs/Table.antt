@@ -16,19 +16,20 @@ infix 80 _of_
 pub data Column : Type 0 where
   _of_ : String → Field → Column
 
+-- what the columns hold, without their names
 unfoldable pub fields : List Column → List Field
 fields [] = []
 fields (n of f ∷ cs) = f ∷ fields cs
 
 -- the byte behind a value: a space where another follows, the newline behind the last
-unfoldable pub behind : {A : Type 0} → List A → ℕ
-behind [] = 10
-behind (a ∷ l) = 32
+unfoldable pub endByte : {A : Type 0} → List A → ℕ
+endByte [] = 10
+endByte (a ∷ l) = 32
 
 -- the line of names
 unfoldable pub names : List Column → List ℕ
 names [] = []
-names (n of f ∷ cs) = bytes n ++ behind cs ∷ names cs
+names (n of f ∷ cs) = bytes n ++ endByte cs ∷ names cs
 
 -- a cell: a value and the byte behind it
 unfoldable pub cell : Field → ℕ → Format ℕ
@@ -39,7 +40,7 @@ cell (word ws) end = oneOf ws ending (end ∷ [])
 -- a line: its cells
 unfoldable pub line : List Field → Format (List ℕ)
 line [] = noItems
-line (f ∷ fs) = cell f (behind fs) and line fs
+line (f ∷ fs) = cell f (endByte fs) and line fs
 
 -- the names, and any number of lines up to an empty one
 abbrev pub table : List Column → Format (List (List ℕ))

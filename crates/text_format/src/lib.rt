@@ -40,7 +40,7 @@ pub fn char_of(d: u8) -> u8
 }
 
 // Sixteen hex digits.
-pub fn hex(s: &[u8], at: usize) -> Num
+fn hex(s: &[u8], at: usize) -> Num
     requires { ⌜ at ≤ length (now s) ⌝ }
     ensures { λ r. ⌜ r ≡ parsedAt (now (s .entry)) (hex16 .read (drop at (now (s .entry)))) ⌝ }
 {

@@ -9,13 +9,13 @@ use lib.Seq.{sets}
 use lib.Ieee.{Float}
 use Rattle.text_format.specs.Bytes.{bytes}
 use Rattle.text_format.specs.Format.{hex16, digits, decimal, widthUpTo, _ending_, _and_, noItems, writeCons}
-use Rattle.text_format.specs.Table.{fields, behind, names, cell, line}
+use Rattle.text_format.specs.Table.{fields, endByte, names, cell, line}
 use Rattle.text_format.proofs.Digits.{digits-length}
 use Rattle.text_format.proofs.Buffer.{none-written, some-written, all-written, sets-append}
 use Rattle.edge_record.specs.declared.Sample.{Sample}
 use Rattle.edge_record.specs.Chain.{sampleAt, samplesFrom, samples}
 use Rattle.edge_record.proofs.Laws.{samplesFrom-length}
-use Rattle.text_listing.specs.Listing.{columns, quiet, bitsOr, rowOf, ownOf, rowsFrom, lineOf, listing, refusal}
+use Rattle.text_listing.specs.Listing.{columns, floatBytes, lineBytes, quiet, bitsOr, rowOf, ownOf, rowsFrom, lineOf, listing, refusal}
 
 -- ---- a byte behind what was written
 pub put-last : (o l : List ℕ) (at k c : ℕ) → k ≡ at + length l → set (sets o at l) k c ≡ sets o at (l ++ (c ∷ []))
@@ -25,7 +25,7 @@ put-last o l at k c e = ap (λ j. set (sets o at l) j c) e ∙ sets-append o at 
 abbrev pub field : ℕ → ℕ → List ℕ
 field end v = (hex16 ending (end ∷ [])) .write v
 
-field-length : (end v : ℕ) → length (field end v) ≡ 17
+field-length : (end v : ℕ) → length (field end v) ≡ floatBytes
 unfolding _ending_
 field-length end v = let l = digits-length 16 16 v in simp length-append (omega arith)
 
@@ -35,10 +35,10 @@ put-field o at v end = put-last o (digits 16 16 v) at (at + 16) end (ap (λ k. a
 
 -- ---- a line: four fields
 line-is : (x y z t : ℕ) → lineOf (x ∷ y ∷ z ∷ t ∷ []) ≡ field 32 x ++ (field 32 y ++ (field 32 z ++ field 10 t))
-unfolding fields behind cell line _and_ noItems writeCons
+unfolding fields endByte cell line _and_ noItems writeCons
 line-is x y z t = ap (λ l. field 32 x ++ (field 32 y ++ (field 32 z ++ l))) (append-nil (field 10 t))
 
-line-length : (x y z t : ℕ) → length (lineOf (x ∷ y ∷ z ∷ t ∷ [])) ≡ 68
+line-length : (x y z t : ℕ) → length (lineOf (x ∷ y ∷ z ∷ t ∷ [])) ≡ lineBytes
 line-length x y z t =
     let a = field-length 32 x in
     let b = field-length 32 y in
@@ -46,11 +46,11 @@ line-length x y z t =
     let d = field-length 10 t in
     ap length (line-is x y z t) ∙ simp length-append (omega arith)
 
-pub row-length : (own : ℕ) (s : Sample) → length (lineOf (rowOf own s)) ≡ 68
+pub row-length : (own : ℕ) (s : Sample) → length (lineOf (rowOf own s)) ≡ lineBytes
 row-length own s = line-length (bitsOr quiet (s .point .x)) (bitsOr quiet (s .point .y)) (bitsOr quiet (s .point .z)) (bitsOr own (s .param))
 
-put-line : (o p q r e : List ℕ) (at x y z t : ℕ) → p ≡ sets o at (field 32 x) → q ≡ sets p (at + 17) (field 32 y)
-    → r ≡ sets q (at + 34) (field 32 z) → e ≡ sets r (at + 51) (field 10 t) → e ≡ sets o at (lineOf (x ∷ y ∷ z ∷ t ∷ []))
+put-line : (o p q r e : List ℕ) (at x y z t : ℕ) → p ≡ sets o at (field 32 x) → q ≡ sets p (at + floatBytes) (field 32 y)
+    → r ≡ sets q (at + 2 * floatBytes) (field 32 z) → e ≡ sets r (at + 3 * floatBytes) (field 10 t) → e ≡ sets o at (lineOf (x ∷ y ∷ z ∷ t ∷ []))
 put-line o p q r e at x y z t f g h i =
     let X = field 32 x in
     let Y = field 32 y in
@@ -61,15 +61,15 @@ put-line o p q r e at x y z t f g h i =
     let b = field-length 32 y in
     let c = field-length 32 z in
     let d = field-length 10 t in
-    let P = some-written o at l o at l (none-written o at l) X (Y ++ (Z ++ T)) p (at + 17) refl f (omega arith) in
-    let Q = some-written o at l p (at + 17) _ P Y (Z ++ T) q (at + 34) refl g (omega arith) in
-    let R = some-written o at l q (at + 34) _ Q Z T r (at + 51) refl h (omega arith) in
-    let E = some-written o at l r (at + 51) _ R T [] e (at + 68) (sym (append-nil T)) i (omega arith) in
-    all-written o at l e (at + 68) [] E refl .1 ∙ ap (sets o at) (sym (line-is x y z t))
+    let P = some-written o at l o at l (none-written o at l) X (Y ++ (Z ++ T)) p (at + floatBytes) refl f (omega arith) in
+    let Q = some-written o at l p (at + floatBytes) _ P Y (Z ++ T) q (at + 2 * floatBytes) refl g (omega arith) in
+    let R = some-written o at l q (at + 2 * floatBytes) _ Q Z T r (at + 3 * floatBytes) refl h (omega arith) in
+    let E = some-written o at l r (at + 3 * floatBytes) _ R T [] e (at + lineBytes) (sym (append-nil T)) i (omega arith) in
+    all-written o at l e (at + lineBytes) [] E refl .1 ∙ ap (sets o at) (sym (line-is x y z t))
 
 pub put-row : (o p q r e : List ℕ) (at own x y z t : ℕ) (s : Sample) → x ≡ bitsOr quiet (s .point .x) → y ≡ bitsOr quiet (s .point .y)
-    → z ≡ bitsOr quiet (s .point .z) → t ≡ bitsOr own (s .param) → p ≡ sets o at (field 32 x) → q ≡ sets p (at + 17) (field 32 y)
-    → r ≡ sets q (at + 34) (field 32 z) → e ≡ sets r (at + 51) (field 10 t) → e ≡ sets o at (lineOf (rowOf own s))
+    → z ≡ bitsOr quiet (s .point .z) → t ≡ bitsOr own (s .param) → p ≡ sets o at (field 32 x) → q ≡ sets p (at + floatBytes) (field 32 y)
+    → r ≡ sets q (at + 2 * floatBytes) (field 32 z) → e ≡ sets r (at + 3 * floatBytes) (field 10 t) → e ≡ sets o at (lineOf (rowOf own s))
 put-row o p q r e at own x y z t s j k l m f g h i =
     let row : x ∷ y ∷ z ∷ t ∷ [] ≡ rowOf own s = cc in
     put-line o p q r e at x y z t f g h i ∙ ap (λ v. sets o at (lineOf v)) row
@@ -93,7 +93,7 @@ module _ (first last n : ℕ) (c : List Float) where
   unfolding flatMap rowsFrom samplesFrom
   no-line i h = let j : n - i ≡ 0 = omega arith in ap (linesFrom i) j
 
-  pub lines-length : (i m : ℕ) → length (linesFrom i m) ≡ 68 * m
+  pub lines-length : (i m : ℕ) → length (linesFrom i m) ≡ lineBytes * m
   unfolding flatMap rowsFrom samplesFrom
   lines-length i zero = refl
   lines-length i (suc m) =
@@ -123,7 +123,7 @@ module _ (first last n : ℕ) (c : List Float) where
       )
 
 pub names-are : bytes "x y z t\n" ≡ names columns
-unfolding bytes fields behind names
+unfolding bytes fields endByte names
 names-are = refl
 
 word-length : length (bytes "refusal\n") ≡ 8

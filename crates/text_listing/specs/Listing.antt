@@ -1,7 +1,7 @@
 -- The listings of a chain and of a refusal, byte by byte. Definitions only.
 use mathlib.Core.Bool.{cond}
 use mathlib.Core.List.{List, [], _∷_, _++_, flatMap}
-use Prim.Native.Nat.{ℕ, suc, _+_, _-_, _^_}
+use Prim.Native.Nat.{ℕ, suc, _+_, _-_, _*_, _^_}
 use lib.ListN.{length}
 use lib.Dec.{eqb}
 use lib.Ieee.{Float, isNan, binary64, toBits}
@@ -9,10 +9,27 @@ use Rattle.text_format.specs.Bytes.{bytes}
 use Rattle.text_format.specs.Format.{plain}
 use Rattle.text_format.specs.Table.{float, Column, _of_, fields, names, line}
 use Rattle.edge_record.specs.declared.Sample.{Sample}
+use Rattle.edge_record.specs.Chain.{width}
 
 -- a chain's columns: floats by their 64 bits
 abbrev pub columns : List Column
 columns = "x" of float ∷ "y" of float ∷ "z" of float ∷ "t" of float ∷ []
+
+-- how many bytes that line of names has
+abbrev pub headingBytes : ℕ
+headingBytes = 8
+
+-- how many bytes a float has: sixteen digits, and the byte behind them
+abbrev pub floatBytes : ℕ
+floatBytes = 17
+
+-- how many bytes the line of a sample has
+abbrev pub lineBytes : ℕ
+lineBytes = floatBytes * width
+
+-- the most bytes that the listing of a refusal has; the names have fewer
+abbrev pub refusalBytes : ℕ
+refusalBytes = 19
 
 -- the bits of a NaN that an operation makes
 abbrev pub quiet : ℕ
@@ -36,6 +53,7 @@ unfoldable pub rowsFrom : ℕ → ℕ → ℕ → ℕ → List Sample → List (
 rowsFrom first last n i [] = []
 rowsFrom first last n i (s ∷ l) = rowOf (ownOf first last n i) s ∷ rowsFrom first last n (suc i) l
 
+-- the numbers of a chain's samples, where those of a NaN parameter are `first` and `last` at the ends
 abbrev pub rowsOf : ℕ → ℕ → List Sample → List (List ℕ)
 rowsOf first last l = rowsFrom first last (length l) 0 l
 

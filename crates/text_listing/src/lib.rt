@@ -4,11 +4,20 @@ ghost use mathlib.Core.List.{[], _∷_};
 ghost use Prim.Native.Nat.{_+_, _-_, _*_, _^_, _<_, _≤_};
 ghost use lib.ListN.{length};
 ghost use lib.Seq.{sets};
-ghost use Rattle.text_format.specs.Format.{digits, hex16, plain, _ending_};
+ghost use Rattle.text_format.specs.Format.{digits, hex16, _ending_};
 ghost use Rattle.edge_record.specs.Chain.{width, samples};
-ghost use Rattle.text_listing.specs.Listing.{bitsOr, rowOf, ownOf, lineOf, listing, refusal};
+ghost use Rattle.text_listing.specs.Listing.{headingBytes, floatBytes, lineBytes, refusalBytes, bitsOr, rowOf, ownOf, lineOf, listing, refusal};
 ghost use Rattle.text_listing.specs.Own.Top.{TopOf};
 use edge_record::Sample;
+
+// How many bytes a float has in a listing: sixteen digits, and the byte behind them.
+pub const FLOAT_BYTES: usize = 17;
+
+// How many bytes the line of a sample has.
+const LINE_BYTES: usize = FLOAT_BYTES * edge_record::WIDTH;
+
+// The most bytes that the listing of a refusal has. The line of names has fewer.
+pub const REFUSAL_BYTES: usize = 19;
 
 // The bits of a NaN that an operation makes.
 const QUIET: u64 = 0x7FF8000000000000;
@@ -61,7 +70,7 @@ fn put_digits(v: u64, base: u64, power: u64, count: usize, out: &mut [u8], at: u
 
 // The sixteen hex digits of v, then the byte `end`.
 fn put_hex(v: u64, end: u8, out: &mut [u8], at: usize)
-    requires { ⌜ at + 17 ≤ length (now out) ⌝ }
+    requires { ⌜ at + floatBytes ≤ length (now out) ⌝ }
     ensures { λ _. ⌜ now (out .exit) ≡ sets (now (out .entry)) at ((hex16 ending (end ∷ [])) .write v) ⌝ }
 {
     put_digits(v, 16, 0x1000000000000000, 16, out, at);
@@ -70,14 +79,14 @@ fn put_hex(v: u64, end: u8, out: &mut [u8], at: usize)
 
 // The line of a sample whose parameter, if it is NaN, has the bits `own`; answers the next place.
 fn put_sample(s: Sample, own: u64, out: &mut [u8], at: usize) -> usize
-    requires { ⌜ at + 68 ≤ length (now out) ⌝ }
-    ensures { λ r. ⌜ (r ≡ at + 68) × (now (out .exit) ≡ sets (now (out .entry)) at (lineOf (rowOf own s))) ⌝ }
+    requires { ⌜ at + lineBytes ≤ length (now out) ⌝ }
+    ensures { λ r. ⌜ (r ≡ at + lineBytes) × (now (out .exit) ≡ sets (now (out .entry)) at (lineOf (rowOf own s))) ⌝ }
 {
     put_hex(bits_or(QUIET, s.point.x), b' ', out, at);
-    put_hex(bits_or(QUIET, s.point.y), b' ', out, at + 17);
-    put_hex(bits_or(QUIET, s.point.z), b' ', out, at + 34);
-    put_hex(bits_or(own, s.param), b'\n', out, at + 51);
-    at + 68
+    put_hex(bits_or(QUIET, s.point.y), b' ', out, at + FLOAT_BYTES);
+    put_hex(bits_or(QUIET, s.point.z), b' ', out, at + 2 * FLOAT_BYTES);
+    put_hex(bits_or(own, s.param), b'\n', out, at + 3 * FLOAT_BYTES);
+    at + LINE_BYTES
 }
 
 // The bits of a NaN parameter of sample i of n.
@@ -94,7 +103,7 @@ fn own_of(first: u64, last: u64, n: usize, i: usize) -> u64
 // The listing of a chain's first n samples, at the buffer's start; answers how many bytes it has. `first` and `last` are
 // the bits that the first and the last parameter have if they are NaN.
 pub fn write_chain(chain: &[f64], n: usize, first: u64, last: u64, out: &mut [u8]) -> usize
-    requires { ⌜ (width * n ≤ length (now chain)) × (8 + 68 * n ≤ length (now out)) ⌝ }
+    requires { ⌜ (width * n ≤ length (now chain)) × (headingBytes + lineBytes * n ≤ length (now out)) ⌝ }
     ensures { λ r. ⌜ (r ≡ length (listing first last (samples n (now (chain .entry)))))
         × (now (out .exit) ≡ sets (now (out .entry)) 0 (listing first last (samples n (now (chain .entry))))) ⌝ }
 {
@@ -127,7 +136,7 @@ fn top_of(n: u64) -> Top
 
 // The listing of a refusal, at the buffer's start; answers how many bytes it has.
 pub fn write_refusal(cause: u32, out: &mut [u8]) -> usize
-    requires { ⌜ 19 ≤ length (now out) ⌝ }
+    requires { ⌜ refusalBytes ≤ length (now out) ⌝ }
     ensures { λ r. ⌜ (r ≡ length (refusal cause)) × (now (out .exit) ≡ sets (now (out .entry)) 0 (refusal cause)) ⌝ }
 {
     let at = put_bytes(b"refusal\n", out, 0);

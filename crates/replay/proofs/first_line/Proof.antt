@@ -16,12 +16,12 @@ use Rattle.replay.proofs.first_line.Tie as tie
 abbrev shape : List ℕ
 shape = bytes "ffwlwf"
 
-options-of-requires : tie.Need-options-of-requires
+raw-options-of-requires : tie.Need-raw-options-of-requires
 unfolding bytes fields fieldOf _before_
-options-of-requires c κs =
-    let told = c .before .before .before .line in
+raw-options-of-requires c κs =
+    let called = c .before .before .before .line in
     let s = c .before .before .before .before .before .before .args .text .now in
-    let r = row-read s (line (shapeOf shape)) (shape-law shape) 0 (told .result) (omega arith) (told .ensures) (c .before .before .if1 .taken) in
+    let r = row-read s (line (shapeOf shape)) (shape-law shape) 0 (called .result) (omega arith) (called .ensures) (c .before .before .if1 .taken) in
     rw (r .numbers-are) (options-narrow (r .list) (shape-law shape .was _ (r .list) _ (r .is .is) .right))
 
 pub first-line-spec : {M : Type 1} → statement M
@@ -30,7 +30,7 @@ first-line-spec =
     (tie.spec
     (λ c. search needs)
     (λ c κs. search needs)
-    options-of-requires
+    raw-options-of-requires
     (λ c κs. search needs)
     (λ c κs. search needs)
     (λ c. search needs)

@@ -1,16 +1,17 @@
 -- `sheet::three` meets its contract. Assumes nothing.
 use mathlib.Core.Path.{sym, _∙_}
+use Prim.Native.Nat.{_*_}
 use native.Mathlib.Omega.{arith}
 use lib.ListN.{drop}
 use Rattle.text_format.specs.Format.{_then_}
 use Rattle.text_format.specs.Table.{fields, table}
-use Rattle.sheet_layout.specs.Layout.{pointColumns, curveColumns, segmentColumns}
+use Rattle.sheet_layout.specs.Layout.{mostPoints, mostCurves, mostSegments, pointColumns, curveColumns, segmentColumns}
 use Rattle.sheet_layout.proofs.Laws.{points-law, curves-law, segments-law}
 use Rattle.sheet_row.specs.Rows.{floatsOf, wholesOf}
 use Rattle.text_format.proofs.Place.{ReadList, read-list, read-no-list, then-bad, then-bad-on, then-read}
 use Rattle.sheet_tables.specs.Flattened.{flattened}
 use Rattle.sheet.specs.Sheet.{floatOf}
-use Rattle.sheet.proofs.Parts.{held-part, parsed-no-tables, parsed-tables, held-bad, held-got, stored-is}
+use Rattle.sheet.proofs.Parts.{table-stored, parsed-no-tables, parsed-tables, tables-stored-bad, tables-stored-parsed, stored-is}
 use borrow.Author.Needs.{needs}
 use Rattle.sheet.proofs.three.Statement.{statement}
 use Rattle.sheet.proofs.three.Tie as tie
@@ -33,7 +34,7 @@ returns : tie.Need-returns
 returns c =
     let s = c .before .before .before .before .before .args .text .now in
     let none = then-bad s (table pointColumns) (table curveColumns then table segmentColumns) 0 (read-no-list s _ (sym (c .enum-told .given .1) ∙ c .before .before .points .ensures .0)) in
-    (parsed-no-tables s _ none, held-bad s _ _ none)
+    (parsed-no-tables s _ none, tables-stored-bad s _ _ none)
 
 curves-requires : tie.Need-curves-requires
 curves-requires c κs =
@@ -45,7 +46,7 @@ returns-2 c =
     let l = points-read (c .before .before .before .before .before) in
     let none = read-no-list s _ (sym (c .enum-told2 .given .1) ∙ c .before .before .curves .ensures .0) in
     let no-more = then-bad-on s (table pointColumns) (table curveColumns then table segmentColumns) 0 (l .list) _ (l .is) (then-bad s (table curveColumns) (table segmentColumns) (c .before .before .before .before .before .before .n .given .0 .1 .0) none) in
-    (parsed-no-tables s _ no-more, held-bad s _ _ no-more)
+    (parsed-no-tables s _ no-more, tables-stored-bad s _ _ no-more)
 
 segments-requires : tie.Need-segments-requires
 segments-requires c κs =
@@ -58,7 +59,7 @@ returns-3 c =
     let m = curves-read (c .before .before .before .before .before) in
     let none = read-no-list s _ (sym (c .enum-told3 .given .1) ∙ c .before .before .segments .ensures .0) in
     let no-more = then-bad-on s (table pointColumns) (table curveColumns then table segmentColumns) 0 (l .list) _ (l .is) (then-bad-on s (table curveColumns) (table segmentColumns) (c .before .before .before .before .before .before .before .before .before .before .before .before .n .given .0 .1 .0) (m .list) _ (m .is) none) in
-    (parsed-no-tables s _ no-more, held-bad s _ _ no-more)
+    (parsed-no-tables s _ no-more, tables-stored-bad s _ _ no-more)
 
 returns-4 : tie.Need-returns-4
 returns-4 c =
@@ -70,13 +71,13 @@ returns-4 c =
     let k = read-list s (table segmentColumns) segments-law _ (g .0 .0) (g .0 .1 .0) (m .is .within) (sym (g .1) ∙ c .before .before .before .segments .ensures .0) in
     let r = then-read s (table pointColumns) (table curveColumns then table segmentColumns) 0 (l .list) _ (l .is) (m .list, k .list) _ (then-read s (table curveColumns) (table segmentColumns) (c .before .before .before .before .before .before .before .before .before .before .before .before .before .n .given .0 .1 .0) (m .list) _ (m .is) (k .list) _ (k .is)) in (
       parsed-tables s _ (l .list) (m .list) (k .list) _ _ _ _ (l .count) (m .count) (k .count) r,
-      held-got s _ (l .list, (m .list, k .list)) _ _ (r .is)
+      tables-stored-parsed s _ (l .list, (m .list, k .list)) _ _ (r .is)
           (stored-is (l .list) (m .list) (k .list) _ _ _ _ _
-          (held-part (flattened (floatsOf (fields pointColumns))) (floatOf 0) 3855 _ (l .list) _ (a .points .now) _ (c .before .before .before .before .before .before .before .before .before .before .before .before .before .before .before .before .points-arg .given .0 .1) (l .is .is) (c .before .before .before .before .before .before .before .before .before .before .before .before .before .before .before .points .ensures .1))
-          (held-part (flattened (wholesOf (fields curveColumns))) 0 4914 _ (m .list) _ (a .curves .now) _ (c .before .before .before .before .before .before .before .before .before .before .before .curves-arg .given .0 .1) (m .is .is) (c .before .before .before .before .before .before .before .before .before .curves .ensures .1))
-          (held-part (flattened (floatsOf (fields curveColumns))) (floatOf 0) 3276 _ (m .list) _ (a .reals .now) _ (c .before .before .before .before .before .before .before .before .before .before .curves-arg2 .given .0 .1) (m .is .is) (c .before .before .before .before .before .before .before .before .before .curves .ensures .2))
-          (held-part (flattened (wholesOf (fields segmentColumns))) 0 3448 _ (k .list) _ (a .parts .now) _ (c .before .before .before .before .before .segments-arg .given .0 .1) (k .is .is) (c .before .before .before .segments .ensures .1))
-          (held-part (flattened (floatsOf (fields segmentColumns))) (floatOf 0) 3448 _ (k .list) _ (a .ranges .now) _ (c .before .before .before .before .segments-arg2 .given .0 .1) (k .is .is) (c .before .before .before .segments .ensures .2))),
+          (table-stored (flattened (floatsOf (fields pointColumns))) (floatOf 0) (3 * mostPoints) _ (l .list) _ (a .points .now) _ (c .before .before .before .before .before .before .before .before .before .before .before .before .before .before .before .before .points-arg .given .0 .1) (l .is .is) (c .before .before .before .before .before .before .before .before .before .before .before .before .before .before .before .points .ensures .1))
+          (table-stored (flattened (wholesOf (fields curveColumns))) 0 (3 * mostCurves) _ (m .list) _ (a .curves .now) _ (c .before .before .before .before .before .before .before .before .before .before .before .curves-arg .given .0 .1) (m .is .is) (c .before .before .before .before .before .before .before .before .before .curves .ensures .1))
+          (table-stored (flattened (floatsOf (fields curveColumns))) (floatOf 0) (2 * mostCurves) _ (m .list) _ (a .reals .now) _ (c .before .before .before .before .before .before .before .before .before .before .curves-arg2 .given .0 .1) (m .is .is) (c .before .before .before .before .before .before .before .before .before .curves .ensures .2))
+          (table-stored (flattened (wholesOf (fields segmentColumns))) 0 (2 * mostSegments) _ (k .list) _ (a .parts .now) _ (c .before .before .before .before .before .segments-arg .given .0 .1) (k .is .is) (c .before .before .before .segments .ensures .1))
+          (table-stored (flattened (floatsOf (fields segmentColumns))) (floatOf 0) (2 * mostSegments) _ (k .list) _ (a .ranges .now) _ (c .before .before .before .before .segments-arg2 .given .0 .1) (k .is .is) (c .before .before .before .segments .ensures .2))),
     )
 
 pub three-spec : {M : Type 1} → statement M

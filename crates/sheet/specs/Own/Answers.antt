@@ -3,22 +3,22 @@ use mathlib.Core.Path.{_≡_}
 use mathlib.Core.List.{List, []}
 use Prim.Native.Nat.{ℕ, _-_}
 use lib.ListN.{length}
-use Rattle.base_lists.specs.Result.{Result, refused, got as accepted}
-use Rattle.text_format.specs.Format.{Parsed, bad, got}
+use Rattle.base_lists.specs.Result.{Result, refused, got}
+use Rattle.text_format.specs.Format.{Parsed, bad, parsed}
 use Rattle.sheet_layout.specs.Layout.{RawSheet}
 use Rattle.brep.specs.Rows.{Tables}
 use Rattle.sheet.specs.Sheet.{tablesOf, stored}
-use Rattle.sheet.specs.declared.Counted.{Counted}
-use Rattle.sheet.specs.declared.Counted.the-variants.{Counts, NoTables}
+use Rattle.sheet.specs.declared.TableCounts.{TableCounts}
+use Rattle.sheet.specs.declared.TableCounts.the-variants.{Counts, NoTables}
 
 -- the rows of points, curves and segments
 abbrev pub Three : Type 0
 Three = List (List ℕ) × (List (List ℕ) × List (List ℕ))
 
 -- the three tables: their rows' counts and the place behind them
-unfoldable pub parsedTables : List ℕ → Parsed Three → Counted
+unfoldable pub parsedTables : List ℕ → Parsed Three → TableCounts
 parsedTables s bad = NoTables
-parsedTables s (got t rest) = Counts (length (t .0)) (length (t .1 .0)) (length (t .1 .1)) (length s - length rest)
+parsedTables s (parsed t rest) = Counts (length (t .0)) (length (t .1 .0)) (length (t .1 .1)) (length s - length rest)
 
 -- the three tables, as a sheet with nothing else
 abbrev pub onlyTables : Three → RawSheet
@@ -27,9 +27,9 @@ onlyTables t = record { points = t .0; curves = t .1 .0; segments = t .1 .1; edg
 -- they are stored
 unfoldable pub TablesStored : Parsed Three → Tables → Type 0
 TablesStored bad new = Unit
-TablesStored (got t rest) new = new ≡ stored (tablesOf (onlyTables t))
+TablesStored (parsed t rest) new = new ≡ stored (tablesOf (onlyTables t))
 
 -- the sheet's tables are stored
-unfoldable pub Kept : Result RawSheet → Tables → Type 0
-Kept (refused n) new = Unit
-Kept (accepted raw) new = new ≡ stored (tablesOf raw)
+unfoldable pub SheetStored : Result RawSheet → Tables → Type 0
+SheetStored (refused n) new = Unit
+SheetStored (got raw) new = new ≡ stored (tablesOf raw)

@@ -4,7 +4,7 @@ use mathlib.Core.List.{List, [], map}
 use Prim.Native.Nat.{ℕ, _-_}
 use lib.ListN.{length}
 use lib.Dec.{eqb}
-use Rattle.text_format.specs.Format.{Parsed, bad, got}
+use Rattle.text_format.specs.Format.{Parsed, bad, parsed}
 use Rattle.text_format.specs.Table.{Field, float}
 use Rattle.text_format.specs.declared.Num.{Num}
 use Rattle.text_format.specs.declared.Num.the-variants.{Got, Bad}
@@ -27,4 +27,4 @@ shapeOf = map fieldOf
 -- a line's numbers and the place behind it; or that it cannot be read
 unfoldable pub parsedRow : List ℕ → Parsed (List ℕ) → Row
 parsedRow s bad = record { ok = false; numbers = padded 9 0 []; next = 0 }
-parsedRow s (got l rest) = record { ok = true; numbers = padded 9 0 l; next = length s - length rest }
+parsedRow s (parsed l rest) = record { ok = true; numbers = padded 9 0 l; next = length s - length rest }

@@ -14,7 +14,7 @@ use Rattle.sheet_tables.specs.Flattened.{flattened}
 use Rattle.text_format.proofs.Place.{Read, parsed-list, parsed-no-list}
 use Rattle.sheet_layout.proofs.Columns.{shape-law}
 use Rattle.sheet_layout.proofs.Rows.{RowRead, row-read, no-row-read}
-use Rattle.sheet_tables.proofs.Stores.{cleared-behind, stored-bad, stored-got}
+use Rattle.sheet_tables.proofs.Stores.{cleared-behind, stored-bad, stored-parsed}
 use Rattle.sheet_tables.proofs.Turns.{Rows, Next, no-rows, rows-end, rows-bad, all-rows, next-row}
 use borrow.Author.Needs.{needs}
 use Rattle.sheet_tables.proofs.rows.Statement.{statement}
@@ -80,8 +80,8 @@ returns c =
     let all = all-rows (a .s .now) (a .shape .now) (a .at) (a .wholes .now) (a .floats .now) (c .before .before .before .before .before .before .before .before .before .before .before .before .before .before .before .before .pre .2) (l .wholes) (l .floats) (l .p) (l .n) (l .w) (l .f) i (omega arith) (c .before .before .before .before .before .before .before .before .if1 .taken) in
     let r : Read (a .s .now) q (i .taken) (l .p + 1) = record { within = omega arith; is = all } in (
       parsed-list (a .s .now) q (i .taken) (l .n) (l .p + 1) (sym (i .count)) r,
-      stored-got _ _ q _ _ (i .taken) _ all (cleared-behind 0 (a .wholes .now) (l .wholes) _ (flattened (wholesOf (shapeOf (a .shape .now))) (i .taken)) (l .w) (i .w-place) (i .w-fits) (i .wholes-are) (c .before .before .before .before .before .before .clear-wholes .ensures)),
-      stored-got _ _ q _ _ (i .taken) _ all (cleared-behind (ofBits binary64 0) (a .floats .now) (l .floats) _ (flattened (floatsOf (shapeOf (a .shape .now))) (i .taken)) (l .f) (i .f-place) (i .f-fits) (i .floats-are) (c .before .before .clear-from .ensures)),
+      stored-parsed _ _ q _ _ (i .taken) _ all (cleared-behind 0 (a .wholes .now) (l .wholes) _ (flattened (wholesOf (shapeOf (a .shape .now))) (i .taken)) (l .w) (i .w-place) (i .w-fits) (i .wholes-are) (c .before .before .before .before .before .before .clear-wholes .ensures)),
+      stored-parsed _ _ q _ _ (i .taken) _ all (cleared-behind (ofBits binary64 0) (a .floats .now) (l .floats) _ (flattened (floatsOf (shapeOf (a .shape .now))) (i .taken)) (l .f) (i .f-place) (i .f-fits) (i .floats-are) (c .before .before .clear-from .ensures)),
     )
 
 line-requires : tie.Need-line-requires Inv-loop μ-loop

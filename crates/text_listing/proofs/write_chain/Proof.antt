@@ -5,7 +5,7 @@ use native.Mathlib.Omega.{arith}
 use lib.ListN.{length}
 use Rattle.text_format.specs.Bytes.{bytes}
 use Rattle.text_format.proofs.Buffer.{Part, none-written, some-written, some-fit, all-written}
-use Rattle.text_listing.specs.Listing.{rowOf, lineOf}
+use Rattle.text_listing.specs.Listing.{lineBytes, rowOf, lineOf}
 use Rattle.text_listing.proofs.Lines.{row-length, linesFrom, next-line, no-line, lines-length, names-are, chain-written}
 use borrow.Author.Needs.{needs}
 use Rattle.text_listing.proofs.write_chain.Statement.{statement}
@@ -32,7 +32,7 @@ put-sample-requires c κs =
     let r = c .before .before .before .before .before .before .before .put-bytes .ensures .0 in
     let f = c .before .before .before .before .before .before .before .before .before .before .before .before .pre .1 in
     let h = some-fit _ (c .before .before .before .before .before .before .before .put-bytes .result) _ (l .out) (l .at) _ (l .inv .1) (lineOf (rowOf (c .before .before .own-of .result) (c .before .sample-at .result))) _ e (omega arith) in
-    let g : l .at + 68 ≤ length (l .out) = omega arith in
+    let g : l .at + lineBytes ≤ length (l .out) = omega arith in
     g
 
 loop-again : tie.Need-loop-again Inv-loop μ-loop

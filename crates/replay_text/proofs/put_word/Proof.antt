@@ -1,4 +1,4 @@
--- `replay_text::word` meets its contract: what the rest of the word adds to what waits stays the same. Assumes nothing.
+-- `replay_text::put_word` meets its contract: what the rest of the word adds to what waits stays the same. Assumes nothing.
 use mathlib.Core.Path.{_≡_, sym, ap, _∙_}
 use Prim.Native.Nat.{_+_, _-_, _≤_}
 use native.Mathlib.Omega.{arith}
@@ -7,8 +7,8 @@ use lib.Seq.{drop-length}
 use borrow.Author.Needs.{needs}
 use Rattle.replay_text.specs.Own.Waiting.{waits, puts}
 use Rattle.replay_text.proofs.Places.{puts-from}
-use Rattle.replay_text.proofs.word.Statement.{statement}
-use Rattle.replay_text.proofs.word.Tie as tie
+use Rattle.replay_text.proofs.put_word.Statement.{statement}
+use Rattle.replay_text.proofs.put_word.Tie as tie
 
 abbrev Inv-loop : tie.InvT-loop
 Inv-loop out₀ at w n₀ i₀ out n i = (i ≤ length w) × (puts (drop i w) (waits out n) ≡ puts w (waits out₀ at))
@@ -20,7 +20,7 @@ loop-again : tie.Need-loop-again Inv-loop μ-loop
 loop-again c =
     let l = c .before .before .before .before .loop in
     let a = c .before .before .before .before .before .before .args in
-    (search needs, ap (puts (drop (l .i + 1) (a .w .now))) (c .put .ensures) ∙ sym (puts-from (a .w .now) (l .i) (waits (l .out) (l .n)) (omega arith)) ∙ l .inv .1)
+    (search needs, ap (puts (drop (l .i + 1) (a .w .now))) (c .put-byte .ensures) ∙ sym (puts-from (a .w .now) (l .i) (waits (l .out) (l .n)) (omega arith)) ∙ l .inv .1)
 
 returns : tie.Need-returns Inv-loop μ-loop
 unfolding puts
@@ -30,8 +30,8 @@ returns c =
     let e : l .i ≡ length (a .w .now) = omega arith in
     sym (ap (λ k. puts k (waits (l .out) (l .n))) (ap (λ i. drop i (a .w .now)) e ∙ drop-length (a .w .now))) ∙ l .inv .1
 
-pub word-spec : {M : Type 1} → statement M
-word-spec =
+pub put-word-spec : {M : Type 1} → statement M
+put-word-spec =
     tie.close
     (tie.spec
     Inv-loop

@@ -1,9 +1,9 @@
--- `replay_text::putOne` meets its contract. Assumes nothing.
+-- `replay_text::put_byte` meets its contract. Assumes nothing.
 use borrow.Author.Needs.{needs}
 use borrow.Author.Tests.{lt-ltb, le-ltb}
 use Rattle.replay_text.specs.Own.Waiting.{putOne}
-use Rattle.replay_text.proofs.put.Statement.{statement}
-use Rattle.replay_text.proofs.put.Tie as tie
+use Rattle.replay_text.proofs.put_byte.Statement.{statement}
+use Rattle.replay_text.proofs.put_byte.Tie as tie
 
 returns : tie.Need-returns
 unfolding putOne
@@ -13,8 +13,8 @@ returns-2 : tie.Need-returns-2
 unfolding putOne
 returns-2 c = rw (le-ltb _ 4096 (c .before .before .before .if1 .left))
 
-pub put-spec : {M : Type 1} → statement M
-put-spec =
+pub put-byte-spec : {M : Type 1} → statement M
+put-byte-spec =
     tie.close
     (tie.spec
     (λ c. search needs)

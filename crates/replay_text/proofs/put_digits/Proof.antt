@@ -1,4 +1,4 @@
--- `replay_text::digits` meets its contract: what the digits that are left add to what waits stays the same. Assumes nothing.
+-- `replay_text::put_digits` meets its contract: what the digits that are left add to what waits stays the same. Assumes nothing.
 use mathlib.Core.Path.{_≡_, refl, sym, ap, _∙_}
 use Prim.Native.Nat.{_-_, _%_, _^_, _≤_, _<_}
 use native.Mathlib.Omega.{arith}
@@ -6,8 +6,8 @@ use borrow.Author.Needs.{needs}
 use Rattle.text_format.specs.Format.{digits}
 use Rattle.replay_text.specs.Own.Waiting.{waits, putOne, puts}
 use Rattle.replay_text.proofs.Places.{First, first}
-use Rattle.replay_text.proofs.digits.Statement.{statement}
-use Rattle.replay_text.proofs.digits.Tie as tie
+use Rattle.replay_text.proofs.put_digits.Statement.{statement}
+use Rattle.replay_text.proofs.put_digits.Tie as tie
 
 abbrev Inv-loop : tie.InvT-loop
 Inv-loop out₀ at v base left unit n₀ rest₀ u₀ i₀ out n rest u i =
@@ -45,7 +45,7 @@ loop-again c =
     let a = c .before .before .before .before .before .args in (
       t .next,
       t .left,
-      ap (puts (digits (a .base) (l .i - 1) (l .rest % l .u))) (c .put .ensures ∙ ap (λ b. putOne b (waits (l .out) (l .n))) (c .before .char-of .ensures))
+      ap (puts (digits (a .base) (l .i - 1) (l .rest % l .u))) (c .put-byte .ensures ∙ ap (λ b. putOne b (waits (l .out) (l .n))) (c .before .char-of .ensures))
           ∙ sym (ap (λ s. puts s (waits (l .out) (l .n))) (t .is)) ∙ l .inv .2,
     )
 
@@ -56,8 +56,8 @@ returns c =
     let z : l .i ≡ 0 = omega arith in
     sym (ap (λ i. puts (digits (c .before .before .args .base) i (l .rest)) (waits (l .out) (l .n))) z) ∙ l .inv .2
 
-pub digits-spec : {M : Type 1} → statement M
-digits-spec =
+pub put-digits-spec : {M : Type 1} → statement M
+put-digits-spec =
     tie.close
     (tie.spec
     Inv-loop
