@@ -11,7 +11,7 @@ use Rattle.text_format.specs.Format.{_then_, _before_, as-of, lines}
 use Rattle.text_format.specs.Table.{Column, fields, line, table}
 use Rattle.text_format.proofs.Lines.{lines-long}
 use Rattle.text_format.proofs.Tables.{Good}
-use Rattle.sheet_layout.specs.Layout.{RawSheet, mostPoints, mostCurves, mostSegments, pointColumns, curveColumns, segmentColumns, sheet, size, readSheet, Follows}
+use Rattle.sheet_layout.specs.Layout.{RawSheet, sheetPoints, sheetCurves, sheetSegments, pointColumns, curveColumns, segmentColumns, sheet, size, readSheet, Follows}
 use Rattle.sheet_layout.specs.Padded.{padded}
 use Rattle.sheet_layout.proofs.Laws.{points-good, curves-good, segments-good, layout-read}
 use Rattle.sheet_row.specs.Rows.{isFloat, rawEdgeOf, rawOptionsOf}
@@ -42,15 +42,15 @@ module _ (text : List ℕ) (raw : RawSheet) (f : Follows text raw) where
       let l = simp length-append at (ap length (f .is)) in
       (omega arith, omega arith, omega arith)
 
-  pub points-few : length (raw .points) ≤ mostPoints
+  pub points-few : length (raw .points) ≤ sheetPoints
   unfolding sheet as-of _then_ fields isFloat least
   points-few = let l = long .0 in let h = rows-few pointColumns points-good (raw .points) (f .valid .0 .0) in omega arith
 
-  pub curves-few : length (raw .curves) ≤ mostCurves
+  pub curves-few : length (raw .curves) ≤ sheetCurves
   unfolding sheet as-of _then_ fields isFloat least
   curves-few = let l = long .1 in let h = rows-few curveColumns curves-good (raw .curves) (f .valid .0 .1 .0) in omega arith
 
-  pub segments-few : length (raw .segments) ≤ mostSegments
+  pub segments-few : length (raw .segments) ≤ sheetSegments
   unfolding sheet as-of _then_ fields isFloat least
   segments-few = let l = long .2 in let h = rows-few segmentColumns segments-good (raw .segments) (f .valid .0 .1 .1) in omega arith
 
@@ -68,7 +68,7 @@ leading-is text raw f =
     let r = floats-length (fields curveColumns) (raw .curves) (f .valid .0 .1 .0) in
     let w = wholes-length (fields segmentColumns) (raw .segments) (f .valid .0 .1 .1) in
     let g = floats-length (fields segmentColumns) (raw .segments) (f .valid .0 .1 .1) in
-    rw (first-part (3 * mostPoints) _ (floatOf 0) _ p, first-part {E = ℕ} (3 * mostCurves) _ 0 _ c, first-part (2 * mostCurves) _ (floatOf 0) _ r, first-part {E = ℕ} (2 * mostSegments) _ 0 _ w, first-part (2 * mostSegments) _ (floatOf 0) _ g)
+    rw (first-part (3 * sheetPoints) _ (floatOf 0) _ p, first-part {E = ℕ} (3 * sheetCurves) _ 0 _ c, first-part (2 * sheetCurves) _ (floatOf 0) _ r, first-part {E = ℕ} (2 * sheetSegments) _ 0 _ w, first-part (2 * sheetSegments) _ (floatOf 0) _ g)
 
 -- ---- THE law for callers
 -- a sheet was read: the text follows it, its rows are few, its tables are the leading rows of t
@@ -76,9 +76,9 @@ pub record SheetRead (text : List ℕ) (n m k : ℕ) (e : Edge) (o : Options) (l
   pub raw : RawSheet
   pub is : readSheet text ≡ got raw
   pub follows : Follows text raw
-  pub points-few : n ≤ mostPoints
-  pub curves-few : m ≤ mostCurves
-  pub segments-few : k ≤ mostSegments
+  pub points-few : n ≤ sheetPoints
+  pub curves-few : m ≤ sheetCurves
+  pub segments-few : k ≤ sheetSegments
   pub tables-are : leading n m k t ≡ tablesOf raw
   pub edge-is : e ≡ edgeFrom (rawEdgeOf (raw .edge))
   pub options-is : o ≡ optionsFrom (rawOptionsOf (raw .options))

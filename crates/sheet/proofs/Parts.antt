@@ -11,7 +11,7 @@ use borrow.Author.Tests.{le-leb, lt-leb}
 use Rattle.base_lists.specs.Result.{Result, refused, got}
 use Rattle.text_format.specs.Format.{Parsed, bad, parsed, _then_, all, wholeText}
 use Rattle.text_format.specs.Table.{fields}
-use Rattle.sheet_layout.specs.Layout.{RawSheet, mostPoints, mostCurves, mostSegments, pointColumns, curveColumns, segmentColumns, tablesFormat, ends, sheet, size, readSheet}
+use Rattle.sheet_layout.specs.Layout.{RawSheet, sheetPoints, sheetCurves, sheetSegments, pointColumns, curveColumns, segmentColumns, tablesFormat, ends, sheet, size, readSheet}
 use Rattle.sheet_layout.specs.Padded.{padded}
 use Rattle.sheet_layout.proofs.Laws.{tables-law, ends-law}
 use Rattle.sheet_row.specs.Rows.{floatsOf, wholesOf, rawEdgeOf, rawOptionsOf}
@@ -64,18 +64,18 @@ module _ (s : List ℕ) (q : Parsed Three) where
   tables-stored-is t rest new e h = subst (λ z. TablesStored z new) e h
 
 pub stored-is : (a b c : List (List ℕ)) (points : List Float) (curves : List ℕ) (reals : List Float) (parts : List ℕ) (ranges : List Float)
-    → points ≡ padded (3 * mostPoints) (floatOf 0) (flattened (floatsOf (fields pointColumns)) a)
-    → curves ≡ padded (3 * mostCurves) 0 (flattened (wholesOf (fields curveColumns)) b)
-    → reals ≡ padded (2 * mostCurves) (floatOf 0) (flattened (floatsOf (fields curveColumns)) b)
-    → parts ≡ padded (2 * mostSegments) 0 (flattened (wholesOf (fields segmentColumns)) c)
-    → ranges ≡ padded (2 * mostSegments) (floatOf 0) (flattened (floatsOf (fields segmentColumns)) c)
+    → points ≡ padded (3 * sheetPoints) (floatOf 0) (flattened (floatsOf (fields pointColumns)) a)
+    → curves ≡ padded (3 * sheetCurves) 0 (flattened (wholesOf (fields curveColumns)) b)
+    → reals ≡ padded (2 * sheetCurves) (floatOf 0) (flattened (floatsOf (fields curveColumns)) b)
+    → parts ≡ padded (2 * sheetSegments) 0 (flattened (wholesOf (fields segmentColumns)) c)
+    → ranges ≡ padded (2 * sheetSegments) (floatOf 0) (flattened (floatsOf (fields segmentColumns)) c)
     → tables-of points curves reals parts ranges ≡ stored (tablesOf (onlyTables (a, (b, c))))
 unfolding stored tablesOf
 stored-is a b c points curves reals parts ranges d e f g h = rw (d, e, f, g, h)
 
 pub cleared : (points : List Float) (curves : List ℕ) (reals : List Float) (parts : List ℕ) (ranges : List Float)
-    → points ≡ padded (3 * mostPoints) (floatOf 0) [] → curves ≡ padded (3 * mostCurves) 0 [] → reals ≡ padded (2 * mostCurves) (floatOf 0) [] → parts ≡ padded (2 * mostSegments) 0 []
-    → ranges ≡ padded (2 * mostSegments) (floatOf 0) [] → tables-of points curves reals parts ranges ≡ stored noTables
+    → points ≡ padded (3 * sheetPoints) (floatOf 0) [] → curves ≡ padded (3 * sheetCurves) 0 [] → reals ≡ padded (2 * sheetCurves) (floatOf 0) [] → parts ≡ padded (2 * sheetSegments) 0 []
+    → ranges ≡ padded (2 * sheetSegments) (floatOf 0) [] → tables-of points curves reals parts ranges ≡ stored noTables
 unfolding stored
 cleared points curves reals parts ranges d e f g h = rw (d, e, f, g, h)
 

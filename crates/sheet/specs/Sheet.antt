@@ -7,7 +7,7 @@ use denote.Ref.{RefT}
 use denote.Triple.Both.{Both}
 use Rattle.base_lists.specs.Result.{Result, refused, got}
 use Rattle.text_format.specs.Table.{fields}
-use Rattle.sheet_layout.specs.Layout.{RawSheet, mostPoints, mostCurves, mostSegments, pointColumns, curveColumns, segmentColumns}
+use Rattle.sheet_layout.specs.Layout.{RawSheet, sheetPoints, sheetCurves, sheetSegments, pointColumns, curveColumns, segmentColumns}
 use Rattle.sheet_layout.specs.Padded.{padded}
 use Rattle.sheet_row.specs.Rows.{floatsOf, wholesOf, rawEdgeOf, rawOptionsOf}
 use Rattle.sheet_row.specs.declared.RawEdge.{RawEdge}
@@ -70,8 +70,8 @@ tablesOf raw =
 -- the numbers, then zeros, in the tables as they are lent
 unfoldable pub stored : Tables → Tables
 stored t =
-    tables (padded (3 * mostPoints) (floatOf 0) (t .points)) (padded (3 * mostCurves) 0 (t .curves)) (padded (2 * mostCurves) (floatOf 0) (t .reals)) (padded (2 * mostSegments) 0 (t .parts))
-    (padded (2 * mostSegments) (floatOf 0) (t .ranges))
+    tables (padded (3 * sheetPoints) (floatOf 0) (t .points)) (padded (3 * sheetCurves) 0 (t .curves)) (padded (2 * sheetCurves) (floatOf 0) (t .reals)) (padded (2 * sheetSegments) 0 (t .parts))
+    (padded (2 * sheetSegments) (floatOf 0) (t .ranges))
 
 -- no rows at all
 abbrev pub noTables : Tables

@@ -15,19 +15,19 @@ use sheet_row::RawOptions;
 use text_format::Num;
 
 // Room in each table for every sheet's rows. The points: x y z.
-pub const POINTS: usize = 3 * sheet_layout::MOST_POINTS;
+pub const POINTS: usize = 3 * sheet_layout::SHEET_POINTS;
 
 // The curves' whole numbers: kind first count.
-pub const CURVES: usize = 3 * sheet_layout::MOST_CURVES;
+pub const CURVES: usize = 3 * sheet_layout::SHEET_CURVES;
 
 // The curves' floats: p q.
-pub const REALS: usize = 2 * sheet_layout::MOST_CURVES;
+pub const REALS: usize = 2 * sheet_layout::SHEET_CURVES;
 
 // The segments' whole numbers: curve sense.
-pub const PARTS: usize = 2 * sheet_layout::MOST_SEGMENTS;
+pub const PARTS: usize = 2 * sheet_layout::SHEET_SEGMENTS;
 
 // The segments' floats: lo hi.
-pub const RANGES: usize = 2 * sheet_layout::MOST_SEGMENTS;
+pub const RANGES: usize = 2 * sheet_layout::SHEET_SEGMENTS;
 
 // A sheet: how many rows its tables hold, its edge, its options, and the edge's lo and hi by their own 64 bits, since
 // the floats keep no NaN's bits. Or the cause for which it is turned away.

@@ -79,14 +79,14 @@ abbrev pub size : ℕ
 size = 65536
 
 -- the most rows that so many bytes hold: points of 51 bytes, curves of 40 or more, segments of 38
-abbrev pub mostPoints : ℕ
-mostPoints = 1285
+abbrev pub sheetPoints : ℕ
+sheetPoints = 1285
 
-abbrev pub mostCurves : ℕ
-mostCurves = 1638
+abbrev pub sheetCurves : ℕ
+sheetCurves = 1638
 
-abbrev pub mostSegments : ℕ
-mostSegments = 1724
+abbrev pub sheetSegments : ℕ
+sheetSegments = 1724
 
 -- the sheet that a text stands for; cause 10 where it stands for none or is too long
 unfoldable pub readSheet : List ℕ → Result RawSheet

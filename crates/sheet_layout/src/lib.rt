@@ -13,13 +13,13 @@ use text_format::Num;
 pub const SIZE: usize = 65536;
 
 // The most points that so many bytes hold, of 51 bytes each.
-pub const MOST_POINTS: usize = 1285;
+pub const SHEET_POINTS: usize = 1285;
 
 // The most curves, of 40 bytes or more.
-pub const MOST_CURVES: usize = 1638;
+pub const SHEET_CURVES: usize = 1638;
 
 // The most segments, of 38 bytes or more.
-pub const MOST_SEGMENTS: usize = 1724;
+pub const SHEET_SEGMENTS: usize = 1724;
 
 // A line's numbers, zeros behind them, and the next place; no line where `ok` is false.
 pub struct Row {

@@ -7,7 +7,7 @@ ghost use lib.Ieee.{binary64, ofBits};
 ghost use Rattle.text_format.specs.Format.{lines};
 ghost use Rattle.text_format.specs.Table.{fields, line, table};
 ghost use Rattle.text_format.specs.Own.Answers.{parsedList};
-ghost use Rattle.sheet_layout.specs.Layout.{size, mostPoints, mostCurves, mostSegments, pointColumns, curveColumns, segmentColumns};
+ghost use Rattle.sheet_layout.specs.Layout.{size, sheetPoints, sheetCurves, sheetSegments, pointColumns, curveColumns, segmentColumns};
 ghost use Rattle.sheet_layout.specs.Own.Letters.{shapeOf};
 ghost use Rattle.sheet_row.specs.Rows.{floatsOf, wholesOf};
 ghost use Rattle.sheet_tables.specs.Own.Room.{Roomy};
@@ -68,7 +68,7 @@ fn table(
 
 // The points' block: x y z.
 pub fn points(s: &[u8], at: usize, floats: &mut [f64]) -> Num
-    requires { ⌜ (at ≤ length (now s)) × (length (now s) ≤ size) × (3 * mostPoints ≤ length (now floats)) ⌝ }
+    requires { ⌜ (at ≤ length (now s)) × (length (now s) ≤ size) × (3 * sheetPoints ≤ length (now floats)) ⌝ }
     ensures { λ r. ⌜ (r ≡ parsedList (now (s .entry)) (table pointColumns .read (drop at (now (s .entry)))))
         × TableStored (flattened (floatsOf (fields pointColumns))) (ofBits binary64 0) (table pointColumns .read (drop at (now (s .entry)))) (length (now (floats .entry))) (now (floats .exit)) ⌝ }
 {
@@ -78,7 +78,7 @@ pub fn points(s: &[u8], at: usize, floats: &mut [f64]) -> Num
 
 // The curves' block: kind first count, and p q.
 pub fn curves(s: &[u8], at: usize, wholes: &mut [u32], floats: &mut [f64]) -> Num
-    requires { ⌜ (at ≤ length (now s)) × (length (now s) ≤ size) × (3 * mostCurves ≤ length (now wholes)) × (2 * mostCurves ≤ length (now floats)) ⌝ }
+    requires { ⌜ (at ≤ length (now s)) × (length (now s) ≤ size) × (3 * sheetCurves ≤ length (now wholes)) × (2 * sheetCurves ≤ length (now floats)) ⌝ }
     ensures { λ r. ⌜ (r ≡ parsedList (now (s .entry)) (table curveColumns .read (drop at (now (s .entry)))))
         × TableStored (flattened (wholesOf (fields curveColumns))) 0 (table curveColumns .read (drop at (now (s .entry)))) (length (now (wholes .entry))) (now (wholes .exit))
         × TableStored (flattened (floatsOf (fields curveColumns))) (ofBits binary64 0) (table curveColumns .read (drop at (now (s .entry)))) (length (now (floats .entry))) (now (floats .exit)) ⌝ }
@@ -88,7 +88,7 @@ pub fn curves(s: &[u8], at: usize, wholes: &mut [u32], floats: &mut [f64]) -> Nu
 
 // The segments' block: curve sense, and lo hi.
 pub fn segments(s: &[u8], at: usize, wholes: &mut [u32], floats: &mut [f64]) -> Num
-    requires { ⌜ (at ≤ length (now s)) × (length (now s) ≤ size) × (2 * mostSegments ≤ length (now wholes)) × (2 * mostSegments ≤ length (now floats)) ⌝ }
+    requires { ⌜ (at ≤ length (now s)) × (length (now s) ≤ size) × (2 * sheetSegments ≤ length (now wholes)) × (2 * sheetSegments ≤ length (now floats)) ⌝ }
     ensures { λ r. ⌜ (r ≡ parsedList (now (s .entry)) (table segmentColumns .read (drop at (now (s .entry)))))
         × TableStored (flattened (wholesOf (fields segmentColumns))) 0 (table segmentColumns .read (drop at (now (s .entry)))) (length (now (wholes .entry))) (now (wholes .exit))
         × TableStored (flattened (floatsOf (fields segmentColumns))) (ofBits binary64 0) (table segmentColumns .read (drop at (now (s .entry)))) (length (now (floats .entry))) (now (floats .exit)) ⌝ }

@@ -5,7 +5,7 @@ use native.Mathlib.Omega.{arith}
 use lib.ListN.{drop}
 use Rattle.text_format.specs.Format.{_then_}
 use Rattle.text_format.specs.Table.{fields, table}
-use Rattle.sheet_layout.specs.Layout.{mostPoints, mostCurves, mostSegments, pointColumns, curveColumns, segmentColumns}
+use Rattle.sheet_layout.specs.Layout.{sheetPoints, sheetCurves, sheetSegments, pointColumns, curveColumns, segmentColumns}
 use Rattle.sheet_layout.proofs.Laws.{points-law, curves-law, segments-law}
 use Rattle.sheet_row.specs.Rows.{floatsOf, wholesOf}
 use Rattle.text_format.proofs.Place.{ReadList, read-list, read-no-list, then-bad, then-bad-on, then-read}
@@ -73,11 +73,11 @@ returns-4 c =
       parsed-tables s _ (l .list) (m .list) (k .list) _ _ _ _ (l .count) (m .count) (k .count) r,
       tables-stored-parsed s _ (l .list, (m .list, k .list)) _ _ (r .is)
           (stored-is (l .list) (m .list) (k .list) _ _ _ _ _
-          (table-stored (flattened (floatsOf (fields pointColumns))) (floatOf 0) (3 * mostPoints) _ (l .list) _ (a .points .now) _ (c .before .before .before .before .before .before .before .before .before .before .before .before .before .before .before .before .points-arg .given .0 .1) (l .is .is) (c .before .before .before .before .before .before .before .before .before .before .before .before .before .before .before .points .ensures .1))
-          (table-stored (flattened (wholesOf (fields curveColumns))) 0 (3 * mostCurves) _ (m .list) _ (a .curves .now) _ (c .before .before .before .before .before .before .before .before .before .before .before .curves-arg .given .0 .1) (m .is .is) (c .before .before .before .before .before .before .before .before .before .curves .ensures .1))
-          (table-stored (flattened (floatsOf (fields curveColumns))) (floatOf 0) (2 * mostCurves) _ (m .list) _ (a .reals .now) _ (c .before .before .before .before .before .before .before .before .before .before .curves-arg2 .given .0 .1) (m .is .is) (c .before .before .before .before .before .before .before .before .before .curves .ensures .2))
-          (table-stored (flattened (wholesOf (fields segmentColumns))) 0 (2 * mostSegments) _ (k .list) _ (a .parts .now) _ (c .before .before .before .before .before .segments-arg .given .0 .1) (k .is .is) (c .before .before .before .segments .ensures .1))
-          (table-stored (flattened (floatsOf (fields segmentColumns))) (floatOf 0) (2 * mostSegments) _ (k .list) _ (a .ranges .now) _ (c .before .before .before .before .segments-arg2 .given .0 .1) (k .is .is) (c .before .before .before .segments .ensures .2))),
+          (table-stored (flattened (floatsOf (fields pointColumns))) (floatOf 0) (3 * sheetPoints) _ (l .list) _ (a .points .now) _ (c .before .before .before .before .before .before .before .before .before .before .before .before .before .before .before .before .points-arg .given .0 .1) (l .is .is) (c .before .before .before .before .before .before .before .before .before .before .before .before .before .before .before .points .ensures .1))
+          (table-stored (flattened (wholesOf (fields curveColumns))) 0 (3 * sheetCurves) _ (m .list) _ (a .curves .now) _ (c .before .before .before .before .before .before .before .before .before .before .before .curves-arg .given .0 .1) (m .is .is) (c .before .before .before .before .before .before .before .before .before .curves .ensures .1))
+          (table-stored (flattened (floatsOf (fields curveColumns))) (floatOf 0) (2 * sheetCurves) _ (m .list) _ (a .reals .now) _ (c .before .before .before .before .before .before .before .before .before .before .curves-arg2 .given .0 .1) (m .is .is) (c .before .before .before .before .before .before .before .before .before .curves .ensures .2))
+          (table-stored (flattened (wholesOf (fields segmentColumns))) 0 (2 * sheetSegments) _ (k .list) _ (a .parts .now) _ (c .before .before .before .before .before .segments-arg .given .0 .1) (k .is .is) (c .before .before .before .segments .ensures .1))
+          (table-stored (flattened (floatsOf (fields segmentColumns))) (floatOf 0) (2 * sheetSegments) _ (k .list) _ (a .ranges .now) _ (c .before .before .before .before .segments-arg2 .given .0 .1) (k .is .is) (c .before .before .before .segments .ensures .2))),
     )
 
 pub three-spec : {M : Type 1} → statement M
