@@ -1,3 +1,3 @@
 pub mod Answered
-pub mod Tried
+pub mod Traced
 pub mod ListOf
