@@ -35,7 +35,7 @@ module _ (c : CurveTree) where
   located-length [] = refl
   located-length (t ∷ l) = ap suc (located-length l)
 
-  located-append : (l m : List Float) → located c (l ++ m) ≡ located c l ++ located c m
+  pub located-append : (l m : List Float) → located c (l ++ m) ≡ located c l ++ located c m
   unfolding located
   located-append [] m = refl
   located-append (t ∷ l) m = ap (λ k. on c t ∷ k) (located-append l m)

@@ -28,14 +28,15 @@ use Rattle.edge_record.proofs.Laws.{pointOf-samples}
 use Rattle.edge_range.specs.declared.Usable.{Usable}
 use Rattle.edge_range.specs.declared.Usable.the-variants.{Range, Unusable}
 use Rattle.edge_range.specs.Usable.{usableRange}
+use Rattle.edge_subdivide.specs.Own.Recorded.{Room}
 use Rattle.base_lists.specs.Own.ListOf.{listOf}
 use Rattle.edge_sample.specs.Sample.{sampled}
 use Rattle.edge_sample.specs.Own.Answered.{SampledInto}
-use Rattle.edge_sample.specs.Own.Tried.{tried, isKept}
+use Rattle.edge_sample.specs.Own.Traced.{Traced, traced, tracedSampled}
 use Rattle.edge_sample.proofs.Laws.{sampled-two, sampled-room}
-use Rattle.edge_sample.proofs.Ways.{tried-sampled}
+use Rattle.edge_sample.proofs.Ways.{reads-held}
 use Rattle.edge_closed_form.specs.Located.{located}
-use Rattle.edge_closed_form.proofs.Located.{located-length, located-at}
+use Rattle.edge_closed_form.proofs.Located.{located-at}
 use Rattle.draw_spec.specs.Edge.{edgeCurve, atLeastTwo, chordOf, placed, thinnedMerged, finished, overRange, discretised}
 use Rattle.draw_spec.specs.Draw.{roomOf}
 use Rattle.edge_place.specs.Own.Place.{PointsKnown}
@@ -53,6 +54,14 @@ pub into-as : {n m : ℕ} {D : Result (List Sample)} {w : Counted} {g : List Flo
 into-as {n} {m} {D} e p = into-is n m D D e refl p
 
 -- ---- `draw_range`
+-- the part of the chain that is lent for records: one for each float of scratch
+module _ (scratch chain : List Float) (fits : width * length scratch ≤ length chain) where
+  pub records-length : length (take (width * length scratch) chain) ≡ width * length scratch
+  records-length = length-take-le (width * length scratch) chain fits
+
+  pub records-room : Room scratch (take (width * length scratch) chain) 0
+  records-room = record { taken = omega arith; wide = records-length }
+
 two-or-more : (range : Interval) (l : List Float) → 2 ≤ length l → atLeastTwo range l ≡ l
 unfolding atLeastTwo
 two-or-more range [] h = absurd (omega arith)
@@ -87,8 +96,8 @@ module _ {room : ℕ} {S : Result (List Float)} {n : ℕ} {out : List Float} (s 
   pub part-length : length (take n out) ≡ n
   part-length = length-take-le n out part-room
 
-  part : take n out ≡ s .params
-  part = ap (take n) (s .floats) ∙ ap (λ (k : ℕ). take k (filled room (s .params))) (sym (s .size)) ∙ filled-front room (s .params)
+  params-of : take n out ≡ s .params
+  params-of = ap (take n) (s .floats) ∙ ap (λ (k : ℕ). take k (filled room (s .params))) (sym (s .size)) ∙ filled-front room (s .params)
 
   -- scratch, with the parameters cleared
   pub cleared-used : {left : List Float} → left ≡ filled (length (take n out)) (take 0 (take n out)) → left ++ drop n out ≡ filled room []
@@ -105,7 +114,7 @@ module _ {room : ℕ} (T : Tables) (e : Edge) (r : Resolved) (range : Interval) 
   reads-placed =
       let P = placed T e (s .params) in
       let k : length P ≡ n = placed-length T e (s .params) (omega (arith, s .two, s .size)) ∙ s .size in
-      ap (λ (i : ℕ). samples i d) (sym k) ∙ ap (samples (length P)) (p ∙ ap (λ (l : List Float). sets chain 0 (flat (placed T e l))) (part s)) ∙ read-back chain P (omega arith)
+      ap (λ (i : ℕ). samples i d) (sym k) ∙ ap (samples (length P)) (p ∙ ap (λ (l : List Float). sets chain 0 (flat (placed T e l))) (params-of s)) ∙ read-back chain P (omega arith)
 
   over-some : thinnedMerged T e r (samples n d) ≡ overRange room T e r range
   unfolding finished
@@ -117,30 +126,23 @@ module _ {room : ℕ} (T : Tables) (e : Edge) (r : Resolved) (range : Interval) 
   pub into-some : (w : Counted) (g : List Float) → ChainInto (length d) (thinnedMerged T e r (samples n d)) w g → ChainInto (length chain) (overRange room T e r range) w g
   into-some w g = into-is (length d) (length chain) _ _ (ap length p ∙ length-sets chain 0 (flat (placed T e (take n out)))) over-some
 
--- what sample_params left in the chain, where it says that these are the parameters' points
+-- what sample_params left in the part of the chain that it was lent, where it says that these are the parameters' records
 module _ {room : ℕ} (T : Tables) (e : Edge) (r : Resolved) (range : Interval) {n : ℕ} {out : List Float} (s : Sampling room (sampled room (edgeCurve T e) range r) n out)
-    (known : Bool) (k : known ≡ isKept room (edgeCurve T e) range r) (chain left : List Float) (fits : width * n ≤ length chain)
-    (p : left ≡ sets chain 0 (flat (located (edgeCurve T e) (tried room (edgeCurve T e) range r)))) where
-  pub held : known ≡ true → PointsKnown (edgeCurve T e) (take n out) left
+    {known : Bool} (part left more : List Float) (wide : width * room ≤ length part) (p : traced known left ≡ tracedSampled room (edgeCurve T e) range r part) where
+  pub held : known ≡ true → PointsKnown (edgeCurve T e) (take n out) (left ++ more)
   held h = record { point = λ i l. go i (omega (arith, part-length s, l)) }
     where
-      own : tried room (edgeCurve T e) range r ≡ s .params
-      own = ap listOf (sym (tried-sampled room (edgeCurve T e) range r (sym k ∙ h)) ∙ s .is)
+      all : samples n (left ++ more) ≡ located (edgeCurve T e) (s .params)
+      all =
+          ap (λ (i : ℕ). samples i (left ++ more)) (sym (s .size))
+          ∙ ap (λ (t : Traced). samples (length (s .params)) (t .chain ++ more)) p
+          ∙ reads-held (edgeCurve T e) (s .params) room range r part more wide (s .is) (sym (ap (λ (t : Traced). t .known) p) ∙ h)
 
-      size : length (located (edgeCurve T e) (s .params)) ≡ n
-      size = located-length (edgeCurve T e) (s .params) ∙ s .size
-
-      reads : samples n left ≡ located (edgeCurve T e) (s .params)
-      reads =
-          ap (λ (i : ℕ). samples i left) (sym size)
-          ∙ ap (samples (length (located (edgeCurve T e) (s .params)))) (p ∙ ap (λ (l : List Float). sets chain 0 (flat (located (edgeCurve T e) l))) own)
-          ∙ read-back chain (located (edgeCurve T e) (s .params)) (omega (arith, size, fits))
-
-      go : (i : ℕ) → i < n → recordPoint left i ≡ eval.pointAt (edgeCurve T e) (getD (take n out) i nan)
+      go : (i : ℕ) → i < n → recordPoint (left ++ more) i ≡ eval.pointAt (edgeCurve T e) (getD (take n out) i nan)
       go i l =
-          sym (pointOf-samples left n i l) ∙ ap (λ (q : List Sample). samplePoint q i) reads
+          sym (pointOf-samples (left ++ more) n i l) ∙ ap (λ (q : List Sample). samplePoint q i) all
           ∙ ap (λ (q : Sample). q .point) (located-at (edgeCurve T e) (s .params) i _ (omega (arith, s .size, l)))
-          ∙ ap (λ (q : List Float). eval.pointAt (edgeCurve T e) (getD q i nan)) (sym (part s))
+          ∙ ap (λ (q : List Float). eval.pointAt (edgeCurve T e) (getD q i nan)) (sym (params-of s))
 
 pub into-none : (S : Result (List Float)) (f : List Float → Result (List Sample)) (w : Listed) (chain g : List Float) → said w ≡ each length S → w ≡ listed.Refused
     → g ≡ filled (length chain) (take 0 chain) → ChainInto (length chain) (bind S f) (Refused 8) g

@@ -151,6 +151,8 @@ fn draw_range(
         × (now (scratch .exit) ≡ filled (length (now (scratch .entry))) []) ⌝ }
 {
     let row = edge.curve;
+    let wide = edge_record::WIDTH * scratch.len();
+    let records = &mut chain[..wide];
     let sampled = sample_params(
         points,
         curves,
@@ -161,7 +163,7 @@ fn draw_range(
         range,
         r,
         scratch,
-        chain,
+        records,
     );
     let known = sampled.known;
     let listed = sampled.listed;

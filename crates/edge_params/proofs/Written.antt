@@ -15,7 +15,7 @@ use Rattle.base_lists.specs.Result.{refused, got, each}
 use Rattle.edge_params.specs.declared.Listed.{Listed}
 use Rattle.edge_params.specs.declared.Listed.the-variants.{Count, Refused}
 use Rattle.edge_params.specs.Params.{fitting}
-use Rattle.edge_params.specs.Own.Written.{ListWritten, ListAppended}
+use Rattle.edge_params.specs.Own.Written.{said, ListWritten, ListAppended}
 
 -- ---- stores in parts
 pub sets-append : (l : List Float) (n : ℕ) (a b : List Float) → sets l n (a ++ b) ≡ sets (sets l n a) (n + length a) b
@@ -23,7 +23,7 @@ sets-append l n [] b = rw add-zero
 sets-append l n (x ∷ a) b = sets-append (set l n x) (suc n) a b ∙ rw (suc-add, add-suc)
 
 -- past the end nothing is stored
-sets-out : (l : List Float) (n : ℕ) (a : List Float) → length l ≤ n → sets l n a ≡ l
+pub sets-out : (l : List Float) (n : ℕ) (a : List Float) → length l ≤ n → sets l n a ≡ l
 sets-out l n [] h = refl
 sets-out l n (x ∷ a) h = rw (set-out l n x h) (sets-out l (suc n) a (omega arith))
 
@@ -158,6 +158,16 @@ module _ (out : List Float) (k : ℕ) (a : List Float) {r : Listed} (mid : List 
       let g = counts n e in
       omega (arith, written-length g, written-count g .same, written-count g .fits)
 
+  -- how many are held, and that a list that is refused passes the room
+  module _ (room : k ≤ length out) where
+    pub behind-count : (n : ℕ) → r ≡ Count n → n ≡ k + length a
+    behind-count n e = written-count (counts n e) .same ∙ length-append (take k out) a ∙ ap (λ (m : ℕ). m + length a) (length-take-le k out room)
+
+    pub behind-full : r ≡ Refused → length out < k + length a
+    behind-full e =
+        let g = overfull (length out) (take k out ++ a) (ap said (sym e) ∙ h .answer) in
+        omega (arith, g, length-append (take k out) a, length-take-le k out room)
+
   pub behind-then : (n : ℕ) → r ≡ Count n → (b : List Float) {q : Listed} {after : List Float} → ListAppended mid n b q after
       → ListAppended out k (a ++ b) q after
   behind-then n e b {q} {after} f = rw append-assoc at go
@@ -177,22 +187,3 @@ module _ (out : List Float) (k : ℕ) (a : List Float) {r : Listed} (mid : List 
         buffer =
             f' .buffer ∙ ap (λ (m : List Float). sets m 0 (front ++ b)) (g .buffer) ∙ again out front b (written-count g .fits);
       }
-
--- a list, one more, and another list: the ways in which code that writes the three one after the other comes out
-module _ (out : List Float) (k : ℕ) (front : List Float) (x : Float) (back whole : List Float) (e : front ++ x ∷ back ≡ whole)
-    {r₁ : Listed} (out₁ : List Float) (h : ListAppended out k front r₁ out₁) where
-  pub front-refused : r₁ ≡ Refused → ListAppended out k whole Refused out₁
-  front-refused z =
-      subst (λ (l : List Float). ListAppended out k l Refused out₁) e (behind-refused out k front out₁ h z (x ∷ back))
-
-  module _ (n : ℕ) (N : r₁ ≡ Count n) {r₂ : Listed} (out₂ : List Float) (g : ListAppended out₁ n (x ∷ []) r₂ out₂) where
-    pub one-refused : r₂ ≡ Refused → ListAppended out k whole Refused out₂
-    one-refused z =
-        subst (λ (l : List Float). ListAppended out k l Refused out₂) e
-        (behind-then out k front out₁ h n N (x ∷ back) (behind-refused out₁ n (x ∷ []) out₂ g z back))
-
-    pub all-three : (m : ℕ) → r₂ ≡ Count m → {r₃ : Listed} {out₃ : List Float} → ListAppended out₂ m back r₃ out₃
-        → ListAppended out k whole r₃ out₃
-    all-three m M {r₃} {out₃} f =
-        subst (λ (l : List Float). ListAppended out k l r₃ out₃) e
-        (behind-then out k front out₁ h n N (x ∷ back) (behind-then out₁ n (x ∷ []) out₂ g m M back f))

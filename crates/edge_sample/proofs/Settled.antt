@@ -1,6 +1,6 @@
 -- A list that is held, with the rest of the buffer cleared, and the ways through refine. Assumes nothing.
 use mathlib.Core.Path.{_≡_, refl, sym, ap, subst, _∙_}
-use mathlib.Core.Bool.{Bool, true, false}
+use mathlib.Core.Bool.{Bool, true, false, not}
 use mathlib.Core.List.{List, [], _∷_, _++_}
 use Prim.Native.Nat.{ℕ, _+_, _-_, _≤_, _<_}
 use native.Mathlib.Omega.{arith}
@@ -17,6 +17,7 @@ use Rattle.edge_params.specs.declared.Listed.the-variants.{Count, Refused}
 use Rattle.edge_params.specs.Own.Written.{said, ListWritten}
 use Rattle.edge_params.proofs.Written.{fitting-fits, Counted, counted, written-count, written-length, written-list}
 use Rattle.base_lists.specs.Own.ListOf.{listOf}
+use Rattle.edge_sample.specs.Own.Traced.{isEnough}
 use Rattle.edge_sample.specs.Own.Answered.{SampledInto, keptFloats}
 
 refused-list : (s : Result (List Float)) → refused 8 ≡ each length s → listOf s ≡ []
@@ -70,6 +71,14 @@ module _ (s : Sampler) (range : Interval) (w : Listed) {out mid : List Float} (h
       go (refused n) e = refl
       go (got k) e = let z : _≡_ {A = ℕ} 0 1 = cc in absurd (omega arith)
 
+  pub refused-short : w ≡ Refused → false ≡ isEnough (s .least) (fitting (length out) (bisected s range))
+  unfolding isEnough
+  refused-short z = go (fitting (length out) (bisected s range)) (ap said (sym z) ∙ h .answer)
+    where
+      go : (x : Result (List Float)) → refused 8 ≡ each length x → false ≡ isEnough (s .least) x
+      go (refused n) e = refl
+      go (got k) e = let z : _≡_ {A = ℕ} 0 1 = cc in absurd (omega arith)
+
   module _ (n : ℕ) (e : w ≡ Count n) where
     is : Counted (length out) (bisected s range) n
     is = counted (length out) (bisected s range) n (ap said (sym e) ∙ h .answer)
@@ -93,3 +102,13 @@ module _ (s : Sampler) (range : Interval) (w : Listed) {out mid : List Float} (h
 
     pub refined-enough : s .least ≤ n - 1 → fitting (length out) (bisected s range) ≡ refined (length out) s range
     refined-enough p = fits ∙ sym (floor-of false (le-ltb (n - 1) (s .least) p))
+
+    enough-of : (t : Bool) → ltb (n - 1) (s .least) ≡ t → not t ≡ isEnough (s .least) (fitting (length out) (bisected s range))
+    unfolding isEnough
+    enough-of t p = sym (ap (isEnough (s .least)) fits ∙ ap (λ (m : ℕ). not (ltb (m - 1) (s .least))) (sym (is .same)) ∙ ap not p)
+
+    pub few-short : n - 1 < s .least → false ≡ isEnough (s .least) (fitting (length out) (bisected s range))
+    few-short p = enough-of true (lt-ltb (n - 1) (s .least) p)
+
+    pub enough-kept : s .least ≤ n - 1 → true ≡ isEnough (s .least) (fitting (length out) (bisected s range))
+    enough-kept p = enough-of false (le-ltb (n - 1) (s .least) p)

@@ -10,9 +10,8 @@ use options::Resolved;
 ghost use mathlib.Core.Path.{_≡_};
 ghost use mathlib.Core.Bool.{false};
 ghost use mathlib.Core.List.{_++_};
-ghost use Prim.Native.Nat.{_*_, _≤_};
+ghost use Prim.Native.Nat.{_≤_};
 ghost use lib.ListN.{length, getD, take};
-ghost use lib.Seq.{sets};
 ghost use lib.Ieee.{nan};
 ghost use Rattle.base_lists.specs.Room.{filled};
 ghost use Rattle.brep.specs.Rows.{lent, given};
@@ -20,15 +19,13 @@ ghost use Rattle.brep.specs.Tree.{tree};
 ghost use Rattle.curve_prepared.specs.Own.Prepared.{preparedOf};
 ghost use Rattle.knots_sort.specs.Own.Sortable.{mostKnots};
 ghost use Rattle.edge_params.specs.Params.{subdivided, unlessHi, bisected, refined};
-ghost use Rattle.edge_params.specs.Own.Written.{ListWritten, ListAppended};
 ghost use Rattle.knots.specs.Knots.{curveKnots};
 ghost use Rattle.knots_thin.specs.Thin.{keptBreaks};
 ghost use Rattle.edge_subdivide.specs.Own.Limits.{limitsOf};
 ghost use Rattle.edge_subdivide.specs.Bisect.{endAt, withinBudget};
-ghost use Rattle.edge_record.specs.Chain.{width, flat};
-ghost use Rattle.edge_closed_form.specs.Located.{located};
+ghost use Rattle.edge_subdivide.specs.Own.Recorded.{Room, ListRecorded};
 ghost use Rattle.edge_sample.specs.Sample.{sampler, sampled};
-ghost use Rattle.edge_sample.specs.Own.Tried.{tried, isKept};
+ghost use Rattle.edge_sample.specs.Own.Traced.{traced, tracedRefined, tracedSampled};
 ghost use Rattle.edge_sample.specs.Own.Answered.{SampledInto, keptFloats, stops};
 
 // Stop number i of the walk. The breaks are read backwards where the range runs down.
@@ -62,11 +59,12 @@ fn step(
     left: End,
     right: End,
     out: &mut [f64],
+    chain: &mut [f64],
     k: usize,
 ) -> Listed
     requires { ⌜ (prepared ≡ preparedOf (tree (lent points curves reals parts ranges) row)) × (limits ≡ limitsOf r)
-        × (left ≡ endAt (tree (lent points curves reals parts ranges) row) (left .t)) × (right ≡ endAt (tree (lent points curves reals parts ranges) row) (right .t)) × (k ≤ length (now out)) ⌝ }
-    ensures { λ w. ⌜ ListAppended (now (out .entry)) k (subdivided (withinBudget (tree (given points curves reals parts ranges) row) r) (r .depth) (left .t) (right .t) ++ unlessHi range (right .t)) w (now (out .exit)) ⌝ }
+        × (left ≡ endAt (tree (lent points curves reals parts ranges) row) (left .t)) × (right ≡ endAt (tree (lent points curves reals parts ranges) row) (right .t)) × Room (now out) (now chain) k ⌝ }
+    ensures { λ w. ⌜ ListRecorded (tree (given points curves reals parts ranges) row) (now (out .entry)) (now (chain .entry)) k (subdivided (withinBudget (tree (given points curves reals parts ranges) row) r) (r .depth) (left .t) (right .t) ++ unlessHi range (right .t)) w (now (out .exit)) (now (chain .exit)) ⌝ }
 {
     let inside = edge_subdivide::subdivide(
         points,
@@ -82,13 +80,14 @@ fn step(
         right,
         r.depth,
         out,
+        chain,
         k,
     );
     let Listed::Count(n) = inside else {
         return Listed::Refused;
     };
     if right.t != range.hi {
-        return edge_params::push(out, n, right.t);
+        return edge_subdivide::push_end(out, chain, n, right);
     }
     Listed::Count(n)
 }
@@ -105,18 +104,15 @@ fn walk(
     r: Resolved,
     breaks: &[f64],
     out: &mut [f64],
+    chain: &mut [f64],
 ) -> Listed
-    requires { ⌜ now breaks ≡ keptBreaks (tree (lent points curves reals parts ranges) row) (range .lo) (range .hi) (r .sag) ⌝ }
-    ensures { λ w. ⌜ ListWritten (now (out .entry)) (bisected (sampler (tree (given points curves reals parts ranges) row) range r) range) w (now (out .exit)) ⌝ }
+    requires { ⌜ (now breaks ≡ keptBreaks (tree (lent points curves reals parts ranges) row) (range .lo) (range .hi) (r .sag)) × Room (now out) (now chain) 0 ⌝ }
+    ensures { λ w. ⌜ ListRecorded (tree (given points curves reals parts ranges) row) (now (out .entry)) (now (chain .entry)) 0
+        (bisected (sampler (tree (given points curves reals parts ranges) row) range r) range) w (now (out .exit)) (now (chain .exit)) ⌝ }
 {
     let prepared = curve_prepared::prepare(points, curves, reals, parts, ranges, row);
     let limits = edge_subdivide::limits_of(r);
-    let pushed = edge_params::push(out, 0, range.lo);
-    let Listed::Count(first) = pushed else {
-        return Listed::Refused;
-    };
-    let mut k = first;
-    let mut left = edge_subdivide::end_at(
+    let low = edge_subdivide::end_at(
         points,
         curves,
         reals,
@@ -126,6 +122,12 @@ fn walk(
         prepared,
         range.lo,
     );
+    let pushed = edge_subdivide::push_end(out, chain, 0, low);
+    let Listed::Count(first) = pushed else {
+        return Listed::Refused;
+    };
+    let mut k = first;
+    let mut left = low;
     let mut i = 0usize;
     while i <= breaks.len() {
         let b = stop_at(range, breaks, i);
@@ -144,6 +146,7 @@ fn walk(
             left,
             right,
             out,
+            chain,
             k,
         );
         let Listed::Count(n) = stepped else {
@@ -153,7 +156,7 @@ fn walk(
         left = right;
         i += 1;
     }
-    edge_params::push(out, k, range.hi)
+    edge_subdivide::push_end(out, chain, k, left)
 }
 
 // The walk over the breaks of a curve that has knots.
@@ -167,9 +170,11 @@ fn walk_breaks(
     range: Interval,
     r: Resolved,
     out: &mut [f64],
+    chain: &mut [f64],
 ) -> Listed
-    requires { ⌜ length (curveKnots (tree (lent points curves reals parts ranges) row)) ≤ mostKnots ⌝ }
-    ensures { λ w. ⌜ ListWritten (now (out .entry)) (bisected (sampler (tree (given points curves reals parts ranges) row) range r) range) w (now (out .exit)) ⌝ }
+    requires { ⌜ (length (curveKnots (tree (lent points curves reals parts ranges) row)) ≤ mostKnots) × Room (now out) (now chain) 0 ⌝ }
+    ensures { λ w. ⌜ ListRecorded (tree (given points curves reals parts ranges) row) (now (out .entry)) (now (chain .entry)) 0
+        (bisected (sampler (tree (given points curves reals parts ranges) row) range r) range) w (now (out .exit)) (now (chain .exit)) ⌝ }
 {
     let mut breaks = [0.0; knots_sort::MOST_KNOTS];
     let kept = knots_thin::kept_breaks(
@@ -199,6 +204,7 @@ fn walk_breaks(
         r,
         &breaks[..m],
         out,
+        chain,
     )
 }
 
@@ -213,9 +219,11 @@ fn bisect_range(
     range: Interval,
     r: Resolved,
     out: &mut [f64],
+    chain: &mut [f64],
 ) -> Listed
-    requires { ⌜ length (curveKnots (tree (lent points curves reals parts ranges) row)) ≤ mostKnots ⌝ }
-    ensures { λ w. ⌜ ListWritten (now (out .entry)) (bisected (sampler (tree (given points curves reals parts ranges) row) range r) range) w (now (out .exit)) ⌝ }
+    requires { ⌜ (length (curveKnots (tree (lent points curves reals parts ranges) row)) ≤ mostKnots) × Room (now out) (now chain) 0 ⌝ }
+    ensures { λ w. ⌜ ListRecorded (tree (given points curves reals parts ranges) row) (now (out .entry)) (now (chain .entry)) 0
+        (bisected (sampler (tree (given points curves reals parts ranges) row) range r) range) w (now (out .exit)) (now (chain .exit)) ⌝ }
 {
     if knots::knot_count(points, curves, reals, parts, ranges, row) == 0 {
         let none = [0.0; 1];
@@ -230,9 +238,21 @@ fn bisect_range(
             r,
             &none[..0],
             out,
+            chain,
         );
     }
-    walk_breaks(points, curves, reals, parts, ranges, row, range, r, out)
+    walk_breaks(
+        points,
+        curves,
+        reals,
+        parts,
+        ranges,
+        row,
+        range,
+        r,
+        out,
+        chain,
+    )
 }
 
 // +0.0 behind the list, or everywhere where it was refused.
@@ -252,32 +272,6 @@ fn settle(listed: Listed, out: &mut [f64]) -> Listed
     }
 }
 
-// Bisection, then the segment floor: even steps where the list has fewer segments.
-fn refine(
-    points: &[f64],
-    curves: &[u32],
-    reals: &[f64],
-    parts: &[u32],
-    ranges: &[f64],
-    row: u32,
-    range: Interval,
-    r: Resolved,
-    out: &mut [f64],
-) -> Listed
-    requires { ⌜ length (curveKnots (tree (lent points curves reals parts ranges) row)) ≤ mostKnots ⌝ }
-    ensures { λ w. ⌜ SampledInto (length (now (out .entry))) (refined (length (now (out .entry))) (sampler (tree (given points curves reals parts ranges) row) range r) range) w (now (out .exit)) ⌝ }
-{
-    let listed = bisect_range(points, curves, reals, parts, ranges, row, range, r, out);
-    let Listed::Count(n) = listed else {
-        return settle(listed, out);
-    };
-    if (n as u64) - 1 < r.segments {
-        let even = edge_params::evenly(range, r.segments, out);
-        return settle(even, out);
-    }
-    settle(listed, out)
-}
-
 // What sampling answers: how many parameters there are, or that they were refused; and whether the chain's records hold the
 // curve's points at them.
 pub struct Sampled {
@@ -294,9 +288,53 @@ fn unknown(listed: Listed) -> Sampled
     }
 }
 
+// Bisection, then the segment floor: even steps where the list has fewer segments. Bisection's points are left in the chain.
+fn refine(
+    points: &[f64],
+    curves: &[u32],
+    reals: &[f64],
+    parts: &[u32],
+    ranges: &[f64],
+    row: u32,
+    range: Interval,
+    r: Resolved,
+    out: &mut [f64],
+    chain: &mut [f64],
+) -> Sampled
+    requires { ⌜ (length (curveKnots (tree (lent points curves reals parts ranges) row)) ≤ mostKnots) × Room (now out) (now chain) 0 ⌝ }
+    ensures { λ w. ⌜ SampledInto (length (now (out .entry))) (refined (length (now (out .entry))) (sampler (tree (given points curves reals parts ranges) row) range r) range) (w .listed) (now (out .exit))
+        × (traced (w .known) (now (chain .exit)) ≡ tracedRefined (length (now (out .entry))) (tree (given points curves reals parts ranges) row) range r (now (chain .entry))) ⌝ }
+{
+    let listed = bisect_range(
+        points,
+        curves,
+        reals,
+        parts,
+        ranges,
+        row,
+        range,
+        r,
+        out,
+        chain,
+    );
+    let Listed::Count(n) = listed else {
+        return unknown(settle(listed, out));
+    };
+    if (n as u64) - 1 < r.segments {
+        let even = edge_params::evenly(range, r.segments, out);
+        return unknown(settle(even, out));
+    }
+    let kept = settle(listed, out);
+    Sampled {
+        listed: kept,
+        known: true,
+    }
+}
+
 // The parameters of the curve of a row over a range, from the start of out, and +0.0 behind them; refusal 8, and +0.0 everywhere,
 // where a list is longer than out. A closed form gives even steps, but only where it is given the right radius: it is checked
-// against the sag, and where it misses that the curve is bisected. For the check its points are worked out: the chain has them.
+// against the sag, and where it misses that the curve is bisected. Its points for the check, and those of bisection, are left in
+// the chain, which has a record for each float of out.
 pub fn sample_params(
     points: &[f64],
     curves: &[u32],
@@ -309,16 +347,24 @@ pub fn sample_params(
     out: &mut [f64],
     chain: &mut [f64],
 ) -> Sampled
-    requires { ⌜ (length (curveKnots (tree (lent points curves reals parts ranges) row)) ≤ mostKnots) × (width * length (now out) ≤ length (now chain)) ⌝ }
+    requires { ⌜ (length (curveKnots (tree (lent points curves reals parts ranges) row)) ≤ mostKnots) × Room (now out) (now chain) 0 ⌝ }
     ensures { λ w. ⌜ SampledInto (length (now (out .entry))) (sampled (length (now (out .entry))) (tree (given points curves reals parts ranges) row) range r) (w .listed) (now (out .exit))
-        × (w .known ≡ isKept (length (now (out .entry))) (tree (given points curves reals parts ranges) row) range r)
-        × (now (chain .exit) ≡ sets (now (chain .entry)) 0 (flat (located (tree (given points curves reals parts ranges) row)
-        (tried (length (now (out .entry))) (tree (given points curves reals parts ranges) row) range r)))) ⌝ }
+        × (traced (w .known) (now (chain .exit)) ≡ tracedSampled (length (now (out .entry))) (tree (given points curves reals parts ranges) row) range r (now (chain .entry))) ⌝ }
 {
     let form = edge_range::analytic_segments(points, curves, reals, parts, ranges, row, range, r);
     let Closed::Segments(n) = form else {
-        let listed = refine(points, curves, reals, parts, ranges, row, range, r, out);
-        return unknown(listed);
+        return refine(
+            points,
+            curves,
+            reals,
+            parts,
+            ranges,
+            row,
+            range,
+            r,
+            out,
+            chain,
+        );
     };
     let even = edge_params::evenly(range, n, out);
     let Listed::Count(m) = even else {
@@ -343,6 +389,16 @@ pub fn sample_params(
             known: true,
         };
     }
-    let listed = refine(points, curves, reals, parts, ranges, row, range, r, out);
-    unknown(listed)
+    refine(
+        points,
+        curves,
+        reals,
+        parts,
+        ranges,
+        row,
+        range,
+        r,
+        out,
+        chain,
+    )
 }

@@ -2,9 +2,8 @@
 use mathlib.Core.Path.{_≡_, refl, sym, ap, subst, _∙_}
 use mathlib.Core.Bool.{Bool, true, false, _&&_}
 use mathlib.Core.List.{List, [], _∷_, _++_}
-use Prim.Native.Nat.{ℕ, _-_, _≤_}
+use Prim.Native.Nat.{ℕ, _-_}
 use native.Mathlib.Omega.{arith}
-use lib.ListN.{length}
 use lib.Ieee.{Float, le, neg}
 use Rattle.arith.specs.Notation.{plusZero, one}
 use Rattle.arith.specs.Pick.{clampOf}
@@ -26,10 +25,9 @@ use Rattle.curve_prepared.proofs.Laws.{prepared-derivative}
 use Rattle.options.specs.declared.Resolved.{Resolved}
 use Rattle.edge_params.specs.Params.{midpoint, subdivided}
 use Rattle.edge_params.proofs.Lists.{subdivided-zero, subdivided-within, subdivided-split}
-use Rattle.edge_params.specs.declared.Listed.{Listed}
 use Rattle.edge_params.specs.declared.Listed.the-variants.{Count}
-use Rattle.edge_params.specs.Own.Written.{ListAppended}
-use Rattle.edge_params.proofs.Written.{behind-none}
+use Rattle.edge_subdivide.specs.Own.Recorded.{Room, ListRecorded}
+use Rattle.edge_subdivide.proofs.Recorded.{recorded-none}
 use Rattle.edge_subdivide.specs.declared.End.{End}
 use Rattle.edge_subdivide.specs.declared.Split.{Split}
 use Rattle.edge_subdivide.specs.declared.Split.the-variants.{Within, At}
@@ -140,19 +138,19 @@ end-t c x m e = ap (λ (n : End). n .t) e
 
 -- ---- the ways out of subdivide
 module _ (c : CurveTree) (r : Resolved) (depth : ℕ) (a b : End) (A : a ≡ endAt c (a .t)) (B : b ≡ endAt c (b .t)) where
-  pub none-deep : (out : List Float) (k : ℕ) → k ≤ length out → depth ≡ 0
-      → ListAppended out k (subdivided (withinBudget c r) depth (a .t) (b .t)) (Count k) out
-  none-deep out k K e =
-      subst (λ (l : List Float). ListAppended out k l (Count k) out) (sym (subdivided-zero (withinBudget c r) depth (a .t) (b .t) e))
-      (behind-none out k K)
+  -- nothing is pushed
+  none : {out chain : List Float} {k : ℕ} → Room out chain k → subdivided (withinBudget c r) depth (a .t) (b .t) ≡ []
+      → ListRecorded c out chain k (subdivided (withinBudget c r) depth (a .t) (b .t)) (Count k) out chain
+  none {out} {chain} {k} room e = subst (λ (l : List Float). ListRecorded c out chain k l (Count k) out chain) (sym e) (recorded-none c room)
+
+  pub none-deep : {out chain : List Float} {k : ℕ} → Room out chain k → depth ≡ 0
+      → ListRecorded c out chain k (subdivided (withinBudget c r) depth (a .t) (b .t)) (Count k) out chain
+  none-deep room e = none room (subdivided-zero (withinBudget c r) depth (a .t) (b .t) e)
 
   module _ (deep : depth ≡ 0 → ⊥) (s : Split) (S : s ≡ splitOf c r a b) where
-    pub none-within : (out : List Float) (k : ℕ) → k ≤ length out → s ≡ Within
-        → ListAppended out k (subdivided (withinBudget c r) depth (a .t) (b .t)) (Count k) out
-    none-within out k K e =
-        subst (λ (l : List Float). ListAppended out k l (Count k) out)
-        (sym (subdivided-within (withinBudget c r) depth (a .t) (b .t) deep (was-within c r a b A B (sym e ∙ S))))
-        (behind-none out k K)
+    pub none-within : {out chain : List Float} {k : ℕ} → Room out chain k → s ≡ Within
+        → ListRecorded c out chain k (subdivided (withinBudget c r) depth (a .t) (b .t)) (Count k) out chain
+    none-within room e = none room (subdivided-within (withinBudget c r) depth (a .t) (b .t) deep (was-within c r a b A B (sym e ∙ S)))
 
     module _ (m : End) (M : s ≡ At m) where
       w : Was-split c r a b A B m

@@ -2,13 +2,15 @@
 use arith_root_limit::Limit;
 use curve_prepared::Prepared;
 use edge_params::Listed;
+use edge_record::Sample;
 use math::Direction;
 use math::Vec3;
 use options::Resolved;
 ghost use mathlib.Core.Path.{_≡_};
 ghost use mathlib.Core.Bool.{true, false};
-ghost use Prim.Native.Nat.{_≤_};
-ghost use lib.ListN.{length};
+ghost use mathlib.Core.List.{[], _∷_};
+ghost use Prim.Native.Nat.{_*_};
+ghost use lib.Seq.{sets};
 ghost use lib.Ieee.{le};
 ghost use Rattle.arith_turn_limit.specs.Own.Limit.{Serves, Exceeds};
 ghost use Rattle.brep.specs.Rows.{lent, given};
@@ -16,6 +18,8 @@ ghost use Rattle.brep.specs.Tree.{tree};
 ghost use Rattle.curve_prepared.specs.Own.Prepared.{preparedOf};
 ghost use Rattle.edge_params.specs.Params.{subdivided};
 ghost use Rattle.edge_params.specs.Own.Written.{ListAppended};
+ghost use Rattle.edge_record.specs.Chain.{width, row};
+ghost use Rattle.edge_subdivide.specs.Own.Recorded.{Room, ListRecorded};
 ghost use Rattle.edge_subdivide.specs.Own.Limits.{splitOf, limitsOf};
 ghost use Rattle.edge_subdivide.specs.Bisect.{endAt, tangentTurn, isWithin, withinBudget};
 
@@ -163,7 +167,26 @@ fn split_of(
     Split::At(End { t, point, tangent })
 }
 
-// What bisection puts between a and b, behind the first k floats of out.
+// The parameter of an end behind the first k floats of out, and the record of its point as number k of chain.
+pub fn push_end(out: &mut [f64], chain: &mut [f64], k: usize, end: End) -> Listed
+    requires { ⌜ Room (now out) (now chain) k ⌝ }
+    ensures { λ w. ⌜ ListAppended (now (out .entry)) k (end .t ∷ []) w (now (out .exit))
+        × (now (chain .exit) ≡ sets (now (chain .entry)) (width * k) (row (record { point = end .point; param = end .t }))) ⌝ }
+{
+    let pushed = edge_params::push(out, k, end.t);
+    let Listed::Count(n) = pushed else {
+        return Listed::Refused;
+    };
+    let point = end.point;
+    let here = Sample {
+        point,
+        param: end.t,
+    };
+    edge_record::put(chain, k, here);
+    Listed::Count(n)
+}
+
+// What bisection puts between a and b, behind the first k floats of out, with the records behind the first k of chain.
 pub fn subdivide(
     points: &[f64],
     curves: &[u32],
@@ -178,14 +201,15 @@ pub fn subdivide(
     b: End,
     depth: u32,
     out: &mut [f64],
+    chain: &mut [f64],
     k: usize,
 ) -> Listed
     requires { ⌜ (prepared ≡ preparedOf (tree (lent points curves reals parts ranges) row)) × (l ≡ limitsOf r)
         × (a ≡ endAt (tree (lent points curves reals parts ranges) row) (a .t))
-        × (b ≡ endAt (tree (lent points curves reals parts ranges) row) (b .t)) × (k ≤ length (now out)) ⌝ }
-    ensures { λ w. ⌜ ListAppended (now (out .entry)) k
+        × (b ≡ endAt (tree (lent points curves reals parts ranges) row) (b .t)) × Room (now out) (now chain) k ⌝ }
+    ensures { λ w. ⌜ ListRecorded (tree (given points curves reals parts ranges) row) (now (out .entry)) (now (chain .entry)) k
         (subdivided (withinBudget (tree (given points curves reals parts ranges) row) r) depth (a .t) (b .t))
-        w (now (out .exit)) ⌝ }
+        w (now (out .exit)) (now (chain .exit)) ⌝ }
 {
     if depth == 0 {
         return Listed::Count(k);
@@ -220,12 +244,13 @@ pub fn subdivide(
         m,
         depth - 1,
         out,
+        chain,
         k,
     );
     let Listed::Count(n) = before else {
         return Listed::Refused;
     };
-    let pushed = edge_params::push(out, n, m.t);
+    let pushed = push_end(out, chain, n, m);
     let Listed::Count(next) = pushed else {
         return Listed::Refused;
     };
@@ -243,6 +268,7 @@ pub fn subdivide(
         b,
         depth - 1,
         out,
+        chain,
         next,
     )
 }

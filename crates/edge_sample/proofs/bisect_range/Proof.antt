@@ -15,10 +15,9 @@ curve-of st =
 
 walk-requires : tie.Need-walk-requires
 walk-requires c κs =
-    let st = c .before .before .before .before .before .before .before .before .before .before in
+    let st = c .before .before .before .before .before .before .before .before .before .before .before .before in
     let a = st .args in
-    no-breaks (curve-of st) (a .range .lo) (a .range .hi) (a .r .sag) (sym (c .before .before .if1 .taken) ∙
-    c .before .before .before .knot-count .ensures)
+    (no-breaks (curve-of st) (a .range .lo) (a .range .hi) (a .r .sag) (sym (c .before .before .before .if1 .taken) ∙ c .before .before .before .before .knot-count .ensures), st .pre .1)
 
 pub bisect-range-spec : {M : Type 1} → statement M
 bisect-range-spec =
@@ -30,6 +29,8 @@ bisect-range-spec =
     walk-requires
     (λ c. search needs)
     (λ c. search needs)
+    (λ c. search needs)
     (λ c κs. search needs)
+    (λ c. search needs)
     (λ c. search needs)
     (λ c. search needs))

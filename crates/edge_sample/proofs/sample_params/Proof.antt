@@ -1,20 +1,15 @@
 -- `edge_sample::sample_params` meets its contract. Assumes nothing.
-use mathlib.Core.Path.{refl, sym, ap, _∙_}
+use mathlib.Core.Path.{refl, ap, _∙_}
 use native.Mathlib.Omega.{arith}
 use lib.ListN.{length}
-use lib.Seq.{sets}
-use lib.Ieee.{Float}
-use mathlib.Core.List.{List}
 use borrow.Author.Needs.{needs}
 use Rattle.brep.specs.Rows.{tables}
 use Rattle.brep.specs.Tree.{CurveTree, tree}
 use Rattle.edge_params.specs.Params.{refined}
-use Rattle.edge_record.specs.Chain.{flat}
-use Rattle.edge_closed_form.specs.Located.{located}
-use Rattle.edge_closed_form.proofs.Located.{located-none}
 use Rattle.edge_sample.specs.Sample.{sampler, sampled}
+use Rattle.edge_sample.specs.Own.Traced.{traced}
 use Rattle.edge_sample.proofs.Settled.{settle-room, settled}
-use Rattle.edge_sample.proofs.Ways.{answered-as, parsed-as, no-form, no-form-tried, form-refused, refused-tried, form-meets, form-misses, form-tried, form-within}
+use Rattle.edge_sample.proofs.Ways.{answered-as, parsed-as, no-form, no-form-traced, form-refused, refused-traced, form-meets, meets-traced, form-misses, misses-traced}
 use Rattle.edge_sample.proofs.sample_params.Statement.{statement}
 use Rattle.edge_sample.proofs.sample_params.Tie as tie
 
@@ -26,13 +21,11 @@ curve-of st =
 
 returns : tie.Need-returns
 returns c =
-    let st = c .before .before .before .before .before .before .before .before .before .before .before .before .before .before .before in
-    let is = c .before .before .before .before .before .before .before .analytic-segments .ensures in
-    let none = c .before .before .before .before .before .enum-told .given .1 in
-    let t = no-form-tried (length (st .args .out .now)) (curve-of st) (st .args .range) (st .args .r) _ is none in (
-      parsed-as _ _ (c .unknown .ensures .0) (length (st .args .out .now)) (sampled (length (st .args .out .now)) (curve-of st) (st .args .range) (st .args .r)) _ (answered-as (c .before .before .before .refine .result) _ _ _ refl (λ n. refined n (sampler (curve-of st) (st .args .range) (st .args .r)) (st .args .range)) (sampled (length (st .args .out .now)) (curve-of st) (st .args .range) (st .args .r)) (no-form (length (st .args .out .now)) (curve-of st) (st .args .range) (st .args .r) _ is none) (c .before .before .before .refine .ensures)),
-      c .unknown .ensures .1 ∙ t .1,
-      located-none (curve-of st) _ _ (t .0),
+    let st = c .before .before .before .before .before .before .before .before .before .before .before .before .before .before .before .before .before in
+    let is = c .before .before .before .before .before .before .before .before .before .analytic-segments .ensures in
+    let none = c .before .before .before .before .before .before .before .enum-told .given .1 in (
+      answered-as (c .before .before .before .before .refine .result .listed) _ _ _ refl (λ n. refined n (sampler (curve-of st) (st .args .range) (st .args .r)) (st .args .range)) (sampled (length (st .args .out .now)) (curve-of st) (st .args .range) (st .args .r)) (no-form (length (st .args .out .now)) (curve-of st) (st .args .range) (st .args .r) _ is none) (c .before .before .before .before .refine .ensures .0),
+      c .before .before .before .before .refine .ensures .1 ∙ no-form-traced (length (st .args .out .now)) (curve-of st) (st .args .range) (st .args .r) (st .args .chain .now) _ is none,
     )
 
 settle-requires : tie.Need-settle-requires
@@ -41,16 +34,15 @@ settle-requires c κs = settle-room _ _ refl (c .before .before .before .before 
 returns-2 : tie.Need-returns-2
 returns-2 c =
     let st = c .before .before .before .before .before .before .before .before .before .before .before .before .before .before .before .before .before .before .before .before .before .before in
-    let t = refused-tried (length (st .args .out .now)) (curve-of st) (st .args .range) (st .args .r) _ (c .before .before .before .before .before .before .before .before .before .before .before .before .before .before .analytic-segments .ensures) _ (c .before .before .before .before .before .before .before .before .before .before .before .before .form .given .1) refl _ (c .before .before .before .before .before .before .before .before .before .evenly .ensures) (c .before .before .before .before .before .enum-told2 .given .1) in (
-      parsed-as _ _ (c .unknown2 .ensures .0) (length (st .args .out .now)) (sampled (length (st .args .out .now)) (curve-of st) (st .args .range) (st .args .r)) _ (settled _ _ refl (c .before .before .before .before .before .before .before .before .before .evenly .ensures) (length (st .args .out .now)) (sampled (length (st .args .out .now)) (curve-of st) (st .args .range) (st .args .r)) refl (form-refused (length (st .args .out .now)) (curve-of st) (st .args .range) (st .args .r) _ (c .before .before .before .before .before .before .before .before .before .before .before .before .before .before .analytic-segments .ensures) _ (c .before .before .before .before .before .before .before .before .before .before .before .before .form .given .1) refl _ (c .before .before .before .before .before .before .before .before .before .evenly .ensures) (c .before .before .before .before .before .enum-told2 .given .1)) _ _ (c .before .before .before .settle .ensures .0) (c .before .before .before .settle .ensures .1)),
-      c .unknown2 .ensures .1 ∙ t .1,
-      located-none (curve-of st) _ _ (t .0),
+    let e = c .before .before .before .before .before .enum-told2 .given .1 in (
+      parsed-as _ _ (c .unknown .ensures .0) (length (st .args .out .now)) (sampled (length (st .args .out .now)) (curve-of st) (st .args .range) (st .args .r)) _ (settled _ _ refl (c .before .before .before .before .before .before .before .before .before .evenly .ensures) (length (st .args .out .now)) (sampled (length (st .args .out .now)) (curve-of st) (st .args .range) (st .args .r)) refl (form-refused (length (st .args .out .now)) (curve-of st) (st .args .range) (st .args .r) _ (c .before .before .before .before .before .before .before .before .before .before .before .before .before .before .analytic-segments .ensures) _ (c .before .before .before .before .before .before .before .before .before .before .before .before .form .given .1) refl _ (c .before .before .before .before .before .before .before .before .before .evenly .ensures) e) _ _ (c .before .before .before .settle .ensures .0) (c .before .before .before .settle .ensures .1)),
+      ap (λ k. traced k (st .args .chain .now)) (c .unknown .ensures .1) ∙ refused-traced (length (st .args .out .now)) (curve-of st) (st .args .range) (st .args .r) _ (c .before .before .before .before .before .before .before .before .before .before .before .before .before .before .analytic-segments .ensures) _ (c .before .before .before .before .before .before .before .before .before .before .before .before .form .given .1) refl _ (c .before .before .before .before .before .before .before .before .before .evenly .ensures) (st .args .chain .now) e,
     )
 
 meets-requires : tie.Need-meets-requires
 meets-requires c κs =
     let room = settle-room _ _ (c .before .before .before .even .given .1) (c .before .before .before .before .before .before .before .evenly .ensures) in
-    (room, omega (arith, room, c .before .before .before .before .before .before .before .evenly .kept, c .before .before .before .before .before .before .before .before .before .before .before .before .before .before .before .before .before .before .before .before .pre .1))
+    (room, omega (arith, room, c .before .before .before .before .before .before .before .evenly .kept, c .before .before .before .before .before .before .before .before .before .before .before .before .before .before .before .before .before .before .before .before .pre .1 .wide))
 
 settle-requires-2 : tie.Need-settle-requires-2
 settle-requires-2 c κs = settle-room _ _ (c .before .before .before .before .before .before .before .before .even .given .1) (c .before .before .before .before .before .before .before .before .before .before .before .before .evenly .ensures)
@@ -58,22 +50,25 @@ settle-requires-2 c κs = settle-room _ _ (c .before .before .before .before .be
 returns-3 : tie.Need-returns-3
 returns-3 c =
     let st = c .before .before .before .before .before .before .before .before .before .before .before .before .before .before .before .before .before .before .before .before .before .before .before .before .before .before .before .before in
-    let m = c .before .before .before .before .before .before .before .meets .ensures in (
-      settled _ _ (c .before .before .before .before .before .before .before .before .before .before .before .even .given .1) (c .before .before .before .before .before .before .before .before .before .before .before .before .before .before .before .evenly .ensures) (length (st .args .out .now)) (sampled (length (st .args .out .now)) (curve-of st) (st .args .range) (st .args .r)) refl (form-meets (length (st .args .out .now)) (curve-of st) (st .args .range) (st .args .r) _ (c .before .before .before .before .before .before .before .before .before .before .before .before .before .before .before .before .before .before .before .before .analytic-segments .ensures) _ (c .before .before .before .before .before .before .before .before .before .before .before .before .before .before .before .before .before .before .form .given .1) refl _ (c .before .before .before .before .before .before .before .before .before .before .before .before .before .before .before .evenly .ensures) _ (c .before .before .before .before .before .before .before .before .before .before .before .even .given .1) _ (m .0) (c .before .before .before .before .if1 .taken)) _ _ (c .before .before .settle2 .ensures .0) (c .before .before .settle2 .ensures .1),
-      sym (c .before .before .before .before .if1 .taken) ∙ form-within (length (st .args .out .now)) (curve-of st) (st .args .range) (st .args .r) _ (c .before .before .before .before .before .before .before .before .before .before .before .before .before .before .before .before .before .before .before .before .analytic-segments .ensures) _ (c .before .before .before .before .before .before .before .before .before .before .before .before .before .before .before .before .before .before .form .given .1) refl _ (c .before .before .before .before .before .before .before .before .before .before .before .before .before .before .before .evenly .ensures) _ (c .before .before .before .before .before .before .before .before .before .before .before .even .given .1) _ (m .0),
-      m .1 ∙ ap (λ (l : List Float). sets (st .args .chain .now) 0 (flat (located (curve-of st) l))) (form-tried (length (st .args .out .now)) (curve-of st) (st .args .range) (st .args .r) _ (c .before .before .before .before .before .before .before .before .before .before .before .before .before .before .before .before .before .before .before .before .analytic-segments .ensures) _ (c .before .before .before .before .before .before .before .before .before .before .before .before .before .before .before .before .before .before .form .given .1) refl _ (c .before .before .before .before .before .before .before .before .before .before .before .before .before .before .before .evenly .ensures) _ (c .before .before .before .before .before .before .before .before .before .before .before .even .given .1)),
+    let m = c .before .before .before .before .before .before .before .meets .ensures in
+    let e = c .before .before .before .before .before .before .before .before .before .before .before .even .given .1 in (
+      settled _ _ e (c .before .before .before .before .before .before .before .before .before .before .before .before .before .before .before .evenly .ensures) (length (st .args .out .now)) (sampled (length (st .args .out .now)) (curve-of st) (st .args .range) (st .args .r)) refl (form-meets (length (st .args .out .now)) (curve-of st) (st .args .range) (st .args .r) _ (c .before .before .before .before .before .before .before .before .before .before .before .before .before .before .before .before .before .before .before .before .analytic-segments .ensures) _ (c .before .before .before .before .before .before .before .before .before .before .before .before .before .before .before .before .before .before .form .given .1) refl _ (c .before .before .before .before .before .before .before .before .before .before .before .before .before .before .before .evenly .ensures) _ e _ (m .0) (c .before .before .before .before .if1 .taken)) _ _ (c .before .before .settle2 .ensures .0) (c .before .before .settle2 .ensures .1),
+      meets-traced (length (st .args .out .now)) (curve-of st) (st .args .range) (st .args .r) _ (c .before .before .before .before .before .before .before .before .before .before .before .before .before .before .before .before .before .before .before .before .analytic-segments .ensures) _ (c .before .before .before .before .before .before .before .before .before .before .before .before .before .before .before .before .before .before .form .given .1) refl _ (c .before .before .before .before .before .before .before .before .before .before .before .before .before .before .before .evenly .ensures) _ e _ (m .0) (st .args .chain .now) (m .1) (c .before .before .before .before .if1 .taken),
     )
 
 refine-requires-2 : tie.Need-refine-requires-2
-refine-requires-2 c κs = c .before .before .before .before .before .before .before .before .before .before .before .before .before .before .before .before .before .before .before .before .before .before .before .before .before .pre .0
+refine-requires-2 c κs =
+    let st = c .before .before .before .before .before .before .before .before .before .before .before .before .before .before .before .before .before .before .before .before .before .before .before .before .before .before in
+    (st .pre .0, record { taken = search needs; wide = omega (arith, c .before .before .before .before .chain2 .given, st .pre .1 .wide, c .before .before .before .before .before .before .before .before .before .before .before .before .out2 .given) })
 
 returns-4 : tie.Need-returns-4
 returns-4 c =
-    let st = c .before .before .before .before .before .before .before .before .before .before .before .before .before .before .before .before .before .before .before .before .before .before .before .before .before .before .before .before .before in
-    let m = c .before .before .before .before .before .before .before .before .meets .ensures in (
-      parsed-as _ _ (c .unknown3 .ensures .0) (length (st .args .out .now)) (sampled (length (st .args .out .now)) (curve-of st) (st .args .range) (st .args .r)) _ (answered-as (c .before .before .before .refine2 .result) _ _ _ (c .before .before .before .before .before .before .before .before .before .before .before .before .before .before .before .out2 .given) (λ n. refined n (sampler (curve-of st) (st .args .range) (st .args .r)) (st .args .range)) (sampled (length (st .args .out .now)) (curve-of st) (st .args .range) (st .args .r)) (form-misses (length (st .args .out .now)) (curve-of st) (st .args .range) (st .args .r) _ (c .before .before .before .before .before .before .before .before .before .before .before .before .before .before .before .before .before .before .before .before .before .analytic-segments .ensures) _ (c .before .before .before .before .before .before .before .before .before .before .before .before .before .before .before .before .before .before .before .form .given .1) refl _ (c .before .before .before .before .before .before .before .before .before .before .before .before .before .before .before .before .evenly .ensures) _ (c .before .before .before .before .before .before .before .before .before .before .before .before .even .given .1) _ (m .0) (c .before .before .before .before .before .if1 .left)) (c .before .before .before .refine2 .ensures)),
-      c .unknown3 .ensures .1 ∙ sym (c .before .before .before .before .before .if1 .left) ∙ form-within (length (st .args .out .now)) (curve-of st) (st .args .range) (st .args .r) _ (c .before .before .before .before .before .before .before .before .before .before .before .before .before .before .before .before .before .before .before .before .before .analytic-segments .ensures) _ (c .before .before .before .before .before .before .before .before .before .before .before .before .before .before .before .before .before .before .before .form .given .1) refl _ (c .before .before .before .before .before .before .before .before .before .before .before .before .before .before .before .before .evenly .ensures) _ (c .before .before .before .before .before .before .before .before .before .before .before .before .even .given .1) _ (m .0),
-      m .1 ∙ ap (λ (l : List Float). sets (st .args .chain .now) 0 (flat (located (curve-of st) l))) (form-tried (length (st .args .out .now)) (curve-of st) (st .args .range) (st .args .r) _ (c .before .before .before .before .before .before .before .before .before .before .before .before .before .before .before .before .before .before .before .before .before .analytic-segments .ensures) _ (c .before .before .before .before .before .before .before .before .before .before .before .before .before .before .before .before .before .before .before .form .given .1) refl _ (c .before .before .before .before .before .before .before .before .before .before .before .before .before .before .before .before .evenly .ensures) _ (c .before .before .before .before .before .before .before .before .before .before .before .before .even .given .1)),
+    let st = c .before .before .before .before .before .before .before .before .before .before .before .before .before .before .before .before .before .before .before .before .before .before .before .before .before .before .before .before .before .before .before in
+    let m = c .before .before .before .before .before .before .before .before .before .before .meets .ensures in
+    let e = c .before .before .before .before .before .before .before .before .before .before .before .before .before .before .even .given .1 in
+    let long = c .before .before .before .before .before .before .before .before .before .before .before .before .before .before .before .before .before .out2 .given in (
+      answered-as (c .before .before .before .before .refine2 .result .listed) _ _ _ long (λ n. refined n (sampler (curve-of st) (st .args .range) (st .args .r)) (st .args .range)) (sampled (length (st .args .out .now)) (curve-of st) (st .args .range) (st .args .r)) (form-misses (length (st .args .out .now)) (curve-of st) (st .args .range) (st .args .r) _ (c .before .before .before .before .before .before .before .before .before .before .before .before .before .before .before .before .before .before .before .before .before .before .before .analytic-segments .ensures) _ (c .before .before .before .before .before .before .before .before .before .before .before .before .before .before .before .before .before .before .before .before .before .form .given .1) refl _ (c .before .before .before .before .before .before .before .before .before .before .before .before .before .before .before .before .before .before .evenly .ensures) _ e _ (m .0) (c .before .before .before .before .before .before .before .if1 .left)) (c .before .before .before .before .refine2 .ensures .0),
+      c .before .before .before .before .refine2 .ensures .1 ∙ misses-traced (length (st .args .out .now)) (curve-of st) (st .args .range) (st .args .r) _ (c .before .before .before .before .before .before .before .before .before .before .before .before .before .before .before .before .before .before .before .before .before .before .before .analytic-segments .ensures) _ (c .before .before .before .before .before .before .before .before .before .before .before .before .before .before .before .before .before .before .before .before .before .form .given .1) refl _ (c .before .before .before .before .before .before .before .before .before .before .before .before .before .before .before .before .before .before .evenly .ensures) _ e _ (m .0) (st .args .chain .now) (m .1) _ long (c .before .before .before .before .before .before .before .if1 .left),
     )
 
 pub sample-params-spec : {M : Type 1} → statement M
@@ -84,7 +79,7 @@ sample-params-spec =
     (λ c. search needs)
     (λ c. search needs)
     (λ c κs. search needs)
-    (λ c κs. search needs)
+    (λ c. search needs)
     (λ c. search needs)
     returns
     (λ c κs. search needs)
@@ -100,7 +95,6 @@ sample-params-spec =
     (λ c. search needs)
     returns-3
     refine-requires-2
-    (λ c κs. search needs)
     (λ c. search needs)
     (λ c. search needs)
     returns-4)
