@@ -13,6 +13,7 @@ use Rattle.edge_record.specs.Chain.{flat}
 use Rattle.edge_closed_form.specs.Located.{located}
 use Rattle.edge_closed_form.proofs.Located.{located-none}
 use Rattle.edge_sample.specs.Sample.{sampler, sampled}
+use Rattle.edge_sample.proofs.Laws.{form-plain}
 use Rattle.edge_sample.proofs.Settled.{settle-room, settled}
 use Rattle.edge_sample.proofs.Ways.{answered-as, parsed-as, no-form, no-form-tried, form-refused, refused-tried, form-meets, form-misses, form-tried, form-within}
 use Rattle.edge_sample.proofs.sample_params.Statement.{statement}
@@ -49,8 +50,12 @@ returns-2 c =
 
 meets-requires : tie.Need-meets-requires
 meets-requires c κs =
-    let room = settle-room _ _ (c .before .before .before .even .given .1) (c .before .before .before .before .before .before .before .evenly .ensures) in
-    (room, omega (arith, room, c .before .before .before .before .before .before .before .evenly .kept, c .before .before .before .before .before .before .before .before .before .before .before .before .before .before .before .before .before .before .before .before .pre .1))
+    let st = c .before .before .before .before .before .before .before .before .before .before .before .before .before .before .before .before .before .before .before .before in
+    let room = settle-room _ _ (c .before .before .before .even .given .1) (c .before .before .before .before .before .before .before .evenly .ensures) in (
+      room,
+      omega (arith, room, c .before .before .before .before .before .before .before .evenly .kept, st .pre .1),
+      form-plain (curve-of st) (st .args .range) (st .args .r) _ (sym (c .before .before .before .before .before .before .before .before .before .before .before .before .analytic-segments .ensures) ∙ c .before .before .before .before .before .before .before .before .before .before .form .given .1),
+    )
 
 settle-requires-2 : tie.Need-settle-requires-2
 settle-requires-2 c κs = settle-room _ _ (c .before .before .before .before .before .before .before .before .even .given .1) (c .before .before .before .before .before .before .before .before .before .before .before .before .evenly .ensures)
