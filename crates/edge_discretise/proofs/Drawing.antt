@@ -2,11 +2,11 @@
 use mathlib.Core.Path.{_≡_, refl, sym, ap, _∙_}
 use mathlib.Core.Bool.{Bool, true}
 use mathlib.Core.List.{List, [], _∷_, _++_}
-use Prim.Native.Nat.{ℕ, _+_, _-_, _*_, _<_, _≤_}
+use Prim.Native.Nat.{ℕ, _+_, _-_, _*_, _≤_}
 use native.Mathlib.Omega.{arith}
-use lib.ListN.{length, getD, take, drop, replicate, length-append, length-replicate, replicate-append-replicate, take-append-drop}
+use lib.ListN.{length, take, drop, replicate, length-append, length-replicate, replicate-append-replicate, take-append-drop}
 use lib.Seq.{sets, length-sets, length-take-le, take-at}
-use lib.Ieee.{Float, nan, binary64, ofBits}
+use lib.Ieee.{Float, binary64, ofBits}
 use Rattle.base_lists.specs.Result.{Result, refused, got, bind, each}
 use Rattle.base_lists.specs.Room.{filled}
 use Rattle.base_lists.proofs.Filled.{filled-length, filled-front, filled-part}
@@ -21,10 +21,8 @@ use Rattle.edge_params.specs.Own.Written.{said}
 use Rattle.edge_record.specs.declared.Sample.{Sample}
 use Rattle.edge_record.specs.declared.Counted.{Counted}
 use Rattle.edge_record.specs.declared.Counted.the-variants.{Refused, Count}
-use Rattle.edge_record.specs.Own.Stored.{pointAt, countedOf}
-use Rattle.edge_record.specs.Chain.{width, most, flat, samples, samplePoint}
-use Rattle.curve.specs.Eval as eval
-use Rattle.edge_record.proofs.Laws.{pointOf-samples}
+use Rattle.edge_record.specs.Own.Stored.{countedOf}
+use Rattle.edge_record.specs.Chain.{width, most, flat, samples}
 use Rattle.edge_range.specs.declared.Usable.{Usable}
 use Rattle.edge_range.specs.declared.Usable.the-variants.{Range, Unusable}
 use Rattle.edge_range.specs.Usable.{usableRange}
@@ -35,13 +33,12 @@ use Rattle.edge_sample.specs.Own.Tried.{tried, isKept}
 use Rattle.edge_sample.proofs.Laws.{sampled-two, sampled-room}
 use Rattle.edge_sample.proofs.Ways.{tried-sampled}
 use Rattle.edge_closed_form.specs.Located.{located}
-use Rattle.edge_closed_form.proofs.Located.{located-length, located-at}
+use Rattle.edge_closed_form.proofs.Located.{located-length}
 use Rattle.draw_spec.specs.Edge.{edgeCurve, atLeastTwo, chordOf, placed, thinnedMerged, finished, overRange, discretised}
 use Rattle.draw_spec.specs.Draw.{roomOf}
-use Rattle.edge_place.specs.Own.Place.{PointsKnown}
+use Rattle.edge_place.proofs.Records.{read-back}
 use Rattle.edge_place.proofs.Laws.{placed-length}
 use Rattle.edge_discretise.specs.Own.Discretised.{chainOf, ChainInto}
-use Rattle.edge_discretise.proofs.Thinning.{read-back}
 
 drew : (n m : ℕ) (D E : Result (List Sample)) {w : Counted} {g : List Float} → n ≡ m → D ≡ E → ChainInto n D w g → ChainInto m E w g
 drew n m D E k e p = record {
@@ -104,7 +101,7 @@ module _ {room : ℕ} (T : Tables) (e : Edge) (r : Resolved) (range : Interval) 
   reads-placed : samples n d ≡ placed T e (s .params)
   reads-placed =
       let P = placed T e (s .params) in
-      let k : length P ≡ n = placed-length T e (s .params) (omega (arith, s .two, s .size)) ∙ s .size in
+      let k : length P ≡ n = placed-length T e (s .params) ∙ s .size in
       ap (λ (i : ℕ). samples i d) (sym k) ∙ ap (samples (length P)) (p ∙ ap (λ (l : List Float). sets chain 0 (flat (placed T e l))) (part s)) ∙ read-back chain P (omega arith)
 
   over-some : thinnedMerged T e r (samples n d) ≡ overRange room T e r range
@@ -117,30 +114,22 @@ module _ {room : ℕ} (T : Tables) (e : Edge) (r : Resolved) (range : Interval) 
   pub drew-some : (w : Counted) (g : List Float) → ChainInto (length d) (thinnedMerged T e r (samples n d)) w g → ChainInto (length chain) (overRange room T e r range) w g
   drew-some w g = drew (length d) (length chain) _ _ (ap length p ∙ length-sets chain 0 (flat (placed T e (take n out)))) over-some
 
--- what sample_params left in the chain, where it says that these are the parameters' points
+-- what sample_params left in the chain, where it says that these are the parameters' records
 module _ {room : ℕ} (T : Tables) (e : Edge) (r : Resolved) (range : Interval) {n : ℕ} {out : List Float} (s : Sampling room (sampled room (edgeCurve T e) range r) n out)
     (known : Bool) (k : known ≡ isKept room (edgeCurve T e) range r) (chain left : List Float) (fits : width * n ≤ length chain)
     (p : left ≡ sets chain 0 (flat (located (edgeCurve T e) (tried room (edgeCurve T e) range r)))) where
-  pub held : known ≡ true → PointsKnown (edgeCurve T e) (take n out) left
-  held h = record { point = λ i l. go i (omega (arith, part-length s, l)) }
+  pub held : known ≡ true → samples (length (take n out)) left ≡ located (edgeCurve T e) (take n out)
+  held h =
+      ap (λ (i : ℕ). samples i left) (part-length s ∙ sym size)
+      ∙ ap (samples (length (located (edgeCurve T e) (s .params)))) (p ∙ ap (λ (l : List Float). sets chain 0 (flat (located (edgeCurve T e) l))) own)
+      ∙ read-back chain (located (edgeCurve T e) (s .params)) (omega (arith, size, fits))
+      ∙ ap (located (edgeCurve T e)) (sym (part s))
     where
       own : tried room (edgeCurve T e) range r ≡ s .params
       own = ap listOf (sym (tried-sampled room (edgeCurve T e) range r (sym k ∙ h)) ∙ s .is)
 
       size : length (located (edgeCurve T e) (s .params)) ≡ n
       size = located-length (edgeCurve T e) (s .params) ∙ s .size
-
-      reads : samples n left ≡ located (edgeCurve T e) (s .params)
-      reads =
-          ap (λ (i : ℕ). samples i left) (sym size)
-          ∙ ap (samples (length (located (edgeCurve T e) (s .params)))) (p ∙ ap (λ (l : List Float). sets chain 0 (flat (located (edgeCurve T e) l))) own)
-          ∙ read-back chain (located (edgeCurve T e) (s .params)) (omega (arith, size, fits))
-
-      go : (i : ℕ) → i < n → pointAt left i ≡ eval.pointAt (edgeCurve T e) (getD (take n out) i nan)
-      go i l =
-          sym (pointOf-samples left n i l) ∙ ap (λ (q : List Sample). samplePoint q i) reads
-          ∙ ap (λ (q : Sample). q .point) (located-at (edgeCurve T e) (s .params) i _ (omega (arith, s .size, l)))
-          ∙ ap (λ (q : List Float). eval.pointAt (edgeCurve T e) (getD q i nan)) (sym (part s))
 
 pub drew-none : (S : Result (List Float)) (f : List Float → Result (List Sample)) (w : Listed) (chain g : List Float) → said w ≡ each length S → w ≡ listed.Refused
     → g ≡ filled (length chain) (take 0 chain) → ChainInto (length chain) (bind S f) (Refused 8) g
