@@ -6,8 +6,8 @@ use lib.Ieee.{Float, binary64, round}
 use Rattle.arith.specs.Notation.{bits, count, plusZero, half, one, two}
 
 -- the binary64 nearest to num / den
-abbrev pub nearest : ℕ → ℕ → Float
-nearest num den = round binary64 false num den
+abbrev pub nearestFloat : ℕ → ℕ → Float
+nearestFloat num den = round binary64 false num den
 
 -- 4, 8, 10, 16, 35, 512, 1e6, 1e9, 1e12
 abbrev pub four : Float
@@ -69,7 +69,7 @@ leastNormal = bits 0x0010000000000000
 -- each is the float nearest to what its name says (`constants` in proofs/Constants.antt)
 pub record Constants : Type 0 where
   pub isZero : plusZero ≡ count 0
-  pub isHalf : half ≡ nearest 1 2
+  pub isHalf : half ≡ nearestFloat 1 2
   pub isOne : one ≡ count 1
   pub isTwo : two ≡ count 2
   pub isFour : four ≡ count 4
@@ -81,12 +81,12 @@ pub record Constants : Type 0 where
   pub isMillion : million ≡ count (10 ^ 6)
   pub isBillion : billion ≡ count (10 ^ 9)
   pub isTrillion : trillion ≡ count (10 ^ 12)
-  pub isHundredth : hundredth ≡ nearest 1 100
-  pub isThousandth : thousandth ≡ nearest 1 1000
-  pub isFourTenThousandths : fourTenThousandths ≡ nearest 4 10000
-  pub isTenThousandth : tenThousandth ≡ nearest 1 10000
-  pub isBillionth : billionth ≡ nearest 1 (10 ^ 9)
-  pub isTenToMinus20 : tenToMinus20 ≡ nearest 1 (10 ^ 20)
-  pub isTenToMinus300 : tenToMinus300 ≡ nearest 1 (10 ^ 300)
-  pub isTwoToMinus511 : twoToMinus511 ≡ nearest 1 (2 ^ 511)
-  pub isLeastNormal : leastNormal ≡ nearest 1 (2 ^ 1022)
+  pub isHundredth : hundredth ≡ nearestFloat 1 100
+  pub isThousandth : thousandth ≡ nearestFloat 1 1000
+  pub isFourTenThousandths : fourTenThousandths ≡ nearestFloat 4 10000
+  pub isTenThousandth : tenThousandth ≡ nearestFloat 1 10000
+  pub isBillionth : billionth ≡ nearestFloat 1 (10 ^ 9)
+  pub isTenToMinus20 : tenToMinus20 ≡ nearestFloat 1 (10 ^ 20)
+  pub isTenToMinus300 : tenToMinus300 ≡ nearestFloat 1 (10 ^ 300)
+  pub isTwoToMinus511 : twoToMinus511 ≡ nearestFloat 1 (2 ^ 511)
+  pub isLeastNormal : leastNormal ≡ nearestFloat 1 (2 ^ 1022)

@@ -11,7 +11,7 @@ ghost use Rattle.curve_parameter.specs.Run.{closes, polylineParameter};
 ghost use Rattle.curve_point.specs.Point.{polylinePoint, pointAt};
 ghost use Rattle.curve_tangent.specs.Derivative.{polylineDerivative, derivativeAt};
 ghost use Rattle.curve_prepared.specs.declared.Prepared.the-variants.{Line, Other};
-ghost use Rattle.curve_prepared.specs.Own.Prepared.{roundOf, parabolaOf, preparedOf, roundPoint, preparedParabola, preparedPoint};
+ghost use Rattle.curve_prepared.specs.Own.Prepared.{roundOf, parabolaOf, preparedOf, roundPoint, preparedParabola, plainPoint, preparedPoint};
 ghost use Rattle.curve_prepared.specs.Own.Prepared.{roundDerivative, parabolaSlope, preparedDerivative};
 
 // Axes are as they are: nothing is normalised. A circle is round with equal axes.
@@ -205,19 +205,9 @@ fn other_point(
     }
 }
 
-// The point at t of the curve of a row, prepared.
-pub fn point_of(
-    prepared: Prepared,
-    points: &[f64],
-    curves: &[u32],
-    reals: &[f64],
-    parts: &[u32],
-    ranges: &[f64],
-    row: u32,
-    t: f64,
-) -> Vec3
-    requires { ⌜ prepared ≡ preparedOf (tree (lent points curves reals parts ranges) row) ⌝ }
-    ensures { λ r. ⌜ r ≡ preparedPoint prepared (tree (given points curves reals parts ranges) row) t ⌝ }
+// The point at t of a curve prepared that needs no tables. Of one that does, none is known here: zero.
+pub fn plain_point(prepared: Prepared, t: f64) -> Vec3
+    ensures { λ r. ⌜ r ≡ plainPoint prepared t ⌝ }
 {
     match prepared {
         Prepared::Line { origin, direction } => origin.add(direction.scale(t)),
@@ -234,10 +224,28 @@ pub fn point_of(
             y,
             focal_dist,
         } => parabola_point(origin, x, y, focal_dist, t),
-        Prepared::Other { closed } => {
-            other_point(points, curves, reals, parts, ranges, row, closed, t)
-        }
+        Prepared::Other { closed: _ } => Vec3::ZERO,
     }
+}
+
+// The point at t of the curve of a row, prepared.
+pub fn point_of(
+    prepared: Prepared,
+    points: &[f64],
+    curves: &[u32],
+    reals: &[f64],
+    parts: &[u32],
+    ranges: &[f64],
+    row: u32,
+    t: f64,
+) -> Vec3
+    requires { ⌜ prepared ≡ preparedOf (tree (lent points curves reals parts ranges) row) ⌝ }
+    ensures { λ r. ⌜ r ≡ preparedPoint prepared (tree (given points curves reals parts ranges) row) t ⌝ }
+{
+    let Prepared::Other { closed } = prepared else {
+        return plain_point(prepared, t);
+    };
+    other_point(points, curves, reals, parts, ranges, row, closed, t)
 }
 
 fn round_derivative(x: Vec3, y: Vec3, major: f64, minor: f64, t: f64) -> Vec3

@@ -5,7 +5,7 @@ use Prim.Native.Nat.{ℕ, _+_, _*_, _^_}
 use lib.Ieee.{Float, neg}
 use Rattle.base_lists.specs.Result.{refused, got, each}
 use Rattle.arith.specs.Notation.{plusZero, half, one, two, count}
-use Rattle.arith.specs.Constants.{nearest, ten, million, billion, hundredth}
+use Rattle.arith.specs.Constants.{nearestFloat, ten, million, billion, hundredth}
 use Rattle.math.specs.declared.Vec3.{Vec3}
 use Rattle.math.specs.declared.Interval.{Interval}
 use Rattle.math.specs.Math.{vec, interval}
@@ -69,7 +69,7 @@ hundred = count 100
 
 -- 6e8 plus n times 2^-23, which is the step from 6e8 to the next float
 abbrev far : ℕ → Float
-far n = nearest (6 * 10 ^ 8 * 2 ^ 23 + n) (2 ^ 23)
+far n = nearestFloat (6 * 10 ^ 8 * 2 ^ 23 + n) (2 ^ 23)
 
 -- ---- tables, edges and options
 -- one row of this kind with its points from the first on, and p
@@ -103,7 +103,7 @@ absolute deflection angle segments depth = record {
 -- 2^-10 of 1024
 abbrev ofScale : Options
 ofScale = record {
-  deflection = nearest 1 1024;
+  deflection = nearestFloat 1 1024;
   angle = radians one;
   relative = 1;
   segments = 1;
@@ -125,7 +125,7 @@ parabola = oneRow (plusZero ∷ plusZero ∷ plusZero ∷ plusZero ∷ plusZero 
 
 -- x = 1e9, then 0.1
 abbrev farApart : Tables
-farApart = oneRow (billion ∷ plusZero ∷ plusZero ∷ nearest 1 10 ∷ plusZero ∷ plusZero ∷ []) 5 2 plusZero
+farApart = oneRow (billion ∷ plusZero ∷ plusZero ∷ nearestFloat 1 10 ∷ plusZero ∷ plusZero ∷ []) 5 2 plusZero
 
 -- (0,0,0), (1,0,0), (1,1,0), and the edge over it with tolerance 0.25
 abbrev corner : Tables
@@ -133,7 +133,7 @@ corner = oneRow (plusZero ∷ plusZero ∷ plusZero ∷ one ∷ plusZero ∷ plu
 
 -- the edge round it
 abbrev round : Edge
-round = rowEdge 0 2 plusZero two (nearest 1 4) 0 2
+round = rowEdge 0 2 plusZero two (nearestFloat 1 4) 0 2
 
 -- a line with direction (1,0,0), the point x = 100, and a box from 0 to 1 on each axis
 abbrev pub boxed : Tables
@@ -159,25 +159,25 @@ tinyCorner =
 
 -- 0.14
 abbrev narrow : Float
-narrow = nearest 14 100
+narrow = nearestFloat 14 100
 
 -- ---- the list, in the scope's order
 abbrev pub examples : List Example
 examples =
     sag ofScale (count 1024) one
     ∷ sag ofScale (count 128) half
-    ∷ sag ofScale (count 16) (nearest 1 8)
+    ∷ sag ofScale (count 16) (nearestFloat 1 8)
     ∷ draws straight (along plusZero five) (absolute one one 1 12) AsDrawn (plusZero ∷ five ∷ [])
     ∷ draws straight (along plusZero five) (absolute one one 4 12) AsDrawn
-    (plusZero ∷ nearest 5 4 ∷ nearest 5 2 ∷ nearest 15 4 ∷ five ∷ [])
+    (plusZero ∷ nearestFloat 5 4 ∷ nearestFloat 5 2 ∷ nearestFloat 15 4 ∷ five ∷ [])
     ∷ draws straight (rowEdge 2 0 plusZero five plusZero 0 2) (absolute one one 1 12) AsDrawn (five ∷ plusZero ∷ [])
     ∷ draws straight (along three three) (absolute one one 1 12) Chord (three ∷ three ∷ [])
     ∷ draws straight (along five two) (absolute one one 1 12) Chord (five ∷ two ∷ [])
     ∷ usable parabola (interval one one) (interval (neg million) million)
     -- 838861 / 8388608
-    ∷ point farApart one (vec (nearest 838861 8388608) plusZero plusZero)
+    ∷ point farApart one (vec (nearestFloat 838861 8388608) plusZero plusZero)
     ∷ draws corner round (absolute one narrow 1 1) AsDrawn (plusZero ∷ one ∷ two ∷ [])
-    ∷ floor (nearest 1 4) two one
+    ∷ floor (nearestFloat 1 4) two one
     ∷ draws corner round (absolute two narrow 1 1) AsDrawn (plusZero ∷ two ∷ [])
     ∷ draws boxed escaping close Runaway (plusZero ∷ plusZero ∷ [])
     ∷ refuses tinyCorner (rowEdge 0 2 plusZero two plusZero 0 2) (absolute one narrow 1 1) 9

@@ -40,11 +40,6 @@ module _ (c : CurveTree) where
   located-append [] m = refl
   located-append (t ∷ l) m = ap (λ k. on c t ∷ k) (located-append l m)
 
-  -- no samples change nothing
-  pub located-none : (chain l : List Float) → _≡_ {A = List Float} l [] → chain ≡ sets chain 0 (flat (located c l))
-  unfolding located flat
-  located-none chain l e = rw e
-
   -- the chain before: the first i parameters' samples
   module _ (before : List Float) (params : List Float) where
     abbrev pub Written : List Float → ℕ → Type 0

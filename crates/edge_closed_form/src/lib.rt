@@ -4,6 +4,7 @@ use curve_prepared::Prepared;
 use edge_record::Sample;
 use math::Vec3;
 ghost use mathlib.Core.Path.{_≡_};
+ghost use mathlib.Core.Bool.{true};
 ghost use Prim.Native.Nat.{_*_, _≤_};
 ghost use lib.ListN.{length, take};
 ghost use lib.Seq.{sets};
@@ -11,34 +12,20 @@ ghost use lib.Ieee.{le};
 ghost use Rattle.arith.specs.Notation.{plusZero};
 ghost use Rattle.arith_root.specs.Root.{rootOf};
 ghost use Rattle.brep.specs.Rows.{lent, given};
-ghost use Rattle.brep.specs.Tree.{tree};
-ghost use Rattle.curve.specs.Eval.{pointAt};
-ghost use Rattle.curve_prepared.specs.Own.Prepared.{preparedOf};
+ghost use Rattle.brep.specs.Tree.{CurveTree, tree};
+ghost use Rattle.curve_prepared.specs.Own.Prepared.{preparedOf, isPlain, plainPoint};
 ghost use Rattle.edge_record.specs.Chain.{width, flat};
 ghost use Rattle.edge_closed_form.specs.Miss.{worstMiss};
 ghost use Rattle.edge_closed_form.specs.Located.{located};
 ghost use Rattle.edge_closed_form.specs.Own.Worst.{missSquare, largerOf, Alike};
 
-// How far the middle of the curve of a row lies from the middle of the chord from a to b, squared; pa and pb are its points there.
-fn miss_square(
-    points: &[f64],
-    curves: &[u32],
-    reals: &[f64],
-    parts: &[u32],
-    ranges: &[f64],
-    row: u32,
-    prepared: Prepared,
-    a: f64,
-    b: f64,
-    pa: Vec3,
-    pb: Vec3,
-) -> f64
-    requires { ⌜ (prepared ≡ preparedOf (tree (lent points curves reals parts ranges) row))
-        × (pa ≡ pointAt (tree (lent points curves reals parts ranges) row) a) × (pb ≡ pointAt (tree (lent points curves reals parts ranges) row) b) ⌝ }
-    ensures { λ w. ⌜ w ≡ missSquare (tree (given points curves reals parts ranges) row) a b ⌝ }
+// How far the middle of a curve lies from the middle of its chord from a to b, squared; pa and pb are its points there.
+fn miss_square(prepared: Prepared, a: f64, b: f64, pa: Vec3, pb: Vec3) -> f64
+    requires { ⌜ (isPlain prepared ≡ true) × (pa ≡ plainPoint prepared a) × (pb ≡ plainPoint prepared b) ⌝ }
+    ensures { λ w. ⌜ ((c : CurveTree) → preparedOf c ≡ prepared → w ≡ missSquare c a b) ⌝ }
 {
     let t = 0.5 * (a + b);
-    let m = curve_prepared::point_of(prepared, points, curves, reals, parts, ranges, row, t);
+    let m = curve_prepared::plain_point(prepared, t);
     m.sub(pa.add(pb).scale(0.5)).length_squared()
 }
 
@@ -49,29 +36,19 @@ fn larger(worst: f64, s: f64) -> f64
     if worst < s { s } else { worst }
 }
 
-// The square of the largest miss between parameters that follow each other. Each point is evaluated once, and is a record of
-// the chain from then on.
-fn worst_square(
-    points: &[f64],
-    curves: &[u32],
-    reals: &[f64],
-    parts: &[u32],
-    ranges: &[f64],
-    row: u32,
-    params: &[f64],
-    chain: &mut [f64],
-) -> f64
-    requires { ⌜ width * length (now params) ≤ length (now chain) ⌝ }
-    ensures { λ w. ⌜ Alike (rootOf w) (worstMiss (tree (given points curves reals parts ranges) row) plusZero (now (params .entry)))
-        × (now (chain .exit) ≡ sets (now (chain .entry)) 0 (flat (located (tree (given points curves reals parts ranges) row) (now (params .entry))))) ⌝ }
+// The square of the largest miss between parameters that follow each other, of a curve that needs no tables. Each point is
+// evaluated once, and is a record of the chain from then on.
+fn worst_square(prepared: Prepared, params: &[f64], chain: &mut [f64]) -> f64
+    requires { ⌜ (isPlain prepared ≡ true) × (width * length (now params) ≤ length (now chain)) ⌝ }
+    ensures { λ w. ⌜ ((c : CurveTree) → preparedOf c ≡ prepared → Alike (rootOf w) (worstMiss c plusZero (now (params .entry)))
+        × (now (chain .exit) ≡ sets (now (chain .entry)) 0 (flat (located c (now (params .entry)))))) ⌝ }
 {
     if params.len() == 0 {
         return 0.0;
     }
     let mut worst = 0.0;
-    let prepared = curve_prepared::prepare(points, curves, reals, parts, ranges, row);
     let mut a = params[0];
-    let mut pa = curve_prepared::point_of(prepared, points, curves, reals, parts, ranges, row, a);
+    let mut pa = curve_prepared::plain_point(prepared, a);
     let mut i = 0usize;
     while i + 1 < params.len() {
         let here = Sample {
@@ -80,20 +57,8 @@ fn worst_square(
         };
         edge_record::put(chain, i, here);
         let b = params[i + 1];
-        let pb = curve_prepared::point_of(prepared, points, curves, reals, parts, ranges, row, b);
-        let s = miss_square(
-            points,
-            curves,
-            reals,
-            parts,
-            ranges,
-            row,
-            prepared,
-            a,
-            b,
-            pa,
-            pb,
-        );
+        let pb = curve_prepared::plain_point(prepared, b);
+        let s = miss_square(prepared, a, b, pa, pb);
         worst = larger(worst, s);
         a = b;
         pa = pb;
@@ -107,7 +72,8 @@ fn worst_square(
     worst
 }
 
-// Whether the chords between the first n parameters stay within the sag. The chain then holds the points at those.
+// Whether the chords between the first n parameters stay within the sag, of a curve that needs no tables. The chain then holds
+// the points at those.
 pub fn meets(
     points: &[f64],
     curves: &[u32],
@@ -120,12 +86,13 @@ pub fn meets(
     sag: f64,
     chain: &mut [f64],
 ) -> bool
-    requires { ⌜ (n ≤ length (now out)) × (width * n ≤ length (now chain)) ⌝ }
+    requires { ⌜ (n ≤ length (now out)) × (width * n ≤ length (now chain)) × (isPlain (preparedOf (tree (lent points curves reals parts ranges) row)) ≡ true) ⌝ }
     ensures { λ w. ⌜ (w ≡ le (worstMiss (tree (given points curves reals parts ranges) row) plusZero (take n (now (out .entry)))) sag)
         × (now (chain .exit) ≡ sets (now (chain .entry)) 0 (flat (located (tree (given points curves reals parts ranges) row) (take n (now (out .entry)))))) ⌝ }
 {
     let params = &out[..n];
+    let prepared = curve_prepared::prepare(points, curves, reals, parts, ranges, row);
     // The largest of the roots is the root of the largest.
-    let worst = worst_square(points, curves, reals, parts, ranges, row, params, chain);
+    let worst = worst_square(prepared, params, chain);
     arith_root::root(worst) <= sag
 }

@@ -2,11 +2,11 @@
 use mathlib.Core.Path.{_≡_, refl, sym, ap, _∙_}
 use mathlib.Core.Bool.{Bool, true}
 use mathlib.Core.List.{List, [], _∷_, _++_}
-use Prim.Native.Nat.{ℕ, _+_, _-_, _*_, _<_, _≤_}
+use Prim.Native.Nat.{ℕ, _+_, _-_, _*_, _≤_}
 use native.Mathlib.Omega.{arith}
-use lib.ListN.{length, getD, take, drop, replicate, length-append, length-replicate, replicate-append-replicate, take-append-drop}
+use lib.ListN.{length, take, drop, replicate, length-append, length-replicate, replicate-append-replicate, take-append-drop}
 use lib.Seq.{sets, length-sets, length-take-le, take-at}
-use lib.Ieee.{Float, nan, binary64, ofBits}
+use lib.Ieee.{Float, binary64, ofBits}
 use Rattle.base_lists.specs.Result.{Result, refused, got, bind, each}
 use Rattle.base_lists.specs.Room.{filled}
 use Rattle.base_lists.proofs.Filled.{filled-length, filled-front, filled-part}
@@ -21,10 +21,8 @@ use Rattle.edge_params.specs.Own.Written.{said}
 use Rattle.edge_record.specs.declared.Sample.{Sample}
 use Rattle.edge_record.specs.declared.Counted.{Counted}
 use Rattle.edge_record.specs.declared.Counted.the-variants.{Refused, Count}
-use Rattle.edge_record.specs.Own.Stored.{recordPoint, countedOf}
-use Rattle.edge_record.specs.Chain.{width, most, flat, samples, samplePoint}
-use Rattle.curve.specs.Eval as eval
-use Rattle.edge_record.proofs.Laws.{pointOf-samples}
+use Rattle.edge_record.specs.Own.Stored.{countedOf}
+use Rattle.edge_record.specs.Chain.{width, most, flat, samples}
 use Rattle.edge_range.specs.declared.Usable.{Usable}
 use Rattle.edge_range.specs.declared.Usable.the-variants.{Range, Unusable}
 use Rattle.edge_range.specs.Usable.{usableRange}
@@ -36,13 +34,11 @@ use Rattle.edge_sample.specs.Own.Traced.{Traced, traced, tracedSampled}
 use Rattle.edge_sample.proofs.Laws.{sampled-two, sampled-room}
 use Rattle.edge_sample.proofs.Ways.{reads-held}
 use Rattle.edge_closed_form.specs.Located.{located}
-use Rattle.edge_closed_form.proofs.Located.{located-at}
 use Rattle.draw_spec.specs.Edge.{edgeCurve, atLeastTwo, chordOf, placed, thinnedMerged, finished, overRange, discretised}
 use Rattle.draw_spec.specs.Draw.{roomOf}
-use Rattle.edge_place.specs.Own.Place.{PointsKnown}
+use Rattle.edge_place.proofs.Records.{read-back}
 use Rattle.edge_place.proofs.Laws.{placed-length}
 use Rattle.edge_discretise.specs.Own.Discretised.{ChainInto}
-use Rattle.edge_discretise.proofs.Thinning.{read-back}
 
 into-is : (n m : ℕ) (D E : Result (List Sample)) {w : Counted} {g : List Float} → n ≡ m → D ≡ E → ChainInto n D w g → ChainInto m E w g
 into-is n m D E k e p = record {
@@ -113,7 +109,7 @@ module _ {room : ℕ} (T : Tables) (e : Edge) (r : Resolved) (range : Interval) 
   reads-placed : samples n d ≡ placed T e (s .params)
   reads-placed =
       let P = placed T e (s .params) in
-      let k : length P ≡ n = placed-length T e (s .params) (omega (arith, s .two, s .size)) ∙ s .size in
+      let k : length P ≡ n = placed-length T e (s .params) ∙ s .size in
       ap (λ (i : ℕ). samples i d) (sym k) ∙ ap (samples (length P)) (p ∙ ap (λ (l : List Float). sets chain 0 (flat (placed T e l))) (params-of s)) ∙ read-back chain P (omega arith)
 
   over-some : thinnedMerged T e r (samples n d) ≡ overRange room T e r range
@@ -129,20 +125,12 @@ module _ {room : ℕ} (T : Tables) (e : Edge) (r : Resolved) (range : Interval) 
 -- what sample_params left in the part of the chain that it was lent, where it says that these are the parameters' records
 module _ {room : ℕ} (T : Tables) (e : Edge) (r : Resolved) (range : Interval) {n : ℕ} {out : List Float} (s : Sampling room (sampled room (edgeCurve T e) range r) n out)
     {known : Bool} (part left more : List Float) (wide : width * room ≤ length part) (p : traced known left ≡ tracedSampled room (edgeCurve T e) range r part) where
-  pub held : known ≡ true → PointsKnown (edgeCurve T e) (take n out) (left ++ more)
-  held h = record { point = λ i l. go i (omega (arith, part-length s, l)) }
-    where
-      all : samples n (left ++ more) ≡ located (edgeCurve T e) (s .params)
-      all =
-          ap (λ (i : ℕ). samples i (left ++ more)) (sym (s .size))
-          ∙ ap (λ (t : Traced). samples (length (s .params)) (t .chain ++ more)) p
-          ∙ reads-held (edgeCurve T e) (s .params) room range r part more wide (s .is) (sym (ap (λ (t : Traced). t .known) p) ∙ h)
-
-      go : (i : ℕ) → i < n → recordPoint (left ++ more) i ≡ eval.pointAt (edgeCurve T e) (getD (take n out) i nan)
-      go i l =
-          sym (pointOf-samples (left ++ more) n i l) ∙ ap (λ (q : List Sample). samplePoint q i) all
-          ∙ ap (λ (q : Sample). q .point) (located-at (edgeCurve T e) (s .params) i _ (omega (arith, s .size, l)))
-          ∙ ap (λ (q : List Float). eval.pointAt (edgeCurve T e) (getD q i nan)) (sym (params-of s))
+  pub held : known ≡ true → samples (length (take n out)) (left ++ more) ≡ located (edgeCurve T e) (take n out)
+  held h =
+      ap (λ (i : ℕ). samples i (left ++ more)) (part-length s ∙ sym (s .size))
+      ∙ ap (λ (t : Traced). samples (length (s .params)) (t .chain ++ more)) p
+      ∙ reads-held (edgeCurve T e) (s .params) room range r part more wide (s .is) (sym (ap (λ (t : Traced). t .known) p) ∙ h)
+      ∙ ap (located (edgeCurve T e)) (sym (params-of s))
 
 pub into-none : (S : Result (List Float)) (f : List Float → Result (List Sample)) (w : Listed) (chain g : List Float) → said w ≡ each length S → w ≡ listed.Refused
     → g ≡ filled (length chain) (take 0 chain) → ChainInto (length chain) (bind S f) (Refused 8) g

@@ -4,8 +4,8 @@ use mathlib.Core.Bool.{Bool, true, false, cond, not, _||_}
 use mathlib.Core.List.{List, [], _∷_}
 use Prim.Native.Nat.{ℕ, _+_, _-_, _*_, _≤_, min}
 use native.Mathlib.Omega.{arith}
-use lib.ListN.{length, take, drop, set, replicate, length-set, length-replicate}
-use lib.Seq.{sets, sets-eq, length-sets}
+use lib.ListN.{length, take, set, replicate, length-set, length-replicate}
+use lib.Seq.{sets, length-sets}
 use lib.Dec.{ltb}
 use lib.Ieee.{Float, lt}
 use Rattle.base_lists.specs.Result.{Result, refused, got, each}
@@ -22,7 +22,7 @@ use Rattle.edge_record.specs.declared.Counted.{Counted}
 use Rattle.edge_record.specs.declared.Counted.the-variants.{Refused, Count}
 use Rattle.edge_record.specs.Own.Stored.{countedOf, after, ChainStored}
 use Rattle.edge_record.specs.Chain.{width, shortest, most, row, flat, samplePoint, samples}
-use Rattle.edge_record.proofs.Laws.{length-flat, flat-one, push, samplesFrom-length, samples-own, reads, rest-cleared}
+use Rattle.edge_record.proofs.Laws.{flat-one, push, samplesFrom-length, samples-own, rest-cleared}
 use Rattle.edge_record.proofs.Shorter.{Shorter, shorter-same, shorter-sub, shorter-two}
 use Rattle.edge_merge.specs.Merge.{merged}
 use Rattle.edge_merge.proofs.Laws.{merge-shorter}
@@ -32,6 +32,7 @@ use Rattle.edge_thin.specs.Thin.{withFloor, restored, retainedBy, thinned}
 use Rattle.edge_thin.proofs.Loops.{length-marks}
 use Rattle.edge_thin.proofs.Laws.{thin-shorter}
 use Rattle.draw_spec.specs.Edge.{edgeStart, edgeEnd, thinnedIf, chordOf}
+use Rattle.edge_place.proofs.Records.{read-back}
 use Rattle.edge_discretise.specs.Own.Discretised.{ChainInto}
 
 -- ---- a floor above the most samples says nothing more
@@ -83,10 +84,6 @@ module _ (r : Resolved) (c : List Float) (n : ℕ) (b sampled : Bool) (own : b �
       (ap Count (sym (samplesFrom-length c 0 n)) ∙ ap countedOf q, sym (samples-own c 0 n) ∙ ap (after c) q)
 
 -- ---- `finish`
--- a chain read back from the buffer's start
-pub read-back : (c : List Float) (l : List Sample) → width * length l ≤ length c → samples (length l) (sets c 0 (flat l)) ≡ l
-read-back c l h = ap (samples (length l)) (sets-eq (flat l) c 0 (omega (arith, length-flat l))) ∙ reads l (drop (0 + length (flat l)) c)
-
 shorter-own : (l : List Sample) → 2 ≤ length l → Shorter l l
 shorter-own [] h = absurd (omega arith)
 shorter-own (p ∷ []) h = absurd (omega arith)

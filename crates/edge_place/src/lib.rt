@@ -1,21 +1,19 @@
 // The records of an edge's chain, from its parameters: in the edge's own direction, with both ends pinned to the vertices.
 use brep::Edge;
-use curve_prepared::Prepared;
 use edge_record::Sample;
 use math::Vec3;
 ghost use mathlib.Core.Path.{_≡_};
 ghost use mathlib.Core.Bool.{true};
-ghost use Prim.Native.Nat.{_+_, _*_, _<_, _≤_};
-ghost use lib.ListN.{length, getD};
-ghost use lib.Ieee.{nan};
+ghost use mathlib.Core.List.{reverse};
+ghost use Prim.Native.Nat.{_+_, _-_, _*_, _<_, _≤_};
+ghost use lib.ListN.{length};
 ghost use lib.Seq.{sets};
 ghost use Rattle.brep.specs.Rows.{lent, given};
-ghost use Rattle.curve_prepared.specs.Own.Prepared.{preparedOf};
-ghost use Rattle.curve.specs.Eval.{pointAt as onCurve};
-ghost use Rattle.edge_record.specs.Chain.{width, flat};
+ghost use Rattle.brep.specs.Tree.{tree};
+ghost use Rattle.edge_record.specs.Chain.{width, row, flat, sampleAt, samples};
 ghost use Rattle.edge_record.specs.Own.Stored.{recordPoint};
-ghost use Rattle.draw_spec.specs.Edge.{edgeCurve, degenerateEnds, placed};
-ghost use Rattle.edge_place.specs.Own.Place.{ofPoints, runsBack, paramAt, recordAt, PointsKnown};
+ghost use Rattle.draw_spec.specs.Edge.{edgeCurve, edgeStart, edgeEnd, located, degenerateEnds, isReversed, oriented, movedTo, pinned, placed};
+ghost use Rattle.edge_place.specs.Own.Place.{ofPoints};
 
 // Whether the vertices are too near each other to tell the direction.
 fn degenerate_ends(points: &[f64], edge: Edge) -> bool
@@ -27,148 +25,115 @@ fn degenerate_ends(points: &[f64], edge: Edge) -> bool
     end.sub(start).length_squared() <= near * near
 }
 
-// The curve's point at parameter i, which is in the chain's record i where `known`.
-fn own_point(
-    points: &[f64],
-    curves: &[u32],
-    reals: &[f64],
-    parts: &[u32],
-    ranges: &[f64],
-    edge: Edge,
-    prepared: Prepared,
-    params: &[f64],
-    chain: &[f64],
-    known: bool,
-    i: usize,
-) -> Vec3
-    requires { ⌜ (i < length (now params)) × (width * i + width ≤ length (now chain))
-        × (prepared ≡ preparedOf (edgeCurve (lent points curves reals parts ranges) edge))
-        × (known ≡ true → PointsKnown (edgeCurve (lent points curves reals parts ranges) edge) (now params) (now chain)) ⌝ }
-    ensures { λ r. ⌜ r ≡ onCurve (edgeCurve (given points curves reals parts ranges) edge) (getD (now (params .entry)) i nan) ⌝ }
-{
-    if known {
-        return edge_record::record_point(chain, i);
-    }
-    let row = edge.curve;
-    let t = params[i];
-    curve_prepared::point_of(prepared, points, curves, reals, parts, ranges, row, t)
-}
-
-// Whether the chain runs against its parameters. The ends are evaluated only where they decide it, and are not known.
-fn is_reversed(
-    points: &[f64],
-    curves: &[u32],
-    reals: &[f64],
-    parts: &[u32],
-    ranges: &[f64],
-    edge: Edge,
-    prepared: Prepared,
-    params: &[f64],
-    chain: &[f64],
-    known: bool,
-) -> bool
-    requires { ⌜ (2 ≤ length (now params)) × (width * length (now params) ≤ length (now chain))
-        × (prepared ≡ preparedOf (edgeCurve (lent points curves reals parts ranges) edge))
-        × (known ≡ true → PointsKnown (edgeCurve (lent points curves reals parts ranges) edge) (now params) (now chain)) ⌝ }
-    ensures { λ r. ⌜ r ≡ runsBack (given points curves reals parts ranges) edge (now (params .entry)) ⌝ }
+// Whether n records that follow their parameters run against the edge.
+fn is_reversed(points: &[f64], edge: Edge, n: usize, chain: &[f64]) -> bool
+    requires { ⌜ (1 ≤ n) × (width * n ≤ length (now chain)) ⌝ }
+    ensures { λ r. ⌜ r ≡ isReversed (ofPoints (now (points .entry))) edge (recordPoint (now (chain .entry)) 0) (recordPoint (now (chain .entry)) (n - 1)) ⌝ }
 {
     if degenerate_ends(points, edge) {
         return edge.sense == 0;
     }
     let start = brep::point(points, edge.start);
-    let last = params.len() - 1;
-    let head = own_point(
-        points,
-        curves,
-        reals,
-        parts,
-        ranges,
-        edge,
-        prepared,
-        params,
-        chain,
-        known,
-        0,
-    );
-    let tail = own_point(
-        points,
-        curves,
-        reals,
-        parts,
-        ranges,
-        edge,
-        prepared,
-        params,
-        chain,
-        known,
-        last,
-    );
+    let head = edge_record::record_point(chain, 0);
+    let tail = edge_record::record_point(chain, n - 1);
     tail.sub(start).length_squared() < head.sub(start).length_squared()
 }
 
-// Parameter i, counted from the end where the chain runs against them.
-fn param_at(params: &[f64], reversed: bool, i: usize) -> f64
-    requires { ⌜ i < length (now params) ⌝ }
-    ensures { λ r. ⌜ r ≡ paramAt (now (params .entry)) reversed i ⌝ }
+// Exchanges two records.
+fn swap(chain: &mut [f64], i: usize, j: usize)
+    requires { ⌜ (width * i + width ≤ length (now chain)) × (width * j + width ≤ length (now chain)) ⌝ }
+    ensures { λ _. ⌜ now (chain .exit) ≡ sets (sets (now (chain .entry)) (width * i) (row (sampleAt (now (chain .entry)) j))) (width * j) (row (sampleAt (now (chain .entry)) i)) ⌝ }
 {
-    if reversed {
-        return params[params.len() - 1 - i];
-    }
-    params[i]
+    let a = edge_record::sample_at(chain, i);
+    let b = edge_record::sample_at(chain, j);
+    edge_record::put(chain, i, b);
+    edge_record::put(chain, j, a);
 }
 
-// Record i: a vertex at either end, the curve's own point between. Where `kept`, the chain's record i holds that point.
-fn record_at(
+// Turns the first n records round.
+fn turn(chain: &mut [f64], n: usize)
+    requires { ⌜ width * n ≤ length (now chain) ⌝ }
+    ensures { λ _. ⌜ now (chain .exit) ≡ sets (now (chain .entry)) 0 (flat (reverse (samples n (now (chain .entry))))) ⌝ }
+{
+    let half = n / 2;
+    for i in 0..half {
+        swap(chain, i, n - 1 - i);
+    }
+}
+
+// Turns the first n records round where they run against the edge.
+fn orient(points: &[f64], edge: Edge, n: usize, chain: &mut [f64])
+    requires { ⌜ (1 ≤ n) × (width * n ≤ length (now chain)) ⌝ }
+    ensures { λ _. ⌜ now (chain .exit) ≡ sets (now (chain .entry)) 0 (flat (oriented (ofPoints (now (points .entry))) edge (samples n (now (chain .entry))))) ⌝ }
+{
+    if is_reversed(points, edge, n, chain) {
+        turn(chain, n);
+    }
+}
+
+// Moves record i to a vertex. Its parameter stands.
+fn pin(chain: &mut [f64], i: usize, vertex: Vec3)
+    requires { ⌜ width * i + width ≤ length (now chain) ⌝ }
+    ensures { λ _. ⌜ now (chain .exit) ≡ sets (now (chain .entry)) (width * i) (row (movedTo vertex (sampleAt (now (chain .entry)) i))) ⌝ }
+{
+    let s = edge_record::sample_at(chain, i);
+    let param = s.param;
+    edge_record::put(
+        chain,
+        i,
+        Sample {
+            point: vertex,
+            param,
+        },
+    );
+}
+
+// Moves the first and the last of n records to the edge's vertices.
+fn pin_ends(points: &[f64], edge: Edge, n: usize, chain: &mut [f64])
+    requires { ⌜ (1 ≤ n) × (width * n ≤ length (now chain)) ⌝ }
+    ensures { λ _. ⌜ now (chain .exit) ≡ sets (now (chain .entry)) 0
+        (flat (pinned (edgeStart (ofPoints (now (points .entry))) edge) (edgeEnd (ofPoints (now (points .entry))) edge) (samples n (now (chain .entry))))) ⌝ }
+{
+    let start = brep::point(points, edge.start);
+    let end = brep::point(points, edge.end);
+    pin(chain, 0, start);
+    pin(chain, n - 1, end);
+}
+
+// Evaluates the curve of a row at each parameter: the chain's first records are its points there.
+fn locate(
     points: &[f64],
     curves: &[u32],
     reals: &[f64],
     parts: &[u32],
     ranges: &[f64],
-    edge: Edge,
-    prepared: Prepared,
+    row: u32,
     params: &[f64],
-    reversed: bool,
-    chain: &[f64],
-    kept: bool,
-    i: usize,
-) -> Sample
-    requires { ⌜ (i < length (now params)) × (width * i + width ≤ length (now chain))
-        × (prepared ≡ preparedOf (edgeCurve (lent points curves reals parts ranges) edge))
-        × (kept ≡ true → recordPoint (now chain) i ≡ onCurve (edgeCurve (lent points curves reals parts ranges) edge) (paramAt (now params) reversed i)) ⌝ }
-    ensures { λ r. ⌜ r ≡ recordAt (given points curves reals parts ranges) edge (now (params .entry)) reversed i ⌝ }
+    chain: &mut [f64],
+)
+    requires { ⌜ width * length (now params) ≤ length (now chain) ⌝ }
+    ensures { λ _. ⌜ now (chain .exit) ≡ sets (now (chain .entry)) 0 (flat (located (tree (given points curves reals parts ranges) row) (now (params .entry)))) ⌝ }
 {
-    let param = param_at(params, reversed, i);
-    if i == 0 {
-        let start = brep::point(points, edge.start);
-        return Sample {
-            point: start,
+    let prepared = curve_prepared::prepare(points, curves, reals, parts, ranges, row);
+    let n = params.len();
+    for i in 0..n {
+        let param = params[i];
+        let point = curve_prepared::point_of(
+            prepared,
+            points,
+            curves,
+            reals,
+            parts,
+            ranges,
+            row,
             param,
-        };
+        );
+        edge_record::put(chain, i, Sample { point, param });
     }
-    if i == params.len() - 1 {
-        let end = brep::point(points, edge.end);
-        return Sample { point: end, param };
-    }
-    if kept {
-        let held = edge_record::record_point(chain, i);
-        return Sample { point: held, param };
-    }
-    let row = edge.curve;
-    let point = curve_prepared::point_of(
-        prepared,
-        points,
-        curves,
-        reals,
-        parts,
-        ranges,
-        row,
-        param,
-    );
-    Sample { point, param }
 }
 
-// Writes a record for each parameter, from the chain's start. Where `known`, the records hold the curve's points already, and
-// are not evaluated again: record i is read before it is written. A chain that runs back would read what it wrote.
+// Writes a record for each parameter, from the chain's start. Where `known`, the records hold the curve's points and the
+// parameters already, and nothing is evaluated: a chain that runs back is turned round where it stands.
 pub fn place(
     points: &[f64],
     curves: &[u32],
@@ -181,39 +146,14 @@ pub fn place(
     chain: &mut [f64],
 )
     requires { ⌜ (2 ≤ length (now params)) × (width * length (now params) ≤ length (now chain))
-        × (known ≡ true → PointsKnown (edgeCurve (lent points curves reals parts ranges) edge) (now params) (now chain)) ⌝ }
+        × (known ≡ true → samples (length (now params)) (now chain) ≡ located (edgeCurve (lent points curves reals parts ranges) edge) (now params)) ⌝ }
     ensures { λ _. ⌜ now (chain .exit) ≡ sets (now (chain .entry)) 0 (flat (placed (given points curves reals parts ranges) edge (now (params .entry)))) ⌝ }
 {
-    let prepared = curve_prepared::prepare(points, curves, reals, parts, ranges, edge.curve);
-    let reversed = is_reversed(
-        points,
-        curves,
-        reals,
-        parts,
-        ranges,
-        edge,
-        prepared,
-        params,
-        chain,
-        known,
-    );
-    let kept = if reversed { false } else { known };
     let n = params.len();
-    for i in 0..n {
-        let s = record_at(
-            points,
-            curves,
-            reals,
-            parts,
-            ranges,
-            edge,
-            prepared,
-            params,
-            reversed,
-            chain,
-            kept,
-            i,
-        );
-        edge_record::put(chain, i, s);
+    if !known {
+        let row = edge.curve;
+        locate(points, curves, reals, parts, ranges, row, params, chain);
     }
+    orient(points, edge, n, chain);
+    pin_ends(points, edge, n, chain);
 }

@@ -1,4 +1,4 @@
--- What callers cite of `sampled`: at least two parameters, and no more than the room has. Assumes nothing.
+-- What callers cite of `sampled`: at least two parameters, and no more than the room has; and that a curve with a closed form needs no tables. Assumes nothing.
 use mathlib.Core.Path.{_≡_, refl}
 use mathlib.Core.Bool.{Bool, true, false}
 use mathlib.Core.List.{List}
@@ -17,6 +17,7 @@ use Rattle.edge_params.specs.declared.Closed.{Closed}
 use Rattle.edge_params.specs.declared.Closed.the-variants.{Unknown, Segments}
 use Rattle.edge_params.specs.Params.{Sampler, evenly, fitting, bisected, floored, refined, sampleParams}
 use Rattle.edge_params.proofs.Lists.{Gives, list, eight, gives-got, steps-length, sampled-length}
+use Rattle.curve_prepared.specs.Own.Prepared.{preparedOf, isPlain}
 use Rattle.edge_range.specs.Usable.{analyticSegments}
 use Rattle.edge_sample.specs.Sample.{sampler, sampled}
 use Rattle.edge_sample.proofs.Settled.{bisected-long}
@@ -37,6 +38,17 @@ form-some (analytic (parabola f d)) range r n e = formless n e
 form-some (polyline ps) range r n e = formless n e
 form-some (trimmed base own) range r n e = form-some base range r n e
 form-some (composite ss) range r n e = formless n e
+
+-- a curve that has a closed form needs no tables
+pub form-plain : (c : CurveTree) (range : Interval) (r : Resolved) (n : ℕ) → analyticSegments c range r ≡ Segments n → isPlain (preparedOf c) ≡ true
+unfolding analyticSegments preparedOf isPlain
+form-plain (analytic (line o d)) range r n e = refl
+form-plain (analytic (circle f radius)) range r n e = refl
+form-plain (analytic (ellipse f major minor)) range r n e = refl
+form-plain (analytic (parabola f d)) range r n e = refl
+form-plain (polyline ps) range r n e = let z : _≡_ {A = ℕ} 0 1 = cc in absurd (omega arith)
+form-plain (trimmed base own) range r n e = form-plain base range r n e
+form-plain (composite ss) range r n e = let z : _≡_ {A = ℕ} 0 1 = cc in absurd (omega arith)
 
 -- ---- two parameters or more
 abbrev Long : List Float → Type 0

@@ -4,7 +4,7 @@ use mathlib.Core.List.{List, [], _∷_}
 use Prim.Native.Nat.{ℕ, _+_, _*_, _^_}
 use lib.Ieee.{Float, round, ofBits, ofInt, add, sub, mul, div, neg, lt, le, eq, isNan}
 use Rattle.arith.specs.Notation.{_⊗_, plusZero, one, two}
-use Rattle.arith.specs.Constants.{nearest, hundredth}
+use Rattle.arith.specs.Constants.{nearestFloat, hundredth}
 use Rattle.arith_root.specs.Root.{rootOf}
 use Rattle.arith_trig.specs.Trig.{halved, summed, arcOf, angleOf, acosBy, acosOf}
 use Rattle.math.specs.Math.{vec, vAdd, vSub, vScale, vDot, vLength, tryNormalized, angleBetween}
@@ -24,7 +24,7 @@ abbrev tolerance : Float
 tolerance = one ⊗ hundredth
 
 abbrev angle : Float
-angle = nearest 14 100
+angle = nearestFloat 14 100
 
 -- the scope's polyline (0,0,0), (1,0,0), (1,1,0), and three points in a row
 abbrev corner : List Sample
@@ -35,7 +35,7 @@ row = at plusZero plusZero plusZero ∷ at one plusZero one ∷ at two plusZero 
 
 -- 6e8 + n u, with u = 2^-23, the step from 6e8 to the next float
 abbrev beyond : ℕ → Float
-beyond n = nearest (6 * 10 ^ 8 * 2 ^ 23 + n) (2 ^ 23)
+beyond n = nearestFloat (6 * 10 ^ 8 * 2 ^ 23 + n) (2 ^ 23)
 
 -- the scope's polyline far from the origin: (6e8,6e8,0), (6e8 + u,6e8,0), (6e8 + 10u,6e8 + 3u,0). It turns too much, and no distance is above zero
 abbrev far : List Sample

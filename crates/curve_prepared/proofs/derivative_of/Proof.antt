@@ -1,7 +1,7 @@
 -- `curve_prepared::derivative_of` meets its contract. Assumes nothing.
 use Rattle.curve_prepared.proofs.Laws.{derivative-by}
 use Rattle.curve_prepared.specs.Own.Prepared.{preparedDerivative}
-use mathlib.Core.Path.{_≡_, refl, sym, ap, _∙_}
+use mathlib.Core.Path.{refl, sym, _∙_}
 use borrow.Author.Needs.{needs}
 use Rattle.curve_prepared.proofs.derivative_of.Statement.{statement}
 use Rattle.curve_prepared.proofs.derivative_of.Tie as tie

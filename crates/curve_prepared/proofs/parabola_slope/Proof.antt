@@ -1,12 +1,8 @@
+-- `curve_prepared::parabola_slope` meets its contract. Assumes nothing.
 use Rattle.curve_prepared.specs.Own.Prepared.{parabolaSlope}
-use mathlib.Core.Path.{_≡_, refl, sym, ap, _∙_}
 use borrow.Author.Needs.{needs}
 use Rattle.curve_prepared.proofs.parabola_slope.Statement.{statement}
 use Rattle.curve_prepared.proofs.parabola_slope.Tie as tie
-use Rattle.curve_prepared.proofs.parabola_slope.Reads as reads
-use Rattle.curve_prepared.proofs.parabola_slope.Lts as lts
-use Rattle.math.proofs.Vec3.add.Reads as add-reads
-use Rattle.math.proofs.Vec3.scale.Reads as scale-reads
 
 returns : tie.Need-returns
 unfolding parabolaSlope

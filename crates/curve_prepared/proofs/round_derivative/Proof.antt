@@ -1,14 +1,9 @@
+-- `curve_prepared::round_derivative` meets its contract. Assumes nothing.
 use Rattle.curve_prepared.specs.Own.Prepared.{roundDerivative}
 use Rattle.arith_trig.specs.Own.SinCos.{sinCosOf}
-use mathlib.Core.Path.{_≡_, refl, sym, ap, _∙_}
 use borrow.Author.Needs.{needs}
 use Rattle.curve_prepared.proofs.round_derivative.Statement.{statement}
 use Rattle.curve_prepared.proofs.round_derivative.Tie as tie
-use Rattle.curve_prepared.proofs.round_derivative.Reads as reads
-use Rattle.curve_prepared.proofs.round_derivative.Lts as lts
-use Rattle.math.proofs.Vec3.add.Reads as add-reads
-use Rattle.math.proofs.Vec3.scale.Reads as scale-reads
-use Rattle.arith_trig.proofs.sin_cos.Reads as sin-cos-reads
 
 returns : tie.Need-returns
 unfolding roundDerivative sinCosOf

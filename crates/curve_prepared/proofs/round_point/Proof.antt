@@ -1,14 +1,9 @@
+-- `curve_prepared::round_point` meets its contract. Assumes nothing.
 use Rattle.curve_prepared.specs.Own.Prepared.{roundPoint}
 use Rattle.arith_trig.specs.Own.SinCos.{sinCosOf}
-use mathlib.Core.Path.{_≡_, refl, sym, ap, _∙_}
 use borrow.Author.Needs.{needs}
 use Rattle.curve_prepared.proofs.round_point.Statement.{statement}
 use Rattle.curve_prepared.proofs.round_point.Tie as tie
-use Rattle.curve_prepared.proofs.round_point.Reads as reads
-use Rattle.curve_prepared.proofs.round_point.Lts as lts
-use Rattle.math.proofs.Vec3.add.Reads as add-reads
-use Rattle.math.proofs.Vec3.scale.Reads as scale-reads
-use Rattle.arith_trig.proofs.sin_cos.Reads as sin-cos-reads
 
 returns : tie.Need-returns
 unfolding roundPoint sinCosOf

@@ -1,12 +1,12 @@
 -- A curve prepared for many points, and its points and derivatives: laws beside it say that they are those of eval/curve.rs.
 -- Definitions only.
-use mathlib.Core.Bool.{false}
+use mathlib.Core.Bool.{Bool, true, false}
 use lib.Ieee.{Float, neg}
-use Rattle.arith.specs.Notation.{_⊗_, two}
+use Rattle.arith.specs.Notation.{_⊗_, two, plusZero}
 use Rattle.arith_trig.specs.Trig.{sinOf, cosOf}
 use Rattle.math.specs.declared.Vec3.{Vec3}
 use Rattle.math.specs.declared.Frame.{Frame}
-use Rattle.math.specs.Math.{vAdd, vScale, yDir}
+use Rattle.math.specs.Math.{vec, vAdd, vScale, yDir}
 use Rattle.brep.specs.Tree.{CurveTree, analytic, line, circle, ellipse, parabola, polyline, trimmed, composite}
 use Rattle.curve_parameter.specs.Run.{closes}
 use Rattle.curve_point.specs.Point.{pointAt}
@@ -39,6 +39,20 @@ roundPoint origin x y major minor t = vAdd (vAdd origin (vScale x (major ⊗ cos
 -- O + x (F t t) + y (2 F t)
 unfoldable pub preparedParabola : Vec3 → Vec3 → Vec3 → Float → Float → Vec3
 preparedParabola origin x y focal t = vAdd (vAdd origin (vScale x (focal ⊗ t ⊗ t))) (vScale y (two ⊗ focal ⊗ t))
+
+-- whether a curve that was prepared has all that its points need
+unfoldable pub isPlain : Prepared → Bool
+isPlain (Line origin direction) = true
+isPlain (Round origin x y major minor) = true
+isPlain (Parabola origin x y focal) = true
+isPlain (Other closed) = false
+
+-- the point at t of such a one, and zero of any other
+unfoldable pub plainPoint : Prepared → Float → Vec3
+plainPoint (Line origin direction) t = vAdd origin (vScale direction t)
+plainPoint (Round origin x y major minor) t = roundPoint origin x y major minor t
+plainPoint (Parabola origin x y focal) t = preparedParabola origin x y focal t
+plainPoint (Other closed) t = vec plusZero plusZero plusZero
 
 -- the point at t of a curve that was prepared
 unfoldable pub preparedPoint : Prepared → CurveTree → Float → Vec3

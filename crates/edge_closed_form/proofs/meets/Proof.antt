@@ -3,6 +3,9 @@ use mathlib.Core.Path.{sym, ap, _∙_}
 use native.Mathlib.Omega.{arith}
 use lib.Ieee.{Float, le}
 use lib.Seq.{length-take-le}
+use Rattle.brep.specs.Rows.{tables}
+use Rattle.brep.specs.Tree.{tree}
+use Rattle.curve_prepared.specs.Own.Prepared.{isPlain}
 use Rattle.edge_closed_form.proofs.Squares.{same-test}
 use borrow.Author.Needs.{needs}
 use Rattle.edge_closed_form.proofs.meets.Statement.{statement}
@@ -15,13 +18,15 @@ slice-aggregate-params c =
 
 worst-square-requires : tie.Need-worst-square-requires
 worst-square-requires c κs =
-    let st = c .before .before .before .before .before .before .before .before .before in
-    omega (arith, length-take-le (st .args .n) (st .args .out .now) (st .pre .0), st .pre .1)
+    let st = c .before .before .before .before .before .before .before .before .before .before in
+    (ap isPlain (c .before .prepare .ensures) ∙ st .pre .2, omega (arith, length-take-le (st .args .n) (st .args .out .now) (st .pre .0), st .pre .1))
 
 returns : tie.Need-returns
 returns c =
-    let sag = c .before .before .before .before .before .before .before .before .before .before .before .before .before .args .sag in
-    (ap (λ (x : Float). le x sag) (c .root .ensures) ∙ same-test _ _ sag (c .before .before .before .worst-square .ensures .0), c .before .before .before .worst-square .ensures .1)
+    let st = c .before .before .before .before .before .before .before .before .before .before .before .before .before .before in
+    let a = st .args in
+    let w = c .before .before .before .worst-square .ensures (tree (tables (a .points .now) (a .curves .now) (a .reals .now) (a .parts .now) (a .ranges .now)) (a .row)) (sym (c .before .before .before .before .before .prepare .ensures)) in
+    (ap (λ (x : Float). le x (a .sag)) (c .root .ensures) ∙ same-test _ _ (a .sag) (w .0), w .1)
 
 pub meets-spec : {M : Type 1} → statement M
-meets-spec = tie.close (tie.spec slice-aggregate-params worst-square-requires (λ c κs. search needs) (λ c. search needs) returns)
+meets-spec = tie.close (tie.spec slice-aggregate-params (λ c κs. search needs) worst-square-requires (λ c κs. search needs) (λ c. search needs) returns)

@@ -1,91 +1,48 @@
--- `place` meets its contract. The loop's invariant: the buffer holds the first i records of the placed chain. Assumes nothing.
-use Rattle.edge_place.proofs.Laws.{place-start, place-next, still-held, place-done}
-use Rattle.draw_spec.specs.Edge.{placed}
-use Rattle.edge_record.specs.Chain.{width, row, flat}
-use Rattle.brep.specs.Rows.{tables, lent}
-use lib.Seq.{sets, length-sets}
-use lib.ListN.{length, take}
-use denote.Ref.{now}
-use Prim.Native.Nat.{_<_, _≤_, _-_, _*_}
+-- `place` meets its contract: the records are located, known or not, then oriented, then pinned. Assumes nothing.
+use mathlib.Core.Path.{_≡_, ap, _∙_}
 use mathlib.Core.Logic.{⊎-elim}
-use mathlib.Core.Path.{_≡_, refl, sym, ap, _∙_}
-use mathlib.Core.Bool.{false≢true}
 use native.Mathlib.Omega.{arith}
+use lib.ListN.{length}
+use lib.Seq.{sets, length-sets}
+use borrow.Author.Tests.{not-false}
 use borrow.Author.Needs.{needs}
+use Rattle.brep.specs.Rows.{Tables, lent}
+use Rattle.edge_record.specs.Chain.{flat}
+use Rattle.draw_spec.specs.Edge.{edgeCurve, located}
+use Rattle.edge_place.proofs.Laws.{held-known, placed-by}
 use Rattle.edge_place.proofs.place.Statement.{statement}
 use Rattle.edge_place.proofs.place.Tie as tie
 
-abbrev Inv-loop : tie.InvT-loop
-Inv-loop points curves reals parts ranges edge params known chain₀ prepared reversed kept n i₀ chain i =
-    (i ≤ length params) × (length chain ≡ length chain₀) × (chain ≡ sets chain₀ 0 (flat (take i (placed (tables points curves reals parts ranges) edge params))))
+-- the tables as they are lent
+abbrev tables-of : tie.Start → Tables
+tables-of st = let a = st .args in lent (a .points) (a .curves) (a .reals) (a .parts) (a .ranges)
 
-abbrev μ-loop : tie.MeasureT-loop
-μ-loop points curves reals parts ranges edge params known chain₀ prepared reversed kept n i₀ chain i = length params - i
+-- the chain with the curve's points, known or not
+known-chain : (j : tie.Joined1) → let st = j .before .before .before .before .before .before .before .before in j .if1 .chain ≡ sets (st .args .chain .now) 0 (flat (located (edgeCurve (tables-of st) (st .args .edge)) (st .args .params .now)))
+known-chain j =
+    let st = j .before .before .before .before .before .before .before .before in
+    ⊎-elim (λ w. w .5 ∙ w .2 .ensures)
+    (λ w. held-known (tables-of st) (st .args .edge) (st .args .params .now) (st .args .chain .now) (st .pre .1) (st .pre .2 (not-false _ (w .0 .left))) (w .1))
+    (j .if1 .came)
 
-is-reversed-requires : tie.Need-is-reversed-requires Inv-loop μ-loop
-is-reversed-requires c κs = (omega arith, search needs, c .before .prepare .ensures, search needs)
+known-length : (j : tie.Joined1) → length (j .if1 .chain) ≡ length (j .before .before .before .before .before .before .before .before .args .chain .now)
+known-length j = ap length (known-chain j) ∙ simp length-sets
 
-loop-holds : tie.Need-loop-holds Inv-loop μ-loop
-loop-holds c = let a = c .before .before .before .before .before .before .before .before .before .before .before .args in (omega arith, refl, place-start (lent (a .points) (a .curves) (a .reals) (a .parts) (a .ranges)) (a .edge) (now (a .params)) (omega arith) (now (a .chain)))
+orient-requires : tie.Need-orient-requires
+orient-requires c κs = let p = c .before .before .before .before .before .before .before .before .before .pre in (omega (arith, p .0), omega (arith, p .1, known-length (c .before)))
 
-record-at-requires : tie.Need-record-at-requires Inv-loop μ-loop
-record-at-requires c κs =
-    let s = c .before .before .before .before .before .before .before .before .before .before .before .before .before .before in
-    let a = s .args in
-    let l = c .before .before .loop in
-    let j = c .before .before .before .if1 in
-    let inside : l .i < length (now (a .params)) = omega arith in (
-      inside,
-      omega arith,
-      c .before .before .before .before .before .before .prepare .ensures,
-      λ k. ⊎-elim
-          (λ w. absurd (false≢true (_∙_ {b = j .kept} (sym (w .1)) k)))
-          (λ w. still-held (lent (a .points) (a .curves) (a .reals) (a .parts) (a .ranges)) (a .edge) (now (a .params)) (s .pre .0) (now (a .chain)) (l .chain) (l .i) inside (l .inv .2) (w .0 .left) (s .pre .2 (_∙_ {b = j .kept} (sym (w .1)) k)))
-          (j .came),
-    )
+pin-ends-requires : tie.Need-pin-ends-requires
+pin-ends-requires c κs =
+    let p = c .before .before .before .before .before .before .before .before .before .before .before .before .before .pre in
+    (omega (arith, p .0), omega (arith, p .1, c .before .before .before .orient .kept .1 .1 .1 .0, known-length (c .before .before .before .before .before)))
 
-put-requires : tie.Need-put-requires Inv-loop μ-loop
-put-requires c κs =
-    let s = c .before .before .before .before .before .before .before .before .before .before .before .before .before .before .before .before in
-    let l = c .before .before .before .before .loop in
-    omega arith
+same-length : tie.Need-same-length
+same-length c = c .before .before .pin-ends .kept .1 .1 .1 .0 ∙ c .before .before .before .before .before .before .orient .kept .1 .1 .1 .0 ∙ known-length (c .before .before .before .before .before .before .before .before)
 
-add-i : tie.Need-add-i Inv-loop μ-loop
-add-i c = omega (arith, c .before .before .before .before .before .before .before .before .before .before .before .before .before .before .before .before .before .before .before .pre, c .before .before .before .before .before .before .before .before .before .before .before .before .before .before .before .before .before .before .before .good .1 .1 .1 .1 .1 .1 .0 .1)
-
-loop-again : tie.Need-loop-again Inv-loop μ-loop
-loop-again c =
-    let a = c .before .before .before .before .before .before .before .before .before .before .before .before .before .before .before .before .before .before .before .args in
-    let l = c .before .before .before .before .before .before .before .loop in
-    let s = c .before .before .before .before .record-at in
-    let T = lent (a .points) (a .curves) (a .reals) (a .parts) (a .ranges) in (
-      omega arith,
-      ap length (c .before .before .put .ensures) ∙ length-sets (l .chain) (width * l .i) (row (s .result)) ∙ l .inv .1,
-      place-next T (a .edge) (now (a .params)) (c .before .before .before .before .before .before .before .before .before .before .before .before .before .before .before .before .before .before .before .pre .0) (now (a .chain)) (l .chain) _ (l .i) (s .result) _ (omega arith) (l .inv .2) (c .before .before .before .before .before .before .before .before .before .is-reversed .ensures) (s .ensures) (c .before .before .put .ensures),
-    )
-
-same-length : tie.Need-same-length Inv-loop μ-loop
-same-length c = c .before .loop .inv .1
-
-returns : tie.Need-returns Inv-loop μ-loop
+returns : tie.Need-returns
 returns c =
-    let a = c .before .before .before .before .before .before .before .before .before .before .before .before .before .args in
-    let l = c .before .loop in
-    place-done (lent (a .points) (a .curves) (a .reals) (a .parts) (a .ranges)) (a .edge) (now (a .params)) (omega arith) (now (a .chain)) (l .chain) (l .i) (omega arith) (l .inv .2)
+    let st = c .before .before .before .before .before .before .before .before .before .before .before .before .before .before .before .before in
+    placed-by (tables-of st) (st .args .edge) (st .args .params .now) (st .args .chain .now) (st .pre .1) _ _ _ (known-chain (c .before .before .before .before .before .before .before .before)) (c .before .before .before .before .before .before .orient .ensures) (c .before .before .pin-ends .ensures)
 
 pub place-spec : {M : Type 1} → statement M
-place-spec =
-    tie.close
-    (tie.spec
-    Inv-loop
-    μ-loop
-    (λ c κs. search needs)
-    is-reversed-requires
-    loop-holds
-    record-at-requires
-    put-requires
-    add-i
-    (λ c. search needs)
-    loop-again
-    same-length
-    returns)
+place-spec = tie.close (tie.spec (λ c κs. search needs) orient-requires pin-ends-requires same-length returns)

@@ -1,5 +1,5 @@
 -- `edge_sample::sample_params` meets its contract. Assumes nothing.
-use mathlib.Core.Path.{refl, ap, _∙_}
+use mathlib.Core.Path.{refl, sym, ap, _∙_}
 use native.Mathlib.Omega.{arith}
 use lib.ListN.{length}
 use borrow.Author.Needs.{needs}
@@ -8,6 +8,7 @@ use Rattle.brep.specs.Tree.{CurveTree, tree}
 use Rattle.edge_params.specs.Params.{refined}
 use Rattle.edge_sample.specs.Sample.{sampler, sampled}
 use Rattle.edge_sample.specs.Own.Traced.{traced}
+use Rattle.edge_sample.proofs.Laws.{form-plain}
 use Rattle.edge_sample.proofs.Settled.{settle-room, settled}
 use Rattle.edge_sample.proofs.Ways.{answered-as, parsed-as, no-form, no-form-traced, form-refused, refused-traced, form-meets, meets-traced, form-misses, misses-traced}
 use Rattle.edge_sample.proofs.sample_params.Statement.{statement}
@@ -41,8 +42,12 @@ returns-2 c =
 
 meets-requires : tie.Need-meets-requires
 meets-requires c κs =
-    let room = settle-room _ _ (c .before .before .before .even .given .1) (c .before .before .before .before .before .before .before .evenly .ensures) in
-    (room, omega (arith, room, c .before .before .before .before .before .before .before .evenly .kept, c .before .before .before .before .before .before .before .before .before .before .before .before .before .before .before .before .before .before .before .before .pre .1 .wide))
+    let st = c .before .before .before .before .before .before .before .before .before .before .before .before .before .before .before .before .before .before .before .before in
+    let room = settle-room _ _ (c .before .before .before .even .given .1) (c .before .before .before .before .before .before .before .evenly .ensures) in (
+      room,
+      omega (arith, room, c .before .before .before .before .before .before .before .evenly .kept, st .pre .1 .wide),
+      form-plain (curve-of st) (st .args .range) (st .args .r) _ (sym (c .before .before .before .before .before .before .before .before .before .before .before .before .analytic-segments .ensures) ∙ c .before .before .before .before .before .before .before .before .before .before .form .given .1),
+    )
 
 settle-requires-2 : tie.Need-settle-requires-2
 settle-requires-2 c κs = settle-room _ _ (c .before .before .before .before .before .before .before .before .even .given .1) (c .before .before .before .before .before .before .before .before .before .before .before .before .evenly .ensures)
