@@ -10,11 +10,11 @@ use Rattle.curve_point.specs.Point as curves
 use Rattle.curve_tangent.specs.Derivative as derivatives
 use Rattle.curve_prepared.specs.declared.Prepared.{Prepared}
 use Rattle.curve_prepared.specs.declared.Prepared.the-variants.{Line, Round, Parabola, Other}
-use Rattle.curve_prepared.specs.Own.Prepared.{preparedOf, roundPoint, preparedParabola, isPlain, plainPoint, preparedPoint, roundDerivative, parabolaSlope, preparedDerivative}
+use Rattle.curve_prepared.specs.Own.Prepared.{preparedOf, isPlain, plainPoint, preparedPoint, preparedDerivative}
 
 -- of a curve c that has the points of b, which is c with trims taken off
 points-of : (b c : CurveTree) (t : Float) → curves.pointAt c t ≡ curves.pointAt b t → preparedPoint (preparedOf b) c t ≡ curves.pointAt b t
-unfolding preparedPoint preparedOf roundPoint preparedParabola curves.pointAt curves.ellipsePoint curves.parabolaPoint
+unfolding preparedPoint preparedOf curves.pointAt
 points-of (analytic (line o d)) c t e = refl
 points-of (analytic (circle f r)) c t e = refl
 points-of (analytic (ellipse f a b)) c t e = refl
@@ -28,7 +28,7 @@ prepared-point c t = points-of c c t refl
 
 -- the same of derivatives
 derivatives-of : (b c : CurveTree) (t : Float) → derivatives.derivativeAt c t ≡ derivatives.derivativeAt b t → preparedDerivative (preparedOf b) c t ≡ derivatives.derivativeAt b t
-unfolding preparedDerivative preparedOf roundDerivative parabolaSlope derivatives.derivativeAt derivatives.ellipseDerivative derivatives.parabolaDerivative
+unfolding preparedDerivative preparedOf derivatives.derivativeAt
 derivatives-of (analytic (line o d)) c t e = refl
 derivatives-of (analytic (circle f r)) c t e = refl
 derivatives-of (analytic (ellipse f a b)) c t e = refl

@@ -5,14 +5,14 @@ ghost use mathlib.Core.Path.{_≡_};
 ghost use mathlib.Core.List.{List};
 ghost use Prim.Native.Nat.{ℕ, _+_};
 ghost use lib.Ieee.{Float};
+ghost use Rattle.arith_trig.specs.Trig.{sinOf, cosOf};
 ghost use Rattle.brep.specs.Rows.{lent, given, pointOf};
 ghost use Rattle.brep.specs.Tree.{tree, run};
 ghost use Rattle.curve_parameter.specs.Run.{closes, polylineParameter};
-ghost use Rattle.curve_point.specs.Point.{polylinePoint, pointAt};
-ghost use Rattle.curve_tangent.specs.Derivative.{polylineDerivative, derivativeAt};
+ghost use Rattle.curve_point.specs.Point.{polylinePoint, ellipsePoint, parabolaPoint, pointAt};
+ghost use Rattle.curve_tangent.specs.Derivative.{polylineDerivative, ellipseDerivative, parabolaDerivative, derivativeAt};
 ghost use Rattle.curve_prepared.specs.declared.Prepared.the-variants.{Line, Other};
-ghost use Rattle.curve_prepared.specs.Own.Prepared.{roundOf, parabolaOf, preparedOf, roundPoint, preparedParabola, plainPoint, preparedPoint};
-ghost use Rattle.curve_prepared.specs.Own.Prepared.{roundDerivative, parabolaSlope, preparedDerivative};
+ghost use Rattle.curve_prepared.specs.Own.Prepared.{roundOf, parabolaOf, preparedOf, plainPoint, preparedPoint, preparedDerivative};
 
 // Axes are as they are: nothing is normalised. A circle is round with equal axes.
 pub enum Prepared {
@@ -117,7 +117,7 @@ pub fn prepare(
 }
 
 fn round_point(origin: Vec3, x: Vec3, y: Vec3, major: f64, minor: f64, t: f64) -> Vec3
-    ensures { λ r. ⌜ r ≡ roundPoint origin x y major minor t ⌝ }
+    ensures { λ r. ⌜ r ≡ ellipsePoint origin x y major minor (cosOf t) (sinOf t) ⌝ }
 {
     let sc = arith_trig::sin_cos(t);
     origin
@@ -126,7 +126,7 @@ fn round_point(origin: Vec3, x: Vec3, y: Vec3, major: f64, minor: f64, t: f64) -
 }
 
 fn parabola_point(origin: Vec3, x: Vec3, y: Vec3, focal_dist: f64, t: f64) -> Vec3
-    ensures { λ r. ⌜ r ≡ preparedParabola origin x y «focal_dist» t ⌝ }
+    ensures { λ r. ⌜ r ≡ parabolaPoint origin x y «focal_dist» t ⌝ }
 {
     origin
         .add(x.scale(focal_dist * t * t))
@@ -249,14 +249,14 @@ pub fn point_of(
 }
 
 fn round_derivative(x: Vec3, y: Vec3, major: f64, minor: f64, t: f64) -> Vec3
-    ensures { λ r. ⌜ r ≡ roundDerivative x y major minor t ⌝ }
+    ensures { λ r. ⌜ r ≡ ellipseDerivative x y major minor (cosOf t) (sinOf t) ⌝ }
 {
     let sc = arith_trig::sin_cos(t);
     x.scale(-major * sc.sin).add(y.scale(minor * sc.cos))
 }
 
 fn parabola_slope(x: Vec3, y: Vec3, focal_dist: f64, t: f64) -> Vec3
-    ensures { λ r. ⌜ r ≡ parabolaSlope x y «focal_dist» t ⌝ }
+    ensures { λ r. ⌜ r ≡ parabolaDerivative x y «focal_dist» t ⌝ }
 {
     x.scale(2.0 * focal_dist * t).add(y.scale(2.0 * focal_dist))
 }

@@ -1,16 +1,16 @@
 -- A curve prepared for many points, and its points and derivatives: laws beside it say that they are those of eval/curve.rs.
 -- Definitions only.
 use mathlib.Core.Bool.{Bool, true, false}
-use lib.Ieee.{Float, neg}
-use Rattle.arith.specs.Notation.{_⊗_, two, plusZero}
+use lib.Ieee.{Float}
+use Rattle.arith.specs.Notation.{plusZero}
 use Rattle.arith_trig.specs.Trig.{sinOf, cosOf}
 use Rattle.math.specs.declared.Vec3.{Vec3}
 use Rattle.math.specs.declared.Frame.{Frame}
 use Rattle.math.specs.Math.{vec, vAdd, vScale, yDir}
 use Rattle.brep.specs.Tree.{CurveTree, analytic, line, circle, ellipse, parabola, polyline, trimmed, composite}
 use Rattle.curve_parameter.specs.Run.{closes}
-use Rattle.curve_point.specs.Point.{pointAt}
-use Rattle.curve_tangent.specs.Derivative.{derivativeAt}
+use Rattle.curve_point.specs.Point.{ellipsePoint, parabolaPoint, pointAt}
+use Rattle.curve_tangent.specs.Derivative.{ellipseDerivative, parabolaDerivative, derivativeAt}
 use Rattle.curve_prepared.specs.declared.Prepared.{Prepared}
 use Rattle.curve_prepared.specs.declared.Prepared.the-variants.{Line, Round, Parabola, Other}
 
@@ -32,14 +32,6 @@ preparedOf (polyline points) = Other (closes points)
 preparedOf (trimmed base range) = preparedOf base
 preparedOf (composite segments) = Other false
 
--- O + x (a cos t) + y (b sin t)
-unfoldable pub roundPoint : Vec3 → Vec3 → Vec3 → Float → Float → Float → Vec3
-roundPoint origin x y major minor t = vAdd (vAdd origin (vScale x (major ⊗ cosOf t))) (vScale y (minor ⊗ sinOf t))
-
--- O + x (F t t) + y (2 F t)
-unfoldable pub preparedParabola : Vec3 → Vec3 → Vec3 → Float → Float → Vec3
-preparedParabola origin x y focal t = vAdd (vAdd origin (vScale x (focal ⊗ t ⊗ t))) (vScale y (two ⊗ focal ⊗ t))
-
 -- whether a curve that was prepared has all that its points need
 unfoldable pub isPlain : Prepared → Bool
 isPlain (Line origin direction) = true
@@ -50,28 +42,20 @@ isPlain (Other closed) = false
 -- the point at t of such a one, and zero of any other
 unfoldable pub plainPoint : Prepared → Float → Vec3
 plainPoint (Line origin direction) t = vAdd origin (vScale direction t)
-plainPoint (Round origin x y major minor) t = roundPoint origin x y major minor t
-plainPoint (Parabola origin x y focal) t = preparedParabola origin x y focal t
+plainPoint (Round origin x y major minor) t = ellipsePoint origin x y major minor (cosOf t) (sinOf t)
+plainPoint (Parabola origin x y focal) t = parabolaPoint origin x y focal t
 plainPoint (Other closed) t = vec plusZero plusZero plusZero
 
 -- the point at t of a curve that was prepared
 unfoldable pub preparedPoint : Prepared → CurveTree → Float → Vec3
 preparedPoint (Line origin direction) c t = vAdd origin (vScale direction t)
-preparedPoint (Round origin x y major minor) c t = roundPoint origin x y major minor t
-preparedPoint (Parabola origin x y focal) c t = preparedParabola origin x y focal t
+preparedPoint (Round origin x y major minor) c t = ellipsePoint origin x y major minor (cosOf t) (sinOf t)
+preparedPoint (Parabola origin x y focal) c t = parabolaPoint origin x y focal t
 preparedPoint (Other closed) c t = pointAt c t
-
--- x (-a sin t) + y (b cos t)
-unfoldable pub roundDerivative : Vec3 → Vec3 → Float → Float → Float → Vec3
-roundDerivative x y major minor t = vAdd (vScale x (neg major ⊗ sinOf t)) (vScale y (minor ⊗ cosOf t))
-
--- x (2 F t) + y (2 F)
-unfoldable pub parabolaSlope : Vec3 → Vec3 → Float → Float → Vec3
-parabolaSlope x y focal t = vAdd (vScale x (two ⊗ focal ⊗ t)) (vScale y (two ⊗ focal))
 
 -- the derivative at t of a curve that was prepared
 unfoldable pub preparedDerivative : Prepared → CurveTree → Float → Vec3
 preparedDerivative (Line origin direction) c t = direction
-preparedDerivative (Round origin x y major minor) c t = roundDerivative x y major minor t
-preparedDerivative (Parabola origin x y focal) c t = parabolaSlope x y focal t
+preparedDerivative (Round origin x y major minor) c t = ellipseDerivative x y major minor (cosOf t) (sinOf t)
+preparedDerivative (Parabola origin x y focal) c t = parabolaDerivative x y focal t
 preparedDerivative (Other closed) c t = derivativeAt c t
