@@ -74,7 +74,6 @@ fn step(
         ranges,
         row,
         prepared,
-        r,
         limits,
         left,
         right,

@@ -55,13 +55,17 @@ module _ (r : Resolved) (l : Limits) (e : l ≡ limitsOf r) where
   unfolding limitsOf
   sag-limit = ap (λ (x : Limits). x .sag) e
 
-  pub turn-serves : Serves (l .turn) (r .angle)
+  pub angle-limit : l .angle ≡ r .angle
   unfolding limitsOf
-  turn-serves = subst (λ (x : Limits). Serves (x .turn) (r .angle)) (sym e) (serves (r .angle))
+  angle-limit = ap (λ (x : Limits). x .angle) e
 
-  pub turn-exceeds : Exceeds (l .over) (r .angle)
+  pub turn-serves : Serves (l .turn) (l .angle)
   unfolding limitsOf
-  turn-exceeds = subst (λ (x : Limits). Exceeds (x .over) (r .angle)) (sym e) (exceeds (r .angle))
+  turn-serves = subst (λ (x : Limits). Serves (x .turn) (x .angle)) (sym e) (serves (r .angle))
+
+  pub turn-exceeds : Exceeds (l .over) (l .angle)
+  unfolding limitsOf
+  turn-exceeds = subst (λ (x : Limits). Exceeds (x .over) (x .angle)) (sym e) (exceeds (r .angle))
 
 -- ---- the test, by the branches that the code takes
 module _ (a b : Direction) (limit : Float) where

@@ -16,11 +16,12 @@ ghost use Rattle.arith_turn_limit.specs.Own.Limit.{Serves, Exceeds};
 ghost use Rattle.brep.specs.Rows.{lent, given};
 ghost use Rattle.brep.specs.Tree.{tree};
 ghost use Rattle.curve_prepared.specs.Own.Prepared.{preparedOf};
+ghost use Rattle.options.specs.declared.Resolved.{Resolved};
 ghost use Rattle.edge_params.specs.Params.{subdivided};
 ghost use Rattle.edge_params.specs.Own.Written.{ListAppended};
 ghost use Rattle.edge_record.specs.Chain.{width, row};
 ghost use Rattle.edge_subdivide.specs.Own.Recorded.{Room, ListRecorded};
-ghost use Rattle.edge_subdivide.specs.Own.Limits.{splitOf, limitsOf};
+ghost use Rattle.edge_subdivide.specs.Own.Limits.{splitOf, limitsOf, OfOptions};
 ghost use Rattle.edge_subdivide.specs.Bisect.{endAt, tangentTurn, isWithin, withinBudget};
 
 // An end of a span: its parameter, and the curve's point and tangent there.
@@ -33,6 +34,7 @@ pub struct End {
 // What a span is held to, with the cuts that spare roots and arc cosines.
 pub struct Limits {
     pub sag: Limit,
+    pub angle: f64,
     pub turn: f64,
     pub over: f64,
 }
@@ -50,7 +52,13 @@ pub fn limits_of(r: Resolved) -> Limits
     let sag = arith_root_limit::limit_of(r.sag);
     let turn = arith_turn_limit::turn_cut(r.angle);
     let over = arith_turn_limit::over_cut(r.angle);
-    Limits { sag, turn, over }
+    let angle = r.angle;
+    Limits {
+        sag,
+        angle,
+        turn,
+        over,
+    }
 }
 
 // The curve of a row, prepared, at t.
@@ -111,14 +119,14 @@ fn turns_over(a: Direction, b: Direction, limit: f64, cut: f64) -> bool
 }
 
 // Whether the span from a to b, whose middle has the point pm, is within budget. The sag is compared by its square.
-fn is_within(r: Resolved, l: Limits, a: End, b: End, pm: Vec3) -> bool
-    requires { ⌜ l ≡ limitsOf r ⌝ }
-    ensures { λ w. ⌜ w ≡ isWithin r a b pm ⌝ }
+fn is_within(l: Limits, a: End, b: End, pm: Vec3) -> bool
+    requires { ⌜ OfOptions l ⌝ }
+    ensures { λ w. ⌜ ((r : Resolved) → l ≡ limitsOf r → w ≡ isWithin r a b pm) ⌝ }
 {
     let ta = a.tangent;
     let tb = b.tangent;
     // A sharp turn needs no sag.
-    if turns_over(ta, tb, r.angle, l.over) {
+    if turns_over(ta, tb, l.angle, l.over) {
         return false;
     }
     let chord = b.point.sub(a.point);
@@ -126,7 +134,7 @@ fn is_within(r: Resolved, l: Limits, a: End, b: End, pm: Vec3) -> bool
     let offset = math_chord::bisection_offset(a.point, chord, len, pm);
     let sag = l.sag;
     if arith_root_limit::is_at_most(offset.length_squared(), sag) {
-        return turns_within(ta, tb, r.angle, l.turn);
+        return turns_within(ta, tb, l.angle, l.turn);
     }
     false
 }
@@ -140,17 +148,16 @@ fn split_of(
     ranges: &[f64],
     row: u32,
     prepared: Prepared,
-    r: Resolved,
     l: Limits,
     a: End,
     b: End,
 ) -> Split
-    requires { ⌜ (prepared ≡ preparedOf (tree (lent points curves reals parts ranges) row)) × (l ≡ limitsOf r) ⌝ }
-    ensures { λ s. ⌜ s ≡ splitOf (tree (given points curves reals parts ranges) row) r a b ⌝ }
+    requires { ⌜ (prepared ≡ preparedOf (tree (lent points curves reals parts ranges) row)) × OfOptions l ⌝ }
+    ensures { λ s. ⌜ ((r : Resolved) → l ≡ limitsOf r → s ≡ splitOf (tree (given points curves reals parts ranges) row) r a b) ⌝ }
 {
     let t = 0.5 * (a.t + b.t);
     let point = curve_prepared::point_of(prepared, points, curves, reals, parts, ranges, row, t);
-    if is_within(r, l, a, b, point) {
+    if is_within(l, a, b, point) {
         return Split::Within;
     }
     let slope = curve_prepared::derivative_of(
@@ -195,7 +202,6 @@ pub fn subdivide(
     ranges: &[f64],
     row: u32,
     prepared: Prepared,
-    r: Resolved,
     l: Limits,
     a: End,
     b: End,
@@ -204,29 +210,18 @@ pub fn subdivide(
     chain: &mut [f64],
     k: usize,
 ) -> Listed
-    requires { ⌜ (prepared ≡ preparedOf (tree (lent points curves reals parts ranges) row)) × (l ≡ limitsOf r)
+    requires { ⌜ (prepared ≡ preparedOf (tree (lent points curves reals parts ranges) row)) × OfOptions l
         × (a ≡ endAt (tree (lent points curves reals parts ranges) row) (a .t))
         × (b ≡ endAt (tree (lent points curves reals parts ranges) row) (b .t)) × Room (now out) (now chain) k ⌝ }
-    ensures { λ w. ⌜ ListRecorded (tree (given points curves reals parts ranges) row) (now (out .entry)) (now (chain .entry)) k
+    ensures { λ w. ⌜ ((r : Resolved) → l ≡ limitsOf r
+        → ListRecorded (tree (given points curves reals parts ranges) row) (now (out .entry)) (now (chain .entry)) k
         (subdivided (withinBudget (tree (given points curves reals parts ranges) row) r) depth (a .t) (b .t))
-        w (now (out .exit)) (now (chain .exit)) ⌝ }
+        w (now (out .exit)) (now (chain .exit))) ⌝ }
 {
     if depth == 0 {
         return Listed::Count(k);
     }
-    let split = split_of(
-        points,
-        curves,
-        reals,
-        parts,
-        ranges,
-        row,
-        prepared,
-        r,
-        l,
-        a,
-        b,
-    );
+    let split = split_of(points, curves, reals, parts, ranges, row, prepared, l, a, b);
     let Split::At(m) = split else {
         return Listed::Count(k);
     };
@@ -238,7 +233,6 @@ pub fn subdivide(
         ranges,
         row,
         prepared,
-        r,
         l,
         a,
         m,
@@ -262,7 +256,6 @@ pub fn subdivide(
         ranges,
         row,
         prepared,
-        r,
         l,
         m,
         b,

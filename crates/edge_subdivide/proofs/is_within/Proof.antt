@@ -1,44 +1,44 @@
 -- `edge_subdivide::is_within` meets its contract. Assumes nothing.
-use mathlib.Core.Path.{sym, subst, _∙_}
+use mathlib.Core.Path.{sym, ap, subst, _∙_}
+use lib.Ieee.{le}
+use Rattle.edge_subdivide.specs.Bisect.{tangentTurn}
 use Rattle.arith_root_limit.specs.Own.Limit.{Stands}
 use Rattle.arith_root_limit.proofs.Roots.{stands}
-use Rattle.edge_subdivide.proofs.Laws.{sag-limit, turn-serves, turn-exceeds, too-sharp, sag-within, near-enough, too-far}
+use Rattle.edge_subdivide.proofs.Laws.{sag-limit, angle-limit, turn-serves, turn-exceeds, too-sharp, sag-within, near-enough, too-far}
 use borrow.Author.Needs.{needs}
 use Rattle.edge_subdivide.proofs.is_within.Statement.{statement}
 use Rattle.edge_subdivide.proofs.is_within.Tie as tie
 
 turns-over-requires : tie.Need-turns-over-requires
-turns-over-requires c κs = turn-exceeds (c .args .r) (c .args .l) (c .pre)
+turns-over-requires c κs = turn-exceeds (c .pre .options) (c .args .l) (c .pre .own)
 
 returns : tie.Need-returns
-returns c =
-    let st = c .before .before in
-    let a = st .args in
-    too-sharp (a .r) (a .a) (a .b) (a .pm) (c .before .turns-over .ensures (c .if1 .taken))
+returns c r e =
+    let a = c .before .before .args in
+    too-sharp r (a .a) (a .b) (a .pm) (ap (le (tangentTurn (a .a .tangent) (a .b .tangent))) (sym (angle-limit r (a .l) e)) ∙ c .before .turns-over .ensures (c .if1 .taken))
 
 is-at-most-requires : tie.Need-is-at-most-requires
 is-at-most-requires c κs =
     let st = c .before .before .before .before .before .before .before in
-    subst Stands (sym (sag-limit (st .args .r) (st .args .l) (st .pre))) (stands (st .args .r .sag))
+    subst Stands (sym (sag-limit (st .pre .options) (st .args .l) (st .pre .own))) (stands (st .pre .options .sag))
 
 turns-within-requires : tie.Need-turns-within-requires
 turns-within-requires c κs =
     let st = c .before .before .before .before .before .before .before .before .before in
-    turn-serves (st .args .r) (st .args .l) (st .pre)
+    turn-serves (st .pre .options) (st .args .l) (st .pre .own)
 
 returns-2 : tie.Need-returns-2
-returns-2 c =
-    let st = c .before .before .before .before .before .before .before .before .before .before in
-    let a = st .args in
-    let e = sag-within (a .a .point) (a .b .point) (a .pm) _ _ _ _ (a .r .sag) (a .l .sag) (c .before .before .before .before .before .before .before .sub .ensures) (c .before .before .before .before .before .before .length .ensures) (c .before .before .before .before .before .bisection-offset .ensures) (c .before .before .before .length-squared .ensures) (sag-limit (a .r) (a .l) (st .pre)) in
-    c .turns-within .ensures ∙ near-enough (a .r) (a .a) (a .b) (a .pm) (sym e ∙ sym (c .before .before .is-at-most .ensures) ∙ c .before .if2 .taken)
+returns-2 c r e =
+    let a = c .before .before .before .before .before .before .before .before .before .before .args in
+    let s = sag-within (a .a .point) (a .b .point) (a .pm) _ _ _ _ (r .sag) (a .l .sag) (c .before .before .before .before .before .before .before .sub .ensures) (c .before .before .before .before .before .before .length .ensures) (c .before .before .before .before .before .bisection-offset .ensures) (c .before .before .before .length-squared .ensures) (sag-limit r (a .l) e) in
+    c .turns-within .ensures ∙ ap (le (tangentTurn (a .a .tangent) (a .b .tangent))) (angle-limit r (a .l) e)
+    ∙ near-enough r (a .a) (a .b) (a .pm) (sym s ∙ sym (c .before .before .is-at-most .ensures) ∙ c .before .if2 .taken)
 
 returns-3 : tie.Need-returns-3
-returns-3 c =
-    let st = c .before .before .before .before .before .before .before .before .before in
-    let a = st .args in
-    let e = sag-within (a .a .point) (a .b .point) (a .pm) _ _ _ _ (a .r .sag) (a .l .sag) (c .before .before .before .before .before .before .sub .ensures) (c .before .before .before .before .before .length .ensures) (c .before .before .before .before .bisection-offset .ensures) (c .before .before .length-squared .ensures) (sag-limit (a .r) (a .l) (st .pre)) in
-    too-far (a .r) (a .a) (a .b) (a .pm) (sym e ∙ sym (c .before .is-at-most .ensures) ∙ c .if2 .left)
+returns-3 c r e =
+    let a = c .before .before .before .before .before .before .before .before .before .args in
+    let s = sag-within (a .a .point) (a .b .point) (a .pm) _ _ _ _ (r .sag) (a .l .sag) (c .before .before .before .before .before .before .sub .ensures) (c .before .before .before .before .before .length .ensures) (c .before .before .before .before .bisection-offset .ensures) (c .before .before .length-squared .ensures) (sag-limit r (a .l) e) in
+    too-far r (a .a) (a .b) (a .pm) (sym s ∙ sym (c .before .is-at-most .ensures) ∙ c .if2 .left)
 
 pub is-within-spec : {M : Type 1} → statement M
 is-within-spec =

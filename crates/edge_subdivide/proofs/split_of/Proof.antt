@@ -17,20 +17,20 @@ curve-of st =
     tree (tables (a .points .now) (a .curves .now) (a .reals .now) (a .parts .now) (a .ranges .now)) (a .row)
 
 returns : tie.Need-returns
-returns c =
+returns c r e =
     let st = c .before .before .before .before .before .before .before .before .before .before in
     let a = st .args in
     let p = own-point (curve-of st) (midpoint (a .a .t) (a .b .t)) (st .pre .0) (c .before .before .point-of .ensures) in
-    split-yes (curve-of st) (a .r) (a .a) (a .b) (ap (isWithin (a .r) (a .a) (a .b)) (sym p) ∙ sym (c .before .is-within .ensures) ∙ c .if1 .taken)
+    split-yes (curve-of st) r (a .a) (a .b) (ap (isWithin r (a .a) (a .b)) (sym p) ∙ sym (c .before .is-within .ensures r e) ∙ c .if1 .taken)
 
 returns-2 : tie.Need-returns-2
-returns-2 c =
+returns-2 c r e =
     let st = c .before .before .before .before .before .before .before .before .before .before .before .before in
     let a = st .args in
     let m = midpoint (a .a .t) (a .b .t) in
-    split-no (curve-of st) (a .r) (a .a) (a .b) _ _ (own-point (curve-of st) m (st .pre .0) (c .before .before .before .before .point-of .ensures))
+    split-no (curve-of st) r (a .a) (a .b) _ _ (own-point (curve-of st) m (st .pre .0) (c .before .before .before .before .point-of .ensures))
     (own-tangent (curve-of st) m (st .pre .0) (c .before .derivative-of .ensures) (c .try-normalized .ensures))
-    (sym (c .before .before .before .is-within .ensures) ∙ c .before .before .if1 .left)
+    (sym (c .before .before .before .is-within .ensures r e) ∙ c .before .before .if1 .left)
 
 pub split-of-spec : {M : Type 1} → statement M
 split-of-spec =

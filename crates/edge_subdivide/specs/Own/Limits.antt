@@ -1,4 +1,5 @@
 -- A span split or not, and the limits of a span with their cuts. Definitions only.
+use mathlib.Core.Path.{_≡_}
 use mathlib.Core.Bool.{true, false}
 use Rattle.brep.specs.Tree.{CurveTree}
 use Rattle.curve.specs.Eval.{pointAt}
@@ -22,4 +23,9 @@ splitOf c r a b =
 
 -- the limits with their cuts
 unfoldable pub limitsOf : Resolved → Limits
-limitsOf r = record { sag = limitOf (r .sag); turn = turnCut (r .angle); over = overCut (r .angle) }
+limitsOf r = record { sag = limitOf (r .sag); angle = r .angle; turn = turnCut (r .angle); over = overCut (r .angle) }
+
+-- limits that were worked out of options
+pub record OfOptions (l : Limits) : Type 0 where
+  pub options : Resolved
+  pub own : l ≡ limitsOf options
