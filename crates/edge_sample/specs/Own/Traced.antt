@@ -36,18 +36,18 @@ unfoldable pub isEnough : ℕ → Result (List Float) → Bool
 isEnough least (refused n) = false
 isEnough least (got l) = not (ltb (length l - 1) least)
 
--- bisection
+-- refine
 abbrev pub tracedRefined : ℕ → CurveTree → Interval → Resolved → List Float → Traced
 tracedRefined room c range r chain =
     let l = bisected (sampler c range r) range in
     traced (isEnough (r .segments) (fitting room l)) (over c l chain)
 
--- the same where a closed form is not good enough: its records stand in the chain
+-- a closed form, whose records stand in the chain, by whether it stays within the sag; bisection where it does not
 unfoldable pub tracedChecked : ℕ → CurveTree → Interval → Resolved → List Float → Bool → Traced
 tracedChecked room c range r chain true = traced true chain
 tracedChecked room c range r chain false = tracedRefined room c range r chain
 
--- the steps of a closed form, if they fit
+-- the steps of a closed form, which are checked if they fit
 unfoldable pub tracedSteps : ℕ → CurveTree → Interval → Resolved → List Float → Result (List Float) → Traced
 tracedSteps room c range r chain (refused n) = traced false chain
 tracedSteps room c range r chain (got l) = tracedChecked room c range r (over c l chain) (le (worstMiss c plusZero l) (r .sag))
