@@ -158,7 +158,17 @@ static void angles(void) {
     EXPECT(cs_is_clamped(9.9e-5) && !cs_is_clamped(1e-4) && !cs_is_clamped(3.141592653589793) && cs_is_clamped(-1));
 }
 
+/* The scope's numbers of refusals, and those of the ways. */
+static void numbers(void) {
+    const uint32_t refusals[] = {CS_DRAWN,     CS_OVERSIZE, CS_UNBOUNDED,    CS_ILL_FORMED, CS_UNORDERED,
+                                 CS_TOO_DEEP,  CS_MISSING,  CS_SHORT_BUFFER, CS_NO_ROOM,    CS_ENDLESS};
+    const uint32_t ways[] = {CS_NO_CHAIN, CS_AS_DRAWN, CS_CHORD, CS_COMPLEMENT, CS_SHORT_ARC, CS_RUNAWAY};
+    for (uint32_t n = 0; n <= 9; n++) EXPECT(refusals[n] == n);
+    for (uint32_t n = 0; n <= 5; n++) EXPECT(ways[n] == n);
+}
+
 int main(void) {
+    numbers();
     tables();
     buffers();
     once();

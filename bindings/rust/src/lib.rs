@@ -244,11 +244,7 @@ impl Way {
     }
 }
 
-/// How many floats a point of a chain has.
-pub const WIDTH: usize = 4;
-
-/// A point of a chain: x y z t.
-pub type Point = [f64; WIDTH];
+pub use raw::{Point, WIDTH};
 
 /// A chain: the part of the caller's buffer that holds it. It is a slice of points.
 #[derive(Debug, Clone, Copy)]

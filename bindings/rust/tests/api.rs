@@ -220,3 +220,14 @@ fn presets() {
     assert_eq!(Options::draft(), preset(0.01, 35.0));
     assert_eq!(Options::fine(), preset(0.0001, 4.0));
 }
+
+#[test]
+fn numbers_of_refusals_and_ways() {
+    let refusals = [
+        Refusal::Oversize, Refusal::Unbounded, Refusal::IllFormed, Refusal::Unordered, Refusal::TooDeep, Refusal::Missing,
+        Refusal::ShortBuffer, Refusal::NoRoom, Refusal::Endless,
+    ];
+    assert_eq!(refusals.map(Refusal::number), [1, 2, 3, 4, 5, 6, 7, 8, 9]);
+    let ways = [Way::AsDrawn, Way::Chord, Way::Complement, Way::ShortArc, Way::Runaway];
+    assert_eq!(ways.map(|way| way as u32), [1, 2, 3, 4, 5]);
+}

@@ -258,6 +258,7 @@ fn stays(points: &[f64], edge: Edge, r: Resolved, chain: &[f64], n: usize) -> bo
     if b.is_empty() {
         return true;
     }
+    // The diagonal costs a root, and is asked for only where something escapes.
     if edge_escape::escapes(b, r, chain, n) {
         return !(0.0 < b.diagonal());
     }

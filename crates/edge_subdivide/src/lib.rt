@@ -31,7 +31,8 @@ pub struct End {
     pub tangent: Direction,
 }
 
-// What a span is held to, with the cuts that spare roots and arc cosines.
+// What a span is held to, with the cuts that spare roots and arc cosines. Of a turn they are squared tangents of half of it: up to
+// `turn` it is within the angle, from `over` on above it; a cut that does not serve is a NaN.
 pub struct Limits {
     pub sag: Limit,
     pub angle: f64,
