@@ -10,7 +10,7 @@ use lib.Ieee.{Float, lt}
 use lib.ListN.{length, set}
 use borrow.Author.Tests.{ltb-true, ltb-false}
 use Rattle.arith.specs.Notation.{plusZero}
-use Rattle.base_lists.specs.Result.{Result, got, each, both}
+use Rattle.base_lists.specs.Result.{Result, refused, got, each, both}
 use Rattle.math.specs.declared.Vec3.{Vec3}
 use Rattle.edge_record.specs.declared.Sample.{Sample}
 use Rattle.edge_record.specs.Chain.{samplePoint}
@@ -76,13 +76,17 @@ module _ (points : ℕ → Vec3) (tolerance angle : Float) where
       taken : (stack : List (ℕ × ℕ)) (keep : List Bool) → Goes (state ((a, b) ∷ stack) keep) (state ((w, b) ∷ (a, w) ∷ stack) (set keep w true))
       taken stack keep = one-turn points tolerance angle a b stack keep d
 
+      -- the second part comes to an endless span
+      second : ((stack : List (ℕ × ℕ)) (keep : List Bool) → Sticks (state ((w, b) ∷ stack) keep)) → Comes a b (refused 9)
+      second g = stuck (λ stack keep. later (taken stack keep) (g ((a, w) ∷ stack) (set keep w true)))
+
       go : {x y : Result (List ℕ)} → Comes a w x → Comes w b y → Comes a b (both (λ l r. w ∷ l ++ r) x y)
       go (ends {x = l} f) (ends {x = r} g) =
           ends (λ stack keep. subst (λ (k : List Bool). Goes (state ((a, b) ∷ stack) keep) (state stack k)) (marks-both l r (set keep w true))
           (then points tolerance angle (taken stack keep)
           (then points tolerance angle (g ((a, w) ∷ stack) (set keep w true)) (f stack (marks (set keep w true) r)))))
-      go (ends f) (stuck g) = stuck (λ stack keep. later (taken stack keep) (g ((a, w) ∷ stack) (set keep w true)))
-      go (stuck f) (stuck g) = stuck (λ stack keep. later (taken stack keep) (g ((a, w) ∷ stack) (set keep w true)))
+      go (ends f) (stuck g) = second g
+      go (stuck f) (stuck g) = second g
       go (stuck f) (ends {x = r} g) =
           stuck (λ stack keep. later (taken stack keep) (later (g ((a, w) ∷ stack) (set keep w true)) (f stack (marks (set keep w true) r))))
 

@@ -68,6 +68,9 @@ module _ (points : ℕ → Vec3) (tolerance angle : Float) (a b : ℕ) where
   unfolding worstOf
   at-start wide f = none-worse points (points a) (vSub (points b) (points a)) a (b - (a + 1)) (a + 1) plusZero a (λ j h k. f j (omega arith) (omega arith))
 
+  pub endless-refused : Endless points tolerance angle a b → decision points tolerance angle a b ≡ Refuse
+  endless-refused e = sym (refuses points tolerance angle a b (e .inside) (sym (at-start (e .inside) (e .none))) refl (e .splits) refl)
+
   pub refused-endless : decision points tolerance angle a b ≡ Refuse → Endless points tolerance angle a b
   unfolding decision
   refused-endless =
@@ -82,6 +85,3 @@ module _ (points : ℕ → Vec3) (tolerance angle : Float) (a b : ℕ) where
           let wide = leb-false b (a + 1) p in
           let f = none wide (eqb-true (worstOf points a b .index) a r) in
           record { inside = wide; splits = ap (λ w. lt tolerance (w .distance) || lt angle (spanTurn points a b)) (sym (at-start wide f)) ∙ q; none = f }
-
-  pub endless-refused : Endless points tolerance angle a b → decision points tolerance angle a b ≡ Refuse
-  endless-refused e = sym (refuses points tolerance angle a b (e .inside) (sym (at-start (e .inside) (e .none))) refl (e .splits) refl)

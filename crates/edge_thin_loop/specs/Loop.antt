@@ -40,8 +40,8 @@ push a b s = state ((a, b) ∷ s .stack) (s .keep)
 abbrev pub splitAt : ℕ → ℕ → ℕ → State → State
 splitAt a b w s = push w b (push a w (keeping w s))
 
--- the body of the loop, for the span (a, b) that was popped: nothing where b <= a + 1; else it is split at its worst point,
--- whichever that is, where worst.0 > tolerance || turn > angle
+-- the body of the loop, for the span (a, b) that was popped: if b <= a + 1 { continue; }. Else, if worst.0 > tolerance || turn > angle,
+-- it is split at worst.1, which is a itself where no distance is above zero
 unfoldable pub body : (ℕ → Vec3) → Float → Float → ℕ → ℕ → State → State
 body points tolerance angle a b s =
     cond (leb b (a + 1)) s
