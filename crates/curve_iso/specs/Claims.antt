@@ -1,7 +1,7 @@
--- ISO 10303-42 and point_at: what is claimed of each kind of curve; the theorems of these statements stand in proofs/Laws.antt. Definitions only.
+-- ISO 10303-42 and point_at: what is claimed of each kind of curve. Each record is proved in proofs/Laws.antt, as `line-follows` is. Definitions only.
 -- `exact`: in every commutative ring the Rust's order means what the standard's formula does.
 -- `rounded`: point_at is the Rust's order, each operation rounded once. x is ref_dir, y the computed axis × ref_dir, cos u and sin u the fixed steps for them.
--- Which parameter a composite and a trim have by the standard is another matter: docs/DIFFERENCES.md.
+-- By the standard a composite and a trim have another parameter than here: docs/DIFFERENCES.md.
 use mathlib.Core.Path.{_≡_}
 use mathlib.Core.Bool.{Bool, true, false}
 use mathlib.Core.List.{List}
@@ -92,7 +92,7 @@ segmentsFrom zero ss = ss
 segmentsFrom (suc i) none = none
 segmentsFrom (suc i) (segment c r same rest) = segmentsFrom i rest
 
--- the composite of the segments ss, n of them. Each counts as 1 here and as its parametric length by the standard: the formulas are of the part of it that is gone
+-- the composite of the segments ss, n of them. Each counts as 1 here, and by the standard as its parametric length; v is the part of it that is gone
 pub record CompositeFollows {ℓ} : Type (ℓ + 1) where
   -- in the sense of the segment's curve, and against it
   pub exact : {A : Type ℓ} (K : CommRing A) (same : Bool) (lo hi v : Expr A) → Same K (rustSegment same lo hi v) (isoSegment same lo hi v)
