@@ -1,22 +1,21 @@
--- ISO 10303-42 and point_at: in every commutative ring the Rust's order means what the standard's does; and point_at is the Rust's order, each operation rounded once. Assumes nothing.
-use mathlib.Core.Path.{_≡_, refl, ap}
-use mathlib.Mathlib.Algebra.Group.Defs.{AddGroup}
+-- ISO 10303-42 and point_at: the statements of specs/Claims.antt. Assumes nothing.
+use mathlib.Core.Path.{_≡_, refl, sym, ap, _∙_}
+use mathlib.Core.Bool.{Bool, true, false}
+use mathlib.Mathlib.Algebra.Group.Defs.{AddGroup, add-neg-cancel}
 use mathlib.Mathlib.Algebra.Group.Basic.{add-sub-add-right-eq-sub}
-use mathlib.Mathlib.Algebra.Ring.Defs.{CommRing, NonUnitalNonAssocRing, IsNonUnitalNonAssocRing, IsNonUnitalNonAssocSemiring, IsHasDistribNeg, IsRing·toIsNonUnitalNonAssocRing, NonUnitalNonAssocRing·toIsHasDistribNeg}
-use mathlib.Core.List.{List}
-use Prim.Native.Nat.{ℕ, _+_, _-_, _≤_}
+use mathlib.Mathlib.Algebra.Ring.Defs.{CommRing, IsNonUnitalNonAssocRing, IsNonUnitalNonAssocSemiring, IsHasDistribNeg, IsRing·toIsNonUnitalNonAssocRing, NonUnitalNonAssocRing·toIsHasDistribNeg}
+use Prim.Native.Nat.{ℕ, zero, suc, _-_}
 use native.Mathlib.Omega.{arith}
-use lib.ListN.{length, getD}
-use lib.Ieee.{Float}
+use lib.ListN.{length}
+use lib.Ieee.{Float, add, ofBits, ofInt}
 use borrow.Author.Tests.{ne-eqb}
-use Rattle.arith.specs.Notation.{count}
-use Rattle.arith_trig.specs.Trig.{sinOf, cosOf}
-use Rattle.math.specs.declared.Vec3.{Vec3}
-use Rattle.math.specs.declared.Frame.{Frame}
-use Rattle.math.specs.Math.{vZero, vAdd, vSub, vScale, vLerp, vCross, yDir, vec}
-use Rattle.brep.specs.Tree.{analytic, line, circle, ellipse, parabola, polyline}
-use Rattle.curve.specs.Eval.{pointAt, ellipsePoint, parabolaPoint, polylineParameter, polylinePoint, indexIn, alongFrom}
-use Rattle.curve_iso.specs.Iso.{Expr, value, exact, rounded, roundedVector, isoLine, rustLine, isoCircle, rustCircle, isoEllipse, rustEllipse, isoParabola, rustParabola, isoPolyline, isoPolylineFromOne, rustPolyline, crossPart, one, _+_ as _plus_}
+use Rattle.math.specs.declared.Interval.{Interval}
+use Rattle.math.specs.Math.{vAdd, vSub, vScale, vLerp, vCross, yDir, at}
+use Rattle.brep.specs.Tree.{CurveTree, Segments, none, segment}
+use Rattle.curve.specs.Eval.{pointAt, segmentPoint, naturalRange, ellipsePoint, parabolaPoint, polylineParameter, polylinePoint, clampedTo, ownParameter}
+use Rattle.curve_iso.specs.Iso.{value, exact, rounded, roundedVector, isoLine, rustLine, isoCircle, rustCircle, isoEllipse, rustEllipse, isoParabola, rustParabola, isoPolyline, isoPolylineFromOne, rustPolyline, isoSegment, rustSegment, crossPart}
+use Rattle.curve_iso.specs.Claims.{NumbersFollow, PlacementFollows, LineFollows, CircleFollows, EllipseFollows, ParabolaFollows, PolylineFollows, segmentsFrom, CompositeFollows, TrimFollows}
+use Rattle.curve_iso.proofs.Taken.{kept, open-kept, holds, clamped-lies}
 
 -- what is used of the ring's laws
 module _ {ℓ} {A : Type ℓ} (K : CommRing A) where
@@ -73,63 +72,83 @@ module _ {ℓ} {A : Type ℓ} (K : CommRing A) where
   weights : (p q i u : A) → add p (mul (add q (neg p)) (add u (neg i))) ≡ add (mul p (add (add i (K .one)) (neg u))) (mul q (add u (neg i)))
   weights p q i u = simp (mul-add, add-mul, neg-mul, mul-neg, neg-neg, mul-one, add-assoc, add-comm, add-left-comm)
 
-  -- (a) the exact meaning
-  pub line-exact : (C «V» u : Expr A) → exact K (rustLine C «V» u) ≡ exact K (isoLine C «V» u)
-  unfolding exact rustLine isoLine
-  line-exact C «V» u = rw (mul-comm (exact K «V»))
+  reverse : (lo hi v : A) → add lo (mul (add hi (neg lo)) (add (K .one) (neg v))) ≡ add hi (neg (mul v (add hi (neg lo))))
+  reverse lo hi v =
+      let d = add hi (neg lo) in
+      let e : add lo d ≡ hi = add-left-comm lo hi (neg lo) ∙ ap (add hi) (add-neg-cancel group lo) ∙ semiring .isAddCommMonoid .isAddMonoid .add-zero hi in
+      ap (add lo) (mul-add d (K .one) (neg v) ∙ ap (λ (x : A). add x (mul d (neg v))) (mul-one d) ∙ ap (add d) (mul-neg d v ∙ ap neg (mul-comm d v)))
+      ∙ sym (add-assoc lo d (neg (mul v d))) ∙ ap (λ (x : A). add x (neg (mul v d))) e
 
-  pub circle-exact : (C R x y cosu sinu : Expr A) → exact K (rustCircle C R x y cosu sinu) ≡ exact K (isoCircle C R x y cosu sinu)
-  unfolding exact rustCircle isoCircle
-  circle-exact C R x y cosu sinu = simp (mul-add, add-assoc, mul-comm, mul-left-comm)
+pub numbers-follow {ℓ} : NumbersFollow {ℓ}
+unfolding exact rounded add ofBits ofInt
+numbers-follow = record { isOne = refl; isTwo = refl; exact = λ K. refl; rounded = refl }
 
-  pub ellipse-exact : (C R1 R2 x y cosu sinu : Expr A) → exact K (rustEllipse C R1 R2 x y cosu sinu) ≡ exact K (isoEllipse C R1 R2 x y cosu sinu)
-  unfolding exact rustEllipse isoEllipse
-  ellipse-exact C R1 R2 x y cosu sinu = rw (mul-comm (exact K x), mul-comm (exact K y))
-
-  pub parabola-exact : (C F x y u : Expr A) → exact K (rustParabola C F x y u) ≡ exact K (isoParabola C F x y u)
-  unfolding exact rustParabola isoParabola
-  parabola-exact C F x y u = simp (mul-add, add-assoc, mul-assoc, mul-comm, mul-left-comm)
-
-  pub polyline-exact : (P next i u : Expr A) → exact K (rustPolyline P next i u) ≡ exact K (isoPolyline P next i u)
-  unfolding exact rustPolyline isoPolyline
-  polyline-exact P next i u = ap (add (exact K P)) (mul-comm _ _)
-
-  pub polyline-from-one-exact : (P next i u : Expr A) → exact K (rustPolyline P next i u) ≡ exact K (isoPolylineFromOne P next (i plus one) u)
-  unfolding exact rustPolyline isoPolylineFromOne
-  polyline-from-one-exact P next i u = rw (add-sub-add-right-eq-sub group (exact K u) (exact K i) (K .one)) (weights (exact K P) (exact K next) (exact K i) (exact K u))
-
--- (b) the rounded meaning: x is ref_dir, y the computed axis × ref_dir, cos u and sin u the fixed steps for them
-pub line-rounded : (o d : Vec3) (t : Float) → pointAt (analytic (line o d)) t ≡ roundedVector (λ part. rustLine (part o) (part d) (value t))
-unfolding pointAt vAdd vScale roundedVector rounded rustLine
-line-rounded o d t = refl
-
-pub circle-rounded : (f : Frame) (r t : Float) →
-    pointAt (analytic (circle f r)) t ≡ roundedVector (λ part. rustCircle (part (f .origin)) (value r) (part (f .«ref_dir»)) (part (yDir f)) (value (cosOf t)) (value (sinOf t)))
-unfolding pointAt ellipsePoint vAdd vScale roundedVector rounded rustCircle
-circle-rounded f r t = refl
-
-pub ellipse-rounded : (f : Frame) (a b t : Float) →
-    pointAt (analytic (ellipse f a b)) t ≡ roundedVector (λ part. rustEllipse (part (f .origin)) (value a) (value b) (part (f .«ref_dir»)) (part (yDir f)) (value (cosOf t)) (value (sinOf t)))
-unfolding pointAt ellipsePoint vAdd vScale roundedVector rounded rustEllipse
-ellipse-rounded f a b t = refl
-
-pub parabola-rounded : (f : Frame) (d t : Float) →
-    pointAt (analytic (parabola f d)) t ≡ roundedVector (λ part. rustParabola (part (f .origin)) (value d) (part (f .«ref_dir»)) (part (yDir f)) (value t))
-unfolding pointAt parabolaPoint vAdd vScale roundedVector rounded rustParabola
-parabola-rounded f d t = refl
-
-pub polyline-rounded : (ps : List Vec3) (i : ℕ) (t : Float) →
-    alongFrom ps i t ≡ roundedVector (λ part. rustPolyline (part (getD ps i vZero)) (part (getD ps (i + 1) vZero)) (value (count i)) (value t))
-unfolding vLerp vAdd vSub vScale roundedVector rounded rustPolyline
-polyline-rounded ps i t = refl
-
--- so a polyline's own point: at its parameter u, wrapped or clamped, on the segment i that u lies in
-pub polyline-point-rounded : (ps : List Vec3) (t : Float) → 2 ≤ length ps → let u = polylineParameter ps t in let i = indexIn (length ps - 2) u in
-    pointAt (polyline ps) t ≡ roundedVector (λ part. rustPolyline (part (getD ps i vZero)) (part (getD ps (i + 1) vZero)) (value (count i)) (value u))
-unfolding pointAt polylinePoint
-polyline-point-rounded ps t l = rw (ne-eqb (length ps) 0 (λ e. omega arith), ne-eqb (length ps) 1 (λ e. omega arith)) (polyline-rounded ps (indexIn (length ps - 2) (polylineParameter ps t)) (polylineParameter ps t))
-
-pub y-rounded : (f : Frame) → let a = f .axis in let b = f .«ref_dir» in
-    yDir f ≡ vec (rounded (crossPart (value (a .y)) (value (a .z)) (value (b .y)) (value (b .z)))) (rounded (crossPart (value (a .z)) (value (a .x)) (value (b .z)) (value (b .x)))) (rounded (crossPart (value (a .x)) (value (a .y)) (value (b .x)) (value (b .y))))
+pub placement-follows : PlacementFollows
 unfolding yDir vCross rounded crossPart
-y-rounded f = refl
+placement-follows = record { rounded = λ f. refl }
+
+pub line-follows {ℓ} : LineFollows {ℓ}
+unfolding exact rustLine isoLine pointAt vAdd vScale roundedVector rounded
+line-follows = record { exact = λ K C v u. rw (mul-comm K (exact K v)); rounded = λ o d t. refl }
+
+pub circle-follows {ℓ} : CircleFollows {ℓ}
+unfolding exact rustCircle isoCircle pointAt ellipsePoint vAdd vScale roundedVector rounded
+circle-follows = record {
+  exact = λ K C R x y cosu sinu. simp (mul-add K, add-assoc K, mul-comm K, mul-left-comm K);
+  rounded = λ f r t. refl;
+}
+
+pub ellipse-follows {ℓ} : EllipseFollows {ℓ}
+unfolding exact rustEllipse isoEllipse pointAt ellipsePoint vAdd vScale roundedVector rounded
+ellipse-follows = record {
+  exact = λ K C R1 R2 x y cosu sinu. rw (mul-comm K (exact K x), mul-comm K (exact K y));
+  rounded = λ f a b t. refl;
+}
+
+pub parabola-follows {ℓ} : ParabolaFollows {ℓ}
+unfolding exact rustParabola isoParabola pointAt parabolaPoint vAdd vScale roundedVector rounded
+parabola-follows = record {
+  exact = λ K C F x y u. simp (mul-add K, add-assoc K, mul-assoc K, mul-comm K, mul-left-comm K);
+  rounded = λ f d t. refl;
+}
+
+pub polyline-follows {ℓ} : PolylineFollows {ℓ}
+unfolding exact rustPolyline isoPolyline isoPolylineFromOne pointAt polylinePoint vLerp vAdd vSub vScale roundedVector rounded
+polyline-follows = record {
+  exact = λ K P next i u. ap (K .add (exact K P)) (mul-comm K _ _);
+  exactFromOne = λ K P next i u. rw (add-sub-add-right-eq-sub (group K) (exact K u) (exact K i) (K .one)) (weights K (exact K P) (exact K next) (exact K i) (exact K u));
+  rounded = λ ps t l. rw (ne-eqb (length ps) 0 (λ e. omega arith), ne-eqb (length ps) 1 (λ e. omega arith));
+  parameter = open-kept;
+  taken = λ ps t l b lies. rw (two-less (length ps)) at (holds (length ps - 1) (polylineParameter ps t) (omega arith) (omega arith) lies);
+}
+  where
+    two-less : (n : ℕ) → n - 1 - 1 ≡ n - 2
+    two-less n = omega arith
+
+own-rounded : (r : Interval) (same : Bool) (v : Float) → ownParameter r same v ≡ rounded (rustSegment same (value (r .lo)) (value (r .hi)) (value v))
+unfolding ownParameter at rounded rustSegment
+own-rounded r true v = refl
+own-rounded r false v = refl
+
+segment-at : (ss : Segments) (i : ℕ) (v : Float) (c : CurveTree) (r : Interval) (same : Bool) (rest : Segments) →
+    segmentsFrom i ss ≡ segment c r same rest → segmentPoint ss i v ≡ pointAt c (ownParameter r same v)
+unfolding segmentsFrom segmentPoint
+segment-at ss zero v c r same rest e = rw e
+segment-at none (suc i) v c r same rest e = cc
+segment-at (segment c' r' same' rest') (suc i) v c r same rest e = segment-at rest' i v c r same rest e
+
+pub composite-follows {ℓ} : CompositeFollows {ℓ}
+unfolding exact rustSegment isoSegment pointAt
+composite-follows = record {
+  exact = λ K same lo hi v. elim same [
+    | true ↦ ap (K .add (exact K lo)) (mul-comm K _ _)
+    | false ↦ reverse K (exact K lo) (exact K hi) (exact K v)
+  ];
+  rounded = λ ss t c r same rest e. segment-at ss _ _ c r same rest e ∙ ap (pointAt c) (own-rounded r same _);
+  parameter = kept;
+  taken = λ n t p b h. holds n (clampedTo n t) p b (clamped-lies n t h);
+}
+
+pub trim-follows : TrimFollows
+unfolding naturalRange pointAt
+trim-follows = record { range = λ base r. refl; point = λ base r t. refl }

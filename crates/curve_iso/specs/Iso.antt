@@ -1,5 +1,6 @@
 -- ISO 10303-42: a curve's point as the standard writes it and in the Rust's order, and what such an expression means, exactly and rounded. Definitions only.
 -- A vector equation says the same of x, y and z, so a formula is of one component: C, V, x, y and P stand for that component of each vector.
+use mathlib.Core.Bool.{Bool, true, false}
 use lib.Ieee.{Float}
 use mathlib.Mathlib.Algebra.Ring.Defs.{CommRing}
 use Rattle.arith.specs.Notation.{_⊕_, _⊖_, _⊗_}
@@ -86,6 +87,17 @@ module _ {ℓ} {A : Type ℓ} where
   -- points[i].lerp(points[i + 1], t - i as f64)
   unfoldable pub rustPolyline : (P next i u : Expr A) → Expr A
   rustPolyline P next i u = P + (next - P) · (u - i)
+
+  -- composite, on a segment of which the part v is gone: its curve's own parameter, that part of the parametric length on from lo;
+  -- where the segment has not the same sense as its curve, down from hi
+  unfoldable pub isoSegment : (same : Bool) (lo hi v : Expr A) → Expr A
+  isoSegment true lo hi v = lo + v · (hi - lo)
+  isoSegment false lo hi v = hi - v · (hi - lo)
+
+  -- seg.range.at(local), seg.range.at(1.0 - local)
+  unfoldable pub rustSegment : (same : Bool) (lo hi v : Expr A) → Expr A
+  rustSegment true lo hi v = lo + (hi - lo) · v
+  rustSegment false lo hi v = lo + (hi - lo) · (one - v)
 
   -- the placement's y, the cross product of its third direction and its first: one component of a × b, by the two components after it
   unfoldable pub crossPart : (a2 a3 b2 b3 : Expr A) → Expr A

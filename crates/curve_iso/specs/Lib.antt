@@ -1,1 +1,2 @@
 pub mod Iso
+pub mod Claims

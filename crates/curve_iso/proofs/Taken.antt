@@ -1,0 +1,136 @@
+-- Which segment of a run is taken: the one that holds the parameter. Assumes nothing.
+use mathlib.Core.Path.{_≡_, refl, sym, ap, _∙_, subst}
+use mathlib.Core.Bool.{Bool, true, false, not, cond}
+use mathlib.Core.List.{List}
+use Prim.Native.Nat.{ℕ, _+_, _-_, _*_, _/_, _%_, _^_, _≤_, _<_, min}
+use native.Mathlib.Nat.{le-of-lt, le-trans, le-of-mul-le-mul-right, mul-le-mul-right, zero-mul, zero-mod, zero-div, add-mul, div-mul-le-self, div-lt-iff-lt-mul, min-eq-left, min-eq-right}
+use native.Mathlib.Omega.{arith}
+use lib.Dec.{T, leb, leb→le, nleb→lt, eqb}
+use lib.ListN.{length}
+use lib.Ieee.{Float, nan, inf, fin, binary64, up, down, lt, le, isNan, ofBits, ofInt, toUnsigned}
+use lib.Ieee.Bits.{is-true}
+use lib.Ieee.Back.{unsigned-back}
+use lib.Ieee.Scale.{finite}
+use lib.Ieee.Positive.{den, den-pos}
+use borrow.Author.Tests.{eq-eqb}
+use Rattle.arith_order.proofs.Signed.{plus, neg', le→, le←, no-sign, ring}
+use Rattle.arith_order.proofs.Laws.{number, number-right, le-refl, lt→nle, nlt→le, refuted, between, whole, whole-le}
+use Rattle.arith.specs.Notation.{count, plusZero}
+use Rattle.arith.specs.Floor.{floorOf}
+use Rattle.arith.proofs.Cmp.{never, holds as holds-true, finite-number}
+use Rattle.arith.proofs.Floors.{picked, kept as whole-kept, as-float}
+use Rattle.math.specs.declared.Vec3.{Vec3}
+use Rattle.curve.specs.Eval.{closes, polylineParameter, indexIn, clampedTo}
+use Rattle.curve_iso.specs.Claims.{LiesOn, Holds}
+
+-- ---- a float against a whole number that a float holds
+module _ (k : ℕ) (K : k ≤ 2 ^ 53) (u : Float) (f : T (finite u)) where
+  from-it : k * den u + neg' u ≤ plus u → le (count k) u ≡ true
+  from-it h =
+      let w = whole binary64 k K in
+      let x = count k in
+      let g = simp ring at (mul-le-mul-right (den x) h) in
+      is-true (le x u) (le← x u (w .0) f (rw (w .1, w .2) (simp ring (omega (arith, g, zero-mul (den u))))))
+
+  up-to-it : plus u ≤ k * den u + neg' u → le u (count k) ≡ true
+  up-to-it h =
+      let w = whole binary64 k K in
+      let x = count k in
+      let g = simp ring at (mul-le-mul-right (den x) h) in
+      is-true (le u x) (le← u x f (w .0) (rw (w .1, w .2) (simp ring (omega (arith, g, zero-mul (den u))))))
+
+  at-most : le u (count k) ≡ true → plus u ≤ k * den u + neg' u
+  at-most h =
+      let w = whole binary64 k K in
+      let x = count k in
+      let g = rw (w .1, w .2) at (le→ u x f (w .0) (holds-true h)) in
+      le-of-mul-le-mul-right {k = den x} (simp ring (omega (arith, simp ring at g, zero-mul (den u)))) (den-pos x)
+
+-- ---- a u that is not below zero, without its fraction
+floor-cut : (u : Float) → T (finite u) → neg' u ≡ 0 → plus u / den u ≤ 2 ^ 53 → toUnsigned 64 (floorOf u) ≡ plus u / den u
+unfolding toUnsigned
+floor-cut nan f z l = absurd f
+floor-cut (inf s) f z l = absurd f
+floor-cut (fin true m e) f z l =
+    ap (toUnsigned 64) (sym (whole-kept true m e (eq-eqb (m * up e % down e) 0 (ap (λ (a : ℕ). a % down e) z ∙ zero-mod (down e))))) ∙ sym (zero-div (down e))
+floor-cut (fin false m e) f z l = go (eqb (m * up e % down e) 0) refl
+  where
+    go : (o : Bool) → eqb (m * up e % down e) 0 ≡ o → toUnsigned 64 (floorOf (fin false m e)) ≡ m * up e / down e
+    go true h = ap (toUnsigned 64) (sym (whole-kept false m e h)) ∙ omega arith
+    go false h = ap (toUnsigned 64) (picked false m e h) ∙ unsigned-back binary64 64 (m * up e / down e) (as-float (m * up e / down e) l) (omega arith) .1
+
+-- ---- the segment taken
+zero-finite : T (finite plusZero)
+unfolding ofBits
+zero-finite = tt
+
+no-sign-of : (u : Float) → T (finite u) → le plusZero u ≡ true → neg' u ≡ 0
+unfolding ofBits
+no-sign-of u f h = no-sign u f (holds-true h)
+
+module _ (n : ℕ) (u : Float) (p : 0 < n) (b : n ≤ 2 ^ 53) (l : LiesOn n u) where
+  is-finite : T (finite u)
+  is-finite = between plusZero u (count n) zero-finite (whole binary64 n b .0) (holds-true (l .low)) (holds-true (l .high))
+
+  hold-at : (i : ℕ) → i < n → i * den u ≤ plus u → plus u ≤ (i + 1) * den u → Holds n i u
+  hold-at i h low high =
+      let z = no-sign-of u is-finite (l .low) in
+      record { inside = h; low = from-it i (omega arith) u is-finite (omega arith); high = up-to-it (i + 1) (omega arith) u is-finite (omega arith) }
+
+  pub holds : Holds n (indexIn (n - 1) u) u
+  holds =
+      let z = no-sign-of u is-finite (l .low) in
+      let q = plus u / den u in
+      let d = den-pos u in
+      let top : plus u ≤ n * den u = omega (arith, at-most n b u is-finite (l .high)) in
+      let most : q < n + 1 = div-lt-iff-lt-mul d .1 (omega (arith, add-mul n 1 (den u))) in
+      let cut = floor-cut u is-finite z (omega arith) in
+      subst (λ (k : ℕ). Holds n (min k (n - 1)) u) (sym cut) (go (leb q (n - 1)) (leb→le q (n - 1)) (nleb→lt q (n - 1)) top)
+    where
+      go : (o : Bool) → (T o → plus u / den u ≤ n - 1) → (T (not o) → n - 1 < plus u / den u) → plus u ≤ n * den u → Holds n (min (plus u / den u) (n - 1)) u
+      go true h k top =
+          let q = plus u / den u in
+          let s = h tt in
+          subst (λ (j : ℕ). Holds n j u) (sym (min-eq-left s))
+          (hold-at q (omega arith) (div-mul-le-self (plus u) (den u)) (le-of-lt (div-lt-iff-lt-mul (den-pos u) .0 (omega arith))))
+      go false h k top =
+          let q = plus u / den u in
+          let s = k tt in
+          let e : n - 1 + 1 ≡ n = omega arith in
+          subst (λ (j : ℕ). Holds n j u) (sym (min-eq-right (le-of-lt s)))
+          (hold-at (n - 1) (omega arith) (le-trans (mul-le-mul-right (den u) (le-of-lt s)) (div-mul-le-self (plus u) (den u))) (rw e top))
+
+-- ---- the parameter on the run
+is-number : (t : Float) → isNan t ≡ false → T (number t)
+unfolding isNan
+is-number nan h = never h
+is-number (inf s) h = tt
+is-number (fin s m e) h = tt
+
+module _ (n : ℕ) (t : Float) where
+  pub kept : LiesOn n t → clampedTo n t ≡ t
+  kept l =
+      rw (
+        refuted (lt t plusZero) (λ (h : T (lt t plusZero)). lt→nle t plusZero h (holds-true (l .low))),
+        refuted (lt (count n) t) (λ (h : T (lt (count n) t)). lt→nle (count n) t h (holds-true (l .high))),
+      )
+
+  count-number : T (number (count n))
+  count-number = number-right (count 0) (count n) (whole-le binary64 0 n (omega arith))
+
+  zero-low : le plusZero (count n) ≡ true
+  unfolding ofBits ofInt
+  zero-low = is-true (le plusZero (count n)) (whole-le binary64 0 n (omega arith))
+
+  pub clamped-lies : isNan t ≡ false → LiesOn n (clampedTo n t)
+  clamped-lies h = go (lt t plusZero) (nlt→le t plusZero (is-number t h) (finite-number plusZero zero-finite)) (lt (count n) t) (nlt→le (count n) t count-number (is-number t h))
+    where
+      go : (o : Bool) → (T (not o) → T (le plusZero t)) → (p : Bool) → (T (not p) → T (le t (count n))) → LiesOn n (cond o plusZero (cond p (count n) t))
+      go true g p k = record { low = is-true (le plusZero plusZero) (le-refl plusZero (finite-number plusZero zero-finite)); high = zero-low }
+      go false g true k = record { low = zero-low; high = is-true (le (count n) (count n)) (le-refl (count n) count-number) }
+      go false g false k = record { low = is-true (le plusZero t) (g tt); high = is-true (le t (count n)) (k tt) }
+
+-- an open polyline of n + 1 points clamps as a run of n segments does
+pub open-kept : (ps : List Vec3) (t : Float) → closes ps ≡ false → LiesOn (length ps - 1) t → polylineParameter ps t ≡ t
+unfolding polylineParameter
+open-kept ps t h l = rw h (kept (length ps - 1) t l)
