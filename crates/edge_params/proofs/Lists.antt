@@ -14,7 +14,8 @@ use Rattle.base_lists.specs.Result.{Result, refused, got, bind}
 use Rattle.math.specs.declared.Interval.{Interval}
 use Rattle.edge_params.specs.declared.Closed.{Closed}
 use Rattle.edge_params.specs.declared.Closed.the-variants.{Unknown, Segments}
-use Rattle.edge_params.specs.Params.{midpoint, subdivided, Sampler, steps, evenly, fitting, bisected, floored, refined, sampleParams}
+use Rattle.edge_params.specs.Params.{midpoint, subdivided, Sampler, steps, evenly, bisected}
+use Rattle.edge_params.specs.Own.InRoom.{fitting, flooredIn, refinedIn, sampleParamsIn}
 
 pub steps-length : (range : Interval) (n k : ℕ) → length (steps range n k) ≡ k
 unfolding steps
@@ -78,43 +79,43 @@ module _ (P : List Float → Type 0) (room : ℕ) (s : Sampler) (range : Interva
   even-gives : (n : ℕ) → Gives P (fitting room (evenly range n))
   even-gives n = fitting-gives (evenly range n) (λ h. even n (omega (arith, steps-length range n (suc n))))
 
-  floored-gives : (l : List Float) → P l → Gives P (floored room s range l)
-  unfolding floored
+  floored-gives : (l : List Float) → P l → Gives P (flooredIn room s range l)
+  unfolding flooredIn
   floored-gives l p = go (ltb (length l - 1) (s .least))
     where
       go : (t : Bool) → Gives P (elim t [ true ↦ fitting room (evenly range (s .least)) | false ↦ got l ])
       go true = even-gives (s .least)
       go false = list p
 
-  refined-gives : Gives P (refined room s range)
-  unfolding refined
-  refined-gives = gives-bind (floored room s range) (fitting-gives (bisected s range) halves) floored-gives
+  refined-gives : Gives P (refinedIn room s range)
+  unfolding refinedIn
+  refined-gives = gives-bind (flooredIn room s range) (fitting-gives (bisected s range) halves) floored-gives
 
-  pub sampled-gives : Gives P (sampleParams room s range)
-  unfolding sampleParams
+  pub sampled-gives : Gives P (sampleParamsIn room s range)
+  unfolding sampleParamsIn
   sampled-gives = go (s .closed)
     where
-      checked : (l : List Float) → P l → (t : Bool) → Gives P (elim t [ true ↦ got l | false ↦ refined room s range ])
+      checked : (l : List Float) → P l → (t : Bool) → Gives P (elim t [ true ↦ got l | false ↦ refinedIn room s range ])
       checked l p true = list p
       checked l p false = refined-gives
 
       go : (c : Closed) → Gives P (elim c [
-        | Unknown ↦ refined room s range
-        | Segments n ↦ bind (fitting room (evenly range n)) (λ l. elim (s .meets l) [ true ↦ got l | false ↦ refined room s range ])
+        | Unknown ↦ refinedIn room s range
+        | Segments n ↦ bind (fitting room (evenly range n)) (λ l. elim (s .meets l) [ true ↦ got l | false ↦ refinedIn room s range ])
       ])
       go Unknown = refined-gives
       go (Segments n) =
-          gives-bind (λ l. elim (s .meets l) [ true ↦ got l | false ↦ refined room s range ]) (even-gives n)
+          gives-bind (λ l. elim (s .meets l) [ true ↦ got l | false ↦ refinedIn room s range ]) (even-gives n)
           (λ l p. checked l p (s .meets l))
 
 -- ---- at most as many as the room has, and no refusal but 8
 module _ (room : ℕ) (s : Sampler) (range : Interval) where
-  sampled-fit : Gives (λ l. length l ≤ room) (sampleParams room s range)
+  sampled-fit : Gives (λ l. length l ≤ room) (sampleParamsIn room s range)
   sampled-fit =
       sampled-gives (λ l. length l ≤ room) room s range (λ n h. omega (arith, steps-length range n (suc n))) (λ h. h)
 
-  pub sampled-length : (l : List Float) → sampleParams room s range ≡ got l → length l ≤ room
+  pub sampled-length : (l : List Float) → sampleParamsIn room s range ≡ got l → length l ≤ room
   sampled-length l e = gives-got l sampled-fit e
 
-  pub sampled-refused : (n : ℕ) → sampleParams room s range ≡ refused n → n ≡ 8
+  pub sampled-refused : (n : ℕ) → sampleParamsIn room s range ≡ refused n → n ≡ 8
   sampled-refused n e = gives-refused n sampled-fit e
