@@ -24,7 +24,7 @@ then-as (got a) h = h a
 
 module _ (room : ℕ) where
   -- ---- the acts
-  overflows-both : (a b : List Act) → overflows room (a ++ b) ≡ overflows room a || overflows room b
+  pub overflows-both : (a b : List Act) → overflows room (a ++ b) ≡ overflows room a || overflows room b
   unfolding overflows
   overflows-both [] b = refl
   overflows-both (x ∷ a) b = go (passes room x) (overflows-both a b)

@@ -1,5 +1,5 @@
 -- What the reference does on its way to an answer, in order, and what it comes to. It has no room: a room only looks at the record. Definitions only.
-use mathlib.Core.Bool.{Bool, true, false, cond, _||_}
+use mathlib.Core.Bool.{Bool, false, cond, _||_}
 use mathlib.Core.List.{List, [], _∷_, _++_}
 use Prim.Native.Nat.{ℕ, suc}
 use lib.Dec.{ltb}
