@@ -9,7 +9,7 @@ use lib.ListN.{length, replicate, take}
 use lib.Dec.{ltb}
 use lib.Ieee.{Float, binary64, ofBits}
 use borrow.Author.Tests.{lt-ltb, le-ltb, le-leb, lt-leb}
-use Rattle.base_lists.specs.Result.{Result, refused, got}
+use Rattle.base_lists.specs.Result.{Result, refused, got, bind}
 use Rattle.base_lists.specs.Own.ListOf.{listOf}
 use Rattle.base_lists.specs.Room.{filled}
 use Rattle.base_lists.proofs.Filled.{filled-length, filled-front}
@@ -20,6 +20,8 @@ use Rattle.options.specs.declared.Resolved.{Resolved}
 use Rattle.causes.specs.declared.Verdict.the-variants as verdicts
 use Rattle.causes.specs.Causes.{verdict}
 use Rattle.causes.proofs.Checked.{verdict-numbers}
+use Rattle.edge_params.specs.Work.{within}
+use Rattle.edge_params.proofs.Work.{within-then}
 use Rattle.edge_range.specs.declared.Usable.{Usable}
 use Rattle.edge_range.specs.declared.Usable.the-variants.{Range, Unusable}
 use Rattle.edge_range.specs.Usable.{usableRange}
@@ -35,10 +37,10 @@ use Rattle.draw_spec.specs.declared.Drawn.the-variants.{Refused, Chain}
 use Rattle.draw_spec.specs.Edge.{edgeCurve, discretised}
 use Rattle.draw_spec.specs.Repair.{Got, by, repaired}
 use Rattle.draw_spec.specs.Draw as draw
-use Rattle.draw_spec.specs.Draw.{firstWay, localOptions, drawnIn, roomOf, tooShort, drawn, Lowest, Outcome, inFirst, afterRefusal, firstAfter, secondAfter}
+use Rattle.draw_spec.specs.Draw.{firstWay, localOptions, referenced, roomOf, tooShort, drawn, Lowest, Outcome, inFirst, afterRefusal, firstAfter, secondAfter}
 use Rattle.draw_spec.proofs.Answers.{answers-got, answers-refused}
 use Rattle.draw_spec.proofs.Discretised.{Room, discretised-answers}
-use Rattle.draw_spec.proofs.Repaired.{drawn-in-answers}
+use Rattle.draw_spec.proofs.Repaired.{referenced-answers}
 use Rattle.draw_spec.proofs.Sound.{Binary}
 use Rattle.draw_spec.proofs.Accepted.{given, by-tables, by-buffers, refused-so}
 use Rattle.draw_spec.proofs.Table.{lowest}
@@ -88,10 +90,10 @@ refused-left n first second h = record { answered = refl; firstHolds = sym (late
 -- ---- drawn_in, after discretise answered w and left f and s
 module _ (t : Tables) (e : Edge) (r : Resolved) (first second : List Float) (p : shortest ≤ length first) (q : shortest ≤ length second) where
   abbrev chain : Result (List Sample)
-  chain = discretised (roomOf (length first) (length second)) t e r
+  chain = within (roomOf (length first) (length second)) (discretised t e r)
 
   abbrev whole : Result Got
-  whole = drawnIn (roomOf (length first) (length second)) t e r
+  whole = within (roomOf (length first) (length second)) (referenced t e r)
 
   abbrev way : Way
   way = firstWay (usableRange (edgeCurve t e) (e .range))
@@ -108,17 +110,16 @@ module _ (t : Tables) (e : Edge) (r : Resolved) (first second : List Float) (p :
 
   whole-late : (n : ℕ) → whole ≡ refused n → (n ≡ 8) ⊎ (n ≡ 9)
   whole-late n = answers-refused n
-      (drawn-in-answers ⊥ t e (λ x. absurd x) (λ x. absurd x) (roomOf (length first) (length second)) (room-fine (length first) (length second) p q) r)
+      (referenced-answers ⊥ t e (λ x. absurd x) (λ x. absurd x) (roomOf (length first) (length second)) (room-fine (length first) (length second) p q) r)
 
-  whole-refused : (n : ℕ) → chain ≡ refused n → whole ≡ refused n
-  unfolding drawnIn
-  whole-refused n h = rw h
+  -- what follows the chain, by what discretise answered
+  whole-by : (c : Result (List Sample)) → chain ≡ c → whole ≡ bind c (λ l. within (roomOf (length first) (length second)) (repaired t e r (by way l)))
+  unfolding referenced
+  whole-by c h =
+      within-then (roomOf (length first) (length second)) (discretised t e r) (λ l. repaired t e r (by way l))
+      ∙ ap (λ (x : Result (List Sample)). bind x (λ l. within (roomOf (length first) (length second)) (repaired t e r (by way l)))) h
 
-  whole-got : (l : List Sample) → chain ≡ got l → whole ≡ repaired (roomOf (length first) (length second)) t e r (by way l)
-  unfolding drawnIn
-  whole-got l h = rw h
-
-  module _ {w : Counted} {f s : List Float} (d : DiscretisedInto (λ room. discretised room t e r) first second w f s) where
+  module _ {w : Counted} {f s : List Float} (d : DiscretisedInto (discretised t e r) first second w f s) where
     -- it refused
     pub not-drawn : (n : ℕ) → w ≡ counted.Refused n → DrawnInto whole first second (Refused n) f s
     not-drawn n is = go chain refl
@@ -129,7 +130,7 @@ module _ (t : Tables) (e : Edge) (r : Resolved) (first second : List Float) (p :
             let a : counted.Refused n ≡ countedOf (refused m) = sym is ∙ d .drawn .answered ∙ ap countedOf h in
             let k : m ≡ n = cc in
             let c : chain ≡ refused n = h ∙ ap refused k in
-            subst (λ (x : Result Got). DrawnInto x first second (Refused n) f s) (sym (whole-refused n c))
+            subst (λ (x : Result Got). DrawnInto x first second (Refused n) f s) (sym (whole-by (refused n) c))
             (subst (λ (x : List Float). DrawnInto (refused n) first second (Refused n) x s) (sym (d .drawn .holds ∙ ap (λ (x : Result (List Sample)). filled (length first) (flat (listOf x))) c ∙ none))
             (subst (λ (x : List Float). DrawnInto (refused n) first second (Refused n) (filled (length first) []) x) (sym (d .cleared))
             (refused-left n first second (chain-late n c))))
@@ -178,13 +179,13 @@ module _ (t : Tables) (e : Edge) (r : Resolved) (first second : List Float) (p :
     module _ (n : ℕ) (c : Counts n) where
       module _ (v : Way) (v-is : v ≡ way) where
         abbrev mended : Result Got
-        mended = repaired (roomOf (length f) (length s)) t e r (by v (samples n f))
+        mended = within (roomOf (length f) (length s)) (repaired t e r (by v (samples n f)))
 
         all-mended : mended ≡ whole
         all-mended =
-            ap (λ (u : Way). repaired (roomOf (length f) (length s)) t e r (by u (samples n f))) v-is
-            ∙ ap (λ (m : ℕ). repaired (roomOf m (length s)) t e r (by way (samples n f))) (c .first-long)
-            ∙ ap (λ (m : ℕ). repaired (roomOf (length first) m) t e r (by way (samples n f))) (c .second-long) ∙ sym (whole-got (samples n f) (c .is))
+            ap (λ (u : Way). within (roomOf (length f) (length s)) (repaired t e r (by u (samples n f)))) v-is
+            ∙ ap (λ (m : ℕ). within (roomOf m (length s)) (repaired t e r (by way (samples n f)))) (c .first-long)
+            ∙ ap (λ (m : ℕ). within (roomOf (length first) m) (repaired t e r (by way (samples n f)))) (c .second-long) ∙ sym (whole-by (got (samples n f)) (c .is))
 
         pub drawn-on : {answer : Drawn} {f' s' : List Float} → DrawnInto mended f s answer f' s' → DrawnInto whole first second answer f' s'
         drawn-on h = record {
@@ -214,10 +215,10 @@ module _ (t : Tables) (e : Edge) (o : Options) (first second : List Float) where
 
   pub by-drawing : verdict t e o ≡ verdicts.Accepted → tooShort (length first) (length second) ≡ false → Binary t e
       → (r : Resolved) → r ≡ localOptions t e o
-      → (answer : Drawn) (f s : List Float) → DrawnInto (drawnIn (roomOf (length first) (length second)) t e r) first second answer f s
+      → (answer : Drawn) (f s : List Float) → DrawnInto (within (roomOf (length first) (length second)) (referenced t e r)) first second answer f s
       → Outcome t e o first second answer f s
   by-drawing a b k r is answer f s h =
-      let d = ap (drawnIn (roomOf (length first) (length second)) t e) is ∙ sym (given t e o (length first) (length second) verdicts.Accepted false a b) in
+      let d = ap (λ (x : Resolved). within (roomOf (length first) (length second)) (referenced t e x)) is ∙ sym (given t e o (length first) (length second) verdicts.Accepted false a b) in
       outcome t e o first second answer f s (h .answered ∙ ap draw.answerOf d) (h .firstHolds ∙ ap (firstAfter first) d) (h .secondHolds ∙ ap (secondAfter second) d) k
 
 -- ---- the lengths that draw_checked looks at

@@ -22,9 +22,10 @@ ghost use Rattle.causes.specs.declared.Verdict.the-variants.{Accepted};
 ghost use Rattle.causes.specs.Causes.{verdict, tablesVerdict};
 ghost use Rattle.knots_sort.specs.Own.Sortable.{mostKnots};
 ghost use Rattle.knots.specs.Knots.{curveKnots};
+ghost use Rattle.edge_params.specs.Work.{within};
 ghost use Rattle.edge_record.specs.Chain.{width, shortest};
 ghost use Rattle.edge_range.specs.Usable.{usableRange};
-ghost use Rattle.draw_spec.specs.Draw.{firstWay, localOptions, drawnIn, roomOf, inFirst, liesInFirst, chainFloats, Outcome};
+ghost use Rattle.draw_spec.specs.Draw.{firstWay, localOptions, referenced, roomOf, inFirst, liesInFirst, chainFloats, Outcome};
 ghost use Rattle.draw_spec.specs.Own.Binary.{AllBinary64};
 ghost use Rattle.edge_repair.specs.Own.Redrawn.{DrawnInto};
 
@@ -91,7 +92,7 @@ fn drawn_in(
 ) -> Drawn
     requires { ⌜ (shortest ≤ length (now first)) × (shortest ≤ length (now second)) × (length (curveKnots (tree (lent points curves reals parts ranges) (edge .curve))) ≤ mostKnots)
         × (usable ≡ usableRange (tree (lent points curves reals parts ranges) (edge .curve)) (edge .range)) ⌝ }
-    ensures { λ w. ⌜ DrawnInto (drawnIn (roomOf (length (now (first .entry))) (length (now (second .entry)))) (given points curves reals parts ranges) edge r) (now (first .entry)) (now (second .entry)) w (now (first .exit)) (now (second .exit)) ⌝ }
+    ensures { λ w. ⌜ DrawnInto (within (roomOf (length (now (first .entry))) (length (now (second .entry)))) (referenced (given points curves reals parts ranges) edge r)) (now (first .entry)) (now (second .entry)) w (now (first .exit)) (now (second .exit)) ⌝ }
 {
     let counted = edge_discretise::discretise_usable(
         points,

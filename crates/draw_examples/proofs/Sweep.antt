@@ -4,7 +4,6 @@ use mathlib.Core.Bool.{Bool, true, false, cond, _&&_}
 use Prim.Native.Nat.{ℕ, zero, suc, _+_}
 use native.Mathlib.Omega.{arith}
 use lib.Ieee.{Float, add, sub, mul, div, neg, lt, le, eq, ofBits, ofInt}
-use Rattle.base_lists.specs.Result.{Result, got}
 use Rattle.arith.specs.Notation.{bits, plusZero}
 use Rattle.math.specs.declared.Vec3.{Vec3}
 use Rattle.math.specs.declared.Interval.{Interval}
@@ -13,7 +12,7 @@ use Rattle.brep.specs.Rows.{pointOf, kindOf, curveOf}
 use Rattle.brep.specs.Tree.{CurveTree, tree, below, grown}
 use Rattle.curve.specs.Eval.{pointAt, naturalRange}
 use Rattle.options.specs.declared.Resolved.{Resolved}
-use Rattle.draw_spec.specs.Draw.{programPoints}
+use Rattle.edge_params.specs.Work.{Work, done}
 use Rattle.draw_spec.specs.Edge.{edgeCurve, edgeStart, edgeEnd}
 use Rattle.draw_spec.specs.Repair.{Got, nearestOf, sweepAt, orderedInterval, byShortArc, runaway}
 use lib.Ieee.Scale.{finite}
@@ -85,11 +84,11 @@ neither true true c e = e
 neither true false c e = refl
 neither false b c e = refl
 
-chosen : (b : Bool) (arc : Result Got) → b ≡ false → elim b [ true ↦ arc | false ↦ got (runaway boxed escaping) ] ≡ got (runaway boxed escaping)
-chosen b arc e = ap (λ (t : Bool). elim t [ true ↦ arc | false ↦ got (runaway boxed escaping) ]) e
+chosen : (b : Bool) (arc : Work Got) → b ≡ false → elim b [ true ↦ arc | false ↦ done (runaway boxed escaping) ] ≡ done (runaway boxed escaping)
+chosen b arc e = ap (λ (t : Bool). elim t [ true ↦ arc | false ↦ done (runaway boxed escaping) ]) e
 
 -- and the chord is left, whatever the options are
-pub runs-away : (r : Resolved) → byShortArc programPoints boxed escaping r ≡ got (runaway boxed escaping)
+pub runs-away : (r : Resolved) → byShortArc boxed escaping r ≡ done (runaway boxed escaping)
 unfolding byShortArc
 runs-away r =
     chosen _ _

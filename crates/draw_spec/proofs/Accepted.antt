@@ -10,13 +10,15 @@ use Rattle.options.specs.declared.Options.{Options}
 use Rattle.causes.specs.declared.Verdict.{Verdict}
 use Rattle.causes.specs.declared.Verdict.the-variants.{Accepted, Refused}
 use Rattle.causes.specs.Causes.{verdict}
+use Rattle.edge_params.specs.Work.{within}
+use Rattle.edge_params.proofs.Work.{within-got}
 use Rattle.draw_spec.specs.Repair.{Got}
-use Rattle.draw_spec.specs.Draw.{localOptions, drawnIn, roomOf, tooShort, drawn}
+use Rattle.draw_spec.specs.Draw.{localOptions, referenced, roomOf, tooShort, drawn}
 
 module _ (t : Tables) (e : Edge) (o : Options) (first second : ℕ) where
   -- drawing, once none of 1 to 7 applies
   abbrev pub inRoom : Result Got
-  inRoom = drawnIn (roomOf first second) t e (localOptions t e o)
+  inRoom = within (roomOf first second) (referenced t e (localOptions t e o))
 
   pub record Accepts (g : Got) : Type 0 where
     pub accepted : verdict t e o ≡ Accepted
@@ -46,6 +48,10 @@ module _ (t : Tables) (e : Edge) (o : Options) (first second : ℕ) where
       go (Refused n) s a b = absurd (let y = given (Refused n) s a b in let z : _≡_ {A = ℕ} 0 1 = cc in omega arith)
       go Accepted true a b = absurd (let y = given Accepted true a b in let z : _≡_ {A = ℕ} 0 1 = cc in omega arith)
       go Accepted false a b = record { accepted = a; long = b; made = sym (given Accepted false a b) ∙ q }
+
+  -- the chain is then the reference's own, which has no room
+  pub reference-own : (g : Got) → drawn t e o first second ≡ got g → referenced t e (localOptions t e o) .end ≡ got g
+  reference-own g q = within-got (roomOf first second) (referenced t e (localOptions t e o)) g (accepts g q .made) .1
 
   pub accepted-so : (g : Got) → Accepts g → drawn t e o first second ≡ got g
   accepted-so g a = given Accepted false (a .accepted) (a .long) ∙ a .made

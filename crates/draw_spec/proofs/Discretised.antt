@@ -1,5 +1,5 @@
 -- The five clauses of every chain that `discretise` gives, of a range that can be sampled. Assumes nothing.
-use mathlib.Core.Path.{_≡_, refl, ap, subst, _∙_}
+use mathlib.Core.Path.{_≡_, refl, sym, ap, subst, _∙_}
 use mathlib.Core.Bool.{Bool, true, false}
 use mathlib.Core.List.{List, [], _∷_}
 use Prim.Native.Nat.{ℕ, _^_, _-_, _+_, _≤_}
@@ -8,19 +8,24 @@ use lib.ListN.{length, getD}
 use lib.Ieee.{Float}
 use Rattle.arith.specs.Notation.{_⊗_}
 use Rattle.arith.specs.Constants.{hundredth}
-use Rattle.base_lists.specs.Result.{Result, refused, got, bind, each}
+use Rattle.base_lists.specs.Result.{Result, refused, got, each}
 use Rattle.base_lists.specs.All.{none}
 use Rattle.base_lists.proofs.Order.{sub-length}
 use Rattle.base_lists.proofs.Joined.{sub-map}
 use Rattle.math.specs.declared.Interval.{Interval}
 use Rattle.brep.specs.declared.Edge.{Edge}
 use Rattle.brep.specs.Rows.{Tables}
+use Rattle.brep.specs.Tree.{CurveTree}
 use Rattle.curve.specs.Eval.{pointAt, isSampled}
 use Rattle.options.specs.declared.Resolved.{Resolved}
 use Rattle.knots.specs.Knots.{curveKnots, curveBreaks, deviation}
 use Rattle.edge_params.proofs.Runs.{good-number}
 use Rattle.edge_params.proofs.Steady.{Steady, steady-sub, steady-one-way, two-one-way, two-steady}
-use Rattle.edge_params.proofs.Lists.{sampled-length, sampled-refused}
+use Rattle.edge_params.specs.Work.{ends, done}
+use Rattle.edge_params.specs.Params.{Sampler}
+use Rattle.edge_params.specs.Own.InRoom.{sampleParamsIn}
+use Rattle.edge_params.proofs.Work.{sample-params-in}
+use Rattle.edge_params.proofs.Lists.{sampled-length, sampled-never}
 use Rattle.edge_params.proofs.Sampled.{sampled-steady, thin-sampleable}
 use Rattle.edge_record.specs.declared.Sample.{Sample}
 use Rattle.edge_record.specs.Chain.{lastOf}
@@ -37,7 +42,7 @@ use Rattle.draw_spec.specs.Draw.{Sound}
 use Rattle.draw_spec.proofs.Tame.{Tame}
 use Rattle.draw_spec.proofs.Ranges.{Ends, Goods, usable-goods}
 use Rattle.draw_spec.proofs.Placed.{Own, Placed, placed-holds, placed-length}
-use Rattle.draw_spec.proofs.Answers.{Answers, answer, eight, nine}
+use Rattle.draw_spec.proofs.Answers.{Answered, Answers, answer, nine, answers-ends, answers-then, answers-always}
 
 -- a chain that fits the room, and of which the five clauses hold, given H
 pub record Chained (H : Type 0) (t : Tables) (e : Edge) (floor : Float) (room : ℕ) (l : List Sample) : Type 0 where
@@ -116,15 +121,15 @@ module _ (t : Tables) (e : Edge) (r : Resolved) where
   edgeFloor = mergeFloor (e .tolerance) (r .sag)
 
   finished-answers : (H : Type 0) (room : ℕ) (params : List Float) → 2 ≤ length params → length params ≤ room → (H → Steady params)
-      → Answers (Chained H t e edgeFloor room) (finished t e r params)
+      → Answers room (Chained H t e edgeFloor room) (ends (finished t e r params))
   unfolding finished
-  finished-answers H room params h n s = go (thinnedIf (isSampled (edgeCurve t e)) r (placed t e params)) refl
+  finished-answers H room params h n s = answers-ends room (go (thinnedIf (isSampled (edgeCurve t e)) r (placed t e params)) refl)
     where
       long : 2 ≤ length (placed t e params)
       long = omega (arith, placed-length t e params)
 
       go : (x : Result (List Sample)) → thinnedIf (isSampled (edgeCurve t e)) r (placed t e params) ≡ x
-          → Answers (Chained H t e edgeFloor room) (each (merged edgeFloor) x)
+          → Answered (Chained H t e edgeFloor room) false (each (merged edgeFloor) x)
       go (got k) q =
           let l = placed t e params in
           let u = thinned-shorter r l long (isSampled (edgeCurve t e)) k q in
@@ -159,18 +164,21 @@ module _ (range : Interval) where
     still-steady (a ∷ b ∷ l) s = s
 
 -- ---- discretise
-module _ (H : Type 0) (t : Tables) (e : Edge) (tame : H → Tame (edgeCurve t e)) (ends : H → Ends (e .range)) (room : ℕ) (fine : Room room) (r : Resolved) where
-  sampled-answers : (range : Interval) → (H → Goods range)
-      → Answers (Chained H t e (edgeFloor t e r) room) (overRange room t e r range)
+module _ (H : Type 0) (t : Tables) (e : Edge) (tame : H → Tame (edgeCurve t e)) (own : H → Ends (e .range)) (room : ℕ) (fine : Room room) (r : Resolved) where
+  sampled-answers : (range : Interval) → (H → Goods range) → Answers room (Chained H t e (edgeFloor t e r) room) (overRange t e r range)
   unfolding sampled sampler curveBreaks
-  sampled-answers range g = go (sampled room (edgeCurve t e) range r) refl
+  sampled-answers range g =
+      answers-then room (sampled c range r) (λ params. ends (finished t e r (atLeastTwo range params)))
+      (answers-always room (sampled c range r) (λ n. sampled-never n s range) (λ l q. sym (sample-params-in room s range) ∙ q)) finish
     where
-      go : (x : Result (List Float)) → sampled room (edgeCurve t e) range r ≡ x
-          → Answers (Chained H t e (edgeFloor t e r) room) (bind x (λ params. finished t e r (atLeastTwo range params)))
-      go (refused n) q = let z = sampled-refused room (sampler (edgeCurve t e) range r) range n q in rw z eight
-      go (got l) q =
-          let c = edgeCurve t e in
-          let s = sampler c range r in
+      c : CurveTree
+      c = edgeCurve t e
+
+      s : Sampler
+      s = sampler c range r
+
+      finish : (l : List Float) → sampleParamsIn room s range ≡ got l → Answers room (Chained H t e (edgeFloor t e r) room) (ends (finished t e r (atLeastTwo range l)))
+      finish l q =
           finished-answers t e r H room (atLeastTwo range l) (at-least-two range l)
           (at-most range room (fine .least) l (sampled-length room s range l q))
           (λ x.
@@ -179,14 +187,14 @@ module _ (H : Type 0) (t : Tables) (e : Edge) (tame : H → Tame (edgeCurve t e)
           (thin-sampleable s range (curveKnots c) (r .sag) (deviation (pointAt c)) refl (tame x .knots) (g x .low) (g x .high))
           room (fine .most) l q))
 
-  pub discretised-answers : Answers (Chained H t e (mergeFloor (e .tolerance) (r .sag)) room) (discretised room t e r)
+  pub discretised-answers : Answers room (Chained H t e (mergeFloor (e .tolerance) (r .sag)) room) (discretised t e r)
   unfolding discretised
   discretised-answers = go (usableRange (edgeCurve t e) (e .range)) refl
     where
       go : (u : Usable) → usableRange (edgeCurve t e) (e .range) ≡ u
-          → Answers (Chained H t e (mergeFloor (e .tolerance) (r .sag)) room) (elim u [
-            | Unusable ↦ got (chordOf t e (e .range .lo) (e .range .hi))
-            | Range range ↦ overRange room t e r range
+          → Answers room (Chained H t e (mergeFloor (e .tolerance) (r .sag)) room) (elim u [
+            | Unusable ↦ done (chordOf t e (e .range .lo) (e .range .hi))
+            | Range range ↦ overRange t e r range
           ])
-      go Unusable q = answer (chord-chained H t e (mergeFloor (e .tolerance) (r .sag)) room (fine .least) (e .range .lo) (e .range .hi))
-      go (Range range) q = sampled-answers range (λ x. usable-goods (edgeCurve t e) (tame x) range (e .range) (ends x) q)
+      go Unusable q = answers-ends room (answer (chord-chained H t e (mergeFloor (e .tolerance) (r .sag)) room (fine .least) (e .range .lo) (e .range .hi)))
+      go (Range range) q = sampled-answers range (λ x. usable-goods (edgeCurve t e) (tame x) range (e .range) (own x) q)

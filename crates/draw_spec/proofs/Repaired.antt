@@ -7,7 +7,6 @@ use lib.Dec.{T}
 use lib.Ieee.{Float, lt}
 use lib.Ieee.Scale.{finite}
 use Rattle.arith.specs.Notation.{plusZero}
-use Rattle.base_lists.specs.Result.{Result, got, bind}
 use Rattle.math.specs.declared.Interval.{Interval}
 use Rattle.math.specs.Math.{spanOf}
 use Rattle.brep.specs.declared.Edge.{Edge}
@@ -16,6 +15,7 @@ use Rattle.curve.specs.declared.Repeats.{Repeats}
 use Rattle.curve.specs.declared.Repeats.the-variants.{Every, Never}
 use Rattle.curve.specs.Eval.{period}
 use Rattle.options.specs.declared.Resolved.{Resolved}
+use Rattle.edge_params.specs.Work.{Work, done, andThen}
 use Rattle.edge_params.proofs.Ends.{Size}
 use Rattle.edge_record.specs.declared.Sample.{Sample}
 use Rattle.edge_merge.specs.Merge.{mergeFloor}
@@ -23,10 +23,10 @@ use Rattle.edge_range.specs.Usable.{usableRange}
 use Rattle.draw_spec.specs.declared.Way.the-variants.{Complement, ShortArc}
 use Rattle.draw_spec.specs.Edge.{edgeCurve, edgeStart, edgeEnd, discretised}
 use Rattle.draw_spec.specs.Repair.{Got, by, withRange, reference, escapes, runaway, serves, arcOrChord, shortRange, hasShortArc, byShortArc, complementOrShort, complementRange, byComplement, byPeriod, stays, repaired}
-use Rattle.draw_spec.specs.Draw.{firstWay, drawnIn}
+use Rattle.draw_spec.specs.Draw.{firstWay, referenced}
 use Rattle.draw_spec.proofs.Tame.{Tame}
 use Rattle.draw_spec.proofs.Ranges.{Ends, goods-ends, complement-ends, short-goods}
-use Rattle.draw_spec.proofs.Answers.{Answers, answer, answers-bind}
+use Rattle.draw_spec.proofs.Answers.{Answers, answer, answers-ends, answers-then}
 use Rattle.draw_spec.proofs.Discretised.{Chained, Room, chord-chained, discretised-answers}
 
 -- an edge's own range: a lo that is finite is small enough to have a period added to it
@@ -46,74 +46,74 @@ module _ (H : Type 0) (t : Tables) (e : Edge) (tame : H → Tame (edgeCurve t e)
     fits = c .fits;
   }
 
-  redrawn : (range : Interval) → (H → Ends range) → (f : List Sample → Result Got)
-      → ((l : List Sample) → Chained H t e (mergeFloor (e .tolerance) (r .sag)) room l → Answers Fine (f l))
-      → Answers Fine (bind (discretised room t (withRange e range) r) f)
+  redrawn : (range : Interval) → (H → Ends range) → (f : List Sample → Work Got)
+      → ((l : List Sample) → Chained H t e (mergeFloor (e .tolerance) (r .sag)) room l → Answers room Fine (f l))
+      → Answers room Fine (andThen (discretised t (withRange e range) r) f)
   redrawn range ends f g =
-      answers-bind f (discretised-answers H t (withRange e range) tame ends room fine r) (λ l c. g l (another range l c))
+      answers-then room (discretised t (withRange e range) r) f (discretised-answers H t (withRange e range) tame ends room fine r) (λ l c. g l (another range l c))
 
-  runaway-fine : Answers Fine (got (runaway t e))
-  runaway-fine = answer (chord-chained H t e (mergeFloor (e .tolerance) (r .sag)) room (fine .least) (e .range .lo) (e .range .lo))
+  runaway-fine : Answers room Fine (done (runaway t e))
+  runaway-fine = answers-ends room (answer (chord-chained H t e (mergeFloor (e .tolerance) (r .sag)) room (fine .least) (e .range .lo) (e .range .lo)))
 
-  arc-fine : (arc : List Sample) → Chained H t e (mergeFloor (e .tolerance) (r .sag)) room arc → Answers Fine (got (arcOrChord t e r arc))
+  arc-fine : (arc : List Sample) → Chained H t e (mergeFloor (e .tolerance) (r .sag)) room arc → Answers room Fine (done (arcOrChord t e r arc))
   unfolding arcOrChord
   arc-fine arc c = go (serves t e r arc)
     where
-      go : (b : Bool) → Answers Fine (got (cond b (by ShortArc arc) (runaway t e)))
-      go true = answer c
+      go : (b : Bool) → Answers room Fine (done (cond b (by ShortArc arc) (runaway t e)))
+      go true = answers-ends room (answer c)
       go false = runaway-fine
 
-  short-answers : Answers Fine (byShortArc room t e r)
+  short-answers : Answers room Fine (byShortArc t e r)
   unfolding byShortArc
   short-answers = go (hasShortArc t e)
     where
-      go : (b : Bool) → Answers Fine (elim b [
-        | true ↦ bind (discretised room t (withRange e (shortRange t e)) r) (λ arc. got (arcOrChord t e r arc))
-        | false ↦ got (runaway t e)
+      go : (b : Bool) → Answers room Fine (elim b [
+        | true ↦ andThen (discretised t (withRange e (shortRange t e)) r) (λ arc. done (arcOrChord t e r arc))
+        | false ↦ done (runaway t e)
       ])
       go true =
           redrawn (shortRange t e)
           (λ x. goods-ends (short-goods (edgeCurve t e) (tame x) (edgeStart t e) (edgeEnd t e)))
-          (λ arc. got (arcOrChord t e r arc)) arc-fine
+          (λ arc. done (arcOrChord t e r arc)) arc-fine
       go false = runaway-fine
 
-  complement-answers : (p : Float) → (H → Size 40 p) → Answers Fine (byComplement room t e r p)
+  complement-answers : (p : Float) → (H → Size 40 p) → Answers room Fine (byComplement t e r p)
   unfolding byComplement
   complement-answers p s = go (lt plusZero (spanOf (complementRange e p)))
     where
       kept : (arc : List Sample) → Chained H t e (mergeFloor (e .tolerance) (r .sag)) room arc → (b : Bool)
-          → Answers Fine (elim b [ true ↦ byShortArc room t e r | false ↦ got (by Complement arc) ])
+          → Answers room Fine (elim b [ true ↦ byShortArc t e r | false ↦ done (by Complement arc) ])
       kept arc c true = short-answers
-      kept arc c false = answer c
+      kept arc c false = answers-ends room (answer c)
 
-      go : (b : Bool) → Answers Fine (elim b [
-        | true ↦ bind (discretised room t (withRange e (complementRange e p)) r) (complementOrShort room t e r)
-        | false ↦ byShortArc room t e r
+      go : (b : Bool) → Answers room Fine (elim b [
+        | true ↦ andThen (discretised t (withRange e (complementRange e p)) r) (complementOrShort t e r)
+        | false ↦ byShortArc t e r
       ])
       go true =
           redrawn (complementRange e p)
           (λ x. complement-ends (e .range) p (own x .ends) (own x .low) (s x))
-          (complementOrShort room t e r)
+          (complementOrShort t e r)
           (λ arc c. kept arc c (escapes (reference t e) r arc))
       go false = short-answers
 
-  period-answers : (p : Repeats) → period (edgeCurve t e) ≡ p → Answers Fine (byPeriod room t e r p)
+  period-answers : (p : Repeats) → period (edgeCurve t e) ≡ p → Answers room Fine (byPeriod t e r p)
   unfolding byPeriod
   period-answers (Every p) q = complement-answers p (λ x. tame x .every p q)
   period-answers Never q = short-answers
 
-  repaired-answers : (g : Got) → Fine g → Answers Fine (repaired room t e r g)
+  repaired-answers : (g : Got) → Fine g → Answers room Fine (repaired t e r g)
   unfolding repaired
   repaired-answers g c = go (stays t e r (g .chain))
     where
-      go : (b : Bool) → Answers Fine (elim b [ true ↦ got g | false ↦ byPeriod room t e r (period (edgeCurve t e)) ])
-      go true = answer c
+      go : (b : Bool) → Answers room Fine (elim b [ true ↦ done g | false ↦ byPeriod t e r (period (edgeCurve t e)) ])
+      go true = answers-ends room (answer c)
       go false = period-answers (period (edgeCurve t e)) refl
 
   -- whichever way
-  pub drawn-in-answers : Answers (λ (g : Got). Chained H t e (mergeFloor (e .tolerance) (r .sag)) room (g .chain)) (drawnIn room t e r)
-  unfolding drawnIn
-  drawn-in-answers =
+  pub referenced-answers : Answers room (λ (g : Got). Chained H t e (mergeFloor (e .tolerance) (r .sag)) room (g .chain)) (referenced t e r)
+  unfolding referenced
+  referenced-answers =
       let way = firstWay (usableRange (edgeCurve t e) (e .range)) in
-      answers-bind (λ chain. repaired room t e r (by way chain)) (discretised-answers H t e tame (λ x. own x .ends) room fine r)
+      answers-then room (discretised t e r) (λ chain. repaired t e r (by way chain)) (discretised-answers H t e tame (λ x. own x .ends) room fine r)
       (λ l c. repaired-answers (by way l) c)

@@ -1,7 +1,7 @@
 -- The five clauses of every chain that drawing answers with. Assumes nothing but what its statements say.
 use mathlib.Core.Path.{_≡_}
 use mathlib.Core.Logic.{_⊎_, inl, inr}
-use mathlib.Core.Bool.{false}
+use mathlib.Core.Bool.{true, false}
 use Prim.Native.Nat.{ℕ, _≤_}
 use native.Mathlib.Omega.{arith}
 use lib.Dec.{T, ltb}
@@ -16,17 +16,18 @@ use Rattle.causes.specs.declared.Verdict.the-variants.{Accepted}
 use Rattle.causes.specs.Causes.{verdict}
 use Rattle.causes_bounds.proofs.Laws.{neither}
 use Rattle.causes.proofs.Checked.{checked, verdict-numbers}
+use Rattle.edge_params.specs.Work.{overflows, within}
 use Rattle.edge_params.proofs.Ends.{size-grows, size-good}
 use Rattle.edge_record.specs.Chain.{shortest}
 use Rattle.edge_merge.specs.Merge.{mergeFloor}
 use Rattle.draw_spec.specs.Repair.{Got}
-use Rattle.draw_spec.specs.Draw.{localOptions, drawnIn, roomOf, tooShort, drawn, Sound}
+use Rattle.draw_spec.specs.Draw.{localOptions, referenced, roomOf, tooShort, drawn, Sound}
 use Rattle.draw_spec.specs.Own.Binary.{AllBinary64}
 use Rattle.draw_spec.proofs.Tame.{bounded-size, tree-tame}
 use Rattle.draw_spec.proofs.Accepted.{Refuses, by-tables, by-buffers, by-drawing, accepts, refuses}
-use Rattle.draw_spec.proofs.Answers.{Answers, answers-got, answers-refused}
+use Rattle.draw_spec.proofs.Answers.{Answers, answers-got, answers-cause, answers-refused}
 use Rattle.draw_spec.proofs.Discretised.{Chained, Room}
-use Rattle.draw_spec.proofs.Repaired.{OwnRange, drawn-in-answers}
+use Rattle.draw_spec.proofs.Repaired.{OwnRange, referenced-answers}
 
 -- that the floats are binary64, as those of a function's f64 arguments and lent slices of f64 are
 pub record Binary (t : Tables) (e : Edge) : Type 0 where
@@ -58,11 +59,11 @@ module _ (t : Tables) (e : Edge) (o : Options) (first second : ℕ) where
       }
 
   drawn-answers : verdict t e o ≡ Accepted → tooShort first second ≡ false
-      → Answers (λ (g : Got). Chained (Binary t e) t e (mergeFloor (e .tolerance) (localOptions t e o .sag)) (roomOf first second) (g .chain))
-      (drawnIn (roomOf first second) t e (localOptions t e o))
+      → Answers (roomOf first second) (λ (g : Got). Chained (Binary t e) t e (mergeFloor (e .tolerance) (localOptions t e o .sag)) (roomOf first second) (g .chain))
+      (referenced t e (localOptions t e o))
   drawn-answers a h =
       let k = checked t e o a in
-      drawn-in-answers (Binary t e) t e (λ b. tree-tame t e o k (b .reals) (b .ranges) (e .curve) (k .curveInside)) (own-range a) (roomOf first second)
+      referenced-answers (Binary t e) t e (λ b. tree-tame t e o k (b .reals) (b .ranges) (e .curve) (k .curveInside)) (own-range a) (roomOf first second)
       (room-fine first second h) (localOptions t e o)
 
   chained : (g : Got) → drawn t e o first second ≡ got g → Chained (Binary t e) t e (mergeFloor (e .tolerance) (localOptions t e o .sag)) (roomOf first second) (g .chain)
@@ -77,8 +78,10 @@ module _ (t : Tables) (e : Edge) (o : Options) (first second : ℕ) where
   drawn-fits g q = chained g q .fits
 
   -- ---- the numbers of refusals
-  pub drawn-late : (n : ℕ) → drawnIn (roomOf first second) t e (localOptions t e o) ≡ refused n → verdict t e o ≡ Accepted → tooShort first second ≡ false → (n ≡ 8) ⊎ (n ≡ 9)
-  drawn-late n q a h = answers-refused n (drawn-answers a h) q
+  -- once none of 1 to 7 applies, 8 is for a list that is longer than the room, and 9 for a reference that never ends
+  pub drawn-late : (n : ℕ) → within (roomOf first second) (referenced t e (localOptions t e o)) ≡ refused n → verdict t e o ≡ Accepted → tooShort first second ≡ false
+      → ((n ≡ 8) × (overflows (roomOf first second) (referenced t e (localOptions t e o) .acts) ≡ true)) ⊎ ((n ≡ 9) × (referenced t e (localOptions t e o) .end ≡ refused 9))
+  drawn-late n q a h = answers-cause n (drawn-answers a h) q
 
   pub drawn-numbers : (n : ℕ) → drawn t e o first second ≡ refused n → (1 ≤ n) × (n ≤ 9)
   drawn-numbers n q = go (refuses t e o first second n q)
@@ -90,4 +93,4 @@ module _ (t : Tables) (e : Edge) (o : Options) (first second : ℕ) where
       go : Refuses t e o first second n → (1 ≤ n) × (n ≤ 9)
       go (by-tables a) = let k = verdict-numbers t e o n a in (omega arith, omega arith)
       go (by-buffers a b z) = (omega arith, omega arith)
-      go (by-drawing a b r) = late (drawn-late n r a b)
+      go (by-drawing a b r) = late (answers-refused n (drawn-answers a b) r)

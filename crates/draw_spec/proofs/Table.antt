@@ -4,7 +4,7 @@ use mathlib.Core.Logic.{_⊎_, inl, inr}
 use mathlib.Core.Bool.{Bool, true, false, cond}
 use Prim.Native.Nat.{ℕ, _≤_}
 use native.Mathlib.Omega.{arith}
-use Rattle.base_lists.specs.Result.{refused, got}
+use Rattle.base_lists.specs.Result.{Result, refused, got}
 use Rattle.brep.specs.declared.Edge.{Edge}
 use Rattle.brep.specs.Rows.{Tables}
 use Rattle.options.specs.declared.Options.{Options}
@@ -14,10 +14,12 @@ use Rattle.causes.specs.declared.Verdict.{Verdict}
 use Rattle.causes.specs.declared.Verdict.the-variants.{Accepted, Refused}
 use Rattle.causes.specs.Causes.{oversize, unordered, tooDeep, missing, verdict}
 use Rattle.causes.proofs.Checked.{causes-of, verdict-numbers}
+use Rattle.edge_params.specs.Work.{Work, overflows}
+use Rattle.edge_params.proofs.Work.{within-got}
 use Rattle.draw_spec.specs.Repair.{Got}
-use Rattle.draw_spec.specs.Draw.{tooShort, drawn, Applies, one, two, three, four, five, six, seven, eight, nine, Lowest}
+use Rattle.draw_spec.specs.Draw.{localOptions, referenced, roomOf, tooShort, drawn, Applies, one, two, three, four, five, six, seven, eight, nine, Lowest}
 use Rattle.draw_spec.proofs.Accepted.{Accepts, accepts, Refuses, by-tables, by-buffers, by-drawing, refuses, given}
-use Rattle.draw_spec.proofs.Sound.{drawn-late}
+use Rattle.draw_spec.proofs.Sound.{drawn-late, drawn-numbers}
 
 -- ---- a verdict of at most k
 record AtMost (k : ℕ) (v : Verdict) : Type 0 where
@@ -66,6 +68,9 @@ module _ (t : Tables) (e : Edge) (o : Options) (first second : ℕ) where
   abbrev v2 : Verdict
   v2 = cond b (Refused 2) v3
 
+  abbrev work : Work Got
+  work = referenced t e (localOptions t e o)
+
   -- ---- a cause that applies is not passed over
   refused-by : (k : ℕ) → k ≤ 6 → AtMost k (verdict t e o) → (n : ℕ) → drawn t e o first second ≡ refused n → n ≤ k
   refused-by k h m n q =
@@ -81,21 +86,29 @@ module _ (t : Tables) (e : Edge) (o : Options) (first second : ℕ) where
       go (by-buffers x y z) = omega (arith, z)
       go (by-drawing x y z) = absurd (let w : _≡_ {A = ℕ} 0 1 = cc in omega arith)
 
-  no-later : (m : ℕ) → Applies t e o first second m → m ≤ 7 → (n : ℕ) → drawn t e o first second ≡ refused n → n ≤ m
+  room-by : overflows (roomOf first second) (work .acts) ≡ true → (n : ℕ) → drawn t e o first second ≡ refused n → n ≤ 8
+  room-by h n q = go (refuses t e o first second n q)
+    where
+      go : Refuses t e o first second n → n ≤ 8
+      go (by-tables x) = omega (arith, verdict-numbers t e o n x)
+      go (by-buffers x y z) = omega (arith, z)
+      go (by-drawing x y z) = let w : _≡_ {A = Result Got} (refused 8) (refused n) = sym (ap (λ (b : Bool). cond b (refused 8) (work .end)) h) ∙ z in let k : 8 ≡ n = cc in omega arith
+
+  no-later : (m : ℕ) → Applies t e o first second m → (n : ℕ) → drawn t e o first second ≡ refused n → n ≤ m
   unfolding verdict
-  no-later m (one h) l = refused-by 1 (omega arith) (hit a 1 v2 h)
-  no-later m (two h) l = refused-by 2 (omega arith) (pass a 1 2 v2 (omega arith) (hit b 2 v3 h))
-  no-later m (three h) l = refused-by 3 (omega arith) (pass a 1 3 v2 (omega arith) (pass b 2 3 v3 (omega arith) (hit c 3 v4 h)))
-  no-later m (four h) l = refused-by 4 (omega arith) (pass a 1 4 v2 (omega arith) (pass b 2 4 v3 (omega arith) (pass c 3 4 v4 (omega arith) (hit d 4 v5 h))))
-  no-later m (five h) l =
+  no-later m (one h) = refused-by 1 (omega arith) (hit a 1 v2 h)
+  no-later m (two h) = refused-by 2 (omega arith) (pass a 1 2 v2 (omega arith) (hit b 2 v3 h))
+  no-later m (three h) = refused-by 3 (omega arith) (pass a 1 3 v2 (omega arith) (pass b 2 3 v3 (omega arith) (hit c 3 v4 h)))
+  no-later m (four h) = refused-by 4 (omega arith) (pass a 1 4 v2 (omega arith) (pass b 2 4 v3 (omega arith) (pass c 3 4 v4 (omega arith) (hit d 4 v5 h))))
+  no-later m (five h) =
       refused-by 5 (omega arith)
       (pass a 1 5 v2 (omega arith) (pass b 2 5 v3 (omega arith) (pass c 3 5 v4 (omega arith) (pass d 4 5 v5 (omega arith) (hit f 5 v6 h)))))
-  no-later m (six h) l =
+  no-later m (six h) =
       refused-by 6 (omega arith)
       (pass a 1 6 v2 (omega arith) (pass b 2 6 v3 (omega arith) (pass c 3 6 v4 (omega arith) (pass d 4 6 v5 (omega arith) (pass f 5 6 v6 (omega arith) (hit g 6 Accepted h))))))
-  no-later m (seven h) l = short-by h
-  no-later m (eight h) l = absurd (omega (arith, l))
-  no-later m (nine h) l = absurd (omega (arith, l))
+  no-later m (seven h) = short-by h
+  no-later m (eight h) = room-by h
+  no-later m (nine h) = λ n q. drawn-numbers t e o first second n q .1
 
   -- ---- a refusal is that of a cause that applies
   step : (x : Bool) (k n : ℕ) (v : Verdict) → (x ≡ true → Applies t e o first second k) → (v ≡ Refused n → Applies t e o first second n)
@@ -114,15 +127,15 @@ module _ (t : Tables) (e : Edge) (o : Options) (first second : ℕ) where
   applying n (by-buffers x y z) = subst (Applies t e o first second) (sym z) (seven y)
   applying n (by-drawing x y q) = go (drawn-late t e o first second n q x y)
     where
-      go : (n ≡ 8) ⊎ (n ≡ 9) → Applies t e o first second n
-      go (inl z) = subst (Applies t e o first second) (sym z) (eight (q ∙ ap refused z))
-      go (inr z) = subst (Applies t e o first second) (sym z) (nine (q ∙ ap refused z))
+      go : ((n ≡ 8) × (overflows (roomOf first second) (work .acts) ≡ true)) ⊎ ((n ≡ 9) × (work .end ≡ refused 9)) → Applies t e o first second n
+      go (inl z) = subst (Applies t e o first second) (sym (z .0)) (eight (z .1))
+      go (inr z) = subst (Applies t e o first second) (sym (z .0)) (nine (z .1))
 
   -- an edge is refused with the lowest cause that applies
   pub lowest : (n : ℕ) → drawn t e o first second ≡ refused n → Lowest t e o first second n
   lowest n q = record {
     applies = applying n (refuses t e o first second n q);
-    lowest = λ m l h x. let z = no-later m x l n q in omega (arith, z, h);
+    lowest = λ m h x. let z = no-later m x n q in omega (arith, z, h);
   }
 
   -- and accepted only where none applies
@@ -131,6 +144,9 @@ module _ (t : Tables) (e : Edge) (o : Options) (first second : ℕ) where
     where
       s : Accepts t e o first second k
       s = accepts t e o first second k q
+
+      own : (overflows (roomOf first second) (work .acts) ≡ false) × (work .end ≡ got k)
+      own = within-got (roomOf first second) work k (s .made)
 
       differ : {x : Bool} → x ≡ true → x ≡ false → ⊥
       differ p r = let z : _≡_ {A = ℕ} 0 1 = cc in omega arith
@@ -143,5 +159,5 @@ module _ (t : Tables) (e : Edge) (o : Options) (first second : ℕ) where
       go m (five h) = differ h (causes-of t e o (s .accepted) .4)
       go m (six h) = differ h (causes-of t e o (s .accepted) .5)
       go m (seven h) = differ h (s .long)
-      go m (eight h) = let y = s .made in let z : _≡_ {A = ℕ} 0 1 = cc in omega arith
-      go m (nine h) = let y = s .made in let z : _≡_ {A = ℕ} 0 1 = cc in omega arith
+      go m (eight h) = differ h (own .0)
+      go m (nine h) = let y = own .1 in let z : _≡_ {A = ℕ} 0 1 = cc in omega arith

@@ -6,7 +6,7 @@ use Prim.Native.Nat.{ℕ, _<_, _≤_, _-_, _*_, _/_, min}
 use lib.ListN.{length}
 use lib.Dec.{ltb, leb}
 use lib.Ieee.{Float, lt}
-use Rattle.base_lists.specs.Result.{Result, refused, got, bind}
+use Rattle.base_lists.specs.Result.{Result, refused, got}
 use Rattle.base_lists.specs.All.{All}
 use Rattle.base_lists.specs.Room.{filled}
 use Rattle.arith.specs.Notation.{plusZero}
@@ -20,6 +20,7 @@ use Rattle.causes.specs.declared.Verdict.the-variants as verdicts
 use Rattle.causes_bounds.specs.Bounds.{unbounded}
 use Rattle.causes_form.specs.Forms.{illFormed}
 use Rattle.causes.specs.Causes.{oversize, unordered, tooDeep, missing, verdict}
+use Rattle.edge_params.specs.Work.{Work, andThen, overflows, within}
 use Rattle.edge_params.specs.OneWay.{OneWay}
 use Rattle.edge_record.specs.declared.Sample.{Sample}
 use Rattle.edge_record.specs.Chain.{width, shortest, most, flat, samples, samplePoint, innerSamples}
@@ -44,10 +45,10 @@ unfoldable pub firstWay : Usable → Way
 firstWay (Range range) = AsDrawn
 firstWay Unusable = Chord
 
--- discretise, then repair_runaway
-unfoldable pub drawnIn : ℕ → Tables → Edge → Resolved → Result Got
-drawnIn room T e r =
-    bind (discretised room T e r) (λ chain. repaired room T e r (by (firstWay (usableRange (edgeCurve T e) (e .range))) chain))
+-- discretise, then repair_runaway: the reference, which has no room
+unfoldable pub referenced : Tables → Edge → Resolved → Work Got
+referenced T e r =
+    andThen (discretised T e r) (λ chain. repaired T e r (by (firstWay (usableRange (edgeCurve T e) (e .range))) chain))
 
 -- ---- the entry point
 -- room R, of buffers of so many floats: the smallest of 16,384 and the number of whole records in either
@@ -66,13 +67,13 @@ programFloats = width * programPoints
 abbrev pub tooShort : ℕ → ℕ → Bool
 tooShort first second = ltb first shortest || ltb second shortest
 
--- the refusal with the lowest number from 1 to 7; else 8 or 9 in the reference's order of work; else the chain and its way
+-- the refusal with the lowest number from 1 to 7; else the reference in the room: 8, 9, or the chain and its way
 unfoldable pub drawn : Tables → Edge → Options → ℕ → ℕ → Result Got
 drawn T e o first second =
     elim (verdict T e o) [
       | verdicts.Refused n ↦ refused n
       | verdicts.Accepted ↦
-          cond (tooShort first second) (refused 7) (drawnIn (roomOf first second) T e (localOptions T e o))
+          cond (tooShort first second) (refused 7) (within (roomOf first second) (referenced T e (localOptions T e o)))
     ]
 
 -- the answer
@@ -149,15 +150,15 @@ pub data Applies (T : Tables) (e : Edge) (o : Options) (first second : ℕ) : �
   six : missing T e ≡ true → Applies T e o first second 6
   -- a chain buffer shorter than two records
   seven : tooShort first second ≡ true → Applies T e o first second 7
-  -- on the reference's way, what comes first: a parameter list longer than the room
-  eight : drawnIn (roomOf first second) T e (localOptions T e o) ≡ refused 8 → Applies T e o first second 8
-  -- or a span that the reference splits for ever
-  nine : drawnIn (roomOf first second) T e (localOptions T e o) ≡ refused 9 → Applies T e o first second 9
+  -- a parameter list formed on the reference's way is longer than the room
+  eight : overflows (roomOf first second) (referenced T e (localOptions T e o) .acts) ≡ true → Applies T e o first second 8
+  -- the reference never ends: `thin` reaches a span that it splits for ever
+  nine : referenced T e (localOptions T e o) .end ≡ refused 9 → Applies T e o first second 9
 
--- cause n applies, and none of 1 to 7 that is lower
+-- cause n applies, and no lower one. (8 and 9 need no order of their own: whatever the reference does comes before the span at which it never ends.)
 pub record Lowest (T : Tables) (e : Edge) (o : Options) (first second n : ℕ) : Type 0 where
   pub applies : Applies T e o first second n
-  pub lowest : (m : ℕ) → m ≤ 7 → m < n → Applies T e o first second m → ⊥
+  pub lowest : (m : ℕ) → m < n → Applies T e o first second m → ⊥
 
 -- the outcome of drawing: answer and buffers by the definition, and the five clauses of the chain that the buffers hold
 pub record Outcome (T : Tables) (e : Edge) (o : Options) (first second : List Float) (answer : Drawn) (first' second' : List Float) : Type 0 where

@@ -4,7 +4,7 @@ use mathlib.Core.List.{List, [], _∷_, reverse}
 use Prim.Native.Nat.{ℕ, zero, suc, _+_}
 use lib.Dec.{eqb}
 use lib.Ieee.{Float, lt, le}
-use Rattle.base_lists.specs.Result.{Result, got, bind, each}
+use Rattle.base_lists.specs.Result.{Result, got, each}
 use Rattle.arith.specs.Notation.{_⊗_, _⊘_, count}
 use Rattle.arith.specs.Constants.{eight, ten, hundredth}
 use Rattle.arith.specs.Pick.{maxOf}
@@ -21,6 +21,7 @@ use Rattle.edge_record.specs.declared.Sample.{Sample}
 use Rattle.edge_record.specs.Chain.{lastOf}
 use Rattle.edge_merge.specs.Merge.{mergeFloor, merged}
 use Rattle.edge_thin.specs.Thin.{thinned}
+use Rattle.edge_params.specs.Work.{Work, ends, done, andThen}
 use Rattle.edge_range.specs.declared.Usable.{Usable}
 use Rattle.edge_range.specs.declared.Usable.the-variants.{Range, Unusable}
 use Rattle.edge_range.specs.Usable.{usableRange}
@@ -127,13 +128,13 @@ unfoldable pub finished : Tables → Edge → Resolved → List Float → Result
 finished T e r params = thinnedMerged T e r (placed T e params)
 
 -- the chain over a usable range
-abbrev pub overRange : ℕ → Tables → Edge → Resolved → Interval → Result (List Sample)
-overRange room T e r range = bind (sampled room (edgeCurve T e) range r) (λ params. finished T e r (atLeastTwo range params))
+abbrev pub overRange : Tables → Edge → Resolved → Interval → Work (List Sample)
+overRange T e r range = andThen (sampled (edgeCurve T e) range r) (λ params. ends (finished T e r (atLeastTwo range params)))
 
 -- discretise
-unfoldable pub discretised : ℕ → Tables → Edge → Resolved → Result (List Sample)
-discretised room T e r =
+unfoldable pub discretised : Tables → Edge → Resolved → Work (List Sample)
+discretised T e r =
     elim (usableRange (edgeCurve T e) (e .range)) [
-      | Unusable ↦ got (chordOf T e (e .range .lo) (e .range .hi))
-      | Range range ↦ overRange room T e r range
+      | Unusable ↦ done (chordOf T e (e .range .lo) (e .range .hi))
+      | Range range ↦ overRange T e r range
     ]

@@ -4,7 +4,6 @@ use mathlib.Core.List.{List, [], _∷_}
 use Prim.Native.Nat.{ℕ, zero, suc}
 use lib.Ieee.{Float, lt, le}
 use lib.Ieee.Scale.{finite}
-use Rattle.base_lists.specs.Result.{Result, got, bind}
 use Rattle.arith.specs.Notation.{_⊕_, _⊗_, _⊘_, count, plusZero}
 use Rattle.arith.specs.Constants.{ten, sixteen, fiveTwelve}
 use Rattle.arith.specs.Pick.{maxOf}
@@ -19,6 +18,7 @@ use Rattle.curve.specs.declared.Repeats.{Repeats}
 use Rattle.curve.specs.declared.Repeats.the-variants.{Every, Never}
 use Rattle.curve.specs.Eval.{naturalRange, period, pointAt}
 use Rattle.options.specs.declared.Resolved.{Resolved}
+use Rattle.edge_params.specs.Work.{Work, done, andThen}
 use Rattle.edge_record.specs.declared.Sample.{Sample}
 use Rattle.draw_spec.specs.Edge.{edgeCurve, edgeStart, edgeEnd, chordOf, discretised}
 use Rattle.draw_spec.specs.declared.Way.{Way}
@@ -110,11 +110,11 @@ unfoldable pub arcOrChord : Tables → Edge → Resolved → List Sample → Got
 arcOrChord T e r arc = cond (serves T e r arc) (by ShortArc arc) (runaway T e)
 
 -- drawn and tried, else the chord
-unfoldable pub byShortArc : ℕ → Tables → Edge → Resolved → Result Got
-byShortArc room T e r =
+unfoldable pub byShortArc : Tables → Edge → Resolved → Work Got
+byShortArc T e r =
     elim (hasShortArc T e) [
-      | true ↦ bind (discretised room T (withRange e (shortRange T e)) r) (λ arc. got (arcOrChord T e r arc))
-      | false ↦ got (runaway T e)
+      | true ↦ andThen (discretised T (withRange e (shortRange T e)) r) (λ arc. done (arcOrChord T e r arc))
+      | false ↦ done (runaway T e)
     ]
 
 -- ---- the complementary arc of a periodic curve
@@ -123,23 +123,23 @@ abbrev pub complementRange : Edge → Float → Interval
 complementRange e p = interval (e .range .hi) (e .range .lo ⊕ p)
 
 -- the arc where it stays inside, else the short arc
-abbrev pub complementOrShort : ℕ → Tables → Edge → Resolved → List Sample → Result Got
-complementOrShort room T e r arc =
-    elim (escapes (reference T e) r arc) [ true ↦ byShortArc room T e r | false ↦ got (by Complement arc) ]
+abbrev pub complementOrShort : Tables → Edge → Resolved → List Sample → Work Got
+complementOrShort T e r arc =
+    elim (escapes (reference T e) r arc) [ true ↦ byShortArc T e r | false ↦ done (by Complement arc) ]
 
 -- drawn and tried where its range is not empty, else the short arc
-unfoldable pub byComplement : ℕ → Tables → Edge → Resolved → Float → Result Got
-byComplement room T e r p =
+unfoldable pub byComplement : Tables → Edge → Resolved → Float → Work Got
+byComplement T e r p =
     elim (lt plusZero (spanOf (complementRange e p))) [
-      | true ↦ bind (discretised room T (withRange e (complementRange e p)) r) (λ arc. complementOrShort room T e r arc)
-      | false ↦ byShortArc room T e r
+      | true ↦ andThen (discretised T (withRange e (complementRange e p)) r) (λ arc. complementOrShort T e r arc)
+      | false ↦ byShortArc T e r
     ]
 
 -- ---- repair_runaway
 -- the complementary arc where the curve has a period, else the short arc
-unfoldable pub byPeriod : ℕ → Tables → Edge → Resolved → Repeats → Result Got
-byPeriod room T e r (Every p) = byComplement room T e r p
-byPeriod room T e r Never = byShortArc room T e r
+unfoldable pub byPeriod : Tables → Edge → Resolved → Repeats → Work Got
+byPeriod T e r (Every p) = byComplement T e r p
+byPeriod T e r Never = byShortArc T e r
 
 -- a chain stays where the box has no extent or holds it
 abbrev pub stays : Tables → Edge → Resolved → List Sample → Bool
@@ -148,6 +148,6 @@ stays T e r chain =
     isEmpty box || (not (lt plusZero (diagonal box)) || not (escapes box r chain))
 
 -- a chain that stays, or what is drawn in its place
-unfoldable pub repaired : ℕ → Tables → Edge → Resolved → Got → Result Got
-repaired room T e r g =
-    elim (stays T e r (g .chain)) [ true ↦ got g | false ↦ byPeriod room T e r (period (edgeCurve T e)) ]
+unfoldable pub repaired : Tables → Edge → Resolved → Got → Work Got
+repaired T e r g =
+    elim (stays T e r (g .chain)) [ true ↦ done g | false ↦ byPeriod T e r (period (edgeCurve T e)) ]

@@ -17,7 +17,9 @@ use Rattle.brep.specs.Tree.{CurveTree}
 use Rattle.options.specs.declared.Resolved.{Resolved}
 use Rattle.edge_params.specs.declared.Listed.{Listed}
 use Rattle.edge_params.specs.declared.Listed.the-variants as listed
+use Rattle.edge_params.specs.Work.{ends, overflows, within}
 use Rattle.edge_params.specs.Own.Written.{said}
+use Rattle.edge_params.proofs.Work.{within-then}
 use Rattle.edge_record.specs.declared.Sample.{Sample}
 use Rattle.edge_record.specs.declared.Counted.{Counted}
 use Rattle.edge_record.specs.declared.Counted.the-variants.{Refused, Count}
@@ -29,9 +31,9 @@ use Rattle.edge_range.specs.Usable.{usableRange}
 use Rattle.edge_subdivide.specs.Own.Recorded.{Room}
 use Rattle.base_lists.specs.Own.ListOf.{listOf}
 use Rattle.edge_sample.specs.Sample.{sampled}
-use Rattle.edge_sample.specs.Own.Answered.{SampledInto}
+use Rattle.edge_sample.specs.Own.Answered.{sampledIn, SampledInto}
 use Rattle.edge_sample.specs.Own.Traced.{Traced, traced, tracedSampled}
-use Rattle.edge_sample.proofs.Laws.{sampled-two, sampled-room}
+use Rattle.edge_sample.proofs.Laws.{sampled-two, sampled-room, sampled-in}
 use Rattle.edge_sample.proofs.Ways.{reads-held}
 use Rattle.edge_closed_form.specs.Located.{located}
 use Rattle.draw_spec.specs.Edge.{edgeCurve, atLeastTwo, chordOf, placed, thinnedMerged, finished, overRange, discretised}
@@ -74,8 +76,8 @@ pub record Sampling (room : ℕ) (S : Result (List Float)) (n : ℕ) (out : List
   pub floats : out ≡ filled room params
 
 pub sampling-some : (room : ℕ) (c : CurveTree) (range : Interval) (r : Resolved) (w : Listed) (n : ℕ) (out : List Float)
-    → SampledInto room (sampled room c range r) w out → w ≡ listed.Count n → Sampling room (sampled room c range r) n out
-sampling-some room c range r w n out p e = go (sampled room c range r) (λ l q. sampled-two room c range r l q) (λ l q. sampled-room room c range r l q) p
+    → SampledInto room (sampledIn room c range r) w out → w ≡ listed.Count n → Sampling room (sampledIn room c range r) n out
+sampling-some room c range r w n out p e = go (sampledIn room c range r) (λ l q. sampled-two room c range r l q) (λ l q. sampled-room room c range r l q) p
   where
     go : (S : Result (List Float)) → ((l : List Float) → S ≡ got l → 2 ≤ length l) → ((l : List Float) → S ≡ got l → length l ≤ room)
         → SampledInto room S w out → Sampling room S n out
@@ -101,7 +103,19 @@ module _ {room : ℕ} {S : Result (List Float)} {n : ℕ} {out : List Float} (s 
       ap (λ (l : List Float). l ++ drop n out) (h ∙ ap (λ (k : ℕ). filled k []) part-length) ∙ ap (λ (l : List Float). filled n [] ++ drop n l) (s .floats)
       ∙ filled-part room n (s .params) [] (s .size) (s .fits) (omega arith)
 
-module _ {room : ℕ} (T : Tables) (e : Edge) (r : Resolved) (range : Interval) {n : ℕ} {out : List Float} (s : Sampling room (sampled room (edgeCurve T e) range r) n out)
+-- a range drawn in a room: the parameters that fit it, finished
+module _ (T : Tables) (e : Edge) (r : Resolved) (range : Interval) (room : ℕ) where
+  over-in : within room (overRange T e r range) ≡ bind (sampledIn room (edgeCurve T e) range r) (λ params. finished T e r (atLeastTwo range params))
+  unfolding overflows
+  over-in =
+      within-then room (sampled (edgeCurve T e) range r) (λ params. ends (finished T e r (atLeastTwo range params)))
+      ∙ ap (λ (x : Result (List Float)). bind x (λ params. finished T e r (atLeastTwo range params))) (sampled-in room (edgeCurve T e) range r)
+
+  pub into-over : {n : ℕ} {w : Counted} {g : List Float} → ChainInto n (bind (sampledIn room (edgeCurve T e) range r) (λ params. finished T e r (atLeastTwo range params))) w g
+      → ChainInto n (within room (overRange T e r range)) w g
+  into-over {n} = into-is n n _ _ refl (sym over-in)
+
+module _ {room : ℕ} (T : Tables) (e : Edge) (r : Resolved) (range : Interval) {n : ℕ} {out : List Float} (s : Sampling room (sampledIn room (edgeCurve T e) range r) n out)
     (chain d : List Float) (fits : width * n ≤ length chain) (p : d ≡ sets chain 0 (flat (placed T e (take n out)))) where
   pub placed-room : width * n ≤ length d
   placed-room = omega (arith, ap length p, length-sets chain 0 (flat (placed T e (take n out))))
@@ -112,18 +126,18 @@ module _ {room : ℕ} (T : Tables) (e : Edge) (r : Resolved) (range : Interval) 
       let k : length P ≡ n = placed-length T e (s .params) ∙ s .size in
       ap (λ (i : ℕ). samples i d) (sym k) ∙ ap (samples (length P)) (p ∙ ap (λ (l : List Float). sets chain 0 (flat (placed T e l))) (params-of s)) ∙ read-back chain P (omega arith)
 
-  over-some : thinnedMerged T e r (samples n d) ≡ overRange room T e r range
+  over-some : thinnedMerged T e r (samples n d) ≡ within room (overRange T e r range)
   unfolding finished
   over-some =
       ap (thinnedMerged T e r) reads-placed
       ∙ ap (finished T e r) (sym (two-or-more range (s .params) (omega (arith, s .two, s .size))))
-      ∙ ap (λ (x : Result (List Float)). bind x (λ params. finished T e r (atLeastTwo range params))) (sym (s .is))
+      ∙ ap (λ (x : Result (List Float)). bind x (λ params. finished T e r (atLeastTwo range params))) (sym (s .is)) ∙ sym (over-in T e r range room)
 
-  pub into-some : (w : Counted) (g : List Float) → ChainInto (length d) (thinnedMerged T e r (samples n d)) w g → ChainInto (length chain) (overRange room T e r range) w g
+  pub into-some : (w : Counted) (g : List Float) → ChainInto (length d) (thinnedMerged T e r (samples n d)) w g → ChainInto (length chain) (within room (overRange T e r range)) w g
   into-some w g = into-is (length d) (length chain) _ _ (ap length p ∙ length-sets chain 0 (flat (placed T e (take n out)))) over-some
 
 -- what sample_params left in the part of the chain that it was lent, where it says that these are the parameters' records
-module _ {room : ℕ} (T : Tables) (e : Edge) (r : Resolved) (range : Interval) {n : ℕ} {out : List Float} (s : Sampling room (sampled room (edgeCurve T e) range r) n out)
+module _ {room : ℕ} (T : Tables) (e : Edge) (r : Resolved) (range : Interval) {n : ℕ} {out : List Float} (s : Sampling room (sampledIn room (edgeCurve T e) range r) n out)
     {known : Bool} (part left more : List Float) (wide : width * room ≤ length part) (p : traced known left ≡ tracedSampled room (edgeCurve T e) range r part) where
   pub held : known ≡ true → samples (length (take n out)) (left ++ more) ≡ located (edgeCurve T e) (take n out)
   held h =
@@ -181,12 +195,12 @@ cleared-whole n left scratch h l q =
     ∙ filled-twice (length scratch) n h
 
 module _ (room : ℕ) (T : Tables) (e : Edge) (r : Resolved) (k : ℕ) {w : Counted} {g : List Float} (u : Usable) (own : u ≡ usableRange (edgeCurve T e) (e .range)) where
-  pub into-range : (range : Interval) (j : ℕ) → u ≡ Range range → j ≡ room → ChainInto k (overRange j T e r range) w g → ChainInto k (discretised room T e r) w g
+  pub into-range : (range : Interval) (j : ℕ) → u ≡ Range range → j ≡ room → ChainInto k (within j (overRange T e r range)) w g → ChainInto k (within room (discretised T e r)) w g
   unfolding discretised
   into-range range j q h =
-      let s : overRange room T e r range ≡ discretised room T e r = rw (sym own ∙ q, discretised) in
-      into-is k k _ _ refl (ap (λ (i : ℕ). overRange i T e r range) h ∙ s)
+      let s : overRange T e r range ≡ discretised T e r = rw (sym own ∙ q, discretised) in
+      into-is k k _ _ refl (ap (λ (i : ℕ). within i (overRange T e r range)) h ∙ ap (within room) s)
 
-  pub into-chord : u ≡ Unusable → w ≡ Count 2 → g ≡ filled k (flat (chordOf T e (e .range .lo) (e .range .hi))) → ChainInto k (discretised room T e r) w g
-  unfolding discretised
+  pub into-chord : u ≡ Unusable → w ≡ Count 2 → g ≡ filled k (flat (chordOf T e (e .range .lo) (e .range .hi))) → ChainInto k (within room (discretised T e r)) w g
+  unfolding discretised overflows
   into-chord q a b = rw (sym own ∙ q, discretised) (record { answered = a; holds = b })

@@ -17,6 +17,7 @@ ghost use Rattle.brep.specs.Tree.{tree};
 ghost use Rattle.curve.specs.Eval.{isSampled};
 ghost use Rattle.knots_sort.specs.Own.Sortable.{mostKnots};
 ghost use Rattle.knots.specs.Knots.{curveKnots};
+ghost use Rattle.edge_params.specs.Work.{within};
 ghost use Rattle.edge_range.specs.Usable.{usableRange};
 ghost use Rattle.edge_record.specs.Own.Stored.{countedOf, after};
 ghost use Rattle.edge_record.specs.Chain.{width, shortest, most, flat, samples};
@@ -147,7 +148,7 @@ fn draw_range(
 ) -> Counted
     requires { ⌜ (length (now scratch) ≤ most) × (width * length (now scratch) ≤ length (now chain))
         × (length (curveKnots (tree (lent points curves reals parts ranges) (edge .curve))) ≤ mostKnots) ⌝ }
-    ensures { λ w. ⌜ ChainInto (length (now (chain .entry))) (overRange (length (now (scratch .entry))) (given points curves reals parts ranges) edge r range) w (now (chain .exit))
+    ensures { λ w. ⌜ ChainInto (length (now (chain .entry))) (within (length (now (scratch .entry))) (overRange (given points curves reals parts ranges) edge r range)) w (now (chain .exit))
         × (now (scratch .exit) ≡ filled (length (now (scratch .entry))) []) ⌝ }
 {
     let row = edge.curve;
@@ -204,7 +205,7 @@ pub fn discretise_usable(
 ) -> Counted
     requires { ⌜ (shortest ≤ length (now chain)) × (shortest ≤ length (now scratch)) × (length (curveKnots (tree (lent points curves reals parts ranges) (edge .curve))) ≤ mostKnots)
         × (usable ≡ usableRange (tree (lent points curves reals parts ranges) (edge .curve)) (edge .range)) ⌝ }
-    ensures { λ w. ⌜ DiscretisedInto (λ room. discretised room (given points curves reals parts ranges) edge r) (now (chain .entry)) (now (scratch .entry)) w (now (chain .exit)) (now (scratch .exit)) ⌝ }
+    ensures { λ w. ⌜ DiscretisedInto (discretised (given points curves reals parts ranges) edge r) (now (chain .entry)) (now (scratch .entry)) w (now (chain .exit)) (now (scratch .exit)) ⌝ }
 {
     let Usable::Range(range) = usable else {
         chord(points, edge, edge.range.lo, edge.range.hi, chain);
@@ -243,7 +244,7 @@ pub fn discretise(
     scratch: &mut [f64],
 ) -> Counted
     requires { ⌜ (shortest ≤ length (now chain)) × (shortest ≤ length (now scratch)) × (length (curveKnots (tree (lent points curves reals parts ranges) (edge .curve))) ≤ mostKnots) ⌝ }
-    ensures { λ w. ⌜ DiscretisedInto (λ room. discretised room (given points curves reals parts ranges) edge r) (now (chain .entry)) (now (scratch .entry)) w (now (chain .exit)) (now (scratch .exit)) ⌝ }
+    ensures { λ w. ⌜ DiscretisedInto (discretised (given points curves reals parts ranges) edge r) (now (chain .entry)) (now (scratch .entry)) w (now (chain .exit)) (now (scratch .exit)) ⌝ }
 {
     let usable = edge_range::usable_range(
         points,

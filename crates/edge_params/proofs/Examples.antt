@@ -3,6 +3,7 @@ use mathlib.Core.Path.{_≡_, refl}
 use mathlib.Core.Bool.{Bool, true, false}
 use mathlib.Core.List.{List, [], _∷_}
 use Prim.Native.Nat.{ℕ}
+use lib.ListN.{take}
 use lib.Ieee.{Float, lt, eq, ne, add, sub, mul, div, ofBits, ofInt}
 use Rattle.arith.specs.Notation.{_⊖_, bits, plusZero, half, one, two}
 use Rattle.base_lists.specs.Result.{refused, got}
@@ -11,7 +12,8 @@ use Rattle.math.specs.Math.{at, interval}
 use Rattle.edge_params.specs.declared.Closed.{Closed}
 use Rattle.edge_params.specs.declared.Closed.the-variants.{Unknown, Segments}
 use Rattle.knots_inside.specs.Thinned.{thinnedFrom, thinBreaks}
-use Rattle.edge_params.specs.Params.{subdivided, Sampler, steps, fitting, breaksAlong, unlessHi, walked, through, floored, refined, sampleParams}
+use Rattle.edge_params.specs.Work.{joins, joining, overflows, within}
+use Rattle.edge_params.specs.Params.{subdivided, Sampler, steps, breaksAlong, unlessHi, walked, through, floored, refined, sampleParams}
 
 abbrev three : Float
 three = bits 0x4008000000000000
@@ -40,46 +42,56 @@ long = interval plusZero five
 quarters : List Float
 quarters = plusZero ∷ bits 0x3FF4000000000000 ∷ between ∷ bits 0x400E000000000000 ∷ five ∷ []
 
-closed-stands : sampleParams 5 (flat (Segments 4) true 1 []) long ≡ got quarters
-unfolding flat long quarters sampleParams fitting steps at add sub mul div ofInt ofBits
+closed-stands : within 5 (sampleParams (flat (Segments 4) true 1 []) long) ≡ got quarters
+unfolding flat long quarters sampleParams overflows joining steps at add sub mul div ofInt ofBits
 closed-stands = refl
 
-closed-refused : sampleParams 4 (flat (Segments 4) true 1 []) long ≡ refused 8
-unfolding flat long sampleParams fitting steps
+closed-refused : within 4 (sampleParams (flat (Segments 4) true 1 []) long) ≡ refused 8
+unfolding flat long sampleParams overflows joining steps
 closed-refused = refl
 
 -- one that leaves the curve is bisected; a floor of four segments then asks for even steps
-closed-fails : sampleParams 5 (flat (Segments 1) false 4 []) long ≡ got quarters
-unfolding flat long quarters sampleParams refined fitting through breaksAlong walked subdivided unlessHi floored steps at add sub mul div ofInt ofBits lt eq ne
+closed-fails : within 5 (sampleParams (flat (Segments 1) false 4 []) long) ≡ got quarters
+unfolding flat long quarters sampleParams refined overflows joining through breaksAlong walked subdivided unlessHi floored steps at add sub mul div ofInt ofBits lt eq ne
 closed-fails = refl
 
+-- the acts in order: both lists of 0 and 5, then the first of the even steps
+closed-fails-acts : take 5 (sampleParams (flat (Segments 1) false 4 []) long .acts) ≡ joins 1 plusZero ∷ joins 2 five ∷ joins 1 plusZero ∷ joins 2 five ∷ joins 1 plusZero ∷ []
+unfolding flat long sampleParams refined joining through breaksAlong walked subdivided unlessHi floored steps at add sub mul div ofInt ofBits lt eq ne
+closed-fails-acts = refl
+
+-- a list that is formed and not kept is refused too: five steps where two parameters are the answer
+closed-refused-late : within 4 (sampleParams (flat (Segments 4) false 1 []) long) ≡ refused 8
+unfolding flat long sampleParams refined overflows joining through breaksAlong walked subdivided unlessHi floored steps at add sub mul div ofInt ofBits lt eq ne
+closed-refused-late = refl
+
 -- ---- bisection: 3..3 gives 3, 3
-same : sampleParams 2 (flat Unknown true 1 []) (interval three three) ≡ got (three ∷ three ∷ [])
-unfolding flat sampleParams refined fitting through breaksAlong walked subdivided unlessHi floored ofBits lt eq ne
+same : within 2 (sampleParams (flat Unknown true 1 []) (interval three three)) ≡ got (three ∷ three ∷ [])
+unfolding flat sampleParams refined overflows joining through breaksAlong walked subdivided unlessHi floored ofBits lt eq ne
 same = refl
 
 -- 0..4 split twice
-twice : sampleParams 5 (bent 2 []) (interval plusZero four) ≡ got (plusZero ∷ one ∷ two ∷ three ∷ four ∷ [])
-unfolding bent sampleParams refined fitting through breaksAlong walked subdivided unlessHi floored add mul ofBits lt eq ne
+twice : within 5 (sampleParams (bent 2 []) (interval plusZero four)) ≡ got (plusZero ∷ one ∷ two ∷ three ∷ four ∷ [])
+unfolding bent sampleParams refined overflows joining through breaksAlong walked subdivided unlessHi floored add mul ofBits lt eq ne
 twice = refl
 
 -- 4..0 with breaks 1 and 2, each span split once
-backwards : sampleParams 7 (bent 1 (one ∷ two ∷ [])) (interval four plusZero)
+backwards : within 7 (sampleParams (bent 1 (one ∷ two ∷ [])) (interval four plusZero))
     ≡ got (four ∷ three ∷ two ∷ bits 0x3FF8000000000000 ∷ one ∷ half ∷ plusZero ∷ [])
-unfolding bent sampleParams refined fitting through breaksAlong walked subdivided unlessHi floored add mul ofBits lt eq ne
+unfolding bent sampleParams refined overflows joining through breaksAlong walked subdivided unlessHi floored add mul ofBits lt eq ne
 backwards = refl
 
-bisected-refused : sampleParams 6 (bent 1 (one ∷ two ∷ [])) (interval four plusZero) ≡ refused 8
-unfolding bent sampleParams refined fitting through breaksAlong walked subdivided unlessHi add mul ofBits lt eq ne
+bisected-refused : within 6 (sampleParams (bent 1 (one ∷ two ∷ [])) (interval four plusZero)) ≡ refused 8
+unfolding bent sampleParams refined overflows joining through breaksAlong walked subdivided unlessHi add mul ofBits lt eq ne
 bisected-refused = refl
 
 -- 0..3 with a break at 1 has two segments: a floor of two is met, one of three is not
-floor-met : sampleParams 4 (flat Unknown true 2 (one ∷ [])) (interval plusZero three) ≡ got (plusZero ∷ one ∷ three ∷ [])
-unfolding flat sampleParams refined fitting through breaksAlong walked subdivided unlessHi floored ofBits lt eq ne
+floor-met : within 4 (sampleParams (flat Unknown true 2 (one ∷ [])) (interval plusZero three)) ≡ got (plusZero ∷ one ∷ three ∷ [])
+unfolding flat sampleParams refined overflows joining through breaksAlong walked subdivided unlessHi floored ofBits lt eq ne
 floor-met = refl
 
-floor-missed : sampleParams 4 (flat Unknown true 3 (one ∷ [])) (interval plusZero three) ≡ got (plusZero ∷ one ∷ two ∷ three ∷ [])
-unfolding flat sampleParams refined fitting through breaksAlong walked subdivided unlessHi floored steps at add sub mul div ofInt ofBits lt eq ne
+floor-missed : within 4 (sampleParams (flat Unknown true 3 (one ∷ [])) (interval plusZero three)) ≡ got (plusZero ∷ one ∷ two ∷ three ∷ [])
+unfolding flat sampleParams refined overflows joining through breaksAlong walked subdivided unlessHi floored steps at add sub mul div ofInt ofBits lt eq ne
 floor-missed = refl
 
 -- ---- breaks 1, 2, 3 of 0..4, the deviation of a span being its width, sag 2.5: from 0 the chord to 2 is within it and that to 3

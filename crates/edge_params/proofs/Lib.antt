@@ -1,3 +1,4 @@
+pub mod Work
 pub mod Examples
 pub mod Steady
 pub mod Runs

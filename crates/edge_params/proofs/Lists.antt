@@ -1,5 +1,5 @@
--- What holds of even steps and of bisection holds of the parameters that sampling gives; they fit the room, and 8 is the only
--- refusal. Assumes nothing.
+-- What holds of even steps and of bisection holds of the parameters that sampling gives; they fit the room, and no refusal but 8,
+-- for the room, is made. Assumes nothing.
 use mathlib.Core.Path.{_≡_, refl, subst}
 use mathlib.Core.Bool.{Bool, true, false}
 use mathlib.Core.List.{List, [], _∷_, _++_}
@@ -14,7 +14,9 @@ use Rattle.base_lists.specs.Result.{Result, refused, got, bind}
 use Rattle.math.specs.declared.Interval.{Interval}
 use Rattle.edge_params.specs.declared.Closed.{Closed}
 use Rattle.edge_params.specs.declared.Closed.the-variants.{Unknown, Segments}
-use Rattle.edge_params.specs.Params.{midpoint, subdivided, Sampler, steps, evenly, fitting, bisected, floored, refined, sampleParams}
+use Rattle.edge_params.specs.Params.{midpoint, subdivided, Sampler, steps, evenly, bisected, floored, refined, sampleParams}
+use Rattle.edge_params.specs.Work.{Work, done, forms, andThen}
+use Rattle.edge_params.specs.Own.InRoom.{fitting, flooredIn, refinedIn, sampleParamsIn}
 
 pub steps-length : (range : Interval) (n k : ℕ) → length (steps range n k) ≡ k
 unfolding steps
@@ -54,10 +56,6 @@ pub gives-got : {P : List Float → Type 0} {r : Result (List Float)} (l : List 
 gives-got {P} l (list {l = k} p) e = let q : k ≡ l = cc in subst P q p
 gives-got l eight e = let z : _≡_ {A = ℕ} 0 1 = cc in absurd (omega arith)
 
-pub gives-refused : {P : List Float → Type 0} {r : Result (List Float)} (n : ℕ) → Gives P r → r ≡ refused n → n ≡ 8
-gives-refused n (list p) e = let z : _≡_ {A = ℕ} 0 1 = cc in absurd (omega arith)
-gives-refused n eight e = cc
-
 gives-bind : {P Q : List Float → Type 0} {r : Result (List Float)} (f : List Float → Result (List Float)) → Gives P r
     → ((l : List Float) → P l → Gives Q (f l)) → Gives Q (bind r f)
 gives-bind f (list {l = l} p) g = g l p
@@ -78,43 +76,69 @@ module _ (P : List Float → Type 0) (room : ℕ) (s : Sampler) (range : Interva
   even-gives : (n : ℕ) → Gives P (fitting room (evenly range n))
   even-gives n = fitting-gives (evenly range n) (λ h. even n (omega (arith, steps-length range n (suc n))))
 
-  floored-gives : (l : List Float) → P l → Gives P (floored room s range l)
-  unfolding floored
+  floored-gives : (l : List Float) → P l → Gives P (flooredIn room s range l)
+  unfolding flooredIn
   floored-gives l p = go (ltb (length l - 1) (s .least))
     where
       go : (t : Bool) → Gives P (elim t [ true ↦ fitting room (evenly range (s .least)) | false ↦ got l ])
       go true = even-gives (s .least)
       go false = list p
 
-  refined-gives : Gives P (refined room s range)
-  unfolding refined
-  refined-gives = gives-bind (floored room s range) (fitting-gives (bisected s range) halves) floored-gives
+  refined-gives : Gives P (refinedIn room s range)
+  unfolding refinedIn
+  refined-gives = gives-bind (flooredIn room s range) (fitting-gives (bisected s range) halves) floored-gives
 
-  pub sampled-gives : Gives P (sampleParams room s range)
-  unfolding sampleParams
+  pub sampled-gives : Gives P (sampleParamsIn room s range)
+  unfolding sampleParamsIn
   sampled-gives = go (s .closed)
     where
-      checked : (l : List Float) → P l → (t : Bool) → Gives P (elim t [ true ↦ got l | false ↦ refined room s range ])
+      checked : (l : List Float) → P l → (t : Bool) → Gives P (elim t [ true ↦ got l | false ↦ refinedIn room s range ])
       checked l p true = list p
       checked l p false = refined-gives
 
       go : (c : Closed) → Gives P (elim c [
-        | Unknown ↦ refined room s range
-        | Segments n ↦ bind (fitting room (evenly range n)) (λ l. elim (s .meets l) [ true ↦ got l | false ↦ refined room s range ])
+        | Unknown ↦ refinedIn room s range
+        | Segments n ↦ bind (fitting room (evenly range n)) (λ l. elim (s .meets l) [ true ↦ got l | false ↦ refinedIn room s range ])
       ])
       go Unknown = refined-gives
       go (Segments n) =
-          gives-bind (λ l. elim (s .meets l) [ true ↦ got l | false ↦ refined room s range ]) (even-gives n)
+          gives-bind (λ l. elim (s .meets l) [ true ↦ got l | false ↦ refinedIn room s range ]) (even-gives n)
           (λ l p. checked l p (s .meets l))
 
--- ---- at most as many as the room has, and no refusal but 8
-module _ (room : ℕ) (s : Sampler) (range : Interval) where
-  sampled-fit : Gives (λ l. length l ≤ room) (sampleParams room s range)
-  sampled-fit =
-      sampled-gives (λ l. length l ≤ room) room s range (λ n h. omega (arith, steps-length range n (suc n))) (λ h. h)
+-- ---- at most as many as the room has
+pub sampled-length : (room : ℕ) (s : Sampler) (range : Interval) (l : List Float) → sampleParamsIn room s range ≡ got l → length l ≤ room
+sampled-length room s range l e =
+    gives-got l (sampled-gives (λ l. length l ≤ room) room s range (λ n h. omega (arith, steps-length range n (suc n))) (λ h. h)) e
 
-  pub sampled-length : (l : List Float) → sampleParams room s range ≡ got l → length l ≤ room
-  sampled-length l e = gives-got l sampled-fit e
+-- ---- the reference's own sampling always ends
+module _ (n : ℕ) where
+  -- a work that does not come to refusal n
+  abbrev Never : Work (List Float) → Type 0
+  Never w = w .end ≡ refused n → ⊥
 
-  pub sampled-refused : (n : ℕ) → sampleParams room s range ≡ refused n → n ≡ 8
-  sampled-refused n e = gives-refused n sampled-fit e
+  list-never : (l : List Float) → _≡_ {A = Result (List Float)} (got l) (refused n) → ⊥
+  list-never l e = let z : _≡_ {A = ℕ} 0 1 = cc in omega arith
+
+  module _ (s : Sampler) (range : Interval) where
+    floored-never : (l : List Float) → Never (floored s range l)
+    unfolding floored
+    floored-never l = go (ltb (length l - 1) (s .least))
+      where
+        go : (t : Bool) → Never (elim t [ true ↦ forms (evenly range (s .least)) | false ↦ done l ])
+        go true = list-never (evenly range (s .least))
+        go false = list-never l
+
+    pub sampled-never : sampleParams s range .end ≡ refused n → ⊥
+    unfolding sampleParams refined
+    sampled-never = go (s .closed)
+      where
+        checked : (l : List Float) (t : Bool) → Never (elim t [ true ↦ done l | false ↦ refined s range ])
+        checked l true = list-never l
+        checked l false = floored-never (bisected s range)
+
+        go : (c : Closed) → Never (elim c [
+          | Unknown ↦ refined s range
+          | Segments k ↦ andThen (forms (evenly range k)) (λ l. elim (s .meets l) [ true ↦ done l | false ↦ refined s range ])
+        ])
+        go Unknown = floored-never (bisected s range)
+        go (Segments k) = checked (evenly range k) (s .meets (evenly range k))

@@ -20,7 +20,8 @@ use Rattle.knots_inside.specs.Breaks.{insideOf}
 use Rattle.knots_inside.proofs.Kept.{inside-all}
 use Rattle.knots_inside.proofs.Between.{Between, inside-between}
 use Rattle.knots_inside.specs.Thinned.{nextOf, thinnedFrom, thinBreaks}
-use Rattle.edge_params.specs.Params.{Sampler, evenly, breaksAlong, through, bisected, sampleParams}
+use Rattle.edge_params.specs.Params.{Sampler, evenly, breaksAlong, through, bisected}
+use Rattle.edge_params.specs.Own.InRoom.{sampleParamsIn}
 use Rattle.edge_params.proofs.Steady.{Steady, rising, falling}
 use Rattle.edge_params.proofs.Runs.{Good, good-number, good-between, up, down, evenly-pairs, through-pairs}
 use Rattle.edge_params.proofs.Lists.{gives-got, sampled-gives}
@@ -69,7 +70,7 @@ module _ (s : Sampler) (range : Interval) (sampleable : Sampleable s range) wher
           (goods (sampleable .low) (sampleable .high) (sampleable .fit) w) (rising-ends e) (w .from) (w .to) (w .pairs))
 
   -- ---- what a caller cites
-  module _ (room : ℕ) (small : room ≤ 2 ^ 53) (l : List Float) (e : sampleParams room s range ≡ got l) where
+  module _ (room : ℕ) (small : room ≤ 2 ^ 53) (l : List Float) (e : sampleParamsIn room s range ≡ got l) where
     pub sampled-steady : Steady l
     sampled-steady =
         gives-got l

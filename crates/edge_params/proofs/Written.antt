@@ -14,7 +14,7 @@ use borrow.Author.Tests.{le-leb, lt-leb, leb-true, leb-false}
 use Rattle.base_lists.specs.Result.{refused, got, each}
 use Rattle.edge_params.specs.declared.Listed.{Listed}
 use Rattle.edge_params.specs.declared.Listed.the-variants.{Count, Refused}
-use Rattle.edge_params.specs.Params.{fitting}
+use Rattle.edge_params.specs.Own.InRoom.{fitting}
 use Rattle.edge_params.specs.Own.Written.{said, ListWritten, ListAppended}
 
 -- ---- stores in parts

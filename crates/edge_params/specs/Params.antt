@@ -3,14 +3,14 @@ use mathlib.Core.Bool.{Bool, true, false}
 use mathlib.Core.List.{List, [], _∷_, _++_, reverse}
 use Prim.Native.Nat.{ℕ, zero, suc, _-_}
 use lib.ListN.{length}
-use lib.Dec.{leb, ltb}
+use lib.Dec.{ltb}
 use lib.Ieee.{Float, lt, ne}
 use Rattle.arith.specs.Notation.{_⊕_, _⊗_, _⊘_, count, half}
-use Rattle.base_lists.specs.Result.{Result, refused, got, bind}
 use Rattle.math.specs.declared.Interval.{Interval}
 use Rattle.math.specs.Math.{at}
 use Rattle.edge_params.specs.declared.Closed.{Closed}
 use Rattle.edge_params.specs.declared.Closed.the-variants.{Unknown, Segments}
+use Rattle.edge_params.specs.Work.{Work, done, forms, andThen}
 
 -- ---- subdivide of edge.rs
 -- 0.5 * (a + b)
@@ -55,14 +55,6 @@ steps range n (suc k) = steps range n k ++ (stepAt range n k ∷ [])
 abbrev pub evenly : Interval → ℕ → List Float
 evenly range n = steps range n (suc n)
 
--- a list that fits the room; 8 where a parameter more than that would join it
-unfoldable pub fitting : ℕ → List Float → Result (List Float)
-fitting room l =
-    elim (leb (length l) room) [
-      | true ↦ got l
-      | false ↦ refused 8
-    ]
-
 -- the breaks, the range's own way round
 unfoldable pub breaksAlong : Sampler → Interval → List Float
 breaksAlong s range =
@@ -93,21 +85,21 @@ abbrev pub bisected : Sampler → Interval → List Float
 bisected s range = through s range (breaksAlong s range)
 
 -- the segment floor: even steps where a list has fewer segments
-unfoldable pub floored : ℕ → Sampler → Interval → List Float → Result (List Float)
-floored room s range out =
+unfoldable pub floored : Sampler → Interval → List Float → Work (List Float)
+floored s range out =
     elim (ltb (length out - 1) (s .least)) [
-      | true ↦ fitting room (evenly range (s .least))
-      | false ↦ got out
+      | true ↦ forms (evenly range (s .least))
+      | false ↦ done out
     ]
 
 -- the way of a curve that has no closed form, or whose closed form leaves the curve by more than the sag
-unfoldable pub refined : ℕ → Sampler → Interval → Result (List Float)
-refined room s range = bind (fitting room (bisected s range)) (floored room s range)
+unfoldable pub refined : Sampler → Interval → Work (List Float)
+refined s range = andThen (forms (bisected s range)) (floored s range)
 
--- sample_params: the parameters, or refusal 8 at the first list that is longer than the room
-unfoldable pub sampleParams : ℕ → Sampler → Interval → Result (List Float)
-sampleParams room s range =
+-- sample_params: the lists that it forms, and the parameters that it comes to
+unfoldable pub sampleParams : Sampler → Interval → Work (List Float)
+sampleParams s range =
     elim (s .closed) [
-      | Unknown ↦ refined room s range
-      | Segments n ↦ bind (fitting room (evenly range n)) (λ l. elim (s .meets l) [ true ↦ got l | false ↦ refined room s range ])
+      | Unknown ↦ refined s range
+      | Segments n ↦ andThen (forms (evenly range n)) (λ l. elim (s .meets l) [ true ↦ done l | false ↦ refined s range ])
     ]

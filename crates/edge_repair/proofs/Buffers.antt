@@ -17,6 +17,7 @@ use Rattle.math.specs.declared.Aabb.{Aabb}
 use Rattle.brep.specs.declared.Edge.{Edge}
 use Rattle.brep.specs.Rows.{Tables}
 use Rattle.options.specs.declared.Resolved.{Resolved}
+use Rattle.edge_params.specs.Work.{Work, within}
 use Rattle.edge_record.specs.declared.Sample.{Sample}
 use Rattle.edge_record.specs.declared.Counted.{Counted}
 use Rattle.edge_record.specs.declared.Counted.the-variants as counts
@@ -44,23 +45,23 @@ enough : (a b : ℕ) → shortest ≤ a → shortest ≤ b → Room (roomOf a b)
 unfolding roomOf
 enough a b h k = record { least = omega arith; most = omega arith }
 
-discretised-late : (T : Tables) (e : Edge) (r : Resolved) (a b n : ℕ) → shortest ≤ a → shortest ≤ b → discretised (roomOf a b) T e r ≡ refused n → 7 < n
+discretised-late : (T : Tables) (e : Edge) (r : Resolved) (a b n : ℕ) → shortest ≤ a → shortest ≤ b → within (roomOf a b) (discretised T e r) ≡ refused n → 7 < n
 discretised-late T e r a b n h k q =
     ⊎-elim (λ (z : n ≡ 8). omega arith) (λ (z : n ≡ 9). omega arith)
     (answers-refused n (discretised-answers ⊥ T e (λ x. absurd x) (λ x. absurd x) (roomOf a b) (enough a b h k) r) q)
 
 pub redrawn-chain : (T : Tables) (e d : Edge) (r : Resolved) {first second : List Float} {w : Counted} {first' second' : List Float} → shortest ≤ length first → shortest ≤ length second → e ≡ d
-    → DiscretisedInto (λ room. discretised room T e r) second first w second' first'
-    → RedrawnChain (discretised (roomOf (length first) (length second)) T d r) first second w first' second'
+    → DiscretisedInto (discretised T e r) second first w second' first'
+    → RedrawnChain (within (roomOf (length first) (length second)) (discretised T d r)) first second w first' second'
 redrawn-chain T e d r {first} {second} h k s p =
-    let q : discretised (roomOf (length second) (length first)) T e r ≡ discretised (roomOf (length first) (length second)) T d r =
+    let q : within (roomOf (length second) (length first)) (discretised T e r) ≡ within (roomOf (length first) (length second)) (discretised T d r) =
     rw (s, room-swap (length second) (length first)) in
     let a = p .drawn .answered ∙ ap counted q in
     record {
       answered = a;
       firstHolds = p .cleared;
       secondHolds = p .drawn .holds ∙ ap (λ (X : Result (List Sample)). filled (length second) (flat (listOf X))) q;
-      late = λ n t. go n (discretised (roomOf (length first) (length second)) T d r) (discretised-late T d r (length first) (length second) n h k) (sym t ∙ a);
+      late = λ n t. go n (within (roomOf (length first) (length second)) (discretised T d r)) (discretised-late T d r (length first) (length second) n h k) (sym t ∙ a);
     }
   where
     go : (n : ℕ) (X : Result (List Sample)) → (X ≡ refused n → 7 < n) → counts.Refused n ≡ counted X → 7 < n
@@ -91,12 +92,12 @@ module _ {X : Result (List Sample)} {first second : List Float} {w : Counted} {f
       go (got l) a b = record { chain = l; is = refl; size = cc; floats = b ∙ ap (λ (k : ℕ). filled k (flat l)) (sym e) }
 
   -- a refusal is carried on
-  pub redrawn-refused : (D : ℕ → Result Got) (f : List Sample → Result Got) (n : ℕ) → w ≡ counts.Refused n
-      → D (roomOf (length first) (length second)) ≡ bind X f → RedrawnInto D first second (Refused n) first' second'
+  pub redrawn-refused : (D : Work Got) (f : List Sample → Result Got) (n : ℕ) → w ≡ counts.Refused n
+      → within (roomOf (length first) (length second)) D ≡ bind X f → RedrawnInto D first second (Refused n) first' second'
   unfolding answerOf firstAfter secondAfter flat
   redrawn-refused D f n t q = go X (sym t ∙ d .answered) (d .secondHolds) q
     where
-      go : (Y : Result (List Sample)) → counts.Refused n ≡ counted Y → second' ≡ filled (length second) (flat (listOf Y)) → D (roomOf (length first) (length second)) ≡ bind Y f → RedrawnInto D first second (Refused n) first' second'
+      go : (Y : Result (List Sample)) → counts.Refused n ≡ counted Y → second' ≡ filled (length second) (flat (listOf Y)) → within (roomOf (length first) (length second)) D ≡ bind Y f → RedrawnInto D first second (Refused n) first' second'
       go (refused m) a b q =
           let z : n ≡ m = cc in
           let l = above m (omega (arith, d .late n t)) in
@@ -138,8 +139,8 @@ module _ {g : Got} {n : ℕ} {w : Drawn} {second' : List Float} (i : InSecond g 
   }
 
   -- with the first buffer cleared it is a repair's answer
-  pub redrawn-second : (D : ℕ → Result Got) (first second first' : List Float) → n ≡ length second → first' ≡ filled (length first) []
-      → got g ≡ D (roomOf (length first) (length second)) → RedrawnInto D first second w first' second'
+  pub redrawn-second : (D : Work Got) (first second first' : List Float) → n ≡ length second → first' ≡ filled (length first) []
+      → got g ≡ within (roomOf (length first) (length second)) D → RedrawnInto D first second w first' second'
   unfolding answerOf firstAfter secondAfter
   redrawn-second D first second first' m p q = record {
     drawn = rw (← q) (record { answered = i .answered; firstHolds = rw (i .there) p; secondHolds = rw (i .there) (i .holds ∙ ap (λ (k : ℕ). filled k (flat (g .chain))) m) });
@@ -147,15 +148,15 @@ module _ {g : Got} {n : ℕ} {w : Drawn} {second' : List Float} (i : InSecond g 
   }
 
 -- ---- another name for the answer, and buffers that were as long
-module _ {D : ℕ → Result Got} {first second : List Float} {w : Drawn} {first' second' : List Float} (d : RedrawnInto D first second w first' second') where
-  pub redrawn-is : (E : ℕ → Result Got) → D (roomOf (length first) (length second)) ≡ E (roomOf (length first) (length second)) → RedrawnInto E first second w first' second'
+module _ {D : Work Got} {first second : List Float} {w : Drawn} {first' second' : List Float} (d : RedrawnInto D first second w first' second') where
+  pub redrawn-is : (E : Work Got) → within (roomOf (length first) (length second)) D ≡ within (roomOf (length first) (length second)) E → RedrawnInto E first second w first' second'
   redrawn-is E q = record { drawn = rw (← q) (d .drawn); late = d .late }
 
   pub redrawn-from : (a b : List Float) → length first ≡ length a → length second ≡ length b → RedrawnInto D a b w first' second'
   unfolding answerOf firstAfter secondAfter
   redrawn-from a b e f =
       let q : roomOf (length first) (length second) ≡ roomOf (length a) (length b) = rw (e, f) in
-      record { drawn = rw (← q) (go (D (roomOf (length first) (length second))) (d .drawn)); late = d .late }
+      record { drawn = rw (← q) (go (within (roomOf (length first) (length second)) D) (d .drawn)); late = d .late }
     where
       go : (X : Result Got) → DrawnInto X first second w first' second' → DrawnInto X a b w first' second'
       go (refused n) x =

@@ -17,6 +17,8 @@ use Rattle.curve.specs.declared.Repeats.{Repeats}
 use Rattle.curve.specs.declared.Repeats.the-variants.{Every, Never}
 use Rattle.curve.specs.Eval.{naturalRange, period}
 use Rattle.options.specs.declared.Resolved.{Resolved}
+use Rattle.edge_params.specs.Work.{done, andThen, overflows, within}
+use Rattle.edge_params.proofs.Work.{within-then}
 use Rattle.edge_record.specs.declared.Sample.{Sample}
 use Rattle.draw_spec.specs.declared.Way.the-variants.{Complement, ShortArc}
 use Rattle.draw_spec.specs.Edge.{edgeCurve, edgeStart, edgeEnd, discretised}
@@ -71,16 +73,18 @@ module _ (T : Tables) (e : Edge) (r : Resolved) where
 
   module _ (room : ℕ) where
     -- ---- the short arc
-    pub short-chord : hasShortArc T e ≡ false → got (runaway (ofPoints (T .points)) e) ≡ byShortArc room T e r
-    unfolding byShortArc
+    pub short-chord : hasShortArc T e ≡ false → got (runaway (ofPoints (T .points)) e) ≡ within room (byShortArc T e r)
+    unfolding byShortArc overflows
     short-chord h = rw (h, byShortArc)
 
     module _ {short : Interval} (h : hasShortArc T e ≡ true) (s : short ≡ shortRange T e) where
-      pub short-bind : byShortArc room T e r ≡ bind (discretised room T (withRange e short) r) (λ arc. got (arcOrChord T e r arc))
-      unfolding byShortArc
-      short-bind = rw (h, byShortArc, s)
+      pub short-bind : within room (byShortArc T e r) ≡ bind (within room (discretised T (withRange e short) r)) (λ arc. got (arcOrChord T e r arc))
+      unfolding byShortArc overflows
+      short-bind =
+          let q : byShortArc T e r ≡ andThen (discretised T (withRange e short) r) (λ arc. done (arcOrChord T e r arc)) = rw (h, byShortArc, s) in
+          ap (within room) q ∙ within-then room (discretised T (withRange e short) r) (λ arc. done (arcOrChord T e r arc))
 
-      pub short-drawn : (arc : List Sample) → discretised room T (withRange e short) r ≡ got arc → got (arcOrChord T e r arc) ≡ byShortArc room T e r
+      pub short-drawn : (arc : List Sample) → within room (discretised T (withRange e short) r) ≡ got arc → got (arcOrChord T e r arc) ≡ within room (byShortArc T e r)
       short-drawn arc d = sym (short-bind ∙ ap (λ (X : Result (List Sample)). bind X (λ arc. got (arcOrChord T e r arc))) d)
 
     -- ---- the complementary arc
@@ -92,43 +96,46 @@ module _ (T : Tables) (e : Edge) (r : Resolved) where
           go true h = ap not h
           go false h = ap not h
 
-      pub complement-none : not (lt plusZero width) ≡ true → byShortArc room T e r ≡ byComplement room T e r p
+      pub complement-none : not (lt plusZero width) ≡ true → within room (byShortArc T e r) ≡ within room (byComplement T e r p)
       unfolding byComplement
       complement-none h = rw (complement-long h, byComplement)
 
       module _ (h : not (lt plusZero width) ≡ false) where
-        pub complement-bind : byComplement room T e r p ≡ bind (discretised room T (withRange e (complementRange e p)) r) (complementOrShort room T e r)
+        pub complement-bind : within room (byComplement T e r p) ≡ bind (within room (discretised T (withRange e (complementRange e p)) r)) (λ arc. within room (complementOrShort T e r arc))
         unfolding byComplement
-        complement-bind = rw (complement-long h, byComplement)
+        complement-bind =
+            let q : byComplement T e r p ≡ andThen (discretised T (withRange e (complementRange e p)) r) (λ arc. complementOrShort T e r arc) = rw (complement-long h, byComplement) in
+            ap (within room) q ∙ within-then room (discretised T (withRange e (complementRange e p)) r) (λ arc. complementOrShort T e r arc)
 
-        module _ (arc : List Sample) (q : discretised room T (withRange e (complementRange e p)) r ≡ got arc) where
-          complement-drawn : byComplement room T e r p ≡ complementOrShort room T e r arc
-          complement-drawn = complement-bind ∙ ap (λ (X : Result (List Sample)). bind X (complementOrShort room T e r)) q
+        module _ (arc : List Sample) (q : within room (discretised T (withRange e (complementRange e p)) r) ≡ got arc) where
+          complement-drawn : within room (byComplement T e r p) ≡ within room (complementOrShort T e r arc)
+          complement-drawn = complement-bind ∙ ap (λ (X : Result (List Sample)). bind X (λ arc. within room (complementOrShort T e r arc))) q
 
-          pub complement-escapes : escapes (reference T e) r arc ≡ true → byShortArc room T e r ≡ byComplement room T e r p
+          pub complement-escapes : escapes (reference T e) r arc ≡ true → within room (byShortArc T e r) ≡ within room (byComplement T e r p)
           complement-escapes k = sym (complement-drawn ∙ rw (k, complementOrShort))
 
-          pub complement-stays : escapes (reference T e) r arc ≡ false → got (by Complement arc) ≡ byComplement room T e r p
+          pub complement-stays : escapes (reference T e) r arc ≡ false → got (by Complement arc) ≡ within room (byComplement T e r p)
+          unfolding overflows
           complement-stays k = sym (complement-drawn ∙ rw (k, complementOrShort))
 
     -- ---- the repair
     module _ (g : Got) where
-      pub repaired-kept : stays (ofPoints (T .points)) e r (g .chain) ≡ true → repaired room T e r g ≡ got g
-      unfolding repaired
+      pub repaired-kept : stays (ofPoints (T .points)) e r (g .chain) ≡ true → within room (repaired T e r g) ≡ got g
+      unfolding repaired overflows
       repaired-kept h = rw (h, repaired)
 
       module _ (h : stays (ofPoints (T .points)) e r (g .chain) ≡ false) {u : Repeats} (own : u ≡ period (edgeCurve T e)) where
-        repaired-by : byPeriod room T e r u ≡ repaired room T e r g
+        repaired-by : byPeriod T e r u ≡ repaired T e r g
         unfolding repaired
         repaired-by = rw (own, h, repaired)
 
-        pub repaired-complement : (p : Float) → u ≡ Every p → byComplement room T e r p ≡ repaired room T e r g
+        pub repaired-complement : (p : Float) → u ≡ Every p → within room (byComplement T e r p) ≡ within room (repaired T e r g)
         unfolding byPeriod
-        repaired-complement p q = sym (ap (byPeriod room T e r) q) ∙ repaired-by
+        repaired-complement p q = ap (within room) (sym (ap (byPeriod T e r) q) ∙ repaired-by)
 
-        pub repaired-short : u ≡ Never → byShortArc room T e r ≡ repaired room T e r g
+        pub repaired-short : u ≡ Never → within room (byShortArc T e r) ≡ within room (repaired T e r g)
         unfolding byPeriod
-        repaired-short q = sym (ap (byPeriod room T e r) q) ∙ repaired-by
+        repaired-short q = ap (within room) (sym (ap (byPeriod T e r) q) ∙ repaired-by)
 
   -- ---- the tests, by what the calls answer
   module _ (chain : List Sample) {box : Aabb} (b : box ≡ reference T e) where

@@ -17,6 +17,7 @@ ghost use Rattle.brep.specs.Rows.{lent, given};
 ghost use Rattle.brep.specs.Tree.{tree};
 ghost use Rattle.knots_sort.specs.Own.Sortable.{mostKnots};
 ghost use Rattle.knots.specs.Knots.{curveKnots};
+ghost use Rattle.edge_params.specs.Work.{within};
 ghost use Rattle.edge_record.specs.Chain.{width, shortest, flat, samples};
 ghost use Rattle.draw_spec.specs.Edge.{discretised};
 ghost use Rattle.draw_spec.specs.Repair.{by, withRange, reference, runaway, serves, arcOrChord, shortRange, hasShortArc, byShortArc, byComplement, stays, repaired};
@@ -123,7 +124,7 @@ fn redraw(
     second: &mut [f64],
 ) -> Counted
     requires { ⌜ (shortest ≤ length (now first)) × (shortest ≤ length (now second)) × (length (curveKnots (tree (lent points curves reals parts ranges) (edge .curve))) ≤ mostKnots) ⌝ }
-    ensures { λ w. ⌜ RedrawnChain (discretised (roomOf (length (now (first .entry))) (length (now (second .entry)))) (given points curves reals parts ranges) (withRange edge range) r) (now (first .entry)) (now (second .entry)) w (now (first .exit)) (now (second .exit)) ⌝ }
+    ensures { λ w. ⌜ RedrawnChain (within (roomOf (length (now (first .entry))) (length (now (second .entry)))) (discretised (given points curves reals parts ranges) (withRange edge range) r)) (now (first .entry)) (now (second .entry)) w (now (first .exit)) (now (second .exit)) ⌝ }
 {
     let d = with_range(edge, range);
     edge_discretise::discretise(points, curves, reals, parts, ranges, d, r, second, first)
@@ -144,7 +145,7 @@ fn draw_short(
 ) -> Drawn
     requires { ⌜ (shortest ≤ length (now first)) × (shortest ≤ length (now second)) × (length (curveKnots (tree (lent points curves reals parts ranges) (edge .curve))) ≤ mostKnots)
         × (hasShortArc (lent points curves reals parts ranges) edge ≡ true) × (short ≡ shortRange (lent points curves reals parts ranges) edge) ⌝ }
-    ensures { λ w. ⌜ RedrawnInto (λ room. byShortArc room (given points curves reals parts ranges) edge r) (now (first .entry)) (now (second .entry)) w (now (first .exit)) (now (second .exit)) ⌝ }
+    ensures { λ w. ⌜ RedrawnInto (byShortArc (given points curves reals parts ranges) edge r) (now (first .entry)) (now (second .entry)) w (now (first .exit)) (now (second .exit)) ⌝ }
 {
     let drawn = redraw(
         points,
@@ -177,7 +178,7 @@ fn by_short_arc(
     second: &mut [f64],
 ) -> Drawn
     requires { ⌜ (shortest ≤ length (now first)) × (shortest ≤ length (now second)) × (length (curveKnots (tree (lent points curves reals parts ranges) (edge .curve))) ≤ mostKnots) ⌝ }
-    ensures { λ w. ⌜ RedrawnInto (λ room. byShortArc room (given points curves reals parts ranges) edge r) (now (first .entry)) (now (second .entry)) w (now (first .exit)) (now (second .exit)) ⌝ }
+    ensures { λ w. ⌜ RedrawnInto (byShortArc (given points curves reals parts ranges) edge r) (now (first .entry)) (now (second .entry)) w (now (first .exit)) (now (second .exit)) ⌝ }
 {
     let natural = curve::natural_range(points, curves, reals, parts, ranges, edge.curve);
     let span = natural.span();
@@ -217,7 +218,7 @@ fn by_complement(
     second: &mut [f64],
 ) -> Drawn
     requires { ⌜ (shortest ≤ length (now first)) × (shortest ≤ length (now second)) × (length (curveKnots (tree (lent points curves reals parts ranges) (edge .curve))) ≤ mostKnots) ⌝ }
-    ensures { λ w. ⌜ RedrawnInto (λ room. byComplement room (given points curves reals parts ranges) edge r p) (now (first .entry)) (now (second .entry)) w (now (first .exit)) (now (second .exit)) ⌝ }
+    ensures { λ w. ⌜ RedrawnInto (byComplement (given points curves reals parts ranges) edge r p) (now (first .entry)) (now (second .entry)) w (now (first .exit)) (now (second .exit)) ⌝ }
 {
     let complement = Interval {
         lo: edge.range.hi,
@@ -282,7 +283,7 @@ pub fn repair_runaway(
 ) -> Drawn
     requires { ⌜ (shortest ≤ length (now first)) × (shortest ≤ length (now second)) × (length (curveKnots (tree (lent points curves reals parts ranges) (edge .curve))) ≤ mostKnots)
         × (width * n ≤ length (now first)) × (now first ≡ filled (length (now first)) (flat (samples n (now first)))) × (now second ≡ filled (length (now second)) []) × (inFirst way ≡ true) ⌝ }
-    ensures { λ w. ⌜ DrawnInto (repaired (roomOf (length (now (first .entry))) (length (now (second .entry)))) (given points curves reals parts ranges) edge r (by way (samples n (now (first .entry))))) (now (first .entry)) (now (second .entry)) w (now (first .exit)) (now (second .exit)) ⌝ }
+    ensures { λ w. ⌜ DrawnInto (within (roomOf (length (now (first .entry))) (length (now (second .entry)))) (repaired (given points curves reals parts ranges) edge r (by way (samples n (now (first .entry)))))) (now (first .entry)) (now (second .entry)) w (now (first .exit)) (now (second .exit)) ⌝ }
 {
     if stays(points, edge, r, first, n) {
         return Drawn::Chain(way, n);

@@ -1,4 +1,4 @@
--- What callers cite of `sampled`: at least two parameters, and no more than the room has; and that a curve with a closed form needs no tables. Assumes nothing.
+-- What callers cite of `sampledIn`: at least two parameters, and no more than the room has, and that it is `sampled` within the room; and that a curve with a closed form needs no tables. Assumes nothing.
 use mathlib.Core.Path.{_≡_, refl}
 use mathlib.Core.Bool.{Bool, true, false}
 use mathlib.Core.List.{List}
@@ -15,11 +15,15 @@ use Rattle.options.specs.declared.Resolved.{Resolved}
 use Rattle.options.specs.Options.{segmentsForArc}
 use Rattle.edge_params.specs.declared.Closed.{Closed}
 use Rattle.edge_params.specs.declared.Closed.the-variants.{Unknown, Segments}
-use Rattle.edge_params.specs.Params.{Sampler, evenly, fitting, bisected, floored, refined, sampleParams}
+use Rattle.edge_params.specs.Work.{within}
+use Rattle.edge_params.specs.Params.{Sampler, evenly, bisected}
+use Rattle.edge_params.specs.Own.InRoom.{fitting, flooredIn, refinedIn, sampleParamsIn}
+use Rattle.edge_params.proofs.Work.{sample-params-in}
 use Rattle.edge_params.proofs.Lists.{Gives, list, eight, gives-got, steps-length, sampled-length}
 use Rattle.curve_prepared.specs.Own.Prepared.{preparedOf, isPlain}
 use Rattle.edge_range.specs.Usable.{analyticSegments}
 use Rattle.edge_sample.specs.Sample.{sampler, sampled}
+use Rattle.edge_sample.specs.Own.Answered.{sampledIn}
 use Rattle.edge_sample.proofs.Settled.{bisected-long}
 
 -- ---- a closed form has at least one segment
@@ -66,8 +70,8 @@ module _ (room : ℕ) (s : Sampler) (range : Interval) where
   even-long : (n : ℕ) → 1 ≤ n → Gives Long (fitting room (evenly range n))
   even-long n h = fitting-long (evenly range n) (omega (arith, steps-length range n (suc n)))
 
-  floored-long : (l : List Float) → Long l → Gives Long (floored room s range l)
-  unfolding floored
+  floored-long : (l : List Float) → Long l → Gives Long (flooredIn room s range l)
+  unfolding flooredIn
   floored-long l h = go (ltb (length l - 1) (s .least)) refl
     where
       go : (t : Bool) → ltb (length l - 1) (s .least) ≡ t → Gives Long (elim t [ true ↦ fitting room (evenly range (s .least)) | false ↦ got l ])
@@ -79,31 +83,36 @@ module _ (room : ℕ) (s : Sampler) (range : Interval) where
   then-long f (list {l = l} p) g = g l p
   then-long f eight g = eight
 
-  refined-long : Gives Long (refined room s range)
-  unfolding refined
-  refined-long = then-long (floored room s range) (fitting-long (bisected s range) (bisected-long s range)) floored-long
+  refined-long : Gives Long (refinedIn room s range)
+  unfolding refinedIn
+  refined-long = then-long (flooredIn room s range) (fitting-long (bisected s range) (bisected-long s range)) floored-long
 
-  sampled-long : ((n : ℕ) → s .closed ≡ Segments n → 1 ≤ n) → Gives Long (sampleParams room s range)
-  unfolding sampleParams
+  sampled-long : ((n : ℕ) → s .closed ≡ Segments n → 1 ≤ n) → Gives Long (sampleParamsIn room s range)
+  unfolding sampleParamsIn
   sampled-long some = go (s .closed) refl
     where
-      checked : (l : List Float) → Long l → (t : Bool) → Gives Long (elim t [ true ↦ got l | false ↦ refined room s range ])
+      checked : (l : List Float) → Long l → (t : Bool) → Gives Long (elim t [ true ↦ got l | false ↦ refinedIn room s range ])
       checked l h true = list h
       checked l h false = refined-long
 
       go : (x : Closed) → s .closed ≡ x → Gives Long (elim x [
-        | Unknown ↦ refined room s range
-        | Segments n ↦ bind (fitting room (evenly range n)) (λ l. elim (s .meets l) [ true ↦ got l | false ↦ refined room s range ])
+        | Unknown ↦ refinedIn room s range
+        | Segments n ↦ bind (fitting room (evenly range n)) (λ l. elim (s .meets l) [ true ↦ got l | false ↦ refinedIn room s range ])
       ])
       go Unknown e = refined-long
       go (Segments n) e =
-          then-long (λ l. elim (s .meets l) [ true ↦ got l | false ↦ refined room s range ]) (even-long n (some n e)) (λ l h. checked l h (s .meets l))
+          then-long (λ l. elim (s .meets l) [ true ↦ got l | false ↦ refinedIn room s range ]) (even-long n (some n e)) (λ l h. checked l h (s .meets l))
 
-module _ (room : ℕ) (c : CurveTree) (range : Interval) (r : Resolved) (l : List Float) (e : sampled room c range r ≡ got l) where
+module _ (room : ℕ) (c : CurveTree) (range : Interval) (r : Resolved) (l : List Float) (e : sampledIn room c range r ≡ got l) where
   pub sampled-two : 2 ≤ length l
-  unfolding sampled sampler
+  unfolding sampledIn sampler
   sampled-two = gives-got l (sampled-long room (sampler c range r) range (form-some c range r)) e
 
   pub sampled-room : length l ≤ room
-  unfolding sampled
+  unfolding sampledIn
   sampled-room = sampled-length room (sampler c range r) range l e
+
+-- the reference's sample_params, within the room
+pub sampled-in : (room : ℕ) (c : CurveTree) (range : Interval) (r : Resolved) → within room (sampled c range r) ≡ sampledIn room c range r
+unfolding sampled sampledIn
+sampled-in room c range r = sample-params-in room (sampler c range r) range

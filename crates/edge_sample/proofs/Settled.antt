@@ -11,7 +11,8 @@ use borrow.Author.Tests.{lt-ltb, le-ltb}
 use Rattle.base_lists.specs.Result.{Result, refused, got, each, bind}
 use Rattle.base_lists.specs.Room.{filled}
 use Rattle.math.specs.declared.Interval.{Interval}
-use Rattle.edge_params.specs.Params.{Sampler, evenly, fitting, walked, through, bisected, breaksAlong, floored, refined}
+use Rattle.edge_params.specs.Params.{Sampler, evenly, walked, through, bisected, breaksAlong}
+use Rattle.edge_params.specs.Own.InRoom.{fitting, flooredIn, refinedIn}
 use Rattle.edge_params.specs.declared.Listed.{Listed}
 use Rattle.edge_params.specs.declared.Listed.the-variants.{Count, Refused}
 use Rattle.edge_params.specs.Own.Written.{said, ListWritten}
@@ -63,11 +64,11 @@ bisected-long s range = through-long s range (breaksAlong s range)
 
 -- mid is the buffer after bisection, which answered w
 module _ (s : Sampler) (range : Interval) (w : Listed) {out mid : List Float} (h : ListWritten out (bisected s range) w mid) where
-  pub refined-refused : w ≡ Refused → fitting (length out) (bisected s range) ≡ refined (length out) s range
-  unfolding refined
+  pub refined-refused : w ≡ Refused → fitting (length out) (bisected s range) ≡ refinedIn (length out) s range
+  unfolding refinedIn
   refined-refused z = go (fitting (length out) (bisected s range)) (ap said (sym z) ∙ h .answer)
     where
-      go : (x : Result (List Float)) → refused 8 ≡ each length x → x ≡ bind x (floored (length out) s range)
+      go : (x : Result (List Float)) → refused 8 ≡ each length x → x ≡ bind x (flooredIn (length out) s range)
       go (refused n) e = refl
       go (got k) e = let z : _≡_ {A = ℕ} 0 1 = cc in absurd (omega arith)
 
@@ -90,17 +91,17 @@ module _ (s : Sampler) (range : Interval) (w : Listed) {out mid : List Float} (h
     fits = fitting-fits (length out) (bisected s range) (is .fits)
 
     floor-of : (t : Bool) → ltb (n - 1) (s .least) ≡ t
-        → refined (length out) s range ≡ elim t [ true ↦ fitting (length out) (evenly range (s .least)) | false ↦ got (bisected s range) ]
-    unfolding refined floored
+        → refinedIn (length out) s range ≡ elim t [ true ↦ fitting (length out) (evenly range (s .least)) | false ↦ got (bisected s range) ]
+    unfolding refinedIn flooredIn
     floor-of t p =
-        ap (λ (x : Result (List Float)). bind x (floored (length out) s range)) fits
+        ap (λ (x : Result (List Float)). bind x (flooredIn (length out) s range)) fits
         ∙ ap (λ (t : Bool). elim t [ true ↦ fitting (length out) (evenly range (s .least)) | false ↦ got (bisected s range) ])
         (ap (λ (m : ℕ). ltb (m - 1) (s .least)) (sym (is .same)) ∙ p)
 
-    pub refined-few : n - 1 < s .least → fitting (length out) (evenly range (s .least)) ≡ refined (length out) s range
+    pub refined-few : n - 1 < s .least → fitting (length out) (evenly range (s .least)) ≡ refinedIn (length out) s range
     refined-few p = sym (floor-of true (lt-ltb (n - 1) (s .least) p))
 
-    pub refined-enough : s .least ≤ n - 1 → fitting (length out) (bisected s range) ≡ refined (length out) s range
+    pub refined-enough : s .least ≤ n - 1 → fitting (length out) (bisected s range) ≡ refinedIn (length out) s range
     refined-enough p = fits ∙ sym (floor-of false (le-ltb (n - 1) (s .least) p))
 
     enough-of : (t : Bool) → ltb (n - 1) (s .least) ≡ t → not t ≡ isEnough (s .least) (fitting (length out) (bisected s range))

@@ -15,7 +15,8 @@ use Rattle.brep.specs.Tree.{CurveTree}
 use Rattle.options.specs.declared.Resolved.{Resolved}
 use Rattle.edge_params.specs.declared.Closed.{Closed}
 use Rattle.edge_params.specs.declared.Closed.the-variants.{Unknown, Segments}
-use Rattle.edge_params.specs.Params.{evenly, fitting, bisected, floored, refined, sampleParams}
+use Rattle.edge_params.specs.Params.{evenly, bisected}
+use Rattle.edge_params.specs.Own.InRoom.{fitting, flooredIn, refinedIn, sampleParamsIn}
 use Rattle.edge_params.specs.declared.Listed.{Listed}
 use Rattle.edge_params.specs.declared.Listed.the-variants.{Count, Refused}
 use Rattle.edge_params.specs.Own.Written.{said, ListWritten}
@@ -26,9 +27,9 @@ use Rattle.edge_record.specs.Chain.{width, flat, samples}
 use Rattle.edge_record.proofs.Laws.{length-flat, reads}
 use Rattle.edge_closed_form.specs.Located.{located}
 use Rattle.edge_closed_form.proofs.Located.{located-length}
-use Rattle.edge_sample.specs.Sample.{worstMiss, sampler, sampled}
+use Rattle.edge_sample.specs.Sample.{worstMiss, sampler}
 use Rattle.edge_sample.specs.Own.Traced.{traced, over, isEnough, tracedRefined, tracedChecked, tracedSteps, tracedForm, tracedSampled}
-use Rattle.edge_sample.specs.Own.Answered.{SampledInto}
+use Rattle.edge_sample.specs.Own.Answered.{sampledIn, SampledInto}
 
 -- an answer of refine, whose buffer came from another call
 pub answered-as : (w : Listed) (last : List Float) (n room : ℕ) → n ≡ room → (f : ℕ → Result (List Float)) (s : Result (List Float)) → f room ≡ s
@@ -48,19 +49,19 @@ refined-traced room c range r chain L K = rw (K, L)
 module _ (room : ℕ) (c : CurveTree) (range : Interval) (r : Resolved) where
   -- a closed form's list, by whether it meets the sag
   checked : List Float → Bool → Result (List Float)
-  checked l t = elim t [ true ↦ got l | false ↦ refined room (sampler c range r) range ]
+  checked l t = elim t [ true ↦ got l | false ↦ refinedIn room (sampler c range r) range ]
 
   by-form : (x : Closed) → Result (List Float)
   by-form x = elim x [
-    | Unknown ↦ refined room (sampler c range r) range
+    | Unknown ↦ refinedIn room (sampler c range r) range
     | Segments n ↦ bind (fitting room (evenly range n)) (λ l. checked l (le (worstMiss c plusZero l) (r .sag)))
   ]
 
-  form-of : (x : Closed) → x ≡ analyticSegments c range r → by-form x ≡ sampled room c range r
-  unfolding by-form checked sampled sampleParams sampler
+  form-of : (x : Closed) → x ≡ analyticSegments c range r → by-form x ≡ sampledIn room c range r
+  unfolding by-form checked sampledIn sampleParamsIn sampler
   form-of x e = ap by-form e
 
-  pub no-form : (x : Closed) → x ≡ analyticSegments c range r → x ≡ Unknown → refined room (sampler c range r) range ≡ sampled room c range r
+  pub no-form : (x : Closed) → x ≡ analyticSegments c range r → x ≡ Unknown → refinedIn room (sampler c range r) range ≡ sampledIn room c range r
   unfolding by-form
   no-form x is e = form-of Unknown (sym e ∙ is)
 
@@ -69,7 +70,7 @@ module _ (room : ℕ) (c : CurveTree) (range : Interval) (r : Resolved) where
   no-form-traced chain x is e = ap (tracedForm room c range r chain) (sym e ∙ is)
 
   module _ (x : Closed) (is : x ≡ analyticSegments c range r) (n : ℕ) (e : x ≡ Segments n) where
-    form : bind (fitting room (evenly range n)) (λ l. checked l (le (worstMiss c plusZero l) (r .sag))) ≡ sampled room c range r
+    form : bind (fitting room (evenly range n)) (λ l. checked l (le (worstMiss c plusZero l) (r .sag))) ≡ sampledIn room c range r
     unfolding by-form
     form = form-of (Segments n) (sym e ∙ is)
 
@@ -81,7 +82,7 @@ module _ (room : ℕ) (c : CurveTree) (range : Interval) (r : Resolved) where
       answer : said v ≡ each length (fitting room (evenly range n))
       answer = h .answer ∙ ap (λ (m : ℕ). each length (fitting m (evenly range n))) long
 
-      pub form-refused : v ≡ Refused → fitting room (evenly range n) ≡ sampled room c range r
+      pub form-refused : v ≡ Refused → fitting room (evenly range n) ≡ sampledIn room c range r
       form-refused z =
           go (fitting room (evenly range n)) (λ l. checked l (le (worstMiss c plusZero l) (r .sag))) (ap said (sym z) ∙ answer) ∙ form
         where
@@ -105,17 +106,17 @@ module _ (room : ℕ) (c : CurveTree) (range : Interval) (r : Resolved) where
         fits = fitting-fits room (evenly range n) (omega (arith, written-count held .fits))
 
         -- t is what meets answered
-        form-checked : (t : Bool) → le (worstMiss c plusZero (take m mid)) (r .sag) ≡ t → checked (evenly range n) t ≡ sampled room c range r
+        form-checked : (t : Bool) → le (worstMiss c plusZero (take m mid)) (r .sag) ≡ t → checked (evenly range n) t ≡ sampledIn room c range r
         form-checked t p =
             ap (checked (evenly range n)) (sym p ∙ ap (λ (l : List Float). le (worstMiss c plusZero l) (r .sag)) (written-list held))
             ∙ ap (λ (y : Result (List Float)). bind y (λ l. checked l (le (worstMiss c plusZero l) (r .sag)))) (sym fits) ∙ form
 
         module _ (t : Bool) (of : t ≡ le (worstMiss c plusZero (take m mid)) (r .sag)) where
-          pub form-meets : t ≡ true → fitting room (evenly range n) ≡ sampled room c range r
+          pub form-meets : t ≡ true → fitting room (evenly range n) ≡ sampledIn room c range r
           unfolding checked
           form-meets p = fits ∙ form-checked true (sym of ∙ p)
 
-          pub form-misses : t ≡ false → refined room (sampler c range r) range ≡ sampled room c range r
+          pub form-misses : t ≡ false → refinedIn room (sampler c range r) range ≡ sampledIn room c range r
           unfolding checked
           form-misses p = form-checked false (sym of ∙ p)
 
@@ -148,15 +149,15 @@ module _ (c : CurveTree) (l : List Float) where
   over-held k chain e = record { held = chain; long = refl; floats = ap (λ (x : List Float). over c x chain) e }
 
   module _ (room : ℕ) (range : Interval) (r : Resolved) where
-    refined-held : refined room (sampler c range r) range ≡ got l → isEnough (r .segments) (fitting room (bisected (sampler c range r) range)) ≡ true → bisected (sampler c range r) range ≡ l
-    unfolding refined floored fitting isEnough sampler
+    refined-held : refinedIn room (sampler c range r) range ≡ got l → isEnough (r .segments) (fitting room (bisected (sampler c range r) range)) ≡ true → bisected (sampler c range r) range ≡ l
+    unfolding refinedIn flooredIn fitting isEnough sampler
     refined-held = go (bisected (sampler c range r) range) (leb (length (bisected (sampler c range r) range)) room)
       where
         floor : (k : List Float) (t : Bool) → elim t [ true ↦ fitting room (evenly range (r .segments)) | false ↦ got k ] ≡ got l → not t ≡ true → k ≡ l
         floor k true e h = absurd (let o : _≡_ {A = ℕ} 0 1 = cc in omega arith)
         floor k false e h = cc
 
-        go : (k : List Float) (t : Bool) → bind (elim t [ true ↦ got k | false ↦ refused 8 ]) (floored room (sampler c range r) range) ≡ got l
+        go : (k : List Float) (t : Bool) → bind (elim t [ true ↦ got k | false ↦ refused 8 ]) (flooredIn room (sampler c range r) range) ≡ got l
             → isEnough (r .segments) (elim t [ true ↦ got k | false ↦ refused 8 ]) ≡ true → k ≡ l
         go k true e h = floor k (ltb (length k - 1) (r .segments)) e h
         go k false e h = absurd (let o : _≡_ {A = ℕ} 0 1 = cc in omega arith)
@@ -180,13 +181,13 @@ module _ (c : CurveTree) (l : List Float) where
     form-held chain Unknown e h = over-held (bisected (sampler c range r) range) chain (refined-held e h)
     form-held chain (Segments n) e h = steps-held chain (fitting room (evenly range n)) e h
 
-    pub sampled-held : (chain : List Float) → sampled room c range r ≡ got l → tracedSampled room c range r chain .known ≡ true → Held chain (tracedSampled room c range r chain .chain)
+    pub sampled-held : (chain : List Float) → sampledIn room c range r ≡ got l → tracedSampled room c range r chain .known ≡ true → Held chain (tracedSampled room c range r chain .chain)
     sampled-held chain e h = form-held chain (analyticSegments c range r) (form-of room c range r (analyticSegments c range r) refl ∙ e) h
 
     -- a chain of that many records, of which more may lie behind
-    pub reads-held : (chain more : List Float) → width * room ≤ length chain → sampled room c range r ≡ got l → tracedSampled room c range r chain .known ≡ true
+    pub reads-held : (chain more : List Float) → width * room ≤ length chain → sampledIn room c range r ≡ got l → tracedSampled room c range r chain .known ≡ true
         → samples (length l) (tracedSampled room c range r chain .chain ++ more) ≡ located c l
-    unfolding sampled
+    unfolding sampledIn
     reads-held chain more wide e h =
         let s = sampled-held chain e h in
         let n = located-length c l in

@@ -1,12 +1,11 @@
 -- edge.rs: sample_params, with what it asks of a curve. Definitions only.
 use mathlib.Core.List.{List}
-use Prim.Native.Nat.{ℕ}
 use lib.Ieee.{Float, le}
-use Rattle.base_lists.specs.Result.{Result}
 use Rattle.arith.specs.Notation.{plusZero}
 use Rattle.math.specs.declared.Interval.{Interval}
 use Rattle.brep.specs.Tree.{CurveTree}
 use Rattle.options.specs.declared.Resolved.{Resolved}
+use Rattle.edge_params.specs.Work.{Work}
 use Rattle.edge_params.specs.Params.{Sampler, sampleParams}
 use Rattle.knots_thin.specs.Thin.{keptBreaks}
 use Rattle.edge_range.specs.Usable.{analyticSegments}
@@ -24,6 +23,6 @@ sampler c range r = record {
   breaks = keptBreaks c (range .lo) (range .hi) (r .sag);
 }
 
--- sample_params: the parameters, or refusal 8 where a list passes the room
-unfoldable pub sampled : ℕ → CurveTree → Interval → Resolved → Result (List Float)
-sampled room c range r = sampleParams room (sampler c range r) range
+-- sample_params: the lists that it forms, and the parameters that it comes to
+unfoldable pub sampled : CurveTree → Interval → Resolved → Work (List Float)
+sampled c range r = sampleParams (sampler c range r) range

@@ -18,15 +18,16 @@ ghost use Rattle.brep.specs.Rows.{lent, given};
 ghost use Rattle.brep.specs.Tree.{tree};
 ghost use Rattle.curve_prepared.specs.Own.Prepared.{preparedOf};
 ghost use Rattle.knots_sort.specs.Own.Sortable.{mostKnots};
-ghost use Rattle.edge_params.specs.Params.{subdivided, unlessHi, bisected, refined};
+ghost use Rattle.edge_params.specs.Params.{subdivided, unlessHi, bisected};
+ghost use Rattle.edge_params.specs.Own.InRoom.{refinedIn};
 ghost use Rattle.knots.specs.Knots.{curveKnots};
 ghost use Rattle.knots_thin.specs.Thin.{keptBreaks};
 ghost use Rattle.edge_subdivide.specs.Own.Limits.{limitsOf};
 ghost use Rattle.edge_subdivide.specs.Bisect.{endAt, withinBudget};
 ghost use Rattle.edge_subdivide.specs.Own.Recorded.{Room, ListRecorded};
-ghost use Rattle.edge_sample.specs.Sample.{sampler, sampled};
+ghost use Rattle.edge_sample.specs.Sample.{sampler};
 ghost use Rattle.edge_sample.specs.Own.Traced.{traced, tracedRefined, tracedSampled};
-ghost use Rattle.edge_sample.specs.Own.Answered.{SampledInto, keptFloats, stops};
+ghost use Rattle.edge_sample.specs.Own.Answered.{sampledIn, SampledInto, keptFloats, stops};
 
 // Stop number i of the walk. The breaks are read backwards where the range runs down.
 fn stop_at(range: Interval, breaks: &[f64], i: usize) -> f64
@@ -301,7 +302,7 @@ fn refine(
     chain: &mut [f64],
 ) -> Sampled
     requires { ⌜ (length (curveKnots (tree (lent points curves reals parts ranges) row)) ≤ mostKnots) × Room (now out) (now chain) 0 ⌝ }
-    ensures { λ w. ⌜ SampledInto (length (now (out .entry))) (refined (length (now (out .entry))) (sampler (tree (given points curves reals parts ranges) row) range r) range) (w .listed) (now (out .exit))
+    ensures { λ w. ⌜ SampledInto (length (now (out .entry))) (refinedIn (length (now (out .entry))) (sampler (tree (given points curves reals parts ranges) row) range r) range) (w .listed) (now (out .exit))
         × (traced (w .known) (now (chain .exit)) ≡ tracedRefined (length (now (out .entry))) (tree (given points curves reals parts ranges) row) range r (now (chain .entry))) ⌝ }
 {
     let listed = bisect_range(
@@ -347,7 +348,7 @@ pub fn sample_params(
     chain: &mut [f64],
 ) -> Sampled
     requires { ⌜ (length (curveKnots (tree (lent points curves reals parts ranges) row)) ≤ mostKnots) × Room (now out) (now chain) 0 ⌝ }
-    ensures { λ w. ⌜ SampledInto (length (now (out .entry))) (sampled (length (now (out .entry))) (tree (given points curves reals parts ranges) row) range r) (w .listed) (now (out .exit))
+    ensures { λ w. ⌜ SampledInto (length (now (out .entry))) (sampledIn (length (now (out .entry))) (tree (given points curves reals parts ranges) row) range r) (w .listed) (now (out .exit))
         × (traced (w .known) (now (chain .exit)) ≡ tracedSampled (length (now (out .entry))) (tree (given points curves reals parts ranges) row) range r (now (chain .entry))) ⌝ }
 {
     let form = edge_range::analytic_segments(points, curves, reals, parts, ranges, row, range, r);

@@ -8,11 +8,11 @@ use lib.Ieee.{Float}
 use lib.ListN.{length, drop}
 use borrow.Author.Needs.{needs}
 use Rattle.edge_record.specs.Chain.{width}
-use Rattle.edge_sample.specs.Sample.{sampled}
+use Rattle.edge_sample.specs.Own.Answered.{sampledIn}
 use Rattle.draw_spec.specs.Edge.{edgeCurve}
 use Rattle.brep.specs.Rows.{Tables, lent}
 use Rattle.base_lists.specs.Result.{Result}
-use Rattle.edge_discretise.proofs.Drawing.{Sampling, records-room, records-length, sampling-some, part-room, part-length, cleared-used, placed-room, held, into-as, into-some, into-none, none-listed, whole-length}
+use Rattle.edge_discretise.proofs.Drawing.{Sampling, records-room, records-length, sampling-some, part-room, part-length, cleared-used, placed-room, held, into-as, into-over, into-some, into-none, none-listed, whole-length}
 use Rattle.edge_discretise.proofs.draw_range.Statement.{statement}
 use Rattle.edge_discretise.proofs.draw_range.Tie as tie
 
@@ -26,7 +26,7 @@ lent-of st = width * length (now (st .args .scratch))
 
 -- what sampling the range gives
 abbrev sampling : tie.Start → Result (List Float)
-sampling st = sampled (length (now (st .args .scratch))) (edgeCurve (tables-of st) (st .args .edge)) (st .args .range) (st .args .r)
+sampling st = sampledIn (length (now (st .args .scratch))) (edgeCurve (tables-of st) (st .args .edge)) (st .args .range) (st .args .r)
 
 -- scratch then, where it does not refuse
 told : (f : tie.After-listed) → let st = f .before .before .before .before .before .before .before .before .before .before .before .before .before .before .before .before in
@@ -48,7 +48,7 @@ returns c =
     let st = c .before .before .before .before .before .before .before .before .before .before .before .before .before .before .before .before .before .before .before .before in
     let p = c .before .before .before .before .before .before .before .before .before .before .sample-params .ensures .0 in
     let e = c .before .before .before .before .enum-told .given .1 in
-    (into-as (whole-length (lent-of st) (c .before .before .before .before .before .before .before .before .before .before .sample-params .last .1 .1 .1 .1 .1 .1 .1 .1 .1 .0) (now (st .args .chain)) (c .before .before .before .before .before .before .before .before .before .chain .given .0)) (into-none (sampling st) _ _ (c .before .before .before .before .before .before .before .before .before .before .sample-params .last .1 .1 .1 .1 .1 .1 .1 .1 .1 .0 ++ drop (lent-of st) (now (st .args .chain))) _ (p .0) e (c .before .before .clear-from .ensures)), none-listed _ (sampling st) _ (p .0) e (p .1))
+    (into-over (tables-of st) (st .args .edge) (st .args .r) (st .args .range) (length (now (st .args .scratch))) (into-as (whole-length (lent-of st) (c .before .before .before .before .before .before .before .before .before .before .sample-params .last .1 .1 .1 .1 .1 .1 .1 .1 .1 .0) (now (st .args .chain)) (c .before .before .before .before .before .before .before .before .before .chain .given .0)) (into-none (sampling st) _ _ (c .before .before .before .before .before .before .before .before .before .before .sample-params .last .1 .1 .1 .1 .1 .1 .1 .1 .1 .0 ++ drop (lent-of st) (now (st .args .chain))) _ (p .0) e (c .before .before .clear-from .ensures))), none-listed _ (sampling st) _ (p .0) e (p .1))
 
 slice-reshare-prefix-params : tie.Need-slice-reshare-prefix-params
 slice-reshare-prefix-params c = part-room (told (c .before))

@@ -7,6 +7,7 @@ use lib.Ieee.{Float}
 use Rattle.base_lists.specs.Result.{Result}
 use Rattle.base_lists.specs.Own.ListOf.{listOf}
 use Rattle.base_lists.specs.Room.{filled}
+use Rattle.edge_params.specs.Work.{Work, within}
 use Rattle.edge_record.specs.declared.Sample.{Sample}
 use Rattle.edge_record.specs.declared.Counted.{Counted}
 use Rattle.edge_record.specs.Own.Stored.{countedOf}
@@ -18,7 +19,7 @@ pub record ChainInto (n : ℕ) (D : Result (List Sample)) (answer : Counted) (ch
   pub answered : answer ≡ countedOf D
   pub holds : chain ≡ filled n (flat (listOf D))
 
--- of a D that depends on the room of both buffers, with +0.0 in all of scratch
-pub record DiscretisedInto (D : ℕ → Result (List Sample)) (chain scratch : List Float) (answer : Counted) (chain' scratch' : List Float) : Type 0 where
-  pub drawn : ChainInto (length chain) (D (roomOf (length chain) (length scratch))) answer chain'
+-- of a work D in the room of both buffers, with +0.0 in all of scratch
+pub record DiscretisedInto (D : Work (List Sample)) (chain scratch : List Float) (answer : Counted) (chain' scratch' : List Float) : Type 0 where
+  pub drawn : ChainInto (length chain) (within (roomOf (length chain) (length scratch)) D) answer chain'
   pub cleared : scratch' ≡ filled (length scratch) []

@@ -8,7 +8,7 @@ use lib.Ieee.{Float}
 use Rattle.base_lists.specs.Result.{Result, refused, got, each}
 use Rattle.edge_params.specs.declared.Listed.{Listed}
 use Rattle.edge_params.specs.declared.Listed.the-variants.{Count, Refused}
-use Rattle.edge_params.specs.Params.{fitting}
+use Rattle.edge_params.specs.Own.InRoom.{fitting}
 
 -- the number that an answer of the code stands for
 abbrev pub said : Listed → Result ℕ

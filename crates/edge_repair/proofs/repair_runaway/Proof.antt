@@ -28,14 +28,14 @@ returns-2 : tie.Need-returns-2
 returns-2 c =
     let s = c .before .before .before .before .before .before .before .before .before .before .before .before .before .before .before .before .before .before .before .before in
     let a = s .args in
-    redrawn-is (c .before .before .before .before .by-short-arc .ensures) (λ room. repaired room (tables-of s) (a .edge) (a .r) (chain-of s))
+    redrawn-is (c .before .before .before .before .by-short-arc .ensures) (repaired (tables-of s) (a .edge) (a .r) (chain-of s))
     (repaired-short (tables-of s) (a .edge) (a .r) _ (chain-of s) (sym (c .before .before .before .before .before .before .before .before .before .before .before .stays .ensures) ∙ c .before .before .before .before .before .before .before .before .before .before .if1 .left) (c .before .before .before .before .before .before .before .before .before .period .ensures) (c .before .before .before .before .before .before .before .enum-told .given .1)) .drawn
 
 returns-3 : tie.Need-returns-3
 returns-3 c =
     let s = c .before .before .before .before .before .before .before .before .before .before .before .before .before .before .before .before .before .before .before .before .before in
     let a = s .args in
-    redrawn-is (c .before .before .before .before .by-complement .ensures) (λ room. repaired room (tables-of s) (a .edge) (a .r) (chain-of s))
+    redrawn-is (c .before .before .before .before .by-complement .ensures) (repaired (tables-of s) (a .edge) (a .r) (chain-of s))
     (repaired-complement (tables-of s) (a .edge) (a .r) _ (chain-of s) (sym (c .before .before .before .before .before .before .before .before .before .before .before .before .stays .ensures) ∙ c .before .before .before .before .before .before .before .before .before .before .before .if1 .left) (c .before .before .before .before .before .before .before .before .before .before .period .ensures) _ (c .before .before .before .before .before .before .before .before .period2 .given .1)) .drawn
 
 pub repair-runaway-spec : {M : Type 1} → statement M

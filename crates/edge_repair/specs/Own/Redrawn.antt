@@ -8,6 +8,7 @@ use lib.Ieee.{Float}
 use Rattle.base_lists.specs.Result.{Result, got}
 use Rattle.base_lists.specs.Own.ListOf.{listOf}
 use Rattle.base_lists.specs.Room.{filled}
+use Rattle.edge_params.specs.Work.{Work, within}
 use Rattle.edge_record.specs.declared.Sample.{Sample}
 use Rattle.edge_record.specs.declared.Counted.{Counted}
 use Rattle.edge_record.specs.declared.Counted.the-variants as counts
@@ -31,9 +32,9 @@ pub record DrawnInto (D : Result Got) (first second : List Float) (answer : Draw
   pub firstHolds : first' ≡ firstAfter first D
   pub secondHolds : second' ≡ secondAfter second D
 
--- those of a repair, which depends on the room; no refusal is below 8, so that none leaves the buffers as before
-pub record RedrawnInto (D : ℕ → Result Got) (first second : List Float) (answer : Drawn) (first' second' : List Float) : Type 0 where
-  pub drawn : DrawnInto (D (roomOf (length first) (length second))) first second answer first' second'
+-- those of a repair in the room of both buffers; no refusal is below 8, so that none leaves the buffers as before
+pub record RedrawnInto (D : Work Got) (first second : List Float) (answer : Drawn) (first' second' : List Float) : Type 0 where
+  pub drawn : DrawnInto (within (roomOf (length first) (length second)) D) first second answer first' second'
   pub late : (n : ℕ) → answer ≡ Refused n → 7 < n
 
 -- a chain that a buffer of n floats, the second, holds, with +0.0 behind it

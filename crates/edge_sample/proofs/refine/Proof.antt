@@ -5,7 +5,8 @@ use lib.ListN.{length}
 use borrow.Author.Needs.{needs}
 use Rattle.brep.specs.Rows.{tables}
 use Rattle.brep.specs.Tree.{CurveTree, tree}
-use Rattle.edge_params.specs.Params.{Sampler, refined}
+use Rattle.edge_params.specs.Params.{Sampler}
+use Rattle.edge_params.specs.Own.InRoom.{refinedIn}
 use Rattle.edge_sample.specs.Sample.{sampler}
 use Rattle.edge_sample.proofs.Settled.{settle-room, settled, some, refined-refused, refined-few, refined-enough, refused-short, few-short, enough-kept}
 use Rattle.edge_sample.proofs.Ways.{parsed-as, refined-traced}
@@ -30,7 +31,7 @@ returns c =
     let st = c .before .before .before .before .before .before .before .before .before .before .before .before .before .before .before .before .before .before .before .before .before in
     let h = c .before .before .before .before .before .before .before .before .before .before .before .bisect-range .ensures in
     let e = c .before .before .before .before .before .enum-told .given .1 in (
-      parsed-as _ _ (c .unknown .ensures .0) (length (st .args .out .now)) (refined (length (st .args .out .now)) (sampler-of st) (st .args .range)) _ (settled _ _ refl (h .listed) (length (st .args .out .now)) (refined (length (st .args .out .now)) (sampler-of st) (st .args .range)) refl (refined-refused (sampler-of st) (st .args .range) _ (h .listed) e) _ _ (c .before .before .before .settle .ensures .0) (c .before .before .before .settle .ensures .1)),
+      parsed-as _ _ (c .unknown .ensures .0) (length (st .args .out .now)) (refinedIn (length (st .args .out .now)) (sampler-of st) (st .args .range)) _ (settled _ _ refl (h .listed) (length (st .args .out .now)) (refinedIn (length (st .args .out .now)) (sampler-of st) (st .args .range)) refl (refined-refused (sampler-of st) (st .args .range) _ (h .listed) e) _ _ (c .before .before .before .settle .ensures .0) (c .before .before .before .settle .ensures .1)),
       refined-traced (length (st .args .out .now)) (curve-of st) (st .args .range) (st .args .r) (st .args .chain .now) (h .records) (c .unknown .ensures .1 ∙ refused-short (sampler-of st) (st .args .range) _ (h .listed) e),
     )
 
@@ -49,7 +50,7 @@ returns-2 c =
     let st = c .before .before .before .before .before .before .before .before .before .before .before .before .before .before .before .before .before .before .before .before .before .before .before .before .before .before .before .before in
     let h = c .before .before .before .before .before .before .before .before .before .before .before .before .before .before .before .before .before .before .bisect-range .ensures in
     let e = c .before .before .before .before .before .before .before .before .before .before .before .before .listed .given .1 in (
-      parsed-as _ _ (c .unknown2 .ensures .0) (length (st .args .out .now)) (refined (length (st .args .out .now)) (sampler-of st) (st .args .range)) _ (settled _ _ refl (c .before .before .before .before .before .before .before .evenly .ensures) (length (st .args .out .now)) (refined (length (st .args .out .now)) (sampler-of st) (st .args .range)) (c .before .before .before .before .before .before .before .before .before .before .before .before .before .before .before .before .before .out .given) (refined-few (sampler-of st) (st .args .range) _ (h .listed) _ e (c .before .before .before .before .before .before .before .before .before .if1 .taken)) _ _ (c .before .before .before .settle2 .ensures .0) (c .before .before .before .settle2 .ensures .1)),
+      parsed-as _ _ (c .unknown2 .ensures .0) (length (st .args .out .now)) (refinedIn (length (st .args .out .now)) (sampler-of st) (st .args .range)) _ (settled _ _ refl (c .before .before .before .before .before .before .before .evenly .ensures) (length (st .args .out .now)) (refinedIn (length (st .args .out .now)) (sampler-of st) (st .args .range)) (c .before .before .before .before .before .before .before .before .before .before .before .before .before .before .before .before .before .out .given) (refined-few (sampler-of st) (st .args .range) _ (h .listed) _ e (c .before .before .before .before .before .before .before .before .before .if1 .taken)) _ _ (c .before .before .before .settle2 .ensures .0) (c .before .before .before .settle2 .ensures .1)),
       refined-traced (length (st .args .out .now)) (curve-of st) (st .args .range) (st .args .r) (st .args .chain .now) (h .records) (c .unknown2 .ensures .1 ∙ few-short (sampler-of st) (st .args .range) _ (h .listed) _ e (c .before .before .before .before .before .before .before .before .before .if1 .taken)),
     )
 
@@ -62,7 +63,7 @@ returns-3 c =
     let st = c .before .before .before .before .before .before .before .before .before .before .before .before .before .before .before .before .before .before .before .before .before .before .before in
     let h = c .before .before .before .before .before .before .before .before .before .before .before .before .before .bisect-range .ensures in
     let e = c .before .before .before .before .before .before .before .listed .given .1 in (
-      settled _ _ e (h .listed) (length (st .args .out .now)) (refined (length (st .args .out .now)) (sampler-of st) (st .args .range)) refl (refined-enough (sampler-of st) (st .args .range) _ (h .listed) _ e (c .before .before .before .before .if1 .left)) _ _ (c .before .before .settle3 .ensures .0) (c .before .before .settle3 .ensures .1),
+      settled _ _ e (h .listed) (length (st .args .out .now)) (refinedIn (length (st .args .out .now)) (sampler-of st) (st .args .range)) refl (refined-enough (sampler-of st) (st .args .range) _ (h .listed) _ e (c .before .before .before .before .if1 .left)) _ _ (c .before .before .settle3 .ensures .0) (c .before .before .settle3 .ensures .1),
       refined-traced (length (st .args .out .now)) (curve-of st) (st .args .range) (st .args .r) (st .args .chain .now) (h .records) (enough-kept (sampler-of st) (st .args .range) _ (h .listed) _ e (c .before .before .before .before .if1 .left)),
     )
 
