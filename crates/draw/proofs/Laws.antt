@@ -29,6 +29,7 @@ use Rattle.edge_record.specs.declared.Counted.the-variants as counted
 use Rattle.edge_record.specs.Own.Stored.{countedOf}
 use Rattle.edge_record.specs.Chain.{width, shortest, flat, samples}
 use Rattle.edge_record.proofs.Laws.{length-flat, reads}
+use Rattle.edge_merge.specs.Merge.{mergeFloor}
 use Rattle.draw_spec.specs.declared.Way.{Way}
 use Rattle.draw_spec.specs.declared.Drawn.{Drawn}
 use Rattle.draw_spec.specs.declared.Drawn.the-variants.{Refused, Chain}
@@ -37,8 +38,8 @@ use Rattle.draw_spec.specs.Repair.{Got, by, repaired}
 use Rattle.draw_spec.specs.Draw as draw
 use Rattle.draw_spec.specs.Draw.{firstWay, localOptions, drawnIn, roomOf, tooShort, drawn, Outcome, inFirst, afterRefusal, firstAfter, secondAfter}
 use Rattle.draw_spec.specs.Own.Binary.{AllBinary64}
-use Rattle.draw_spec.proofs.Answers.{answers-got, answers-refused}
-use Rattle.draw_spec.proofs.Discretised.{Room, discretised-answers}
+use Rattle.draw_spec.proofs.Answers.{Answers, answers-got, answers-refused}
+use Rattle.draw_spec.proofs.Discretised.{Chained, Room, discretised-answers}
 use Rattle.draw_spec.proofs.Repaired.{drawn-in-answers}
 use Rattle.draw_spec.proofs.Sound.{Binary}
 use Rattle.draw_spec.proofs.Accepted.{given, by-tables, refused-so}
@@ -86,6 +87,11 @@ refused-left : (n : ℕ) (first second : List Float) → (n ≡ 8) ⊎ (n ≡ 9)
 unfolding draw.answerOf firstAfter secondAfter
 refused-left n first second h = record { answered = refl; firstHolds = sym (late n first h); secondHolds = sym (late n second h) }
 
+-- ---- drawing in the room answers 8, 9 or a chain that fits it, whatever the tables hold
+pub room-answers : (t : Tables) (e : Edge) (r : Resolved) (first second : ℕ) → shortest ≤ first → shortest ≤ second
+    → Answers (λ (g : Got). Chained ⊥ t e (mergeFloor (e .tolerance) (r .sag)) (roomOf first second) (g .chain)) (drawnIn (roomOf first second) t e r)
+room-answers t e r first second p q = drawn-in-answers ⊥ t e (λ x. absurd x) (λ x. absurd x) (roomOf first second) (room-fine first second p q) r
+
 -- ---- drawn_in, after discretise answered w and left f and s
 module _ (t : Tables) (e : Edge) (r : Resolved) (first second : List Float) (p : shortest ≤ length first) (q : shortest ≤ length second) where
   abbrev chain : Result (List Sample)
@@ -108,8 +114,7 @@ module _ (t : Tables) (e : Edge) (r : Resolved) (first second : List Float) (p :
       h .fits)
 
   whole-late : (n : ℕ) → whole ≡ refused n → (n ≡ 8) ⊎ (n ≡ 9)
-  whole-late n = answers-refused n
-      (drawn-in-answers ⊥ t e (λ x. absurd x) (λ x. absurd x) (roomOf (length first) (length second)) (room-fine (length first) (length second) p q) r)
+  whole-late n = answers-refused n (room-answers t e r (length first) (length second) p q)
 
   whole-refused : (n : ℕ) → chain ≡ refused n → whole ≡ refused n
   unfolding drawnIn

@@ -5,13 +5,15 @@ use mathlib.Core.List.{List}
 use Prim.Native.Nat.{ℕ, _*_, _<_, _≤_}
 use native.Mathlib.Omega.{arith}
 use lib.ListN.{length}
+use lib.Dec.{ltb}
 use lib.Ieee.{Float}
-use borrow.Author.Tests.{lt-ltb, le-ltb}
-use Rattle.base_lists.specs.Result.{Result, refused}
+use borrow.Author.Tests.{lt-ltb, le-ltb, ltb-false}
+use Rattle.base_lists.specs.Result.{Result, refused, got}
 use Rattle.brep.specs.declared.Edge.{Edge}
 use Rattle.brep.specs.Rows.{Tables, mostSegments}
 use Rattle.brep.specs.Tree.{tree}
 use Rattle.options.specs.declared.Options.{Options}
+use Rattle.causes_bounds.proofs.Laws.{neither}
 use Rattle.causes.specs.declared.Verdict.{Verdict}
 use Rattle.causes.specs.declared.Verdict.the-variants as verdicts
 use Rattle.causes.specs.Causes.{oversize, tablesVerdict, edgeVerdict}
@@ -19,17 +21,22 @@ use Rattle.causes.proofs.Apart.{verdict-edge}
 use Rattle.causes.proofs.Checked.{tables-of, edge-numbers}
 use Rattle.knots.specs.Knots.{curveKnots}
 use Rattle.knots_sort.specs.Own.Sortable.{mostKnots}
+use Rattle.edge_record.specs.Chain.{shortest}
+use Rattle.edge_merge.specs.Merge.{mergeFloor}
 use Rattle.draw_spec.specs.declared.Drawn.{Drawn}
 use Rattle.draw_spec.specs.declared.Drawn.the-variants.{Refused}
 use Rattle.draw_spec.specs.Repair.{Got}
-use Rattle.draw_spec.specs.Draw.{tooShort, drawn, answerOf, firstAfter, secondAfter}
-use Rattle.draw_spec.proofs.Sound.{Binary}
-use Rattle.draw_spec.proofs.Accepted.{given}
+use Rattle.draw_spec.specs.Draw.{localOptions, roomOf, tooShort, drawn, answerOf, firstAfter, secondAfter}
+use Rattle.draw_spec.proofs.Answers as answers
+use Rattle.draw_spec.proofs.Answers.{Answers}
+use Rattle.draw_spec.proofs.Discretised.{Chained}
+use Rattle.draw_spec.proofs.Sound.{Binary, drawn-fits, drawn-numbers}
+use Rattle.draw_spec.proofs.Accepted.{inRoom, given}
 use Rattle.draw_spec.proofs.ReadBack.{outcome}
 use Rattle.edge_repair.specs.Own.Redrawn.{DrawnInto}
 use Rattle.draw.specs.Over.{longRun, inBuffers, drawnOver, Over}
 use Rattle.draw.proofs.Few.{knots-fit}
-use Rattle.draw.proofs.Laws.{early}
+use Rattle.draw.proofs.Laws.{room-answers, early}
 
 module _ (t : Tables) (e : Edge) (o : Options) (first second : ℕ) where
   -- by the tables' sizes, the edge's verdict, and whether a run is too long
@@ -56,6 +63,43 @@ module _ (t : Tables) (e : Edge) (o : Options) (first second : ℕ) where
       go verdicts.Accepted q =
           over-is false verdicts.Accepted false (tables-of t h .0) q fits
           ∙ sym (given t e o first second verdicts.Accepted (tooShort first second) (verdict-edge t e o h ∙ q) refl)
+
+-- ---- every answer is a refusal from 1 to 9, or a chain that fits both buffers
+abbrev pub Answerable : ℕ → ℕ → Result Got → Type 0
+Answerable first second (refused n) = (1 ≤ n) × (n ≤ 9)
+Answerable first second (got g) = length (g .chain) ≤ roomOf first second
+
+module _ (t : Tables) (e : Edge) (o : Options) (first second : ℕ) where
+  buffers-answerable : (b : Bool) → tooShort first second ≡ b → Answerable first second (cond b (refused 7) (inRoom t e o first second))
+  buffers-answerable true h = (omega arith, omega arith)
+  buffers-answerable false h =
+      let k = neither (ltb first shortest) (ltb second shortest) h in
+      of (room-answers t e (localOptions t e o) first second (ltb-false first shortest (k .0)) (ltb-false second shortest (k .1)))
+    where
+      of : {d : Result Got}
+          → Answers (λ (g : Got). Chained ⊥ t e (mergeFloor (e .tolerance) (localOptions t e o .sag)) (roomOf first second) (g .chain)) d → Answerable first second d
+      of (answers.answer c) = c .fits
+      of answers.eight = (omega arith, omega arith)
+      of answers.nine = (omega arith, omega arith)
+
+  pub over-answerable : Answerable first second (drawnOver t e o first second)
+  over-answerable = go (oversize t) (edgeVerdict t e o) (longRun t e) refl refl refl
+    where
+      go : (z : Bool) (v : Verdict) (k : Bool) → oversize t ≡ z → edgeVerdict t e o ≡ v → longRun t e ≡ k → Answerable first second (drawnOver t e o first second)
+      go z v k a b c = subst (Answerable first second) (sym (over-is t e o first second z v k a b c)) (each z v k b)
+        where
+          each : (z : Bool) (v : Verdict) (k : Bool) → edgeVerdict t e o ≡ v → Answerable first second (overBy t e o first second z v k)
+          each true v k b = (omega arith, omega arith)
+          each false (verdicts.Refused n) k b = let m = edge-numbers t e o n b in (omega arith, omega arith)
+          each false verdicts.Accepted true b = (omega arith, omega arith)
+          each false verdicts.Accepted false b = buffers-answerable (tooShort first second) refl
+
+  pub drawn-answerable : Answerable first second (drawn t e o first second)
+  drawn-answerable = go (drawn t e o first second) refl
+    where
+      go : (d : Result Got) → drawn t e o first second ≡ d → Answerable first second d
+      go (refused n) q = drawn-numbers t e o first second n q
+      go (got g) q = drawn-fits t e o first second g q
 
 -- ---- draw_over, by the way out
 module _ (t : Tables) (e : Edge) (o : Options) (b : Binary t e) (first second : List Float) where
