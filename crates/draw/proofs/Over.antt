@@ -1,4 +1,4 @@
--- Drawing over tables of any content, by the way out; over accepted tables it is drawing. Assumes nothing but what its statements say.
+-- Drawing over tables of any content: over accepted tables it is drawing, every answer is one that a caller can rely on, and `draw_over` by the way out. Assumes nothing but what its statements say.
 use mathlib.Core.Path.{_≡_, refl, sym, ap, subst, _∙_}
 use mathlib.Core.Bool.{Bool, true, false, cond}
 use mathlib.Core.List.{List}

@@ -128,8 +128,7 @@ fn drawn_in(
     }
 }
 
-// Draws an edge over tables of any content, without looking at them, the edge or the options. Its curve has no more knots than
-// can be sorted.
+// Draws an edge over tables of any content, of which nothing is looked at but that its curve has no more knots than can be sorted.
 fn draw_unchecked(
     points: &[f64],
     curves: &[u32],
@@ -171,9 +170,9 @@ fn draw_unchecked(
     )
 }
 
-// Draws an edge over tables that `causes::check_tables` has accepted, for many edges over the same tables: only the edge, the
-// options and the tables' lengths are looked at. Tables that were not accepted are drawn as they read, or refused: their lengths
-// bound how deep an evaluation goes, and a run that no table has room for is the one thing else that would not be sorted.
+// Draws an edge over tables that `causes::check_tables` has accepted, for many edges over the same tables: of the tables only the
+// lengths are looked at. Any others are drawn as their rows read, or refused: with so few rows no evaluation follows more than
+// 4,096 references, and a run of more segments than a table may have is turned away before its knots are sorted.
 pub fn draw_over(
     points: &[f64],
     curves: &[u32],

@@ -9,25 +9,25 @@ use Rattle.draw.proofs.draw_over.Statement.{statement}
 use Rattle.draw.proofs.draw_over.Tie as tie
 
 returns : tie.Need-returns
-returns c = 
+returns c =
     let a = c .before .before .before .before .before .before .before .before .before .before .args in
     let T = lent (a .points) (a .curves) (a .reals) (a .parts) (a .ranges) in
     over-sizes T (a .edge) (a .options) (binary T (a .edge) (c .before .before .binary64 .ensures)) (a .first .now) (a .second .now) (sym (c .before .oversize .ensures) ∙ c .if1 .taken)
 
 returns-2 : tie.Need-returns-2
-returns-2 c = 
+returns-2 c =
     let a = c .before .before .before .before .before .before .before .before .before .before .before .before .before .before .before .args in
     let T = lent (a .points) (a .curves) (a .reals) (a .parts) (a .ranges) in
     over-run T (a .edge) (a .options) (binary T (a .edge) (c .before .before .before .before .before .before .before .binary64 .ensures)) (a .first .now) (a .second .now) (sym (c .before .before .before .before .before .before .oversize .ensures) ∙ c .before .before .before .before .before .if1 .left) (sym (c .before .before .before .before .check-over .ensures) ∙ c .before .before .enum-told .given .1) (omega (arith, c .if2 .taken, c .before .knot-count .ensures))
 
 returns-3 : tie.Need-returns-3
-returns-3 c = 
+returns-3 c =
     let a = c .before .before .before .before .before .before .before .before .before .before .before .before .before .before .args in
     let T = lent (a .points) (a .curves) (a .reals) (a .parts) (a .ranges) in
     over-edge T (a .edge) (a .options) (binary T (a .edge) (c .before .before .before .before .before .before .binary64 .ensures)) (a .first .now) (a .second .now) (sym (c .before .before .before .before .before .oversize .ensures) ∙ c .before .before .before .before .if1 .left) _ (sym (c .before .before .before .check-over .ensures) ∙ c .before .verdict .given .1)
 
 returns-4 : tie.Need-returns-4
-returns-4 c = 
+returns-4 c =
     let a = c .before .before .before .before .before .before .before .before .before .before .before .before .before .before .before .before .before .before .before .before .before .before .args in
     let T = lent (a .points) (a .curves) (a .reals) (a .parts) (a .ranges) in
     over-drawn T (a .edge) (a .options) (binary T (a .edge) (c .before .before .before .before .before .before .before .before .before .before .before .before .before .before .binary64 .ensures)) (a .first .now) (a .second .now) (sym (c .before .before .before .before .before .before .before .before .before .before .before .before .before .oversize .ensures) ∙ c .before .before .before .before .before .before .before .before .before .before .before .before .if1 .left) (sym (c .before .before .before .before .before .before .before .before .before .before .before .check-over .ensures) ∙ c .before .before .before .before .before .before .before .before .before .enum-told .given .1) (omega (arith, c .before .before .before .before .before .before .before .if2 .left, c .before .before .before .before .before .before .before .before .knot-count .ensures)) _ _ _ (c .before .before .before .before .draw-unchecked .ensures)

@@ -12,7 +12,7 @@ returns : tie.Need-returns
 returns c = let a = c .before .before .before .before .before .before .before .before .args in too-short (lent (a .points) (a .curves) (a .reals) (a .parts) (a .ranges)) (a .edge) (a .options) (a .first .now) (a .second .now) (elim (c .if1 .came) [ inl x ↦ first-short (length (a .first .now)) (length (a .second .now)) (x .taken) | inr y ↦ second-short (length (a .first .now)) (length (a .second .now)) (ltb-true (length (a .second .now)) 8 (y .1 .taken)) ])
 
 returns-2 : tie.Need-returns-2
-returns-2 c = 
+returns-2 c =
     let a = c .before .before .before .before .before .before .before .before .before .before .before .before .before .before .before .before .before .before .args in
     in-buffers (lent (a .points) (a .curves) (a .reals) (a .parts) (a .ranges)) (a .edge) (a .options) (a .first .now) (a .second .now)
     (neither-short (length (a .first .now)) (length (a .second .now)) (c .before .before .before .before .before .before .before .before .before .before .if1 .left) (ltb-false (length (a .second .now)) 8 (c .before .before .before .before .before .before .before .before .before .if2 .left)))
