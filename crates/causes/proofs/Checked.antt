@@ -18,14 +18,14 @@ use Rattle.brep.specs.Tree.{segmentIn, rowIn, tree}
 use Rattle.causes_nesting.specs.Nest.{highSegment, notLower, unorderedRow, nesting, deepRow}
 use Rattle.options.specs.declared.Options.{Options}
 use Rattle.causes_bounds.specs.Some.{someBelow, atIndex, some}
-use Rattle.causes_bounds.specs.Bounds.{largest, within, beyond, finiteBeyond, edgeBeyond, optionsBeyond, unbounded}
+use Rattle.causes_bounds.specs.Bounds.{largest, within, beyond, finiteBeyond, edgeBeyond, optionsBeyond, unboundedTables, unboundedEdge, unbounded}
 use Rattle.causes_bounds.proofs.Laws.{some-none, neither, three, four}
 use Rattle.causes_form.specs.Forms.{pointCount, curveCount, segmentCount, broken, uneven, targets, malformedRow, malformedSegment, illFormedTables, illFormedEdge, illFormed}
 use Rattle.causes_form.proofs.Laws.{row-inside}
 use Rattle.causes.specs.declared.Verdict.{Verdict}
 use Rattle.causes.specs.declared.Verdict.the-variants.{Accepted, Refused}
 use Rattle.causes.proofs.Laws.{sizes}
-use Rattle.causes.specs.Causes.{oversize, unordered, tooDeep, missing, verdict}
+use Rattle.causes.specs.Causes.{oversize, unordered, tooDeep, missing, verdict, tablesVerdict, edgeVerdict}
 
 -- at most 1e9 in magnitude
 abbrev pub Bounded : Float → Type 0
@@ -134,7 +134,7 @@ module _ (t : Tables) where
         eqb-true (length (t .ranges) / 2) (segmentCount t) (holds-not (eqb (length (t .ranges) / 2) (segmentCount t)) (k .1)),
       )
 
-  forms-of : illFormedTables t ≡ false → (someBelow (curveCount t) (malformedRow t) ≡ false) × (someBelow (segmentCount t) (malformedSegment t) ≡ false)
+  pub forms-of : illFormedTables t ≡ false → (someBelow (curveCount t) (malformedRow t) ≡ false) × (someBelow (segmentCount t) (malformedSegment t) ≡ false)
   forms-of h =
       let r = someBelow (curveCount t) (malformedRow t) in
       let s = someBelow (segmentCount t) (malformedSegment t) in
@@ -158,8 +158,19 @@ module _ (t : Tables) where
   unfolding deepRow
   nesting-at-most i h = ltb-false 8 (nesting (tree t i)) h
 
-  sizes-at : oversize t ≡ false → (pointCount t ≤ mostPoints) × (curveCount t ≤ mostRows) × (segmentCount t ≤ mostSegments)
+  pub sizes-at : oversize t ≡ false → (pointCount t ≤ mostPoints) × (curveCount t ≤ mostRows) × (segmentCount t ≤ mostSegments)
   sizes-at h = let k = sizes t h in (omega arith, omega arith, omega arith)
+
+  -- where the tables alone are accepted, they are neither above their sizes nor ill-formed
+  pub tables-of : tablesVerdict t ≡ Accepted → (oversize t ≡ false) × (illFormedTables t ≡ false)
+  unfolding tablesVerdict
+  tables-of h =
+      let v4 = cond (unordered t) (Refused 4) (cond (tooDeep t) (Refused 5) Accepted) in
+      let v3 = cond (illFormedTables t) (Refused 3) v4 in
+      let v2 = cond (unboundedTables (t .points) (t .reals) (t .ranges)) (Refused 2) v3 in
+      let a = passed (oversize t) 1 v2 h in
+      let b = passed (unboundedTables (t .points) (t .reals) (t .ranges)) 2 v3 (a .1) in
+      (a .0, passed (illFormedTables t) 3 v4 (b .1) .0)
 
 module _ (t : Tables) (e : Edge) (o : Options) where
   bounds-of : unbounded (t .points) (t .reals) (t .ranges) e o ≡ false → (some beyond (t .points) ≡ false) × (some beyond (t .reals) ≡ false) × (some beyond (t .ranges) ≡ false) × (edgeBeyond e ≡ false) × (optionsBeyond o ≡ false)
@@ -181,7 +192,7 @@ module _ (t : Tables) (e : Edge) (o : Options) where
   unfolding optionsBeyond
   options-of h = three (beyond (o .deflection)) (beyond (o .angle .0)) (finiteBeyond (o .scale)) h
 
-  tables-formed : illFormed t e o ≡ false → illFormedTables t ≡ false
+  pub tables-formed : illFormed t e o ≡ false → illFormedTables t ≡ false
   unfolding illFormed
   tables-formed h = neither (illFormedTables t) (illFormedEdge e o) h .0
 
@@ -212,6 +223,15 @@ module _ (t : Tables) (e : Edge) (o : Options) where
       numbered (illFormed t e o) 3 n v4 h3 (omega arith) (omega arith) λ h4.
       numbered (unordered t) 4 n v5 h4 (omega arith) (omega arith) λ h5.
       numbered (tooDeep t) 5 n v6 h5 (omega arith) (omega arith) λ h6.
+      numbered (missing t e) 6 n Accepted h6 (omega arith) (omega arith) λ h7. absurd (never n (sym h7))
+
+  pub edge-numbers : (n : ℕ) → edgeVerdict t e o ≡ Refused n → (1 ≤ n) × (n ≤ 6)
+  unfolding edgeVerdict
+  edge-numbers n h =
+      let v6 = cond (missing t e) (Refused 6) Accepted in
+      let v3 = cond (illFormedEdge e o) (Refused 3) v6 in
+      numbered (unboundedEdge e o) 2 n v3 h (omega arith) (omega arith) λ h3.
+      numbered (illFormedEdge e o) 3 n v6 h3 (omega arith) (omega arith) λ h6.
       numbered (missing t e) 6 n Accepted h6 (omega arith) (omega arith) λ h7. absurd (never n (sym h7))
 
   pub checked : verdict t e o ≡ Accepted → Checked t e o

@@ -22,8 +22,14 @@ const ROW_PAIRS: usize = 2 * brep::MOST_ROWS;
 
 const SEGMENT_PAIRS: usize = 2 * brep::MOST_SEGMENTS;
 
-// Cause 1.
-fn oversize(points: &[f64], curves: &[u32], reals: &[f64], parts: &[u32], ranges: &[f64]) -> bool
+// Cause 1. The rows that are left bound how deep an evaluation goes, whatever they hold: every reference that is followed falls.
+pub fn oversize(
+    points: &[f64],
+    curves: &[u32],
+    reals: &[f64],
+    parts: &[u32],
+    ranges: &[f64],
+) -> bool
     ensures { λ r. ⌜ r ≡ oversize (given points curves reals parts ranges) ⌝ }
 {
     let rows = either(ROW_THREES < curves.len(), ROW_PAIRS < reals.len());

@@ -6,8 +6,8 @@ use mathlib.Core.List.{List, []}
 use Prim.Native.Nat.{ℕ, _*_, _-_, _<_, _≤_}
 use native.Mathlib.Omega.{arith}
 use lib.ListN.{length, replicate, take}
-use lib.Dec.{ltb}
-use lib.Ieee.{Float, binary64, ofBits}
+use lib.Dec.{T, ltb}
+use lib.Ieee.{Float, binary64, fits, ofBits}
 use borrow.Author.Tests.{lt-ltb, le-ltb, le-leb, lt-leb}
 use Rattle.base_lists.specs.Result.{Result, refused, got, bind}
 use Rattle.base_lists.specs.Own.ListOf.{listOf}
@@ -31,19 +31,20 @@ use Rattle.edge_record.specs.declared.Counted.the-variants as counted
 use Rattle.edge_record.specs.Own.Stored.{countedOf}
 use Rattle.edge_record.specs.Chain.{width, shortest, flat, samples}
 use Rattle.edge_record.proofs.Laws.{length-flat, reads}
+use Rattle.edge_merge.specs.Merge.{mergeFloor}
 use Rattle.draw_spec.specs.declared.Way.{Way}
 use Rattle.draw_spec.specs.declared.Drawn.{Drawn}
 use Rattle.draw_spec.specs.declared.Drawn.the-variants.{Refused, Chain}
 use Rattle.draw_spec.specs.Edge.{edgeCurve, discretised}
 use Rattle.draw_spec.specs.Repair.{Got, by, repaired}
 use Rattle.draw_spec.specs.Draw as draw
-use Rattle.draw_spec.specs.Draw.{firstWay, localOptions, referenced, roomOf, tooShort, drawn, Lowest, Outcome, inFirst, afterRefusal, firstAfter, secondAfter}
-use Rattle.draw_spec.proofs.Answers.{answers-got, answers-refused}
-use Rattle.draw_spec.proofs.Discretised.{Room, discretised-answers}
+use Rattle.draw_spec.specs.Draw.{firstWay, localOptions, referenced, inBuffers, roomOf, tooShort, drawn, Outcome, inFirst, afterRefusal, firstAfter, secondAfter}
+use Rattle.draw_spec.specs.Own.Binary.{AllBinary64}
+use Rattle.draw_spec.proofs.Answers.{Answers, answers-got, answers-refused}
+use Rattle.draw_spec.proofs.Discretised.{Chained, Room, discretised-answers}
 use Rattle.draw_spec.proofs.Repaired.{referenced-answers}
 use Rattle.draw_spec.proofs.Sound.{Binary}
-use Rattle.draw_spec.proofs.Accepted.{given, by-tables, by-buffers, refused-so}
-use Rattle.draw_spec.proofs.Table.{lowest}
+use Rattle.draw_spec.proofs.Accepted.{given, by-tables, refused-so}
 use Rattle.draw_spec.proofs.ReadBack.{read-back, outcome}
 use Rattle.edge_discretise.specs.Own.Discretised.{DiscretisedInto}
 use Rattle.edge_repair.specs.Own.Redrawn.{DrawnInto}
@@ -87,6 +88,11 @@ refused-left : (n : ℕ) (first second : List Float) → (n ≡ 8) ⊎ (n ≡ 9)
 unfolding draw.answerOf firstAfter secondAfter
 refused-left n first second h = record { answered = refl; firstHolds = sym (late n first h); secondHolds = sym (late n second h) }
 
+-- ---- drawing in the room answers 8, 9 or a chain that fits it, whatever the tables hold
+pub room-answers : (t : Tables) (e : Edge) (r : Resolved) (first second : ℕ) → shortest ≤ first → shortest ≤ second
+    → Answers (λ (g : Got). Chained ⊥ t e (mergeFloor (e .tolerance) (r .sag)) (roomOf first second) (g .chain)) (within (roomOf first second) (referenced t e r))
+room-answers t e r first second p q = referenced-answers ⊥ t e (λ x. absurd x) (λ x. absurd x) (roomOf first second) (room-fine first second p q) r
+
 -- ---- drawn_in, after discretise answered w and left f and s
 module _ (t : Tables) (e : Edge) (r : Resolved) (first second : List Float) (p : shortest ≤ length first) (q : shortest ≤ length second) where
   abbrev chain : Result (List Sample)
@@ -109,8 +115,7 @@ module _ (t : Tables) (e : Edge) (r : Resolved) (first second : List Float) (p :
       h .fits)
 
   whole-late : (n : ℕ) → whole ≡ refused n → (n ≡ 8) ⊎ (n ≡ 9)
-  whole-late n = answers-refused n
-      (referenced-answers ⊥ t e (λ x. absurd x) (λ x. absurd x) (roomOf (length first) (length second)) (room-fine (length first) (length second) p q) r)
+  whole-late n = answers-refused n (room-answers t e r (length first) (length second) p q)
 
   -- what follows the chain, by what discretise answered
   whole-by : (c : Result (List Sample)) → chain ≡ c → whole ≡ bind c (λ l. within (roomOf (length first) (length second)) (repaired t e r (by way l)))
@@ -194,34 +199,38 @@ module _ (t : Tables) (e : Edge) (r : Resolved) (first second : List Float) (p :
           secondHolds = h .secondHolds ∙ ap (secondAfter s) all-mended ∙ same-second whole s second whole-late (c .second-long);
         }
 
--- ---- draw: the outcome, by the way out
+-- ---- draw: answer and buffers, by the way out
+-- what `binary64` says of the tables and the edge's range
+pub binary : (t : Tables) (e : Edge) → AllBinary64 (t .reals) × AllBinary64 (t .ranges) × T (fits binary64 (e .range .lo)) × T (fits binary64 (e .range .hi)) → Binary t e
+binary t e h = record { reals = h .0; ranges = h .1; lo = h .2; hi = h .3 }
+
+-- 1 to 7 leave both buffers as before
+pub early : (n : ℕ) (first second : List Float) (d : Result Got) → n ≤ 7 → d ≡ refused n → DrawnInto d first second (Refused n) first second
+unfolding draw.answerOf firstAfter secondAfter
+early n first second d h q = record { answered = rw q; firstHolds = rw (q, le-leb n 7 h); secondHolds = rw (q, le-leb n 7 h) }
+
 module _ (t : Tables) (e : Edge) (o : Options) (first second : List Float) where
-  refused-outcome : (n : ℕ) → drawn t e o (length first) (length second) ≡ refused n → n ≤ 7 → Outcome t e o first second (Refused n) first second
-  unfolding draw.answerOf firstAfter secondAfter
-  refused-outcome n q h = record {
-    answered = rw q;
-    firstHolds = rw (q, le-leb n 7 h);
-    secondHolds = rw (q, le-leb n 7 h);
-    refuses = λ m is. let z : n ≡ m = cc in subst (Lowest t e o (length first) (length second)) z (lowest t e o (length first) (length second) n q);
-    accepts = λ way m is. absurd (let z : _≡_ {A = ℕ} 0 1 = cc in omega arith);
-    sound = λ way m is. absurd (let z : _≡_ {A = ℕ} 0 1 = cc in omega arith);
-  }
+  -- draw_unchecked
+  pub too-short : tooShort (length first) (length second) ≡ true → DrawnInto (inBuffers t e o (length first) (length second)) first second (Refused 7) first second
+  too-short h = early 7 first second _ (omega arith) (rw h)
 
-  pub by-verdict : (n : ℕ) → verdict t e o ≡ verdicts.Refused n → Outcome t e o first second (Refused n) first second
-  by-verdict n a = refused-outcome n (refused-so t e o (length first) (length second) n (by-tables a)) (omega (arith, verdict-numbers t e o n a))
-
-  pub by-length : verdict t e o ≡ verdicts.Accepted → tooShort (length first) (length second) ≡ true → Outcome t e o first second (Refused 7) first second
-  by-length a b = refused-outcome 7 (refused-so t e o (length first) (length second) 7 (by-buffers a b refl)) (omega arith)
-
-  pub by-drawing : verdict t e o ≡ verdicts.Accepted → tooShort (length first) (length second) ≡ false → Binary t e
-      → (r : Resolved) → r ≡ localOptions t e o
+  pub in-buffers : tooShort (length first) (length second) ≡ false → (r : Resolved) → r ≡ localOptions t e o
       → (answer : Drawn) (f s : List Float) → DrawnInto (within (roomOf (length first) (length second)) (referenced t e r)) first second answer f s
-      → Outcome t e o first second answer f s
-  by-drawing a b k r is answer f s h =
-      let d = ap (λ (x : Resolved). within (roomOf (length first) (length second)) (referenced t e x)) is ∙ sym (given t e o (length first) (length second) verdicts.Accepted false a b) in
-      outcome t e o first second answer f s (h .answered ∙ ap draw.answerOf d) (h .firstHolds ∙ ap (firstAfter first) d) (h .secondHolds ∙ ap (secondAfter second) d) k
+      → DrawnInto (inBuffers t e o (length first) (length second)) first second answer f s
+  in-buffers h r is answer f s d = rw (h, ← is) d
 
--- ---- the lengths that draw_checked looks at
+  -- draw
+  pub by-verdict : (n : ℕ) → verdict t e o ≡ verdicts.Refused n → DrawnInto (drawn t e o (length first) (length second)) first second (Refused n) first second
+  by-verdict n a = early n first second _ (omega (arith, verdict-numbers t e o n a)) (refused-so t e o (length first) (length second) n (by-tables a))
+
+  pub by-drawing : verdict t e o ≡ verdicts.Accepted → (answer : Drawn) (f s : List Float) → DrawnInto (inBuffers t e o (length first) (length second)) first second answer f s
+      → DrawnInto (drawn t e o (length first) (length second)) first second answer f s
+  by-drawing a answer f s = subst (λ (x : Result Got). DrawnInto x first second answer f s) (sym (given t e o (length first) (length second) verdicts.Accepted (tooShort (length first) (length second)) a refl))
+
+  pub all-outcome : Binary t e → (answer : Drawn) (f s : List Float) → DrawnInto (drawn t e o (length first) (length second)) first second answer f s → Outcome t e o first second answer f s
+  all-outcome b answer f s d = outcome t e o first second answer f s (d .answered) (d .firstHolds) (d .secondHolds) b
+
+-- ---- the lengths that draw_unchecked looks at
 pub first-short : (a b : ℕ) → a < shortest → tooShort a b ≡ true
 first-short a b h = ap (λ (x : Bool). x || ltb b shortest) (lt-ltb a shortest h)
 

@@ -18,16 +18,15 @@ ghost use lib.Dec.{T};
 ghost use lib.Ieee.{binary64, fits};
 ghost use Rattle.brep.specs.Rows.{lent, given};
 ghost use Rattle.brep.specs.Tree.{tree};
-ghost use Rattle.causes.specs.declared.Verdict.the-variants.{Accepted};
-ghost use Rattle.causes.specs.Causes.{verdict, tablesVerdict};
 ghost use Rattle.knots_sort.specs.Own.Sortable.{mostKnots};
 ghost use Rattle.knots.specs.Knots.{curveKnots};
 ghost use Rattle.edge_params.specs.Work.{within};
 ghost use Rattle.edge_record.specs.Chain.{width, shortest};
 ghost use Rattle.edge_range.specs.Usable.{usableRange};
-ghost use Rattle.draw_spec.specs.Draw.{firstWay, localOptions, referenced, roomOf, inFirst, liesInFirst, chainFloats, Outcome};
+ghost use Rattle.draw_spec.specs.Draw.{firstWay, localOptions, referenced, inBuffers, roomOf, inFirst, liesInFirst, chainFloats, Outcome};
 ghost use Rattle.draw_spec.specs.Own.Binary.{AllBinary64};
 ghost use Rattle.edge_repair.specs.Own.Redrawn.{DrawnInto};
+ghost use Rattle.draw.specs.Over.{Over};
 
 // The way of the first drawing: the chord where the edge has no usable range.
 fn first_way(usable: Usable) -> Way
@@ -48,10 +47,13 @@ fn all_binary64(s: &[f64])
     }
 }
 
-// Both ends of a range are binary64. Nothing is done: that they are handed over says it of them.
-fn ends_binary64(range: Interval)
-    ensures { λ _. ⌜ T (fits binary64 (range .lo)) × T (fits binary64 (range .hi)) ⌝ }
-{}
+// So is every float that sampling starts from: the slices' and a range's ends. That they are handed over says it of these.
+fn binary64(reals: &[f64], ranges: &[f64], range: Interval)
+    ensures { λ _. ⌜ AllBinary64 (now (reals .entry)) × AllBinary64 (now (ranges .entry)) × T (fits binary64 (range .lo)) × T (fits binary64 (range .hi)) ⌝ }
+{
+    all_binary64(reals);
+    all_binary64(ranges);
+}
 
 // The options for an edge of this size.
 fn local_options(
@@ -127,8 +129,8 @@ fn drawn_in(
     }
 }
 
-// Draws an edge that `causes::check` has accepted with these tables and options, without looking at them again.
-fn draw_checked(
+// Draws an edge over tables of any content, of which nothing is looked at but that its curve has no more knots than can be sorted.
+fn draw_unchecked(
     points: &[f64],
     curves: &[u32],
     reals: &[f64],
@@ -139,15 +141,12 @@ fn draw_checked(
     first: &mut [f64],
     second: &mut [f64],
 ) -> Drawn
-    requires { ⌜ verdict (lent points curves reals parts ranges) edge options ≡ Accepted ⌝ }
-    ensures { λ r. ⌜ Outcome (given points curves reals parts ranges) edge options (now (first .entry)) (now (second .entry)) r (now (first .exit)) (now (second .exit)) ⌝ }
+    requires { ⌜ length (curveKnots (tree (lent points curves reals parts ranges) (edge .curve))) ≤ mostKnots ⌝ }
+    ensures { λ r. ⌜ DrawnInto (inBuffers (given points curves reals parts ranges) edge options (length (now (first .entry))) (length (now (second .entry)))) (now (first .entry)) (now (second .entry)) r (now (first .exit)) (now (second .exit)) ⌝ }
 {
     if first.len() < edge_record::SHORTEST || second.len() < edge_record::SHORTEST {
         return Drawn::Refused(7);
     }
-    all_binary64(reals);
-    all_binary64(ranges);
-    ends_binary64(edge.range);
     let usable = edge_range::usable_range(
         points,
         curves,
@@ -172,8 +171,9 @@ fn draw_checked(
     )
 }
 
-// Draws an edge over tables that `causes::check_tables` has accepted, for many edges over the same tables: only the edge and
-// the options are looked at.
+// Draws an edge over tables that `causes::check_tables` has accepted, for many edges over the same tables: of the tables only the
+// lengths are looked at. Any others are drawn as their rows read, or refused: with so few rows no evaluation follows more than
+// 4,096 references, and a run of more segments than a table may have is turned away before its knots are sorted.
 pub fn draw_over(
     points: &[f64],
     curves: &[u32],
@@ -185,23 +185,32 @@ pub fn draw_over(
     first: &mut [f64],
     second: &mut [f64],
 ) -> Drawn
-    requires { ⌜ tablesVerdict (lent points curves reals parts ranges) ≡ Accepted ⌝ }
-    ensures { λ r. ⌜ Outcome (given points curves reals parts ranges) edge options (now (first .entry)) (now (second .entry)) r (now (first .exit)) (now (second .exit)) ⌝ }
+    ensures { λ r. ⌜ Over (given points curves reals parts ranges) edge options (now (first .entry)) (now (second .entry)) r (now (first .exit)) (now (second .exit)) ⌝ }
 {
+    binary64(reals, ranges, edge.range);
+    if causes::oversize(points, curves, reals, parts, ranges) {
+        return Drawn::Refused(1);
+    }
     let verdict = causes::check_over(points, curves, reals, parts, ranges, edge, options);
     match verdict {
         Verdict::Refused(cause) => Drawn::Refused(cause),
-        Verdict::Accepted => draw_checked(
-            points,
-            curves,
-            reals,
-            parts,
-            ranges,
-            edge,
-            options,
-            first,
-            second,
-        ),
+        Verdict::Accepted => {
+            let knots = knots::knot_count(points, curves, reals, parts, ranges, edge.curve);
+            if knots_sort::MOST_KNOTS < knots {
+                return Drawn::Refused(3);
+            }
+            draw_unchecked(
+                points,
+                curves,
+                reals,
+                parts,
+                ranges,
+                edge,
+                options,
+                first,
+                second,
+            )
+        }
     }
 }
 
@@ -219,10 +228,11 @@ pub fn draw(
 ) -> Drawn
     ensures { λ r. ⌜ Outcome (given points curves reals parts ranges) edge options (now (first .entry)) (now (second .entry)) r (now (first .exit)) (now (second .exit)) ⌝ }
 {
+    binary64(reals, ranges, edge.range);
     let verdict = causes::check(points, curves, reals, parts, ranges, edge, options);
     match verdict {
         Verdict::Refused(n) => Drawn::Refused(n),
-        Verdict::Accepted => draw_checked(
+        Verdict::Accepted => draw_unchecked(
             points,
             curves,
             reals,

@@ -67,13 +67,17 @@ programFloats = width * programPoints
 abbrev pub tooShort : ℕ → ℕ → Bool
 tooShort first second = ltb first shortest || ltb second shortest
 
--- the refusal with the lowest number from 1 to 7; else the reference in the room: 8, 9, or the chain and its way
+-- drawing into two buffers of so many floats: 7 where one is too short; else the reference in the room: 8, 9, or the chain and its way
+abbrev pub inBuffers : Tables → Edge → Options → ℕ → ℕ → Result Got
+inBuffers T e o first second =
+    cond (tooShort first second) (refused 7) (within (roomOf first second) (referenced T e (localOptions T e o)))
+
+-- the refusal with the lowest number from 1 to 6; else drawing into the buffers
 unfoldable pub drawn : Tables → Edge → Options → ℕ → ℕ → Result Got
 drawn T e o first second =
     elim (verdict T e o) [
       | verdicts.Refused n ↦ refused n
-      | verdicts.Accepted ↦
-          cond (tooShort first second) (refused 7) (within (roomOf first second) (referenced T e (localOptions T e o)))
+      | verdicts.Accepted ↦ inBuffers T e o first second
     ]
 
 -- the answer

@@ -3,7 +3,7 @@ use mathlib.Core.Path.{_≡_, refl, sym, ap, subst, _∙_}
 use mathlib.Core.Logic.{inl, inr}
 use mathlib.Core.Bool.{Bool, true, false, cond}
 use mathlib.Core.List.{List}
-use Prim.Native.Nat.{ℕ, _≤_}
+use Prim.Native.Nat.{ℕ, _*_, _≤_}
 use native.Mathlib.Omega.{arith}
 use lib.ListN.{length}
 use lib.Ieee.{Float}
@@ -16,16 +16,17 @@ use Rattle.causes.specs.declared.Verdict.the-variants as verdicts
 use Rattle.causes.specs.Causes.{oversize, unordered, tooDeep, tablesVerdict}
 use Rattle.causes_bounds.specs.Bounds.{unboundedTables}
 use Rattle.causes_form.specs.Forms.{illFormedTables}
+use Rattle.edge_record.specs.Chain.{width}
 use Rattle.draw_spec.specs.declared.Way.{Way}
 use Rattle.draw_spec.specs.declared.Way.the-variants.{AsDrawn, Chord, Complement, ShortArc, Runaway}
 use Rattle.draw_spec.specs.declared.Drawn.{Drawn}
 use Rattle.draw_spec.specs.Repair.{Got}
-use Rattle.draw_spec.specs.Draw.{drawn, answerOf, Outcome}
-use Rattle.draw_spec.proofs.Sound.{drawn-numbers}
-use Rattle.draw_spec.proofs.ReadBack.{fits-first, fits-second}
+use Rattle.draw_spec.specs.Draw.{roomOf, drawn, answerOf, Outcome}
+use Rattle.draw.specs.Over.{drawnOver, Over}
+use Rattle.draw.proofs.Over.{Answerable, drawn-answerable, over-answerable}
 use Rattle.ffi_numbers.specs.declared.Codes.{Codes}
 use Rattle.ffi_numbers.specs.Numbers.{causeOf, numberOf, codesOf}
-use Rattle.ffi.specs.Numbered.{answerTo, Numbered, NumberedOutcome}
+use Rattle.ffi.specs.Numbered.{Numbered, NumberedAnswer, NumberedOutcome, NumberedOver}
 
 -- ways are numbered from 1 to 5
 way-numbers : (w : Way) → (1 ≤ numberOf w) × (numberOf w ≤ 5)
@@ -36,42 +37,46 @@ way-numbers Complement = (omega arith, omega arith)
 way-numbers ShortArc = (omega arith, omega arith)
 way-numbers Runaway = (omega arith, omega arith)
 
+-- records that fit the room fit either buffer
+fits-room : (first second n : ℕ) → n ≤ roomOf first second → (width * n ≤ first) × (width * n ≤ second)
+unfolding roomOf
+fits-room first second n h = (omega arith, omega arith)
+
 -- what a caller may rely on, of an answer's numbers
-abbrev CodesNumbered : ℕ → ℕ → Codes → Type 0
-CodesNumbered first second x = Numbered first second (x .refusal) (x .way) (x .count)
+relied : (first second : ℕ) (d : Result Got) → Answerable first second d → let c = codesOf (answerOf d) in Numbered first second (c .refusal) (c .way) (c .count)
+unfolding answerOf codesOf
+relied first second (refused n) h = inl (h .0, h .1, refl, refl)
+relied first second (got g) h = let m = way-numbers (g .way) in let k = fits-room first second (length (g .chain)) h in inr (refl, m .0, m .1, k .0, k .1)
 
-module _ (T : Tables) (e : Edge) (o : Options) (first second : List Float) where
-  by-result : (d : Result Got) → drawn T e o (length first) (length second) ≡ d → CodesNumbered (length first) (length second) (codesOf (answerOf d))
-  unfolding answerOf codesOf
-  by-result (refused n) q = let k = drawn-numbers T e o (length first) (length second) n q in inl (k .0, k .1, refl, refl)
-  by-result (got g) q =
-      let k = way-numbers (g .way) in
-      inr (refl, k .0, k .1, fits-first T e o first second g q, fits-second T e o first second g q)
+-- the numbers of an answer that the definition gives
+numbers-of : (first second : ℕ) (D : Result Got) (a : Drawn) (x : Codes) → Answerable first second D → a ≡ answerOf D → x ≡ codesOf a
+    → NumberedAnswer D first second (x .refusal) (x .way) (x .count)
+numbers-of first second D a x h p q =
+    let w = q ∙ ap codesOf p in
+    record {
+      itsRefusal = ap (λ (c : Codes). c .refusal) w;
+      itsWay = ap (λ (c : Codes). c .way) w;
+      itsCount = ap (λ (c : Codes). c .count) w;
+      numbered = subst (λ (c : Codes). Numbered first second (c .refusal) (c .way) (c .count)) (sym w) (relied first second D h);
+    }
 
-  -- holds of every answer
-  codes-numbered : CodesNumbered (length first) (length second) (codesOf (answerTo T e o first second))
-  codes-numbered = by-result (drawn T e o (length first) (length second)) refl
+-- with an edge and options that the numbers stand for
+module _ (T : Tables) (first second : List Float) (x : Codes) (f s : List Float) (e e' : Edge) (o o' : Options) (a : Drawn) (p : e ≡ e') (q : o ≡ o') (w : x ≡ codesOf a) where
+  -- P of the edge and the options, and so of what they are put together from
+  put : (P : Edge → Options → Type 0) → P e o → P e' o'
+  put P h = subst (λ (z : Edge). P z o') p (subst (P e) q h)
 
-module _ (T : Tables) (first second : List Float) (x : Codes) (f s : List Float) where
-  -- the answer's numbers are told of the answer that the definition gives
-  by-answer : (e : Edge) (o : Options) (a : Drawn) → Outcome T e o first second a f s → x ≡ codesOf a
-      → NumberedOutcome T e o first second (x .refusal) (x .way) (x .count) f s
-  by-answer e o a h p =
-      let w = p ∙ ap codesOf (h .answered) in
-      record {
-        itsRefusal = ap (λ (c : Codes). c .refusal) w;
-        itsWay = ap (λ (c : Codes). c .way) w;
-        itsCount = ap (λ (c : Codes). c .count) w;
-        numbered = subst (CodesNumbered (length first) (length second)) (sym w) (codes-numbered T e o first second);
-        outcome = subst (λ (x : Drawn). Outcome T e o first second x f s) (h .answered) h;
-      }
+  pub by-outcome : Outcome T e o first second a f s → NumberedOutcome T e' o' first second (x .refusal) (x .way) (x .count) f s
+  by-outcome h = put (λ i j. NumberedOutcome T i j first second (x .refusal) (x .way) (x .count) f s) (record {
+    answer = numbers-of (length first) (length second) (drawn T e o (length first) (length second)) a x (drawn-answerable T e o (length first) (length second)) (h .answered) w;
+    outcome = subst (λ (z : Drawn). Outcome T e o first second z f s) (h .answered) h;
+  })
 
-  -- and of the edge and the options that the numbers stand for
-  pub by-numbers : (e e' : Edge) (o o' : Options) (a : Drawn) → e ≡ e' → o ≡ o' → Outcome T e o first second a f s → x ≡ codesOf a
-      → NumberedOutcome T e' o' first second (x .refusal) (x .way) (x .count) f s
-  by-numbers e e' o o' a p q h w =
-      subst (λ (z : Edge). NumberedOutcome T z o' first second (x .refusal) (x .way) (x .count) f s) p
-      (subst (λ (z : Options). NumberedOutcome T e z first second (x .refusal) (x .way) (x .count) f s) q (by-answer e o a h w))
+  pub by-over : Over T e o first second a f s → NumberedOver T e' o' first second (x .refusal) (x .way) (x .count) f s
+  by-over h = put (λ i j. NumberedOver T i j first second (x .refusal) (x .way) (x .count) f s) (record {
+    answer = numbers-of (length first) (length second) (drawnOver T e o (length first) (length second)) a x (over-answerable T e o (length first) (length second)) (h .answered) w;
+    over = subst (λ (z : Drawn). Over T e o first second z f s) (h .answered) h;
+  })
 
 -- no cause of the tables has the number 0
 by-causes : (a b c d e : Bool) (v : Verdict)

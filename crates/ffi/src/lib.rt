@@ -1,16 +1,15 @@
 // Drawing, walking, presets and angles under C names, over numbers and slices alone. A slice is a pointer and a length, an
-// out value a pointer. Only cs_flat_draw_over has a requires, and cs_flat_check_tables says whether it is met: nothing else that another
-// language hands over is outside a contract.
+// out value a pointer. No function has a requires: nothing that another language hands over is outside a contract.
 use options::Angle;
 use options::Options;
 ghost use mathlib.Core.Path.{_≡_};
-ghost use Rattle.brep.specs.Rows.{lent, given};
+ghost use Rattle.brep.specs.Rows.{given};
 ghost use Rattle.causes.specs.declared.Verdict.the-variants.{Accepted};
 ghost use Rattle.causes.specs.Causes.{verdict, tablesVerdict};
 ghost use Rattle.options.specs.Options.{radians as inRadians, degrees, isClamped, defaultOptions, draftOptions, fineOptions};
 ghost use Rattle.edge_walker.specs.Walk.{startOf, stepped};
 ghost use Rattle.ffi_numbers.specs.Numbers.{edgeOf, optionsOf, causeOf, passed, pointAfter};
-ghost use Rattle.ffi.specs.Numbered.{NumberedOutcome};
+ghost use Rattle.ffi.specs.Numbered.{NumberedOutcome, NumberedOver};
 
 // Draws an edge: 0, or the refusal's number.
 #[no_mangle]
@@ -62,7 +61,7 @@ pub extern "C" fn cs_flat_draw(
 }
 
 // Draws over tables that cs_flat_check_tables has accepted, and that have not changed since: for many edges they are checked once.
-// A caller that is not Rattle owes that.
+// Over any others it still answers, by the definition `drawnOver`.
 #[no_mangle]
 pub extern "C" fn cs_flat_draw_over(
     points: &[f64],
@@ -90,8 +89,7 @@ pub extern "C" fn cs_flat_draw_over(
     way: &mut u32,
     count: &mut usize,
 ) -> u32
-    requires { ⌜ tablesVerdict (lent points curves reals parts ranges) ≡ Accepted ⌝ }
-    ensures { λ r. ⌜ NumberedOutcome (given points curves reals parts ranges) (edgeOf curve start end sense lo hi tolerance low high) (optionsOf deflection radians relative segments depth scale) (now (first .entry)) (now (second .entry)) r (now (way .exit)) (now (count .exit)) (now (first .exit)) (now (second .exit)) ⌝ }
+    ensures { λ r. ⌜ NumberedOver (given points curves reals parts ranges) (edgeOf curve start end sense lo hi tolerance low high) (optionsOf deflection radians relative segments depth scale) (now (first .entry)) (now (second .entry)) r (now (way .exit)) (now (count .exit)) (now (first .exit)) (now (second .exit)) ⌝ }
 {
     let drawn = draw::draw_over(
         points,

@@ -1,27 +1,51 @@
--- `draw::draw_over` meets its contract: over accepted tables the edge's verdict is the verdict. Assumes nothing.
+-- `draw::draw_over` meets its contract, over tables of any content. Assumes nothing.
 use mathlib.Core.Path.{sym, _∙_}
+use native.Mathlib.Omega.{arith}
 use Rattle.brep.specs.Rows.{lent}
-use Rattle.causes.proofs.Apart.{verdict-edge}
-use Rattle.draw.proofs.Laws.{by-verdict}
+use Rattle.draw.proofs.Laws.{binary}
+use Rattle.draw.proofs.Over.{over-sizes, over-edge, over-run, over-drawn}
 use borrow.Author.Needs.{needs}
 use Rattle.draw.proofs.draw_over.Statement.{statement}
 use Rattle.draw.proofs.draw_over.Tie as tie
 
-draw-checked-requires : tie.Need-draw-checked-requires
-draw-checked-requires c κs = verdict-edge _ _ _ (c .before .before .before .before .before .before .before .before .before .before .before .before .pre) ∙ sym (c .before .before .before .before .check-over .ensures) ∙ c .before .before .enum-told .given .1
-
 returns : tie.Need-returns
-returns c = let a = c .before .before .before .before .before .before .before .before .before .before .before .args in by-verdict (lent (a .points) (a .curves) (a .reals) (a .parts) (a .ranges)) (a .edge) (a .options) (a .first .now) (a .second .now) _ (verdict-edge (lent (a .points) (a .curves) (a .reals) (a .parts) (a .ranges)) (a .edge) (a .options) (c .before .before .before .before .before .before .before .before .before .before .before .pre) ∙ sym (c .before .before .before .check-over .ensures) ∙ c .before .verdict .given .1)
+returns c =
+    let a = c .before .before .before .before .before .before .before .before .before .before .args in
+    let T = lent (a .points) (a .curves) (a .reals) (a .parts) (a .ranges) in
+    over-sizes T (a .edge) (a .options) (binary T (a .edge) (c .before .before .binary64 .ensures)) (a .first .now) (a .second .now) (sym (c .before .oversize .ensures) ∙ c .if1 .taken)
+
+returns-2 : tie.Need-returns-2
+returns-2 c =
+    let a = c .before .before .before .before .before .before .before .before .before .before .before .before .before .before .before .args in
+    let T = lent (a .points) (a .curves) (a .reals) (a .parts) (a .ranges) in
+    over-run T (a .edge) (a .options) (binary T (a .edge) (c .before .before .before .before .before .before .before .binary64 .ensures)) (a .first .now) (a .second .now) (sym (c .before .before .before .before .before .before .oversize .ensures) ∙ c .before .before .before .before .before .if1 .left) (sym (c .before .before .before .before .check-over .ensures) ∙ c .before .before .enum-told .given .1) (omega (arith, c .if2 .taken, c .before .knot-count .ensures))
+
+returns-3 : tie.Need-returns-3
+returns-3 c =
+    let a = c .before .before .before .before .before .before .before .before .before .before .before .before .before .before .args in
+    let T = lent (a .points) (a .curves) (a .reals) (a .parts) (a .ranges) in
+    over-edge T (a .edge) (a .options) (binary T (a .edge) (c .before .before .before .before .before .before .binary64 .ensures)) (a .first .now) (a .second .now) (sym (c .before .before .before .before .before .oversize .ensures) ∙ c .before .before .before .before .if1 .left) _ (sym (c .before .before .before .check-over .ensures) ∙ c .before .verdict .given .1)
+
+returns-4 : tie.Need-returns-4
+returns-4 c =
+    let a = c .before .before .before .before .before .before .before .before .before .before .before .before .before .before .before .before .before .before .before .before .before .before .args in
+    let T = lent (a .points) (a .curves) (a .reals) (a .parts) (a .ranges) in
+    over-drawn T (a .edge) (a .options) (binary T (a .edge) (c .before .before .before .before .before .before .before .before .before .before .before .before .before .before .binary64 .ensures)) (a .first .now) (a .second .now) (sym (c .before .before .before .before .before .before .before .before .before .before .before .before .before .oversize .ensures) ∙ c .before .before .before .before .before .before .before .before .before .before .before .before .if1 .left) (sym (c .before .before .before .before .before .before .before .before .before .before .before .check-over .ensures) ∙ c .before .before .before .before .before .before .before .before .before .enum-told .given .1) (omega (arith, c .before .before .before .before .before .before .before .if2 .left, c .before .before .before .before .before .before .before .before .knot-count .ensures)) _ _ _ (c .before .before .before .before .draw-unchecked .ensures)
 
 pub draw-over-spec : {M : Type 1} → statement M
 draw-over-spec =
     tie.close
     (tie.spec
     (λ c κs. search needs)
-    (λ c. search needs)
-    (λ c. search needs)
-    draw-checked-requires
+    (λ c κs. search needs)
     returns
+    (λ c κs. search needs)
     (λ c. search needs)
     (λ c. search needs)
-    (λ c. search needs))
+    (λ c κs. search needs)
+    returns-2
+    (λ c κs. search needs)
+    returns-3
+    (λ c. search needs)
+    (λ c. search needs)
+    returns-4)
