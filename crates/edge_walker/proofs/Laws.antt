@@ -44,16 +44,16 @@ at-start c = let m : min 0 (wholeOf c) ≡ 0 = omega arith in rw m
 -- one that answers none keeps its place
 stays : (c : List Float) (place : ℕ) (forward : Bool) → stepped c place forward .step ≡ Done → stepped c place forward .at ≡ place
 unfolding stepped
-stays c place true e = go (ltb place (wholeOf c)) e
+stays c place true e = go (ltb place (wholeOf c)) place (place + 1) e
   where
-    go : (v : Bool) → cond v (passes c place (place + 1)) (keepsPlace place) .step ≡ Done → cond v (passes c place (place + 1)) (keepsPlace place) .at ≡ place
-    go true e = cc
-    go false e = refl
-stays c place false e = go (eqb (min place (wholeOf c)) 0) e
+    go : (v : Bool) (i next : ℕ) → cond v (passes c i next) (keepsPlace place) .step ≡ Done → cond v (passes c i next) (keepsPlace place) .at ≡ place
+    go true i next e = cc
+    go false i next e = refl
+stays c place false e = go (eqb (min place (wholeOf c)) 0) (min place (wholeOf c) - 1) e
   where
-    go : (v : Bool) → cond v (keepsPlace place) (passes c (min place (wholeOf c) - 1) (min place (wholeOf c) - 1)) .step ≡ Done → cond v (keepsPlace place) (passes c (min place (wholeOf c) - 1) (min place (wholeOf c) - 1)) .at ≡ place
-    go true e = refl
-    go false e = cc
+    go : (v : Bool) (i : ℕ) → cond v (keepsPlace place) (passes c i i) .step ≡ Done → cond v (keepsPlace place) (passes c i i) .at ≡ place
+    go true i e = refl
+    go false i e = cc
 
 -- ---- the step after n steps
 -- the records in reverse
