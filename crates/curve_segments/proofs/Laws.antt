@@ -1,8 +1,8 @@
 -- The point on a run of records: by the record that the parameter falls in, and the same as on the tables' own segments. Assumes nothing.
 use mathlib.Core.Path.{_≡_, refl, sym, ap, _∙_}
 use mathlib.Core.List.{List, [], _∷_}
-use Prim.Native.Nat.{ℕ, zero, suc, _+_, _<_, _≤_}
-use native.Mathlib.Nat.{add-zero, add-suc, suc-add, not-suc-le-zero, le-of-suc-le-suc}
+use Prim.Native.Nat.{ℕ, zero, suc, _<_, _≤_}
+use native.Mathlib.Nat.{not-suc-le-zero, le-of-suc-le-suc}
 use native.Mathlib.Omega.{arith}
 use lib.ListN.{length, getD}
 use lib.Ieee.{Float}
@@ -12,13 +12,12 @@ use Rattle.math.specs.Math.{vZero}
 use Rattle.brep.specs.declared.Segment.{Segment}
 use Rattle.brep.specs.declared.Curve.the-variants.{Composite}
 use Rattle.brep.specs.Rows.{Tables}
-use Rattle.brep.specs.Own.RunOf.{runOf}
 use Rattle.brep.specs.Tree.{CurveTree, polyline, composite, segment, segments, segmentIn, rowIn, grown, below, tree}
 use Rattle.brep.proofs.Laws.{lower, at-high}
 use Rattle.curve.specs.Eval.{runLength, segmentIndex, segmentLocal, ownParameter, polylinePoint, pointAt, segmentPoint}
 use Rattle.curve_segments.specs.declared.Place.{Place}
-use Rattle.curve_segments.specs.Own.Places.{past, recordsIn, placeIn, alongOf}
-use Rattle.curve_segments.specs.Run.{segmentsOf, compositeOf}
+use Rattle.curve_segments.specs.Own.Places.{past, placeIn, alongOf}
+use Rattle.curve_segments.specs.Run.{segmentsOf, compositeOf, recordsIn, SameOverFlat}
 
 -- ---- the point on one segment
 no-points : (u : Float) → vZero ≡ pointAt (polyline []) u
@@ -86,18 +85,11 @@ same-segments T f first zero = refl
 same-segments T f first (suc n) =
     ap (segment (f (segmentIn T first .curve)) (segmentIn T first .range) (segmentIn T first .«same_sense»)) (same-segments T f (suc first) n)
 
--- a run is the tables' own where each of its records is
-pub own-records : (T : Tables) (run : List Segment) (first : ℕ) → ((i : ℕ) → i < length run → getD run i past ≡ segmentIn T (first + i)) → run ≡ recordsIn T first (length run)
-unfolding recordsIn
-own-records T [] first h = refl
-own-records T (s ∷ run) first h =
-    ap (λ (x : Segment). x ∷ run) (h 0 (omega arith) ∙ ap (segmentIn T) (add-zero first))
-    ∙ ap (λ (l : List Segment). segmentIn T first ∷ l) (own-records T run (suc first) (λ i l. h (suc i) (omega arith) ∙ ap (segmentIn T) (add-suc first i ∙ sym (suc-add first i))))
-
--- a run that is the tables' own is read as the tables are: by `composite_at`, and by `point_at` of the composite's row
-pub same-composite : (T : Tables) (row first n : ℕ) → compositeOf T row (recordsIn T first n) ≡ runOf T row first n
-same-composite T row first n = ap composite (same-segments T (below T row) first n)
-
-pub same-row : (T : Tables) (row first n : ℕ) → rowIn T row ≡ Composite first n → compositeOf T row (recordsIn T first n) ≡ tree T row
+-- a run that is a composite row's own is read as that row
+same-row : (T : Tables) (row first n : ℕ) → rowIn T row ≡ Composite first n → compositeOf T row (recordsIn T first n) ≡ tree T row
 unfolding tree grown
-same-row T row first n e = rw e (same-composite T row first n)
+same-row T row first n e = rw e (ap composite (same-segments T (below T row) first n))
+
+-- THE LAW: the same over flat numbers
+pub same-over-flat : (T : Tables) (row : ℕ) (run : List Segment) → SameOverFlat T row run
+same-over-flat T row run = record { same = λ first n e own. ap (compositeOf T row) own ∙ same-row T row first n e }

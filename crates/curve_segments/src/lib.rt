@@ -9,7 +9,7 @@ ghost use lib.ListN.{getD};
 ghost use Rattle.brep.specs.Rows.{given};
 ghost use Rattle.curve.specs.Eval.{indexIn, pointAt};
 ghost use Rattle.curve_segments.specs.Own.Places.{past, placeIn, alongOf};
-ghost use Rattle.curve_segments.specs.Run.{compositeOf};
+ghost use Rattle.curve_segments.specs.Run.{compositeOf, SameOverFlat};
 
 // Where a composite's parameter falls: the index of the segment, and how far along that.
 struct Place {
@@ -91,7 +91,8 @@ fn along(
     Vec3::ZERO
 }
 
-// The point at t of the composite whose segments are run, and which row refers to.
+// The point at t of the composite whose segments are run, and which row refers to. Of the row's own segments it is what
+// `curve::point_at` answers.
 pub fn point_of_run(
     points: &[f64],
     curves: &[u32],
@@ -102,7 +103,8 @@ pub fn point_of_run(
     run: &[Segment],
     t: f64,
 ) -> Vec3
-    ensures { λ r. ⌜ r ≡ pointAt (compositeOf (given points curves reals parts ranges) row (now (run .entry))) t ⌝ }
+    ensures { λ r. ⌜ (r ≡ pointAt (compositeOf (given points curves reals parts ranges) row (now (run .entry))) t)
+        × SameOverFlat (given points curves reals parts ranges) row (now (run .entry)) ⌝ }
 {
     let count = run.len();
     let at = place_in(count, t);

@@ -1,13 +1,14 @@
--- Chain::oriented of edge.rs: the points in the order of a walk, and the walk step by step. Definitions only.
+-- Chain::oriented of edge.rs: the points in the order of a walk, the walk step by step, and what walking means.
+use mathlib.Core.Path.{_≡_}
 use mathlib.Core.Bool.{Bool, true, false, cond}
-use mathlib.Core.List.{List, [], _∷_, reverse}
-use Prim.Native.Nat.{ℕ, zero, suc, _+_, _-_, _/_, min}
+use mathlib.Core.List.{List, [], _∷_, _++_, reverse}
+use Prim.Native.Nat.{ℕ, zero, suc, _+_, _-_, _/_, _<_, min}
 use lib.ListN.{length}
 use lib.Dec.{eqb, ltb}
 use lib.Ieee.{Float}
 use denote.Ref.{RefT, now}
 use Rattle.edge_record.specs.declared.Sample.{Sample}
-use Rattle.edge_record.specs.Chain.{width, sampleAt, samples}
+use Rattle.edge_record.specs.Chain.{width, flat, sampleAt, samples}
 use Rattle.edge_walker.specs.declared.Walker.{Walker}
 use Rattle.edge_walker.specs.declared.Step.{Step}
 use Rattle.edge_walker.specs.declared.Step.the-variants.{Point, Done}
@@ -17,10 +18,13 @@ use Rattle.edge_walker.specs.declared.Stepped.{Stepped}
 abbrev pub wholeOf : List Float → ℕ
 wholeOf c = length c / width
 
--- THE MEANING: Chain::oriented, the points in the order of the chain, or in reverse
+-- Chain::oriented: the points in the order of the chain, or in reverse
+abbrev pub oriented : List Sample → Bool → List Sample
+oriented points forward = cond forward points (reverse points)
+
+-- THE MEANING: Chain::oriented of the whole points that a chain's floats hold
 unfoldable pub orientedChain : List Float → Bool → List Sample
-orientedChain c true = samples (wholeOf c) c
-orientedChain c false = reverse (samples (wholeOf c) c)
+orientedChain c forward = oriented (samples (wholeOf c) c) forward
 
 -- where a walk begins: before the first point, or behind the last
 unfoldable pub startOf : List Float → Bool → ℕ
@@ -56,12 +60,24 @@ next w = stepped (now (w .chain)) (w .at) (w .forward)
 abbrev pub moved : Walker → Walker
 moved w = walkerAt (w .chain) (next w .at) (w .forward)
 
--- the point that a step passes, if any, before the points of the later steps
-unfoldable pub passing : Step → List Sample → List Sample
-passing (Point p) later = p ∷ later
-passing Done later = later
+-- ---- what walking means
+-- the walker after n steps
+unfoldable pub after : Walker → ℕ → Walker
+after w zero = w
+after w (suc n) = after (moved w) n
 
--- the points that a walker passes in n steps
-unfoldable pub walk : Walker → ℕ → List Sample
-walk w zero = []
-walk w (suc n) = passing (next w .step) (walk (moved w) n)
+-- the step to point number n, counted from 0; or that none is left
+unfoldable pub stepTo : List Sample → ℕ → Step
+stepTo [] n = Done
+stepTo (p ∷ points) zero = Point p
+stepTo (p ∷ points) (suc n) = stepTo points n
+
+-- WHAT WALKING MEANS: w walks the whole of a chain, whose floats are c
+pub record Walks (c : List Float) (forward : Bool) (w : Walker) : Type 0 where
+  -- stepping again and again answers the points of Chain::oriented, in order, and then none
+  pub answers : (n : ℕ) → next (after w n) .step ≡ stepTo (orientedChain c forward) n
+  -- a step that answers none keeps its place
+  pub keeps : (n : ℕ) → next (after w n) .step ≡ Done → moved (after w n) ≡ after w n
+  -- whole points only: those of the chain whose records c holds, with less than a record behind them
+  pub whole : (points : List Sample) (rest : List Float) → c ≡ flat points ++ rest → length rest < width
+      → orientedChain c forward ≡ oriented points forward

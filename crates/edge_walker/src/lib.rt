@@ -3,7 +3,7 @@
 use edge_record::Sample;
 ghost use mathlib.Core.Path.{_≡_};
 ghost use Prim.Native.Nat.{min};
-ghost use Rattle.edge_walker.specs.Walk.{startOf, started, stepped, next, moved};
+ghost use Rattle.edge_walker.specs.Walk.{startOf, started, stepped, next, moved, Walks};
 
 // A walk over the caller's chain: its place lies between two points and counts those before it.
 pub struct Walker<'a> {
@@ -72,9 +72,9 @@ pub fn step_at(chain: &[f64], at: usize, forward: bool) -> Stepped
 }
 
 impl<'a> Walker<'a> {
-    // A walker of the whole chain, from its start if forward, else from its end.
+    // A walker of the whole chain, from its start if forward, else from its end. Its steps answer the points of Chain::oriented.
     pub fn oriented(chain: &'a [f64], forward: bool) -> Walker<'a>
-        ensures { λ r. ⌜ r ≡ started (chain .entry) forward ⌝ }
+        ensures { λ r. ⌜ (r ≡ started (chain .entry) forward) × Walks (now (chain .entry)) forward r ⌝ }
     {
         let at = start_at(chain, forward);
         Walker { chain, at, forward }

@@ -53,7 +53,7 @@ use Rattle.curve.specs.Eval.{pointAt}
 use Rattle.curve_segments.specs.declared.Place.{Place}
 use Rattle.curve_segments.specs.Own.Places.{past, placeIn, alongOf}
 use Rattle.curve_segments.specs.Run.{compositeOf}
-use Rattle.curve_segments.proofs.Laws.{read}
+use Rattle.curve_segments.proofs.Laws.{read, same-over-flat}
 use Rattle.curve_segments.proofs.Place as P
 use Rattle.curve_segments.proofs.Place.Laws as P′
 use Rattle.curve_segments.proofs.place_in as place-in
@@ -243,7 +243,7 @@ module _ {M : Type 1} (𝓤 : URA M) (H : Heap 𝓤) (A : Atoms 𝓤) (W : Given
   exits : (p : Vec3) (u : Val) → p ≡ pointAt (compositeOf T row (xs .now)) t → ent 𝓤 (⋆ 𝓤 H A (‵ (E.the-row .own p (u ∷ [])) ∷ Tabs ∷ ‵ Own ∷ Run ∷ [])) (Post u)
   exits p u e =
       qed W (‵ (E.the-row .own p (u ∷ [])) ∷ Tabs ∷ ‵ Own ∷ Run ∷ []) ∵
-      suffices ! _ (ends-at 𝓤 H A point-of-run.ended stayed (point-of-run.clauses 𝓤 H A mem run) W ((κs, qs, tt, a, at), tt) u p (tt, (tt, (tt, (tt, (tt, (tt, (tt, (tt, tt)))))))) (tt, (tt, (tt, (tt, (tt, (tt, (tt, (tt, tt))))))))) $ says ! e $
+      suffices ! _ (ends-at 𝓤 H A point-of-run.ended stayed (point-of-run.clauses 𝓤 H A mem run) W ((κs, qs, tt, a, at), tt) u p (tt, (tt, (tt, (tt, (tt, (tt, (tt, (tt, tt)))))))) (tt, (tt, (tt, (tt, (tt, (tt, (tt, (tt, tt))))))))) $ says ! (e, same-over-flat T row (xs .now)) $
       move ! (1 ∷ 3 ∷ []) $ use2 W All joined $ frame ! $ move ! (1 ∷ 0 ∷ []) $ frame ! $ done !
 
   module _ (C : Calls 𝓤 H) (Λ : Loops 𝓤 H) (fm : FmC 𝓤 H (W .laws) C) (known-place : Triple 𝓤 (C #segments·place-in) (PlaceIn 𝓤 H A mem run)) (known-segment : Triple 𝓤 (C #segments·segment-at) (SegmentAt 𝓤 H A mem run)) (known-along : Triple 𝓤 (C #segments·along) (Along 𝓤 H A mem run)) where

@@ -1,25 +1,19 @@
 -- Where a parameter falls on a run of records. Definitions only.
 use mathlib.Core.Bool.{false, cond}
-use mathlib.Core.List.{List, [], _∷_}
-use Prim.Native.Nat.{ℕ, zero, suc}
+use Prim.Native.Nat.{ℕ}
 use lib.Dec.{eqb}
 use lib.Ieee.{Float, nan}
 use Rattle.math.specs.declared.Vec3.{Vec3}
 use Rattle.math.specs.Math.{vZero, interval}
 use Rattle.brep.specs.declared.Segment.{Segment}
 use Rattle.brep.specs.Rows.{Tables}
-use Rattle.brep.specs.Tree.{segmentIn, below}
+use Rattle.brep.specs.Tree.{below}
 use Rattle.curve.specs.Eval.{segmentIndex, segmentLocal, ownParameter, pointAt}
 use Rattle.curve_segments.specs.declared.Place.{Place}
 
 -- what a record past the end of a run reads as
 abbrev pub past : Segment
 past = record { curve = 0; range = interval nan nan; «same_sense» = false }
-
--- the records of the tables' segments, n of them from number first on
-unfoldable pub recordsIn : Tables → ℕ → ℕ → List Segment
-recordsIn T first zero = []
-recordsIn T first (suc n) = segmentIn T first ∷ recordsIn T (suc first) n
 
 -- where t falls on a composite of so many segments
 abbrev pub placeIn : ℕ → Float → Place

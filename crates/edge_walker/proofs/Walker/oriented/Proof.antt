@@ -1,4 +1,4 @@
--- `Walker::oriented` meets its contract: a walk of its MIR, by hand. `start_at` is called on the slice and the direction, and a `Walker` is made of the slice, the place that it returned and the direction.
+-- `Walker::oriented` meets its contract: a walk of its MIR, by hand. `start_at` is called on the slice and the direction, and a `Walker` is made of the slice, the place that it returned and the direction; `walks` says what its steps answer.
 -- A `&[f64]` is Copy, so what it owns is had twice: once for chain at exit, and once for the callee and then inside the result. Assumes nothing.
 use mathlib.Core.Path.{_≡_, refl, ap}
 use mathlib.Core.Bool.{Bool}
@@ -41,6 +41,7 @@ use denote.Triple.Walked.{says, Stays, stay-none, stay-none-slice, walkOf, goes-
 use denote.Exit.{yes}
 use Rattle.edge_walker.specs.Walk.{startOf}
 use Rattle.edge_walker.specs.declared.Walker.{Walker}
+use Rattle.edge_walker.proofs.Laws.{walks}
 use Rattle.edge_walker.proofs.Walker as T
 use Rattle.edge_walker.proofs.Walker.Laws as T′
 use Rattle.edge_walker.proofs.start_at as start
@@ -97,7 +98,7 @@ module _ {M : Type 1} (𝓤 : URA M) (H : Heap 𝓤) (A : Atoms 𝓤) (W : Given
   exits : (r : ℕ) → r ≡ startOf (now s) f → r < 2 ^ 64 → ent 𝓤 (⋆ 𝓤 H A ((‵ (flft κ q) ⊛ ‵ ftrue) ∷ ‵ Own ∷ [])) (Post (T′.lowered (made r)))
   exits r e r-fits =
       qed W ((‵ (flft κ q) ⊛ ‵ ftrue) ∷ ‵ Own ∷ []) ∵
-      suffices ! _ (ends-at 𝓤 H A oriented.ended stayed (oriented.clauses 𝓤 H A mem run) W (((κ, tt), (q, tt), tt, (s, (f, tt)), at), tt) (T′.lowered (made r)) (made r) (tt, (tt, tt)) (tt, (tt, tt))) $ says ! (ap made e) $
+      suffices ! _ (ends-at 𝓤 H A oriented.ended stayed (oriented.clauses 𝓤 H A mem run) W (((κ, tt), (q, tt), tt, (s, (f, tt)), at), tt) (T′.lowered (made r)) (made r) (tt, (tt, tt)) (tt, (tt, tt))) $ says ! (ap made e, walks s f (made r) (ap made e)) $
       frame ! $ use1 W (‵ Own ⊛ ‵ Own) (shr-slice-copy 𝓤 H A W (named 0) κ f64 .twice s (v ∷ [])) $ split ! $
       nothing ! $ owned ! bool (Is bool) (bool-makes 𝓤 H A W) f _ refl $ fjoin ! $ move ! (1 ∷ 0 ∷ []) $ fjoin ! $ frame ! $
       -- [what chain owns]: what the fields own together, of it and of the facts of at and forward, is what the struct owns
