@@ -1,9 +1,13 @@
 -- The examples of the scope that are proved, as one list under one claim. Definitions only.
 use mathlib.Core.Path.{_≡_}
-use mathlib.Core.List.{List, [], _∷_, map}
+use mathlib.Core.Bool.{false, cond}
+use mathlib.Core.List.{List, [], _∷_}
 use Prim.Native.Nat.{ℕ, _+_, _*_, _^_}
-use lib.Ieee.{Float, neg}
-use Rattle.base_lists.specs.Result.{refused, got, each}
+use lib.ListN.{length}
+use lib.Ieee.{Float, eq, neg}
+use Rattle.base_lists.specs.Result.{Result, refused, got}
+use Rattle.base_lists.specs.All.{All}
+use Rattle.base_lists.specs.Room.{filled}
 use Rattle.arith.specs.Notation.{plusZero, half, one, two, count}
 use Rattle.arith.specs.Constants.{nearestFloat, ten, million, billion, hundredth}
 use Rattle.math.specs.declared.Vec3.{Vec3}
@@ -16,46 +20,56 @@ use Rattle.curve.specs.Eval.{pointAt}
 use Rattle.options.specs.declared.Options.{Options}
 use Rattle.options.specs.Options.{radians, resolve, forExtent}
 use Rattle.edge_record.specs.declared.Sample.{Sample}
+use Rattle.edge_record.specs.Chain.{flat}
 use Rattle.edge_merge.specs.Merge.{mergeFloor}
 use Rattle.edge_range.specs.declared.Usable.the-variants.{Range}
 use Rattle.edge_range.specs.Usable.{usableRange}
 use Rattle.draw_spec.specs.declared.Way.{Way}
 use Rattle.draw_spec.specs.declared.Way.the-variants.{AsDrawn, Chord, Runaway}
-use Rattle.draw_spec.specs.Repair.{Got}
-use Rattle.draw_spec.specs.Draw.{programFloats, drawn}
+use Rattle.draw_spec.specs.Repair.{Got, by}
+use Rattle.draw_spec.specs.Draw.{programFloats, localOptions, drawn, inFirst, firstAfter, secondAfter}
 
 -- what an example says
 pub data Example : Type 0 where
   -- the sag of resolved options for an extent
   sag : Options → Float → Float → Example
-  -- the merge floor of a tolerance and a sag
-  floor : Float → Float → Float → Example
+  -- the merge floor of an edge
+  floor : Tables → Edge → Options → Float → Example
   -- the usable range of row 0 for an edge's range
   usable : Tables → Interval → Interval → Example
   -- row 0's point at a parameter
   point : Tables → Float → Vec3 → Example
-  -- the way in which an edge's chain is got, and its parameters, in two buffers of 2,048 points
-  draws : Tables → Edge → Options → Way → List Float → Example
-  -- the number of a refusal, in the same
+  -- two floats that are not equal
+  differ : Float → Float → Example
+  -- an edge's chain and the way in which it is got, in two buffers of 2,048 points
+  draws : Tables → Edge → Options → Way → List Sample → Example
+  -- the number of a refusal above 7, in the same
   refuses : Tables → Edge → Options → ℕ → Example
 
--- how a chain was got, and its parameters
-pub record Outline : Type 0 where
-  pub way : Way
-  pub params : List Float
+-- what is drawn into two buffers of 2,048 points, whatever they held: these floats from the start of the first and of the second, and +0.0 behind them
+pub record Leaves (d : Result Got) (one two : List Float) : Type 0 where
+  pub inFirst : (first : List Float) → length first ≡ programFloats → firstAfter first d ≡ filled programFloats one
+  pub inSecond : (second : List Float) → length second ≡ programFloats → secondAfter second d ≡ filled programFloats two
 
--- the outline of what drawing got
-abbrev pub outlineOf : Got → Outline
-outlineOf g = record { way = g .way; params = map (λ (s : Sample). s .param) (g .chain) }
+-- a chain that is got this way, in its buffer
+pub record DrawsChain (d : Result Got) (way : Way) (chain : List Sample) : Type 0 where
+  pub chain : d ≡ got (by way chain)
+  pub buffers : Leaves d (cond (inFirst way) (flat chain) []) (cond (inFirst way) [] (flat chain))
+
+-- a refusal with this number, which leaves both buffers all +0.0
+pub record RefusesLate (d : Result Got) (n : ℕ) : Type 0 where
+  pub number : d ≡ refused n
+  pub buffers : Leaves d [] []
 
 -- an example holds of the definitions
 unfoldable pub ExampleHolds : Example → Type 0
 ExampleHolds (sag o extent s) = forExtent (resolve o) extent .sag ≡ s
-ExampleHolds (floor tolerance s f) = mergeFloor tolerance s ≡ f
+ExampleHolds (floor T e o f) = mergeFloor (e .tolerance) (localOptions T e o .sag) ≡ f
 ExampleHolds (usable T range used) = usableRange (tree T 0) range ≡ Range used
 ExampleHolds (point T t p) = pointAt (tree T 0) t ≡ p
-ExampleHolds (draws T e o way params) = each outlineOf (drawn T e o programFloats programFloats) ≡ got (record { way = way; params = params })
-ExampleHolds (refuses T e o n) = each outlineOf (drawn T e o programFloats programFloats) ≡ refused n
+ExampleHolds (differ a b) = eq a b ≡ false
+ExampleHolds (draws T e o way chain) = DrawsChain (drawn T e o programFloats programFloats) way chain
+ExampleHolds (refuses T e o n) = RefusesLate (drawn T e o programFloats programFloats) n
 
 -- ---- numbers
 abbrev three : Float
@@ -161,24 +175,49 @@ tinyCorner =
 abbrev narrow : Float
 narrow = nearestFloat 14 100
 
+-- ---- samples
+-- on the x axis, with a parameter
+abbrev onAxis : Float → Float → Sample
+onAxis x t = record { point = vec x plusZero plusZero; param = t }
+
+-- the corner's three points, with their parameters
+abbrev cornerStart : Sample
+cornerStart = onAxis plusZero plusZero
+
+abbrev cornerMiddle : Sample
+cornerMiddle = onAxis one one
+
+abbrev cornerEnd : Sample
+cornerEnd = record { point = vec one one plusZero; param = two }
+
 -- ---- the list, in the scope's order
 abbrev pub examples : List Example
 examples =
     sag ofScale (count 1024) one
     ∷ sag ofScale (count 128) half
     ∷ sag ofScale (count 16) (nearestFloat 1 8)
-    ∷ draws straight (along plusZero five) (absolute one one 1 12) AsDrawn (plusZero ∷ five ∷ [])
+    ∷ draws straight (along plusZero five) (absolute one one 1 12) AsDrawn (onAxis plusZero plusZero ∷ onAxis ten five ∷ [])
     ∷ draws straight (along plusZero five) (absolute one one 4 12) AsDrawn
-    (plusZero ∷ nearestFloat 5 4 ∷ nearestFloat 5 2 ∷ nearestFloat 15 4 ∷ five ∷ [])
-    ∷ draws straight (rowEdge 2 0 plusZero five plusZero 0 2) (absolute one one 1 12) AsDrawn (five ∷ plusZero ∷ [])
-    ∷ draws straight (along three three) (absolute one one 1 12) Chord (three ∷ three ∷ [])
-    ∷ draws straight (along five two) (absolute one one 1 12) Chord (five ∷ two ∷ [])
+    (onAxis plusZero plusZero
+    ∷ onAxis (nearestFloat 5 2) (nearestFloat 5 4)
+    ∷ onAxis five (nearestFloat 5 2)
+    ∷ onAxis (nearestFloat 15 2) (nearestFloat 15 4)
+    ∷ onAxis ten five
+    ∷ [])
+    ∷ draws straight (rowEdge 2 0 plusZero five plusZero 0 2) (absolute one one 1 12) AsDrawn (onAxis ten five ∷ onAxis plusZero plusZero ∷ [])
+    ∷ draws straight (along three three) (absolute one one 1 12) Chord (onAxis plusZero three ∷ onAxis ten three ∷ [])
+    ∷ draws straight (along five two) (absolute one one 1 12) Chord (onAxis plusZero five ∷ onAxis ten two ∷ [])
     ∷ usable parabola (interval one one) (interval (neg million) million)
-    -- 838861 / 8388608
+    -- 838861 / 8388608, not 0.1
     ∷ point farApart one (vec (nearestFloat 838861 8388608) plusZero plusZero)
-    ∷ draws corner round (absolute one narrow 1 1) AsDrawn (plusZero ∷ one ∷ two ∷ [])
-    ∷ floor (nearestFloat 1 4) two one
-    ∷ draws corner round (absolute two narrow 1 1) AsDrawn (plusZero ∷ two ∷ [])
-    ∷ draws boxed escaping close Runaway (plusZero ∷ plusZero ∷ [])
+    ∷ differ (nearestFloat 838861 8388608) (nearestFloat 1 10)
+    ∷ draws corner round (absolute one narrow 1 1) AsDrawn (cornerStart ∷ cornerMiddle ∷ cornerEnd ∷ [])
+    ∷ floor corner round (absolute two narrow 1 1) one
+    ∷ draws corner round (absolute two narrow 1 1) AsDrawn (cornerStart ∷ cornerEnd ∷ [])
+    ∷ draws boxed escaping close Runaway (onAxis plusZero plusZero ∷ onAxis hundred plusZero ∷ [])
     ∷ refuses tinyCorner (rowEdge 0 2 plusZero two plusZero 0 2) (absolute one narrow 1 1) 9
     ∷ []
+
+-- THE CLAIM: all of them hold
+abbrev pub ExamplesHold : Type 0
+ExamplesHold = All ExampleHolds examples
