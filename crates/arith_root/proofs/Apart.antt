@@ -1,11 +1,10 @@
 -- Two roots are told apart by what stands under them: where that differs by one part in a million, the roots differ. Assumes nothing.
 use mathlib.Core.Path.{_≡_, refl, sym, ap, _∙_}
-use Prim.Native.Nat.{ℕ, zero, suc, _+_, _*_, _^_, _≤_, _<_}
-use native.Mathlib.Nat.{zero-lt-suc, zero-mul, mul-assoc, mul-right-comm, add-mul, mul-pos, mul-le-mul, mul-le-mul-right, lt-of-mul-lt-mul-right, le-of-mul-le-mul-right, lt-of-not-le}
+use Prim.Native.Nat.{ℕ, _+_, _*_, _^_, _≤_, _<_}
+use native.Mathlib.Nat.{zero-mul, mul-assoc, mul-right-comm, add-mul, mul-pos, mul-le-mul, mul-le-mul-right, lt-of-mul-lt-mul-right, le-of-mul-le-mul-right, lt-of-not-le}
 use native.Mathlib.Omega.{arith}
 use mathlib.Core.Bool.{true, false}
-use lib.IntN.{ℤ}
-use lib.Dec.{T, lit<, ltb→lt, lt→ltb}
+use lib.Dec.{T, lit<}
 use lib.Pow.{pow-pos}
 use lib.Ieee.{Float, nan, inf, fin, binary64, up, down, ofFields, ofBits, odd, fits, mul, lt, le}
 use lib.Ieee.Exact.{HasValue}
@@ -15,8 +14,9 @@ use Rattle.arith_order.proofs.Rounds.{Rounds}
 use Rattle.arith_order.proofs.Middle as middle
 use Rattle.arith_order.proofs.Laws.{lt→le, lt→nle, nle→lt, lt-le-trans}
 use Rattle.arith_root.specs.Root.{rootOf}
-use Rattle.arith_root.proofs.Grid.{Units}
+use Rattle.arith_root.specs.Ieee.{Units}
 use Rattle.arith_root.proofs.Laws.{units-number, units-below}
+use Rattle.arith_root.proofs.Cases.{positive-above}
 use Rattle.arith_root.proofs.Close.{close-root}
 
 -- ---- roots of a and of b units, for n and m of them: where b is at most a, m is above n by about two parts in 2 ^ 52 at most
@@ -88,14 +88,6 @@ finite-apart x y F G p q h =
     (D .below) (C .above)))
 
 -- ---- and for all
-above-zero : (m : ℕ) (e : ℤ) → T (lt zeroF (fin false m e)) → T (positive (fin false m e))
-unfolding lt
-above-zero zero e h = absurd (none (up e) (down e) (ltb→lt (0 * 1 * down e) (0 * up e * 1) h))
-  where
-    none : (a b : ℕ) → 0 * 1 * b < 0 * a * 1 → ⊥
-    none a b h = omega arith
-above-zero (suc m) e h = lt→ltb 0 (suc m) (zero-lt-suc m)
-
 -- √x < √y, where x is above 0.0 and below y, and x * 1.000001 is too
 pub apart : (x y : Float) → T (fits binary64 x) → T (fits binary64 y) → T (lt zeroF x) → T (lt x y) → T (lt (mul binary64 x little) y) → T (lt (rootOf x) (rootOf y))
 apart nan y F G p h k = absurd (unfold lt in p)
@@ -106,8 +98,8 @@ apart (inf false) (fin s n d) F G p h k = absurd (unfold lt in h)
 apart (fin true m e) y F G p h k = absurd (unfold lt in p)
 apart (fin false m e) nan F G p h k = absurd (unfold lt in h)
 apart (fin false m e) (inf true) F G p h k = absurd (unfold lt in h)
-apart (fin false m e) (inf false) F G p h k = let C = close-root (fin false m e) F (above-zero m e p) .2 in unfold rootOf in units-below (rootOf (fin false m e)) (C .a) (C .value)
+apart (fin false m e) (inf false) F G p h k = let C = close-root (fin false m e) F (positive-above m e p) .2 in unfold rootOf in units-below (rootOf (fin false m e)) (C .a) (C .value)
 apart (fin false m e) (fin true n d) F G p h k = absurd (unfold lt in h)
 apart (fin false m e) (fin false n d) F G p h k =
-    finite-apart (fin false m e) (fin false n d) F G (above-zero m e p)
-    (above-zero n d (lt-le-trans zeroF (fin false m e) (fin false n d) p (lt→le (fin false m e) (fin false n d) h))) k
+    finite-apart (fin false m e) (fin false n d) F G (positive-above m e p)
+    (positive-above n d (lt-le-trans zeroF (fin false m e) (fin false n d) p (lt→le (fin false m e) (fin false n d) h))) k

@@ -80,6 +80,22 @@ left (fin false zero e) a b c d = absurd
     same u w = let k : 0 * u * 1 ≡ 0 * 1 * w = omega arith in eq→eqb k
 left (fin false (suc m) e) a b c d = lt→ltb 0 (suc m) (zero-lt-suc m)
 
+-- ---- what is above zero and below +∞
+pub positive-above : (m : ℕ) (e : ℤ) → T (lt zeroF (fin false m e)) → T (positive (fin false m e))
+unfolding lt
+positive-above zero e h = absurd (none (up e) (down e) (ltb→lt (0 * 1 * down e) (0 * up e * 1) h))
+  where
+    none : (a b : ℕ) → 0 * 1 * b < 0 * a * 1 → ⊥
+    none a b h = omega arith
+positive-above (suc m) e h = lt→ltb 0 (suc m) (zero-lt-suc m)
+
+pub between : (x : Float) → T (lt zeroF x) → T (lt x (inf false)) → T (positive x)
+between nan p q = absurd (unfold lt in p)
+between (inf true) p q = absurd (unfold lt in p)
+between (inf false) p q = absurd (unfold lt in q)
+between (fin true m e) p q = absurd (unfold lt in p)
+between (fin false m e) p q = positive-above m e p
+
 -- ---- its pattern
 above-zero : (x : Float) (b : ℕ) → T (positive x) → ofBits binary64 b ≡ x → 0 < b
 unfolding ofBits

@@ -8,8 +8,8 @@ use lib.Pow.{pow-pos}
 use lib.Ieee.{Float, binary64, fits}
 use lib.Ieee.Positive.{positive}
 use Rattle.arith_root.specs.Root.{rootOf}
+use Rattle.arith_root.specs.Ieee.{Units}
 use Rattle.arith_root.proofs.Whole.{square-of}
-use Rattle.arith_root.proofs.Grid.{Units}
 use Rattle.arith_root.proofs.RootDigits.{RootDigits, digits-root}
 
 -- r is near the root of n units: with r of a units, n * 2 ^ 1074 is a * a, to one part in 2 ^ 52

@@ -14,13 +14,10 @@ use lib.Ieee.{Float, nan, inf, fin, binary64, up, down, size, odd, units, ofFiel
 use lib.Ieee.Bits.{is-true, is-false, ofBits-toBits, nanBits-above}
 use lib.Ieee.Fits.{down-pos, odd-fits}
 use lib.Ieee.Digits.{size-lt, size-le}
-use lib.Ieee.Exact.{HasValue, odd-sign, units-val}
+use lib.Ieee.Exact.{odd-sign, units-val}
 use Rattle.arith_root.specs.Root.{nearRoot, rootUnits, rootOf}
+use Rattle.arith_root.specs.Ieee.{Units}
 use Rattle.arith_root.proofs.Whole.{not-above, nearest}
-
--- x is a units
-abbrev pub Units : Float → ℕ → Type 0
-Units x a = HasValue x false a (2 ^ 1074)
 
 -- ---- its root, and its pattern
 cut : (m : ℕ) (e : ℤ) (a : ℕ) → m * up e * 2 ^ 1074 ≡ a * down e → m * up e * 2 ^ 1074 / down e ≡ a

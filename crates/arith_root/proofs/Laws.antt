@@ -14,9 +14,9 @@ use lib.Ieee.Positive.{positive, values-of-le}
 use Rattle.arith_order.proofs.Signed.{P, N, zeroF, le→, le←}
 use Rattle.arith_order.proofs.Laws.{number, number-left, number-right, le-trans, lt→le, lt→nle, nle→lt, lt-le-trans}
 use Rattle.arith_root.specs.Root.{rootOf}
+use Rattle.arith_root.specs.Ieee.{Units, Nearest}
 use Rattle.arith_root.proofs.Whole.{not-above}
-use Rattle.arith_root.proofs.Grid.{Units}
-use Rattle.arith_root.proofs.Reader.{Nearest, nearest-root}
+use Rattle.arith_root.proofs.Ieee.{nearest-root}
 
 -- ---- what is not below zero: a zero of either sign, a positive finite float, +∞
 data Kind : Float → Type 0 where

@@ -10,8 +10,9 @@ use lib.Ieee.{Float, binary64, toBits, fits}
 use lib.Ieee.Bits.{ofBits-toBits}
 use lib.Ieee.Positive.{positive}
 use Rattle.arith_root.specs.Root.{nearRoot, rootUnits, rootOf}
+use Rattle.arith_root.specs.Ieee.{Units}
 use Rattle.arith_root.proofs.Whole.{IsNear, nearest}
-use Rattle.arith_root.proofs.Grid.{Units, under, under-range, q-range, Scaled, exact, root-units, units-fit, units-units, unitsOf, value-of, root-at, scaled-bits, positive-units}
+use Rattle.arith_root.proofs.Grid.{under, under-range, q-range, Scaled, exact, root-units, units-fit, units-units, unitsOf, value-of, root-at, scaled-bits, positive-units}
 use Rattle.arith_root.proofs.Cases.{pattern-range}
 
 -- r has the digits of the root of n units

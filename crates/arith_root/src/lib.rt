@@ -5,6 +5,7 @@ ghost use Prim.Native.Nat.{_+_, _-_, _*_, _/_, _%_, _<_, _≤_, _^_};
 ghost use lib.Dec.{T};
 ghost use lib.Ieee.{ofBits, binary64};
 ghost use Rattle.arith_root.specs.Root.{rootOf, nearRoot};
+ghost use Rattle.arith_root.specs.Ieee.{SquareRoot};
 
 const TWO_26: u64 = 67108864;
 
@@ -141,9 +142,9 @@ fn positive(b: u64) -> u64
 }
 
 // The square root of x, rounded to nearest even: a NaN below 0, and x itself at a zero, a NaN and
-// the infinity.
+// the infinity. It is the definition's, and IEEE 754's.
 pub fn root(x: f64) -> f64
-    ensures { λ r. ⌜ r ≡ rootOf x ⌝ }
+    ensures { λ r. ⌜ (r ≡ rootOf x) × SquareRoot x r ⌝ }
 {
     if x != x {
         return x;

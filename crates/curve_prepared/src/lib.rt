@@ -10,7 +10,7 @@ ghost use Rattle.brep.specs.Rows.{lent, given, pointOf};
 ghost use Rattle.brep.specs.Tree.{tree, run};
 ghost use Rattle.curve_parameter.specs.Run.{closes, polylineParameter};
 ghost use Rattle.curve_point.specs.Point.{polylinePoint, ellipsePoint, parabolaPoint, pointAt};
-ghost use Rattle.curve_tangent.specs.Derivative.{polylineDerivative, ellipseDerivative, parabolaDerivative, derivativeAt};
+ghost use Rattle.curve_tangent.specs.Derivative.{polylineDerivative, derivativeAt};
 ghost use Rattle.curve_prepared.specs.declared.Prepared.the-variants.{Line, Other};
 ghost use Rattle.curve_prepared.specs.Own.Prepared.{roundOf, parabolaOf, preparedOf, plainPoint, preparedPoint, preparedDerivative};
 
@@ -248,19 +248,6 @@ pub fn point_of(
     other_point(points, curves, reals, parts, ranges, row, closed, t)
 }
 
-fn round_derivative(x: Vec3, y: Vec3, major: f64, minor: f64, t: f64) -> Vec3
-    ensures { λ r. ⌜ r ≡ ellipseDerivative x y major minor (cosOf t) (sinOf t) ⌝ }
-{
-    let sc = arith_trig::sin_cos(t);
-    x.scale(-major * sc.sin).add(y.scale(minor * sc.cos))
-}
-
-fn parabola_slope(x: Vec3, y: Vec3, focal_dist: f64, t: f64) -> Vec3
-    ensures { λ r. ⌜ r ≡ parabolaDerivative x y «focal_dist» t ⌝ }
-{
-    x.scale(2.0 * focal_dist * t).add(y.scale(2.0 * focal_dist))
-}
-
 // The derivative at t of a polyline or a composite.
 fn other_derivative(
     points: &[f64],
@@ -314,13 +301,13 @@ pub fn derivative_of(
             y,
             major,
             minor,
-        } => round_derivative(x, y, major, minor, t),
+        } => curve_tangent::ellipse_derivative(x, y, major, minor, t),
         Prepared::Parabola {
             origin: _,
             x,
             y,
             focal_dist,
-        } => parabola_slope(x, y, focal_dist, t),
+        } => curve_tangent::parabola_derivative(x, y, focal_dist, t),
         Prepared::Other { closed } => {
             other_derivative(points, curves, reals, parts, ranges, row, closed, t)
         }

@@ -1,12 +1,11 @@
 // Derivatives and tangents on rows: eval/curve.rs. Each contract is the definition at the row's curve.
-// A row's kind is read by its number, as in `curve`.
+use brep::Curve;
 use math::Direction;
 use math::Interval;
 use math::Vec3;
 ghost use mathlib.Core.Path.{_≡_};
 ghost use Rattle.arith_trig.specs.Trig.{sinOf, cosOf};
-ghost use Rattle.math.specs.Math.{yDir};
-ghost use Rattle.brep.specs.Rows.{given, frameOf};
+ghost use Rattle.brep.specs.Rows.{given};
 ghost use Rattle.brep.specs.Own.RunOf.{runOf};
 ghost use Rattle.brep.specs.Tree.{tree, run};
 ghost use Rattle.curve_tangent.specs.Derivative.{polylineDerivative, signedSpan, ellipseDerivative, parabolaDerivative, derivativeAt, tangentAt};
@@ -35,24 +34,20 @@ fn signed_span(range: Interval, same_sense: bool) -> f64
     -1.0 * range.span()
 }
 
-// A circle is an ellipse with equal axes. The sine and cosine come before the frame, as in `curve_point`.
-fn ellipse_derivative(points: &[f64], first: u32, semi_major: f64, semi_minor: f64, t: f64) -> Vec3
-    ensures { λ r. let f = frameOf (now (points .entry)) first in ⌜ r ≡ ellipseDerivative (f .«ref_dir») (yDir f) «semi_major» «semi_minor» (cosOf t) (sinOf t) ⌝ }
+// An ellipse's derivative, of its frame's two axes; a circle's is that of equal radii.
+pub fn ellipse_derivative(x: Vec3, y: Vec3, semi_major: f64, semi_minor: f64, t: f64) -> Vec3
+    ensures { λ r. ⌜ r ≡ ellipseDerivative x y «semi_major» «semi_minor» (cosOf t) (sinOf t) ⌝ }
 {
     let sc = arith_trig::sin_cos(t);
-    let frame = brep::frame_at(points, first);
-    let x = frame.ref_dir.scale(-semi_major * sc.sin);
-    let y = frame.y_dir().scale(semi_minor * sc.cos);
-    x.add(y)
+    x.scale(-semi_major * sc.sin)
+        .add(y.scale(semi_minor * sc.cos))
 }
 
-fn parabola_derivative(points: &[f64], first: u32, focal_dist: f64, t: f64) -> Vec3
-    ensures { λ r. let f = frameOf (now (points .entry)) first in ⌜ r ≡ parabolaDerivative (f .«ref_dir») (yDir f) «focal_dist» t ⌝ }
+// A parabola's derivative, of its frame's two axes.
+pub fn parabola_derivative(x: Vec3, y: Vec3, focal_dist: f64, t: f64) -> Vec3
+    ensures { λ r. ⌜ r ≡ parabolaDerivative x y «focal_dist» t ⌝ }
 {
-    let frame = brep::frame_at(points, first);
-    let x = frame.ref_dir.scale(2.0 * focal_dist * t);
-    let y = frame.y_dir().scale(2.0 * focal_dist);
-    x.add(y)
+    x.scale(2.0 * focal_dist * t).add(y.scale(2.0 * focal_dist))
 }
 
 // Curve::derivative_at: the derivative at t of the curve of a row.
@@ -68,27 +63,29 @@ pub fn derivative_at(
     ensures { λ r. ⌜ r ≡ derivativeAt (tree (given points curves reals parts ranges) row) t ⌝ }
 {
     let r = curve_parameter::under_trims(curves, row);
-    let at = r as usize * 3;
-    let kind = brep::int_at(curves, at);
-    let first = brep::int_at(curves, at + 1);
-    match kind {
-        1 => brep::point_in(points, first, 1),
-        2 => {
-            let p = brep::float_at(reals, r as usize * 2);
-            ellipse_derivative(points, first, p, p, t)
+    let c = brep::row_at(points, curves, reals, r);
+    match c {
+        Curve::Line {
+            origin: _,
+            direction,
+        } => direction,
+        Curve::Circle { frame, radius } => {
+            ellipse_derivative(frame.ref_dir, frame.y_dir(), radius, radius, t)
         }
-        3 => {
-            let p = brep::float_at(reals, r as usize * 2);
-            let q = brep::float_at(reals, r as usize * 2 + 1);
-            ellipse_derivative(points, first, p, q, t)
+        Curve::Ellipse {
+            frame,
+            semi_major,
+            semi_minor,
+        } => ellipse_derivative(frame.ref_dir, frame.y_dir(), semi_major, semi_minor, t),
+        Curve::Parabola { frame, focal_dist } => {
+            parabola_derivative(frame.ref_dir, frame.y_dir(), focal_dist, t)
         }
-        4 => parabola_derivative(points, first, brep::float_at(reals, r as usize * 2), t),
-        5 => polyline_derivative(points, first, brep::int_at(curves, at + 2), t),
-        7 => {
-            let count = brep::int_at(curves, at + 2);
+        Curve::Polyline { first, count } => polyline_derivative(points, first, count, t),
+        // Its base does not fall.
+        Curve::Trimmed { base: _, range: _ } => Vec3::ZERO,
+        Curve::Composite { first, count } => {
             composite_derivative(points, curves, reals, parts, ranges, r, first, count, t)
         }
-        _ => Vec3::ZERO,
     }
 }
 

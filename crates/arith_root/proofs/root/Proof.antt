@@ -1,4 +1,5 @@
--- `arith_root::root` meets its contract: each test is one of the root's special cases, and `positive` has the rest. Assumes nothing.
+-- `arith_root::root` meets its contract: each test is one of the root's special cases, and `positive` has the rest; and the definition is IEEE
+-- 754's root. Assumes nothing.
 use mathlib.Core.Path.{_≡_, sym, ap, _∙_, subst}
 use mathlib.Core.Bool.{Bool, not}
 use Prim.Native.Nat.{ℕ}
@@ -7,9 +8,9 @@ use lib.Ieee.{Float, nan, inf, fin, binary64, ofBits, div, fits, isNan, nanBits}
 use lib.Ieee.Bits.{ofBits-toBits, nanBits-is}
 use lib.Ieee.Positive.{positive}
 use Rattle.arith_root.specs.Root.{rootOf}
-use Rattle.arith_root.proofs.Grid.{Units}
+use Rattle.arith_root.specs.Ieee.{Units}
 use Rattle.arith_root.proofs.Cases.{nan-root, zero-root, neg-root, inf-root, left, pattern-range}
-use Rattle.arith_root.proofs.Reader.{nearest-root}
+use Rattle.arith_root.proofs.Ieee.{nearest-root, as-ieee}
 use borrow.Author.Needs.{needs}
 use Rattle.arith_root.proofs.root.Statement.{statement}
 use Rattle.arith_root.proofs.root.Tie as tie
@@ -18,19 +19,19 @@ use Rattle.arith_root.proofs.root.Lts as lts
 use Rattle.arith_root.proofs.positive.Reads as positive-reads
 
 returns : tie.Need-returns
-returns c = nan-root (c .before .args .x) (c .if1 .taken)
+returns c = let x = c .before .args .x in as-ieee x x (search needs) (nan-root x (c .if1 .taken))
 
 returns-2 : tie.Need-returns-2
 unfolding ofBits
-returns-2 c = zero-root (c .before .before .args .x) (c .if2 .taken)
+returns-2 c = let x = c .before .before .args .x in as-ieee x x (search needs) (zero-root x (c .if2 .taken))
 
 returns-3 : tie.Need-returns-3
 unfolding ofBits div
-returns-3 c = neg-root (c .before .before .before .args .x) (c .if3 .taken)
+returns-3 c = let x = c .before .before .before .args .x in as-ieee x _ (search needs) (neg-root x (c .if3 .taken))
 
 returns-4 : tie.Need-returns-4
 unfolding ofBits div
-returns-4 c = inf-root (c .before .before .before .before .args .x) (c .if4 .taken)
+returns-4 c = let x = c .before .before .before .before .args .x in as-ieee x x (search needs) (inf-root x (c .if4 .taken))
 
 is-positive : (c : lts.Else4 (positive-reads.Asked, positive-reads.Learnt) reads.Pre reads.Post)
     → T (positive (c .before .before .before .before .args .x))
@@ -69,7 +70,9 @@ float-from-bits-result c =
     (c .positive .ensures ∙ ap rootOf (ofBits-toBits binary64 x (search needs)))
 
 returns-5 : tie.Need-returns-5
-returns-5 c = c .positive .ensures ∙ ap rootOf (ofBits-toBits binary64 (c .before .before .before .before .before .args .x) (search needs))
+returns-5 c =
+    let x = c .before .before .before .before .before .args .x in
+    as-ieee x _ (search needs) (c .positive .ensures ∙ ap rootOf (ofBits-toBits binary64 x (search needs)))
 
 pub root-spec : {M : Type 1} → statement M
 root-spec =

@@ -17,7 +17,7 @@ unfolding ofBits
 returns-2 c = within (c .before .before .before .before .before .args .s) (c .before .before .before .before .before .args .limit .low) (c .before .before .before .before .before .args .limit .at) (search needs) (search needs) (c .before .before .before .before .before .pre .lowStands _ (c .if3 .taken)) (c .before .before .if2 .taken) (c .if3 .taken)
 
 returns-3 : tie.Need-returns-3
-returns-3 c = ap (λ d. le d (c .before .before .before .before .before .args .limit .at)) (c .before .root .ensures)
+returns-3 c = ap (λ d. le d (c .before .before .before .before .before .args .limit .at)) (c .before .root .ensures .0)
 
 pub is-at-most-spec : {M : Type 1} → statement M
 is-at-most-spec = tie.close (tie.spec returns returns-2 (λ c κs. search needs) returns-3)

@@ -14,7 +14,7 @@ returns c =
 returns-2 : tie.Need-returns-2
 returns-2 c =
     let a = c .before .before .before .before .args in
-    of-roots (a .s) (a .t) (c .before .root .ensures) (c .root2 .ensures)
+    of-roots (a .s) (a .t) (c .before .root .ensures .0) (c .root2 .ensures .0)
 
 returns-3 : tie.Need-returns-3
 returns-3 c = let a = c .before .args in sym (root-not-below (a .s) (a .t) (search needs) (search needs) (c .if1 .left))

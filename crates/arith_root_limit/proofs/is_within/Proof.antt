@@ -10,7 +10,7 @@ returns : tie.Need-returns
 returns c = not-within (c .before .before .args .s) (c .before .before .args .cut) (c .before .before .args .limit) (search needs) (search needs) (c .before .before .pre (c .before .if1 .taken)) (c .if2 .taken)
 
 returns-2 : tie.Need-returns-2
-returns-2 c = ap (λ d. le d (c .before .before .args .limit)) (c .root .ensures)
+returns-2 c = ap (λ d. le d (c .before .before .args .limit)) (c .root .ensures .0)
 
 pub is-within-spec : {M : Type 1} → statement M
 is-within-spec = tie.close (tie.spec returns (λ c κs. search needs) returns-2)

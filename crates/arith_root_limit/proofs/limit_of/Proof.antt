@@ -10,7 +10,7 @@ use Rattle.arith_root.proofs.root.Reads as root-reads
 
 returns : tie.Need-returns
 unfolding limitOf
-returns c = rw (c .cut-if2 .ensures, c .before .root2 .ensures, c .before .before .cut-if .ensures, c .before .before .before .root .ensures)
+returns c = rw (c .cut-if2 .ensures, c .before .root2 .ensures .0, c .before .before .cut-if .ensures, c .before .before .before .root .ensures .0)
 
 pub limit-of-spec : {M : Type 1} → statement M
 limit-of-spec =

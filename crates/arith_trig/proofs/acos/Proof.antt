@@ -15,7 +15,7 @@ returns-2 c = rw (c .before .if1 .left, c .if2 .taken)
 
 returns-3 : tie.Need-returns-3
 unfolding acosOf
-returns-3 c = rw (c .before .before .before .if1 .left, c .before .before .if2 .left) (c .acos-by .ensures ∙ ap acosBy (c .before .root .ensures))
+returns-3 c = rw (c .before .before .before .if1 .left, c .before .before .if2 .left) (c .acos-by .ensures ∙ ap acosBy (c .before .root .ensures .0))
 
 pub acos-spec : {M : Type 1} → statement M
 acos-spec = tie.close (tie.spec (λ c κs. search needs) (λ c κs. search needs) returns returns-2 returns-3)

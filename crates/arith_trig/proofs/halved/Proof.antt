@@ -6,7 +6,7 @@ use Rattle.arith_trig.proofs.halved.Tie as tie
 
 returns : tie.Need-returns
 unfolding halved
-returns c = rw (c .root .ensures)
+returns c = rw (c .root .ensures .0)
 
 pub halved-spec : {M : Type 1} → statement M
 halved-spec = tie.close (tie.spec (λ c κs. search needs) returns)

@@ -10,7 +10,7 @@ use Rattle.arith_root.proofs.root.Reads as root-reads
 
 returns : tie.Need-returns
 unfolding turnCut ofBits ofInt
-returns c = rw (c .cut-if2 .ensures, c .before .cut-if .ensures, c .before .before .root .ensures)
+returns c = rw (c .cut-if2 .ensures, c .before .cut-if .ensures, c .before .before .root .ensures .0)
 
 pub turn-cut-spec : {M : Type 1} → statement M
 turn-cut-spec = tie.close (tie.spec (λ c κs. search needs) (λ c κs. search needs) (λ c κs. search needs) returns)

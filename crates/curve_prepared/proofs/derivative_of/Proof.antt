@@ -12,11 +12,11 @@ returns c = derivative-by _ _ (c .before .prepared .given .1) refl
 
 returns-2 : tie.Need-returns-2
 unfolding preparedDerivative
-returns-2 c = derivative-by _ _ (c .before .before .prepared2 .given .1) (c .round-derivative .ensures)
+returns-2 c = derivative-by _ _ (c .before .before .prepared2 .given .1) (c .ellipse-derivative .ensures)
 
 returns-3 : tie.Need-returns-3
 unfolding preparedDerivative
-returns-3 c = derivative-by _ _ (c .before .before .prepared3 .given .1) (c .parabola-slope .ensures)
+returns-3 c = derivative-by _ _ (c .before .before .prepared3 .given .1) (c .parabola-derivative .ensures)
 
 other-derivative-requires : tie.Need-other-derivative-requires
 other-derivative-requires c κs = sym (c .before .prepared4 .given .1) ∙ c .before .before .before .before .before .before .before .before .pre

@@ -6,15 +6,7 @@ use Rattle.curve_tangent.proofs.parabola_derivative.Tie as tie
 
 returns : tie.Need-returns
 unfolding parabolaDerivative
-returns c = rw (c .add .ensures, c .before .scale2 .ensures, c .before .before .y-dir .ensures, c .before .before .before .scale .ensures, c .before .before .before .before .frame-at .ensures)
+returns c = rw (c .add .ensures, c .before .scale2 .ensures, c .before .before .scale .ensures)
 
 pub parabola-derivative-spec : {M : Type 1} → statement M
-parabola-derivative-spec =
-    tie.close
-    (tie.spec
-    (λ c κs. search needs)
-    (λ c κs. search needs)
-    (λ c κs. search needs)
-    (λ c κs. search needs)
-    (λ c κs. search needs)
-    returns)
+parabola-derivative-spec = tie.close (tie.spec (λ c κs. search needs) (λ c κs. search needs) (λ c κs. search needs) returns)

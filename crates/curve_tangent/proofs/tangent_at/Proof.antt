@@ -1,6 +1,6 @@
 -- `curve_tangent::tangent_at` meets its contract. Assumes nothing.
 use Rattle.math.specs.Math.{tryNormalized}
-use mathlib.Core.Path.{_≡_, refl, sym, ap, _∙_}
+use mathlib.Core.Path.{ap, _∙_}
 use borrow.Author.Needs.{needs}
 use Rattle.curve_tangent.proofs.tangent_at.Statement.{statement}
 use Rattle.curve_tangent.proofs.tangent_at.Tie as tie

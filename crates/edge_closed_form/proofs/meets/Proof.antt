@@ -26,7 +26,7 @@ returns c =
     let st = c .before .before .before .before .before .before .before .before .before .before .before .before .before .before in
     let a = st .args in
     let w = c .before .before .before .worst-square .ensures (tree (tables (a .points .now) (a .curves .now) (a .reals .now) (a .parts .now) (a .ranges .now)) (a .row)) (sym (c .before .before .before .before .before .prepare .ensures)) in
-    (ap (λ (x : Float). le x (a .sag)) (c .root .ensures) ∙ same-test _ _ (a .sag) (w .0), w .1)
+    (ap (λ (x : Float). le x (a .sag)) (c .root .ensures .0) ∙ same-test _ _ (a .sag) (w .0), w .1)
 
 pub meets-spec : {M : Type 1} → statement M
 meets-spec = tie.close (tie.spec slice-aggregate-params (λ c κs. search needs) worst-square-requires (λ c κs. search needs) (λ c. search needs) returns)

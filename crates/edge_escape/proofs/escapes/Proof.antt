@@ -22,7 +22,7 @@ loop-holds : tie.Need-loop-holds Inv-loop μ-loop
 loop-holds c = (omega arith, refl)
 
 is-above-requires : tie.Need-is-above-requires Inv-loop μ-loop
-is-above-requires c κs = root-at-most _ (c .before .before .before .before .before .root .ensures)
+is-above-requires c κs = root-at-most _ (c .before .before .before .before .before .root .ensures .0)
 
 returns-2 : tie.Need-returns-2 Inv-loop μ-loop
 unfolding vLength

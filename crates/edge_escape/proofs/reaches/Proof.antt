@@ -19,7 +19,7 @@ loop-holds : tie.Need-loop-holds Inv-loop μ-loop
 loop-holds c = (omega arith, refl)
 
 is-within-requires : tie.Need-is-within-requires Inv-loop μ-loop
-is-within-requires c κs = root-beyond _ (c .before .before .before .before .before .root .ensures)
+is-within-requires c κs = root-beyond _ (c .before .before .before .before .before .root .ensures .0)
 
 returns : tie.Need-returns Inv-loop μ-loop
 unfolding vLength

@@ -25,7 +25,7 @@ loop-holds : tie.Need-loop-holds Inv-loop μ-loop
 loop-holds c = (refl, kept-first _ _ _ (c .before .before .before .before .if1 .left) _ (c .record-point .ensures))
 
 is-apart-requires : tie.Need-is-apart-requires Inv-loop μ-loop
-is-apart-requires c κs = root-beyond _ (c .before .before .before .before .before .before .root .ensures)
+is-apart-requires c κs = root-beyond _ (c .before .before .before .before .before .before .root .ensures .0)
 
 loop-again : tie.Need-loop-again Inv-loop μ-loop
 loop-again c =

@@ -43,7 +43,7 @@ returns : tie.Need-returns Inv-loop μ-loop
 returns c =
     let l = c .before .before .loop in
     let a = c .before .before .before .before .before .before .before .before .args in
-    rw (c .root .ensures) (worst-end (recordPoint (a .chain .now)) _ _ (a .b) _ (l .at) (l .i) (omega arith) ∙ l .inv .3)
+    rw (c .root .ensures .0) (worst-end (recordPoint (a .chain .now)) _ _ (a .b) _ (l .at) (l .i) (omega arith) ∙ l .inv .3)
 
 pub find-worst-spec : {M : Type 1} → statement M
 find-worst-spec =

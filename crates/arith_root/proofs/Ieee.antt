@@ -1,6 +1,4 @@
--- For readers: `rootOf` is the square root of IEEE 754, rounded to nearest even, on every binary64 (`ieee-root`).
--- A unit is 2 ^ -1074, the least positive binary64, so every finite binary64 is a whole number of units. `Units x a` says that x is a units.
--- Assumes nothing.
+-- `rootOf` is the square root of IEEE 754, rounded to nearest even, on every binary64 (`ieee-root`). Assumes nothing.
 use mathlib.Core.Path.{_≡_, refl, sym, ap, _∙_, subst}
 use mathlib.Core.Logic.{_⊎_, inl, inr}
 use Prim.Native.Nat.{ℕ, zero, suc, _+_, _-_, _*_, _^_, _≤_, _<_}
@@ -16,37 +14,10 @@ use lib.Ieee.Positive.{positive}
 use Rattle.arith_order.proofs.Middle.{parts, shallow}
 use Rattle.arith_order.proofs.Signed.{zeroF, ring}
 use Rattle.arith_root.specs.Root.{rootOf}
+use Rattle.arith_root.specs.Ieee.{Units, Nearest, SquareRoot}
 use Rattle.arith_root.proofs.Whole.{square-of}
-use Rattle.arith_root.proofs.Grid.{Units}
-use Rattle.arith_root.proofs.Cases.{zero-root, neg-root}
+use Rattle.arith_root.proofs.Cases.{zero-root, neg-root, between}
 use Rattle.arith_root.proofs.RootDigits.{RootDigits, digits-root}
-
--- Of all binary64, r is nearest to √x, for an x of n units: for any other y, √x lies on r's side of the midpoint (r + y) / 2.
--- With r of a units and y of b, x against the square of that midpoint is n * 2 ^ 1076 against (a + b)².
--- Both sides are strict, so √x is never a midpoint, and the rule for ties (to even) never applies. Why: the midpoint of two neighbours
--- is a power of two times an odd number of 54 digits, whose square is odd and has 107 digits or more; a binary64 has 53.
-pub record Nearest (n : ℕ) (r : Float) : Type 0 where
-  -- r is a binary64, of a units
-  pub a : ℕ
-  pub value : Units r a
-  pub format : T (fits binary64 r)
-  -- √x is below the midpoint to any binary64 above r
-  pub above : (y : Float) (b : ℕ) → T (fits binary64 y) → Units y b → a < b → n * 2 ^ 1076 < (a + b) * (a + b)
-  -- and above the midpoint to any binary64 below r
-  pub below : (y : Float) (b : ℕ) → T (fits binary64 y) → Units y b → b < a → (a + b) * (a + b) < n * 2 ^ 1076
-
--- r is the IEEE 754 square root of x
-pub record SquareRoot (x r : Float) : Type 0 where
-  -- NaN gives NaN
-  pub of-nan : x ≡ nan → r ≡ nan
-  -- +∞ gives +∞
-  pub of-infinity : x ≡ inf false → r ≡ inf false
-  -- what is below zero gives NaN, -∞ too
-  pub of-negative : T (lt x zeroF) → r ≡ nan
-  -- 0.0 gives 0.0, and -0.0 gives -0.0
-  pub of-zero : T (eq x zeroF) → r ≡ x
-  -- what is finite and above zero is a whole number of units, and gives the nearest binary64 to its root
-  pub of-positive : T (positive x) → (n : ℕ) × Units x n × Nearest n r
 
 -- ---- a binary64 is m * 2 ^ j units for an m of at most 53 digits
 grid : (y : Float) (b : ℕ) → T (fits binary64 y) → Units y b → (m : ℕ) × (j : ℕ) × (m < 2 ^ 53) × (b ≡ m * 2 ^ j)
@@ -178,5 +149,9 @@ ieee-root x F =
       of-infinity = λ e. ap rootOf e ∙ (unfold rootOf in refl);
       of-negative = λ t. sym (neg-root x (is-true (lt x zeroF) t));
       of-zero = λ t. sym (zero-root x (is-true (eq x zeroF) t));
-      of-positive = λ t. nearest-root x F t;
+      of-positive = λ p q. nearest-root x F (between x p q);
     }
+
+-- so what `root` answers by its definition is that root
+pub as-ieee : (x r : Float) → T (fits binary64 x) → r ≡ rootOf x → (r ≡ rootOf x) × SquareRoot x r
+as-ieee x r F e = (e, subst (SquareRoot x) (sym e) (ieee-root x F))
