@@ -28,8 +28,8 @@ module _ (first second first' second' : ℕ) (h : first ≤ first') (k : second 
       rw (le-ltb first' 8 (omega arith), le-ltb second' 8 (omega arith))
 
   -- a chain answered with two buffers is answered with any two that are no shorter
-  pub drawn-roomier : (t : Tables) (e : Edge) (o : Options) (g : Got) → drawn t e o first second ≡ got g → drawn t e o first' second' ≡ got g
-  drawn-roomier t e o g q =
+  pub roomier : (t : Tables) (e : Edge) (o : Options) (g : Got) → drawn t e o first second ≡ got g → drawn t e o first' second' ≡ got g
+  roomier t e o g q =
       let a = accepts t e o first second g q in
       accepted-so t e o first' second' g (record {
         accepted = a .accepted;
