@@ -5,14 +5,14 @@ use mathlib.Core.Bool.{Bool, true, false, cond, _||_}
 use mathlib.Core.List.{List, []}
 use Prim.Native.Nat.{ℕ, _*_, _-_, _<_, _≤_}
 use native.Mathlib.Omega.{arith}
-use lib.ListN.{length, replicate, take}
+use lib.ListN.{length, replicate}
 use lib.Dec.{T, ltb}
 use lib.Ieee.{Float, binary64, fits, ofBits}
 use borrow.Author.Tests.{lt-ltb, le-ltb, le-leb, lt-leb}
 use Rattle.base_lists.specs.Result.{Result, refused, got, bind}
 use Rattle.base_lists.specs.Own.ListOf.{listOf}
 use Rattle.base_lists.specs.Room.{filled}
-use Rattle.base_lists.proofs.Filled.{filled-length, filled-front}
+use Rattle.base_lists.proofs.Filled.{filled-length}
 use Rattle.brep.specs.declared.Edge.{Edge}
 use Rattle.brep.specs.Rows.{Tables}
 use Rattle.options.specs.declared.Options.{Options}
@@ -34,7 +34,7 @@ use Rattle.edge_record.proofs.Laws.{length-flat, reads}
 use Rattle.edge_merge.specs.Merge.{mergeFloor}
 use Rattle.draw_spec.specs.declared.Way.{Way}
 use Rattle.draw_spec.specs.declared.Drawn.{Drawn}
-use Rattle.draw_spec.specs.declared.Drawn.the-variants.{Refused, Chain}
+use Rattle.draw_spec.specs.declared.Drawn.the-variants.{Refused}
 use Rattle.draw_spec.specs.Edge.{edgeCurve, discretised}
 use Rattle.draw_spec.specs.Repair.{Got, by, repaired}
 use Rattle.draw_spec.specs.Draw as draw
@@ -45,10 +45,9 @@ use Rattle.draw_spec.proofs.Discretised.{Chained, Room, discretised-answers}
 use Rattle.draw_spec.proofs.Repaired.{referenced-answers}
 use Rattle.draw_spec.proofs.Sound.{Binary}
 use Rattle.draw_spec.proofs.Accepted.{given, by-tables, refused-so}
-use Rattle.draw_spec.proofs.ReadBack.{read-back, outcome}
+use Rattle.draw_spec.proofs.ReadBack.{outcome}
 use Rattle.edge_discretise.specs.Own.Discretised.{DiscretisedInto}
 use Rattle.edge_repair.specs.Own.Redrawn.{DrawnInto}
-use Rattle.draw_spec.specs.Draw.{liesInFirst, chainFloats}
 
 -- ---- the room of buffers that are long enough
 room-fine : (first second : ℕ) → shortest ≤ first → shortest ≤ second → Room (roomOf first second)
@@ -243,33 +242,3 @@ second-short a b h = ap (λ (x : Bool). ltb a shortest || x) (lt-ltb b shortest 
 
 pub neither-short : (a b : ℕ) → shortest ≤ a → shortest ≤ b → tooShort a b ≡ false
 neither-short a b g h = ap (λ (x : Bool). x || ltb b shortest) (le-ltb a shortest g) ∙ le-ltb b shortest h
-
--- ---- chain_of: the part of the buffer that holds the chain
-module _ {A : Type 0} (d : Drawn) (way : Way) (n : ℕ) (is : d ≡ Chain way n) (b : Bool) (lies : b ≡ inFirst way) where
-  pub in-the-first : b ≡ true → (x y : A) → x ≡ cond (liesInFirst d) x y
-  in-the-first e x y = ap (λ (t : Bool). cond t x y) (sym e ∙ lies ∙ sym (ap liesInFirst is))
-
-  pub in-the-second : b ≡ false → (x y : A) → y ≡ cond (liesInFirst d) x y
-  in-the-second e x y = ap (λ (t : Bool). cond t x y) (sym e ∙ lies ∙ sym (ap liesInFirst is))
-
-pub so-many : (d : Drawn) (way : Way) (n : ℕ) → d ≡ Chain way n → (l : List Float) → take (width * n) l ≡ take (chainFloats d) l
-so-many d way n is l = ap (λ (m : ℕ). take m l) (sym (ap chainFloats is))
-
--- the part that chain_of returns of draw's own answer holds the chain's records
-pub part-is-chain : (t : Tables) (e : Edge) (o : Options) (first second : List Float) (answer : Drawn) (f s : List Float)
-    → Outcome t e o first second answer f s → take (chainFloats answer) (cond (liesInFirst answer) f s) ≡ flat (draw.chainIn f s answer)
-unfolding draw.answerOf firstAfter secondAfter draw.chainIn flat
-part-is-chain t e o first second answer f s h = go (drawn t e o (length first) (length second)) refl
-  where
-    lead : (n : ℕ) (l : List Sample) → take (width * length l) (filled n (flat l)) ≡ flat l
-    lead n l = ap (λ (m : ℕ). take m (filled n (flat l))) (sym (length-flat l)) ∙ filled-front n (flat l)
-
-    go : (d : Result Got) → drawn t e o (length first) (length second) ≡ d → take (chainFloats answer) (cond (liesInFirst answer) f s) ≡ flat (draw.chainIn f s answer)
-    go (refused n) q = rw (h .answered, q)
-    go (got g) q =
-        rw (h .answered, h .firstHolds, h .secondHolds, q, read-back first second g)
-        (at (inFirst (g .way)))
-      where
-        at : (b : Bool) → take (width * length (g .chain)) (cond b (filled (length first) (cond b (flat (g .chain)) [])) (filled (length second) (cond b [] (flat (g .chain))))) ≡ flat (g .chain)
-        at true = lead (length first) (g .chain)
-        at false = lead (length second) (g .chain)

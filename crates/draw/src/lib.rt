@@ -10,10 +10,8 @@ use math::Interval;
 use options::Options;
 use options::Resolved;
 ghost use mathlib.Core.Path.{_≡_};
-ghost use mathlib.Core.Bool.{cond};
-ghost use Prim.Native.Nat.{_*_, _≤_};
-ghost use denote.Ref.{ptr};
-ghost use lib.ListN.{length, take};
+ghost use Prim.Native.Nat.{_≤_};
+ghost use lib.ListN.{length};
 ghost use lib.Dec.{T};
 ghost use lib.Ieee.{binary64, fits};
 ghost use Rattle.brep.specs.Rows.{lent, given};
@@ -21,9 +19,9 @@ ghost use Rattle.brep.specs.Tree.{tree};
 ghost use Rattle.knots_sort.specs.Own.Sortable.{mostKnots};
 ghost use Rattle.knots.specs.Knots.{curveKnots};
 ghost use Rattle.edge_params.specs.Work.{within};
-ghost use Rattle.edge_record.specs.Chain.{width, shortest};
+ghost use Rattle.edge_record.specs.Chain.{shortest};
 ghost use Rattle.edge_range.specs.Usable.{usableRange};
-ghost use Rattle.draw_spec.specs.Draw.{firstWay, localOptions, referenced, inBuffers, roomOf, inFirst, liesInFirst, chainFloats, Outcome};
+ghost use Rattle.draw_spec.specs.Draw.{firstWay, localOptions, referenced, inBuffers, roomOf, Outcome};
 ghost use Rattle.draw_spec.specs.Own.Binary.{AllBinary64};
 ghost use Rattle.edge_repair.specs.Own.Redrawn.{DrawnInto};
 ghost use Rattle.draw.specs.Over.{Over};
@@ -243,45 +241,5 @@ pub fn draw(
             first,
             second,
         ),
-    }
-}
-
-// Whether a chain that was got in this way lies in the first buffer.
-fn is_in_first(way: Way) -> bool
-    ensures { λ b. ⌜ b ≡ inFirst way ⌝ }
-{
-    match way {
-        Way::AsDrawn => true,
-        Way::Chord => true,
-        Way::Complement => false,
-        Way::ShortArc => false,
-        Way::Runaway => false,
-    }
-}
-
-// The first n records of a buffer, or all of it where it has not so many.
-fn leading<'a>(buffer: &'a mut [f64], n: usize) -> &'a mut [f64]
-    ensures { λ r. ⌜ (now r ≡ take (width * n) (now (buffer .entry))) × (ptr r ≡ ptr (buffer .entry)) ⌝ }
-{
-    if n <= buffer.len() / edge_record::WIDTH {
-        return &mut buffer[..edge_record::WIDTH * n];
-    }
-    buffer
-}
-
-// The chain of an answer: the leading part of the buffer that holds it, without copying. For a refusal it is empty.
-pub fn chain_of<'a>(drawn: Drawn, first: &'a mut [f64], second: &'a mut [f64]) -> &'a mut [f64]
-    ensures { λ r. ⌜ (now r ≡ take (chainFloats drawn) (cond (liesInFirst drawn) (now (first .entry)) (now (second .entry))))
-        × (ptr r ≡ cond (liesInFirst drawn) (ptr (first .entry)) (ptr (second .entry))) ⌝ }
-{
-    match drawn {
-        Drawn::Refused(_) => leading(first, 0),
-        Drawn::Chain(way, n) => {
-            if is_in_first(way) {
-                leading(first, n)
-            } else {
-                leading(second, n)
-            }
-        }
     }
 }
