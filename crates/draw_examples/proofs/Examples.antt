@@ -60,7 +60,7 @@ use Rattle.draw_examples.proofs.Sweep.{runs-away}
 draws-chain : (d : Result Got) (way : Way) (chain : List Sample) → d ≡ got (by way chain) → DrawsChain d way chain
 unfolding firstAfter secondAfter
 draws-chain d way chain e = record {
-  chain = e;
+  gets = e;
   buffers = record {
     inFirst = λ first n. ap (firstAfter first) e ∙ ap (λ (m : ℕ). filled m (cond (inFirst way) (flat chain) [])) n;
     inSecond = λ second n. ap (secondAfter second) e ∙ ap (λ (m : ℕ). filled m (cond (inFirst way) [] (flat chain))) n;
@@ -89,4 +89,4 @@ hold =
     (more refl (more refl (more refl
     (more (draws-chain _ _ _ refl) (more refl (more (draws-chain _ _ _ refl)
     (more (draws-chain _ _ _ (ap (λ (w : Work Got). within programPoints w) (runs-away (localOptions boxed escaping close))))
-    (more (refuses-late _ _ (omega arith) refl) none)))))))))))))))
+    (more (refuses-late _ 9 (omega arith) refl) none)))))))))))))))

@@ -53,7 +53,7 @@ pub record Leaves (d : Result Got) (one two : List Float) : Type 0 where
 
 -- a chain that is got this way, in its buffer
 pub record DrawsChain (d : Result Got) (way : Way) (chain : List Sample) : Type 0 where
-  pub chain : d ≡ got (by way chain)
+  pub gets : d ≡ got (by way chain)
   pub buffers : Leaves d (cond (inFirst way) (flat chain) []) (cond (inFirst way) [] (flat chain))
 
 -- a refusal with this number, which leaves both buffers all +0.0
