@@ -6,6 +6,7 @@ use Prim.Native.Nat.{ℕ, _+_}
 use native.Mathlib.Omega.{arith}
 use lib.Ieee.{Float}
 use Rattle.math.specs.declared.Vec3.{Vec3}
+use Rattle.math.specs.declared.Interval.{Interval}
 use Rattle.brep.specs.declared.Curve.{Curve}
 use Rattle.brep.specs.declared.Curve.the-variants as rows
 use Rattle.brep.specs.Rows.{Tables, pointOf}
@@ -105,3 +106,22 @@ module _ (T : Tables) (row : ℕ) {r kind : ℕ} (u : r ≡ under (T .curves) ro
       go (rows.Polyline first count) e = at-row lineOf T r refl (sym e) ∙ same
       go (rows.Trimmed base range) e = empty-trim lineOf (λ b i. refl) T row u k (k ∙ number T r e (λ q. omega arith))
       go (rows.Composite first count) e = at-row lineOf T r refl (sym e) ∙ same
+
+-- an F that looks through trims is of a curve that was prepared as a line what it is of that line
+pub through-line : {A : Type 0} (F : CurveTree → A) → ((b : CurveTree) (i : Interval) → F (trimmed b i) ≡ F b) → (c : CurveTree) {o d : Vec3} → preparedOf c ≡ Line o d → F c ≡ F (analytic (line o d))
+unfolding preparedOf
+through-line F h (analytic (line p q)) e = cc
+through-line F h (analytic (circle f r)) e = let z : _≡_ {A = ℕ} 0 1 = cc in absurd (omega arith)
+through-line F h (analytic (ellipse f a b)) e = let z : _≡_ {A = ℕ} 0 1 = cc in absurd (omega arith)
+through-line F h (analytic (parabola f a)) e = let z : _≡_ {A = ℕ} 0 1 = cc in absurd (omega arith)
+through-line F h (polyline ps) e = let z : _≡_ {A = ℕ} 0 1 = cc in absurd (omega arith)
+through-line F h (trimmed base range) e = h base range ∙ through-line F h base e
+through-line F h (composite ss) e = let z : _≡_ {A = ℕ} 0 1 = cc in absurd (omega arith)
+
+-- what was told as a line is one
+pub told-line : (p : Prepared) {o d : Vec3} → lineOnly p ≡ Line o d → p ≡ Line o d
+unfolding lineOnly
+told-line (Line p q) e = e
+told-line (Round p x y a b) e = let z : _≡_ {A = ℕ} 0 1 = cc in absurd (omega arith)
+told-line (Parabola p x y a) e = let z : _≡_ {A = ℕ} 0 1 = cc in absurd (omega arith)
+told-line (Other closed) e = let z : _≡_ {A = ℕ} 0 1 = cc in absurd (omega arith)
