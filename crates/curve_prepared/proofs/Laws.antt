@@ -1,16 +1,26 @@
--- A curve prepared has the points and the derivatives of the curve. Assumes nothing.
+-- A curve prepared has the points and the derivatives of the curve; and where a row is a line under its trims. Assumes nothing.
 use mathlib.Core.Path.{_≡_, refl, sym, ap, _∙_}
-use mathlib.Core.Bool.{Bool, true, false≢true}
+use mathlib.Core.Bool.{Bool, true, false, false≢true}
 use mathlib.Core.List.{List}
+use Prim.Native.Nat.{ℕ, _+_}
+use native.Mathlib.Omega.{arith}
 use lib.Ieee.{Float}
 use Rattle.math.specs.declared.Vec3.{Vec3}
-use Rattle.brep.specs.Tree.{CurveTree, analytic, line, circle, ellipse, parabola, polyline, trimmed, composite}
+use Rattle.math.specs.declared.Interval.{Interval}
+use Rattle.brep.specs.declared.Curve.{Curve}
+use Rattle.brep.specs.declared.Curve.the-variants as rows
+use Rattle.brep.specs.Rows.{Tables, pointOf}
+use Rattle.brep.specs.Tree.{CurveTree, analytic, line, circle, ellipse, parabola, polyline, trimmed, composite, rowIn, grown, tree}
+use Rattle.brep.proofs.Laws.{at-row}
+use Rattle.brep.proofs.ByKind.{rowKind, rowFirst, number, at-line}
+use Rattle.curve_parameter.specs.Own.Under.{under}
 use Rattle.curve_parameter.specs.Run.{closes}
+use Rattle.curve_parameter.proofs.Under.{under-same, empty-trim}
 use Rattle.curve_point.specs.Point as curves
 use Rattle.curve_tangent.specs.Derivative as derivatives
 use Rattle.curve_prepared.specs.declared.Prepared.{Prepared}
 use Rattle.curve_prepared.specs.declared.Prepared.the-variants.{Line, Round, Parabola, Other}
-use Rattle.curve_prepared.specs.Own.Prepared.{preparedOf, isPlain, plainPoint, preparedPoint, preparedDerivative}
+use Rattle.curve_prepared.specs.Own.Prepared.{preparedOf, lineOnly, isPlain, plainPoint, preparedPoint, preparedDerivative}
 
 -- of a curve c that has the points of b, which is c with trims taken off
 points-of : (b c : CurveTree) (t : Float) → curves.pointAt c t ≡ curves.pointAt b t → preparedPoint (preparedOf b) c t ≡ curves.pointAt b t
@@ -70,3 +80,48 @@ module _ (c : CurveTree) (t : Float) {r k : Prepared} {p : Vec3} where
 pub known-closed : {closed : Bool} (points : List Vec3) → Other closed ≡ preparedOf (polyline points) → closed ≡ closes points
 unfolding preparedOf
 known-closed points e = cc
+
+-- ---- a line under trims: the row that the trims of a row lead down to, by its kind's number
+abbrev lineOf : CurveTree → Prepared
+lineOf c = lineOnly (preparedOf c)
+
+module _ (T : Tables) (row : ℕ) {r kind : ℕ} (u : r ≡ under (T .curves) row) (k : kind ≡ rowKind T r) where
+  same : lineOf (tree T r) ≡ lineOf (tree T row)
+  unfolding preparedOf
+  same = under-same lineOf (λ b i. refl) T row u
+
+  pub is-line : kind ≡ 1 → {first : ℕ} → first ≡ rowFirst T r → Line (pointOf (T .points) first) (pointOf (T .points) (first + 1)) ≡ lineOf (tree T row)
+  unfolding lineOnly preparedOf
+  is-line one f = at-line lineOf T r k one f ∙ same
+
+  pub no-line : (kind ≡ 1 → ⊥) → Other false ≡ lineOf (tree T row)
+  unfolding lineOnly preparedOf grown
+  no-line n = go (rowIn T r) refl
+    where
+      go : (c : Curve) → rowIn T r ≡ c → Other false ≡ lineOf (tree T row)
+      go (rows.Line o d) e = absurd (n (k ∙ number T r e (λ q. omega arith)))
+      go (rows.Circle f radius) e = at-row lineOf T r refl (sym e) ∙ same
+      go (rows.Ellipse f a b) e = at-row lineOf T r refl (sym e) ∙ same
+      go (rows.Parabola f d) e = at-row lineOf T r refl (sym e) ∙ same
+      go (rows.Polyline first count) e = at-row lineOf T r refl (sym e) ∙ same
+      go (rows.Trimmed base range) e = empty-trim lineOf (λ b i. refl) T row u k (k ∙ number T r e (λ q. omega arith))
+      go (rows.Composite first count) e = at-row lineOf T r refl (sym e) ∙ same
+
+-- an F that looks through trims is of a curve that was prepared as a line what it is of that line
+pub through-line : {A : Type 0} (F : CurveTree → A) → ((b : CurveTree) (i : Interval) → F (trimmed b i) ≡ F b) → (c : CurveTree) {o d : Vec3} → preparedOf c ≡ Line o d → F c ≡ F (analytic (line o d))
+unfolding preparedOf
+through-line F h (analytic (line p q)) e = cc
+through-line F h (analytic (circle f r)) e = let z : _≡_ {A = ℕ} 0 1 = cc in absurd (omega arith)
+through-line F h (analytic (ellipse f a b)) e = let z : _≡_ {A = ℕ} 0 1 = cc in absurd (omega arith)
+through-line F h (analytic (parabola f a)) e = let z : _≡_ {A = ℕ} 0 1 = cc in absurd (omega arith)
+through-line F h (polyline ps) e = let z : _≡_ {A = ℕ} 0 1 = cc in absurd (omega arith)
+through-line F h (trimmed base range) e = h base range ∙ through-line F h base e
+through-line F h (composite ss) e = let z : _≡_ {A = ℕ} 0 1 = cc in absurd (omega arith)
+
+-- what was told as a line is one
+pub told-line : (p : Prepared) {o d : Vec3} → lineOnly p ≡ Line o d → p ≡ Line o d
+unfolding lineOnly
+told-line (Line p q) e = e
+told-line (Round p x y a b) e = let z : _≡_ {A = ℕ} 0 1 = cc in absurd (omega arith)
+told-line (Parabola p x y a) e = let z : _≡_ {A = ℕ} 0 1 = cc in absurd (omega arith)
+told-line (Other closed) e = let z : _≡_ {A = ℕ} 0 1 = cc in absurd (omega arith)

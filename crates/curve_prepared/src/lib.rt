@@ -6,13 +6,13 @@ ghost use mathlib.Core.List.{List};
 ghost use Prim.Native.Nat.{ℕ, _+_};
 ghost use lib.Ieee.{Float};
 ghost use Rattle.arith_trig.specs.Trig.{sinOf, cosOf};
-ghost use Rattle.brep.specs.Rows.{lent, given, pointOf};
+ghost use Rattle.brep.specs.Rows.{tables, lent, given, pointOf};
 ghost use Rattle.brep.specs.Tree.{tree, run};
 ghost use Rattle.curve_parameter.specs.Run.{closes, polylineParameter};
 ghost use Rattle.curve_point.specs.Point.{polylinePoint, ellipsePoint, parabolaPoint, pointAt};
 ghost use Rattle.curve_tangent.specs.Derivative.{polylineDerivative, derivativeAt};
 ghost use Rattle.curve_prepared.specs.declared.Prepared.the-variants.{Line, Other};
-ghost use Rattle.curve_prepared.specs.Own.Prepared.{roundOf, parabolaOf, preparedOf, plainPoint, preparedPoint, preparedDerivative};
+ghost use Rattle.curve_prepared.specs.Own.Prepared.{roundOf, parabolaOf, preparedOf, lineOnly, plainPoint, preparedPoint, preparedDerivative};
 
 // Axes are as they are: nothing is normalised. A circle is round with equal axes.
 pub enum Prepared {
@@ -74,6 +74,20 @@ fn line_of(points: &[f64], first: u32) -> Prepared
     let origin = brep::point(points, first);
     let direction = brep::point_in(points, first, 1);
     Prepared::Line { origin, direction }
+}
+
+// The curve of a row prepared where it is a line under its trims, without what other kinds would need. What any other is told as says
+// only that it is none.
+pub fn line_under(points: &[f64], curves: &[u32], row: u32) -> Prepared
+    ensures { λ r. ⌜ ((reals : List Float) (parts : List ℕ) (ranges : List Float) → r ≡ lineOnly (preparedOf (tree (tables (now (points .entry)) (now (curves .entry)) reals parts ranges) row))) ⌝ }
+{
+    let at = curve_parameter::under_trims(curves, row) as usize * 3;
+    let kind = brep::int_at(curves, at);
+    if kind == 1 {
+        let first = brep::int_at(curves, at + 1);
+        return line_of(points, first);
+    }
+    Prepared::Other { closed: false }
 }
 
 // The curve of a row, by the number of its kind under its trims: an arm for each kind, as in `curve`.

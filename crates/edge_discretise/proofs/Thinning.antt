@@ -1,4 +1,4 @@
--- The ways through `thin_sampled`, `finish` and `chord`. Assumes nothing.
+-- The ways through `thin_sampled` and `finish`. Assumes nothing.
 use mathlib.Core.Path.{_≡_, refl, sym, ap, subst, _∙_}
 use mathlib.Core.Bool.{Bool, true, false, cond, not, _||_}
 use mathlib.Core.List.{List, [], _∷_}
@@ -14,15 +14,13 @@ use Rattle.base_lists.proofs.Order.{sub-length}
 use Rattle.arith.specs.Notation.{_⊗_, plusZero}
 use Rattle.arith.specs.Constants.{hundredth}
 use Rattle.math.specs.declared.Vec3.{Vec3}
-use Rattle.brep.specs.declared.Edge.{Edge}
-use Rattle.brep.specs.Rows.{Tables}
 use Rattle.options.specs.declared.Resolved.{Resolved}
 use Rattle.edge_record.specs.declared.Sample.{Sample}
 use Rattle.edge_record.specs.declared.Counted.{Counted}
 use Rattle.edge_record.specs.declared.Counted.the-variants.{Refused, Count}
 use Rattle.edge_record.specs.Own.Stored.{countedOf, after, ChainStored}
-use Rattle.edge_record.specs.Chain.{width, shortest, most, row, flat, samplePoint, samples}
-use Rattle.edge_record.proofs.Laws.{flat-one, push, samplesFrom-length, samples-own, rest-cleared}
+use Rattle.edge_record.specs.Chain.{width, most, flat, samplePoint, samples}
+use Rattle.edge_record.proofs.Laws.{samplesFrom-length, samples-own, rest-cleared}
 use Rattle.edge_record.proofs.Shorter.{Shorter, shorter-same, shorter-sub, shorter-two}
 use Rattle.edge_merge.specs.Merge.{merged}
 use Rattle.edge_merge.proofs.Laws.{merge-shorter}
@@ -31,7 +29,7 @@ use Rattle.edge_thin_span.specs.Span.{decision}
 use Rattle.edge_thin.specs.Thin.{withFloor, restored, retainedBy, thinned}
 use Rattle.edge_thin.proofs.Loops.{length-marks}
 use Rattle.edge_thin.proofs.Laws.{thin-shorter}
-use Rattle.draw_spec.specs.Edge.{edgeStart, edgeEnd, thinnedIf, chordOf}
+use Rattle.draw_spec.specs.Edge.{thinnedIf}
 use Rattle.edge_place.proofs.Records.{read-back}
 use Rattle.edge_discretise.specs.Own.Discretised.{ChainInto}
 
@@ -167,17 +165,3 @@ pub finished-none : (c : List Float) (X : Result (List Sample)) (floor : Float) 
 unfolding flat
 finished-none c (refused x) floor w n d g p e q = record { answered = sym e ∙ p .0; holds = q ∙ ap (λ (l : List Float). filled (length l) []) (p .1) }
 finished-none c (got l) floor w n d g p e q = let z : _≡_ {A = ℕ} 0 1 = cc in absurd (omega arith)
-
--- ---- `chord`
-pub chord-held : (T : Tables) (e : Edge) (a b : Float) (c d f g : List Float) (p q : Vec3) → shortest ≤ length c → p ≡ edgeStart T e → q ≡ edgeEnd T e
-    → d ≡ sets c 0 (row (record { point = p; param = a })) → f ≡ sets d width (row (record { point = q; param = b })) → g ≡ filled (length f) (take shortest f)
-    → g ≡ filled (length c) (flat (chordOf T e a b))
-chord-held T e a b c d f g p q room s t h k w =
-    let A : Sample = record { point = edgeStart T e; param = a } in
-    let B : Sample = record { point = edgeEnd T e; param = b } in
-    let v : d ≡ sets c 0 (flat (A ∷ [])) =
-    h ∙ ap (λ (x : Vec3). sets c 0 (row (record { point = x; param = a }))) s ∙ ap (sets c 0) (sym (flat-one A)) in
-    let u : f ≡ sets c 0 (flat (chordOf T e a b)) =
-    k ∙ ap (λ (x : Vec3). sets d width (row (record { point = x; param = b }))) t
-    ∙ ap (λ (l : List Float). sets l width (row B)) v ∙ push c (A ∷ []) B in
-    w ∙ ap (λ (l : List Float). filled (length l) (take shortest l)) u ∙ rest-cleared c (chordOf T e a b) room

@@ -3,7 +3,6 @@ use brep::Edge;
 use edge_params::Listed;
 use edge_range::Usable;
 use edge_record::Counted;
-use edge_record::Sample;
 use edge_sample::sample_params;
 use math::Interval;
 use options::Resolved;
@@ -20,10 +19,9 @@ ghost use Rattle.knots.specs.Knots.{curveKnots};
 ghost use Rattle.edge_params.specs.Work.{within};
 ghost use Rattle.edge_range.specs.Usable.{usableRange};
 ghost use Rattle.edge_record.specs.Own.Stored.{countedOf, after};
-ghost use Rattle.edge_record.specs.Chain.{width, shortest, most, flat, samples};
-ghost use Rattle.draw_spec.specs.Edge.{thinnedIf, chordOf, thinnedMerged, overRange, discretised};
+ghost use Rattle.edge_record.specs.Chain.{width, shortest, most, samples};
+ghost use Rattle.draw_spec.specs.Edge.{thinnedIf, thinnedMerged, overRange, discretised};
 ghost use Rattle.draw_spec.specs.Draw.{roomOf};
-ghost use Rattle.edge_place.specs.Own.Place.{ofPoints};
 ghost use Rattle.edge_discretise.specs.Own.Discretised.{ChainInto, DiscretisedInto};
 
 // The smaller of two.
@@ -107,34 +105,8 @@ fn finish(
     }
 }
 
-// The two-vertex chord with the parameters a and b, and +0.0 behind it.
-pub fn chord(points: &[f64], edge: Edge, a: f64, b: f64, chain: &mut [f64])
-    requires { ⌜ shortest ≤ length (now chain) ⌝ }
-    ensures { λ _. ⌜ now (chain .exit) ≡ filled (length (now (chain .entry))) (flat (chordOf (ofPoints (now (points .entry))) edge a b)) ⌝ }
-{
-    let start = brep::point(points, edge.start);
-    let end = brep::point(points, edge.end);
-    edge_record::put(
-        chain,
-        0,
-        Sample {
-            point: start,
-            param: a,
-        },
-    );
-    edge_record::put(
-        chain,
-        1,
-        Sample {
-            point: end,
-            param: b,
-        },
-    );
-    base_lists::clear_from(chain, 2 * edge_record::WIDTH);
-}
-
 // Samples a usable range into scratch, whose length is the room, finishes the chain, and leaves scratch cleared.
-fn draw_range(
+fn draw_sampled(
     points: &[f64],
     curves: &[u32],
     reals: &[f64],
@@ -189,6 +161,42 @@ fn draw_range(
     finish(points, curves, reals, parts, ranges, edge, r, chain, n)
 }
 
+// Draws a usable range. A line in one segment, the commonest edge, is known without sampling; what that would make of it is the same.
+fn draw_range(
+    points: &[f64],
+    curves: &[u32],
+    reals: &[f64],
+    parts: &[u32],
+    ranges: &[f64],
+    edge: Edge,
+    range: Interval,
+    r: Resolved,
+    chain: &mut [f64],
+    scratch: &mut [f64],
+) -> Counted
+    requires { ⌜ (2 ≤ length (now scratch)) × (length (now scratch) ≤ most) × (width * length (now scratch) ≤ length (now chain))
+        × (length (curveKnots (tree (lent points curves reals parts ranges) (edge .curve))) ≤ mostKnots) ⌝ }
+    ensures { λ w. ⌜ ChainInto (length (now (chain .entry))) (within (length (now (scratch .entry))) (overRange (given points curves reals parts ranges) edge r range)) w (now (chain .exit))
+        × (now (scratch .exit) ≡ filled (length (now (scratch .entry))) []) ⌝ }
+{
+    if edge_segment::draw_segment(points, curves, edge, range, r, chain) {
+        base_lists::clear_from(scratch, 0);
+        return Counted::Count(2);
+    }
+    draw_sampled(
+        points,
+        curves,
+        reals,
+        parts,
+        ranges,
+        edge,
+        range,
+        r,
+        chain,
+        scratch,
+    )
+}
+
 // The edge's chain over its usable range, which is known, from the start of chain, and +0.0 behind it, or everywhere where
 // it is refused; +0.0 in all of scratch.
 pub fn discretise_usable(
@@ -208,7 +216,7 @@ pub fn discretise_usable(
     ensures { λ w. ⌜ DiscretisedInto (discretised (given points curves reals parts ranges) edge r) (now (chain .entry)) (now (scratch .entry)) w (now (chain .exit)) (now (scratch .exit)) ⌝ }
 {
     let Usable::Range(range) = usable else {
-        chord(points, edge, edge.range.lo, edge.range.hi, chain);
+        edge_place::chord(points, edge, edge.range.lo, edge.range.hi, chain);
         base_lists::clear_from(scratch, 0);
         return Counted::Count(2);
     };

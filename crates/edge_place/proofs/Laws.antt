@@ -1,24 +1,25 @@
--- A placed chain by what stands in the buffer: its records turned round where they run back, then pinned. Assumes nothing.
+-- A placed chain by what stands in the buffer: its records turned round where they run back, then pinned; and the two-vertex chord. Assumes nothing.
 use mathlib.Core.Path.{_≡_, refl, sym, ap, _∙_}
 use mathlib.Core.Bool.{Bool, true, false, cond, not}
 use mathlib.Core.List.{List, [], _∷_, reverse}
 use Prim.Native.Nat.{ℕ, zero, suc, _+_, _-_, _*_, _<_, _≤_}
 use native.Mathlib.Nat.{add-zero, add-suc, suc-add}
 use native.Mathlib.Omega.{arith}
-use lib.ListN.{length, getD, set, length-set, length-reverse}
+use lib.ListN.{length, getD, take, set, length-set, length-reverse}
 use lib.Seq.{sets}
-use lib.Ieee.{Float, lt}
+use lib.Ieee.{Float, lt, le}
 use lib.Dec.{eqb}
+use Rattle.base_lists.specs.Room.{filled}
 use Rattle.math.specs.declared.Vec3.{Vec3}
 use Rattle.math.specs.Math.{vSub, vLengthSquared}
 use Rattle.brep.specs.declared.Edge.{Edge}
 use Rattle.brep.specs.Rows.{Tables}
 use Rattle.edge_record.specs.declared.Sample.{Sample}
-use Rattle.edge_record.specs.Chain.{width, row, flat, sampleAt, samplesFrom, samples, lastOf}
+use Rattle.edge_record.specs.Chain.{width, shortest, row, flat, sampleAt, samplesFrom, samples, lastOf}
 use Rattle.edge_record.specs.Own.Stored.{recordPoint}
-use Rattle.edge_record.proofs.Laws.{samplesFrom-length}
+use Rattle.edge_record.proofs.Laws.{flat-one, push, samplesFrom-length, rest-cleared}
 use Rattle.edge_closed_form.proofs.Located.{located-length}
-use Rattle.draw_spec.specs.Edge.{edgeCurve, edgeStart, edgeEnd, located, degenerateEnds, isReversed, oriented, movedTo, lastPinned, pinned, placed}
+use Rattle.draw_spec.specs.Edge.{edgeCurve, edgeStart, edgeEnd, located, nearSquared, degenerateEnds, isReversed, oriented, movedTo, lastPinned, pinned, chordOf, placed}
 use Rattle.edge_place.specs.Own.Place.{ofPoints}
 use Rattle.edge_place.proofs.Records.{pass, put-at, read-at, own-samples}
 
@@ -73,15 +74,15 @@ not-not : (b : Bool) → b ≡ not (not b)
 not-not true = refl
 not-not false = refl
 
-module _ (T : Tables) (e : Edge) (head tail : Vec3) where
-  pub by-sense : degenerateEnds T e ≡ true → eqb (e .sense) 0 ≡ isReversed T e head tail
-  unfolding isReversed
-  by-sense h = rw h (not-not (eqb (e .sense) 0))
+module _ (T : Tables) (e : Edge) (head tail : Vec3) {start end : Vec3} (s : start ≡ edgeStart T e) (t : end ≡ edgeEnd T e) where
+  pub by-sense : le (vLengthSquared (vSub end start)) (nearSquared (e .tolerance)) ≡ true → eqb (e .sense) 0 ≡ isReversed T e head tail
+  unfolding isReversed degenerateEnds
+  by-sense h = rw (sym s, sym t, h) (not-not (eqb (e .sense) 0))
 
-  pub by-ends : degenerateEnds T e ≡ false
-      → lt (vLengthSquared (vSub tail (edgeStart T e))) (vLengthSquared (vSub head (edgeStart T e))) ≡ isReversed T e head tail
-  unfolding isReversed
-  by-ends h = rw h
+  pub by-ends : le (vLengthSquared (vSub end start)) (nearSquared (e .tolerance)) ≡ false
+      → lt (vLengthSquared (vSub tail start)) (vLengthSquared (vSub head start)) ≡ isReversed T e head tail
+  unfolding isReversed degenerateEnds
+  by-ends h = rw (sym s, sym t, h)
 
 last-from : (c : List Float) (i m : ℕ) → lastOf (sampleAt c i) (samplesFrom c (suc i) m) ≡ sampleAt c (i + m)
 unfolding lastOf samplesFrom
@@ -143,3 +144,17 @@ module _ (T : Tables) (e : Edge) where
     -- what is known stands there already
     pub held-known : samples (length params) c ≡ located (edgeCurve T e) params → {held : List Float} → held ≡ c → held ≡ sets c 0 (flat (located (edgeCurve T e) params))
     held-known s q = q ∙ own-samples c (length params) ∙ ap (λ (z : List Sample). sets c 0 (flat z)) s
+
+-- ---- `chord`
+pub chord-held : (T : Tables) (e : Edge) (a b : Float) (c d f g : List Float) (p q : Vec3) → shortest ≤ length c → p ≡ edgeStart T e → q ≡ edgeEnd T e
+    → d ≡ sets c 0 (row (record { point = p; param = a })) → f ≡ sets d width (row (record { point = q; param = b })) → g ≡ filled (length f) (take shortest f)
+    → g ≡ filled (length c) (flat (chordOf T e a b))
+chord-held T e a b c d f g p q room s t h k w =
+    let A : Sample = record { point = edgeStart T e; param = a } in
+    let B : Sample = record { point = edgeEnd T e; param = b } in
+    let v : d ≡ sets c 0 (flat (A ∷ [])) =
+    h ∙ ap (λ (x : Vec3). sets c 0 (row (record { point = x; param = a }))) s ∙ ap (sets c 0) (sym (flat-one A)) in
+    let u : f ≡ sets c 0 (flat (chordOf T e a b)) =
+    k ∙ ap (λ (x : Vec3). sets d width (row (record { point = x; param = b }))) t
+    ∙ ap (λ (l : List Float). sets l width (row B)) v ∙ push c (A ∷ []) B in
+    w ∙ ap (λ (l : List Float). filled (length l) (take shortest l)) u ∙ rest-cleared c (chordOf T e a b) room

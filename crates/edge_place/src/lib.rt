@@ -1,4 +1,5 @@
-// The records of an edge's chain, from its parameters: in the edge's own direction, with both ends pinned to the vertices.
+// The records of an edge's chain, from its parameters: in the edge's own direction, with both ends pinned to the vertices. And the chord of
+// the vertices alone.
 use brep::Edge;
 use edge_record::Sample;
 use math::Vec3;
@@ -8,21 +9,24 @@ ghost use mathlib.Core.List.{reverse};
 ghost use Prim.Native.Nat.{_+_, _-_, _*_, _<_, _≤_};
 ghost use lib.ListN.{length};
 ghost use lib.Seq.{sets};
-ghost use Rattle.brep.specs.Rows.{lent, given};
+ghost use Rattle.base_lists.specs.Room.{filled};
+ghost use Rattle.brep.specs.Rows.{Tables, lent, given};
 ghost use Rattle.brep.specs.Tree.{tree};
-ghost use Rattle.edge_record.specs.Chain.{width, row, flat, sampleAt, samples};
+ghost use Rattle.edge_record.specs.Chain.{width, shortest, row, flat, sampleAt, samples};
 ghost use Rattle.edge_record.specs.Own.Stored.{recordPoint};
-ghost use Rattle.draw_spec.specs.Edge.{edgeCurve, edgeStart, edgeEnd, located, degenerateEnds, isReversed, oriented, movedTo, pinned, placed};
+ghost use Rattle.draw_spec.specs.Edge.{edgeCurve, edgeStart, edgeEnd, located, isReversed, oriented, movedTo, pinned, chordOf, placed};
 ghost use Rattle.edge_place.specs.Own.Place.{ofPoints};
 
-// Whether the vertices are too near each other to tell the direction.
-fn degenerate_ends(points: &[f64], edge: Edge) -> bool
-    ensures { λ r. ⌜ r ≡ degenerateEnds (ofPoints (now (points .entry))) edge ⌝ }
+// Whether a chain that follows its parameters from head to tail runs against the edge, whose vertices are at start and end. Where these are
+// too near each other to tell, the sense does.
+pub fn runs_back(edge: Edge, start: Vec3, end: Vec3, head: Vec3, tail: Vec3) -> bool
+    ensures { λ r. ⌜ ((T : Tables) → start ≡ edgeStart T edge → end ≡ edgeEnd T edge → r ≡ isReversed T edge head tail) ⌝ }
 {
-    let start = brep::point(points, edge.start);
-    let end = brep::point(points, edge.end);
     let near = edge.tolerance * 10.0;
-    end.sub(start).length_squared() <= near * near
+    if end.sub(start).length_squared() <= near * near {
+        return edge.sense == 0;
+    }
+    tail.sub(start).length_squared() < head.sub(start).length_squared()
 }
 
 // Whether n records that follow their parameters run against the edge.
@@ -30,13 +34,11 @@ fn is_reversed(points: &[f64], edge: Edge, n: usize, chain: &[f64]) -> bool
     requires { ⌜ (1 ≤ n) × (width * n ≤ length (now chain)) ⌝ }
     ensures { λ r. ⌜ r ≡ isReversed (ofPoints (now (points .entry))) edge (recordPoint (now (chain .entry)) 0) (recordPoint (now (chain .entry)) (n - 1)) ⌝ }
 {
-    if degenerate_ends(points, edge) {
-        return edge.sense == 0;
-    }
     let start = brep::point(points, edge.start);
+    let end = brep::point(points, edge.end);
     let head = edge_record::record_point(chain, 0);
     let tail = edge_record::record_point(chain, n - 1);
-    tail.sub(start).length_squared() < head.sub(start).length_squared()
+    runs_back(edge, start, end, head, tail)
 }
 
 // Exchanges two records.
@@ -156,4 +158,30 @@ pub fn place(
     }
     orient(points, edge, n, chain);
     pin_ends(points, edge, n, chain);
+}
+
+// The two-vertex chord with the parameters a and b, and +0.0 behind it.
+pub fn chord(points: &[f64], edge: Edge, a: f64, b: f64, chain: &mut [f64])
+    requires { ⌜ shortest ≤ length (now chain) ⌝ }
+    ensures { λ _. ⌜ now (chain .exit) ≡ filled (length (now (chain .entry))) (flat (chordOf (ofPoints (now (points .entry))) edge a b)) ⌝ }
+{
+    let start = brep::point(points, edge.start);
+    let end = brep::point(points, edge.end);
+    edge_record::put(
+        chain,
+        0,
+        Sample {
+            point: start,
+            param: a,
+        },
+    );
+    edge_record::put(
+        chain,
+        1,
+        Sample {
+            point: end,
+            param: b,
+        },
+    );
+    base_lists::clear_from(chain, 2 * edge_record::WIDTH);
 }

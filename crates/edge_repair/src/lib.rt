@@ -56,7 +56,7 @@ fn runaway(points: &[f64], edge: Edge, second: &mut [f64]) -> Drawn
     requires { ⌜ shortest ≤ length (now second) ⌝ }
     ensures { λ w. ⌜ InSecond (runaway (ofPoints (now (points .entry))) edge) (length (now (second .entry))) w (now (second .exit)) ⌝ }
 {
-    edge_discretise::chord(points, edge, edge.range.lo, edge.range.lo, second);
+    edge_place::chord(points, edge, edge.range.lo, edge.range.lo, second);
     Drawn::Chain(Way::Runaway, 2)
 }
 

@@ -32,6 +32,13 @@ preparedOf (polyline points) = Other (closes points)
 preparedOf (trimmed base range) = preparedOf base
 preparedOf (composite segments) = Other false
 
+-- a line as it is; of any other, no more than that it is none
+unfoldable pub lineOnly : Prepared → Prepared
+lineOnly (Line origin direction) = Line origin direction
+lineOnly (Round origin x y major minor) = Other false
+lineOnly (Parabola origin x y focal) = Other false
+lineOnly (Other closed) = Other false
+
 -- whether a curve that was prepared has all that its points need
 unfoldable pub isPlain : Prepared → Bool
 isPlain (Line origin direction) = true

@@ -6,7 +6,7 @@ use denote.Ref.{now}
 use lib.ListN.{length}
 use Rattle.brep.specs.Rows.{Tables, lent}
 use Rattle.draw_spec.specs.Draw.{roomOf}
-use Rattle.edge_discretise.proofs.Drawing.{Lent, lent-part, whole-length, cleared-whole, into-range, into-chord}
+use Rattle.edge_discretise.proofs.Drawing.{Lent, lent-part, two-fit, whole-length, cleared-whole, into-range, into-chord}
 use borrow.Author.Needs.{needs}
 use Rattle.edge_discretise.proofs.discretise_usable.Statement.{statement}
 use Rattle.edge_discretise.proofs.discretise_usable.Tie as tie
@@ -37,8 +37,10 @@ slice-aggregate-part c = sym (told (c .before) .size)
 
 draw-range-requires : tie.Need-draw-range-requires
 draw-range-requires c κs =
-    let l = told (c .before .before) in
-    (omega (arith, l .few, l .size), omega (arith, l .fits, l .size), c .before .before .before .before .before .before .before .before .before .before .before .before .before .pre .2)
+    let f = c .before .before in
+    let l = told f in
+    let p = f .before .before .before .before .before .before .before .before .before .before .before .pre in
+    (omega (arith, l .size, two-fit _ _ _ (f .room .ensures) (p .0) (p .1)), omega (arith, l .few, l .size), omega (arith, l .fits, l .size), p .2)
 
 clear-from-requires-2 : tie.Need-clear-from-requires-2
 clear-from-requires-2 c κs =

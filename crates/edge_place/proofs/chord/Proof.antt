@@ -1,10 +1,10 @@
 -- `chord` meets its contract. Assumes nothing.
 use denote.Ref.{now}
 use borrow.Author.Needs.{needs}
 use Rattle.edge_place.specs.Own.Place.{ofPoints}
-use Rattle.edge_discretise.proofs.Thinning.{chord-held}
-use Rattle.edge_discretise.proofs.chord.Statement.{statement}
-use Rattle.edge_discretise.proofs.chord.Tie as tie
+use Rattle.edge_place.proofs.Laws.{chord-held}
+use Rattle.edge_place.proofs.chord.Statement.{statement}
+use Rattle.edge_place.proofs.chord.Tie as tie
 
 returns : tie.Need-returns
 returns c =
