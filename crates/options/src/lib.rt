@@ -51,14 +51,17 @@ impl Angle {
 // How finely to draw. `deflection` and `angle` are what a span is tested by, and no bounds on the chain: what a curve does
 // between the places that are looked at is not seen, and a span with no depth left is not tested again.
 pub struct Options {
-    // The sag: how far a span's chord may lie from the curve at the span's middle parameter. A length; where relative is 1, a
-    // fraction of the scale.
+    // The sag: how far a span's chord may lie from the curve at the span's middle parameter. A length, unless relative is 1
+    // and there is a scale: then it is this fraction of the scale for an edge whose extent is a quarter of the scale up to all
+    // of it, of its own extent for a larger edge, and for a smaller one four times this fraction of its extent, but never less
+    // than an eighth of what it is for the whole.
     pub deflection: f64,
-    // How far the tangents at a span's two ends may turn from each other; on a circle or an ellipse the largest step too.
+    // Where a curve is bisected, how far the tangents at a span's two ends may turn from each other. On a circle or an ellipse
+    // the largest step of its parameter, 1e-3 at least; no tangent is looked at there.
     pub angle: Angle,
     // 0 or 1.
     pub relative: u32,
-    // The least number of segments; 0 counts as 1.
+    // The least number of segments before points are merged; a chord has one. 0 counts as 1.
     pub segments: u64,
     // How often a span may be halved, held to 1..24.
     pub depth: u32,
