@@ -54,6 +54,7 @@ use Rattle.draw_spec.specs.Repair.{Got, by}
 use Rattle.draw_spec.specs.Draw.{programPoints, localOptions, inFirst, afterRefusal, firstAfter, secondAfter}
 use Rattle.draw_examples.specs.Examples.{Leaves, DrawsChain, RefusesLate, boxed, escaping, close}
 use Rattle.draw_examples.specs.Examples as examples
+use Rattle.edge_thin_loop.proofs.Laws.{thins}
 use Rattle.draw_examples.proofs.Sweep.{runs-away}
 
 -- ---- the buffers of a chain, and of a refusal above 7
@@ -89,4 +90,5 @@ hold =
     (more refl (more refl (more refl
     (more (draws-chain _ _ _ refl) (more refl (more (draws-chain _ _ _ refl)
     (more (draws-chain _ _ _ (ap (λ (w : Work Got). within programPoints w) (runs-away (localOptions boxed escaping close))))
-    (more (refuses-late _ 9 (omega arith) refl) none)))))))))))))))
+    (more (refuses-late _ 9 (omega arith) refl)
+    (more (record { usable = refl; comesTo = refl; never = thins _ _ _ _ .never .0 refl }) none))))))))))))))))

@@ -8,7 +8,7 @@ use lib.Ieee.{Float, eq, neg}
 use Rattle.base_lists.specs.Result.{Result, refused, got}
 use Rattle.base_lists.specs.All.{All}
 use Rattle.base_lists.specs.Room.{filled}
-use Rattle.arith.specs.Notation.{plusZero, half, one, two, count}
+use Rattle.arith.specs.Notation.{_⊗_, plusZero, half, one, two, count}
 use Rattle.arith.specs.Constants.{nearestFloat, ten, million, billion, hundredth}
 use Rattle.math.specs.declared.Vec3.{Vec3}
 use Rattle.math.specs.declared.Interval.{Interval}
@@ -18,14 +18,18 @@ use Rattle.brep.specs.Rows.{Tables, tables}
 use Rattle.brep.specs.Tree.{tree}
 use Rattle.curve.specs.Eval.{pointAt}
 use Rattle.options.specs.declared.Options.{Options}
+use Rattle.options.specs.declared.Resolved.{Resolved}
 use Rattle.options.specs.Options.{radians, resolve, forExtent}
 use Rattle.edge_record.specs.declared.Sample.{Sample}
 use Rattle.edge_record.specs.Chain.{flat}
 use Rattle.edge_merge.specs.Merge.{mergeFloor}
+use Rattle.edge_sample.specs.Sample.{sampled}
+use Rattle.edge_thin_loop.specs.Loop.{Returns}
 use Rattle.edge_range.specs.declared.Usable.the-variants.{Range}
 use Rattle.edge_range.specs.Usable.{usableRange}
 use Rattle.draw_spec.specs.declared.Way.{Way}
 use Rattle.draw_spec.specs.declared.Way.the-variants.{AsDrawn, Chord, Runaway}
+use Rattle.draw_spec.specs.Edge.{edgeCurve, placed}
 use Rattle.draw_spec.specs.Repair.{Got, by}
 use Rattle.draw_spec.specs.Draw.{programFloats, localOptions, drawn, inFirst, firstAfter, secondAfter}
 
@@ -45,6 +49,8 @@ pub data Example : Type 0 where
   draws : Tables → Edge → Options → Way → List Sample → Example
   -- the number of a refusal above 7, in the same
   refuses : Tables → Edge → Options → ℕ → Example
+  -- the Rust never returns from `thin`, at the parameters that it takes of an edge's range
+  never : Tables → Edge → Options → List Float → Example
 
 -- what is drawn into two buffers of 2,048 points, whatever they held: these floats from the start of the first and of the second, and +0.0 behind them
 pub record Leaves (d : Result Got) (one two : List Float) : Type 0 where
@@ -61,6 +67,12 @@ pub record RefusesLate (d : Result Got) (n : ℕ) : Type 0 where
   pub number : d ≡ refused n
   pub buffers : Leaves d [] []
 
+-- sampling the edge's range comes to these parameters, and `thin` over the chain that is placed at them never returns
+pub record NeverReturns (T : Tables) (e : Edge) (r : Resolved) (params : List Float) : Type 0 where
+  pub usable : usableRange (edgeCurve T e) (e .range) ≡ Range (e .range)
+  pub comesTo : sampled (edgeCurve T e) (e .range) r .end ≡ got params
+  pub never : (l : List Sample) → Returns (r .sag ⊗ hundredth) (r .angle) (r .segments + 1) (placed T e params) l → ⊥
+
 -- an example holds of the definitions
 unfoldable pub ExampleHolds : Example → Type 0
 ExampleHolds (sag o extent s) = forExtent (resolve o) extent .sag ≡ s
@@ -70,6 +82,7 @@ ExampleHolds (point T t p) = pointAt (tree T 0) t ≡ p
 ExampleHolds (differ a b) = eq a b ≡ false
 ExampleHolds (draws T e o way chain) = DrawsChain (drawn T e o programFloats programFloats) way chain
 ExampleHolds (refuses T e o n) = RefusesLate (drawn T e o programFloats programFloats) n
+ExampleHolds (never T e o params) = NeverReturns T e (localOptions T e o) params
 
 -- ---- numbers
 abbrev three : Float
@@ -167,9 +180,13 @@ abbrev pub close : Options
 close = absolute hundredth one 1 12
 
 -- a corner so small and so far out that no distance in it is above zero
-abbrev tinyCorner : Tables
+abbrev pub tinyCorner : Tables
 tinyCorner =
     oneRow (far 0 ∷ far 0 ∷ plusZero ∷ far 1 ∷ far 0 ∷ plusZero ∷ far 10 ∷ far 3 ∷ plusZero ∷ []) 5 3 plusZero
+
+-- the edge over it
+abbrev pub overCorner : Edge
+overCorner = rowEdge 0 2 plusZero two plusZero 0 2
 
 -- 0.14
 abbrev narrow : Float
@@ -215,7 +232,8 @@ examples =
     ∷ floor corner round (absolute two narrow 1 1) one
     ∷ draws corner round (absolute two narrow 1 1) AsDrawn (cornerStart ∷ cornerEnd ∷ [])
     ∷ draws boxed escaping close Runaway (onAxis plusZero plusZero ∷ onAxis hundred plusZero ∷ [])
-    ∷ refuses tinyCorner (rowEdge 0 2 plusZero two plusZero 0 2) (absolute one narrow 1 1) 9
+    ∷ refuses tinyCorner overCorner (absolute one narrow 1 1) 9
+    ∷ never tinyCorner overCorner (absolute one narrow 1 1) (plusZero ∷ one ∷ two ∷ [])
     ∷ []
 
 -- THE CLAIM: all of them hold
