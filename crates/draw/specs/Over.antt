@@ -22,12 +22,12 @@ use Rattle.draw_spec.specs.Draw.{localOptions, drawnIn, roomOf, tooShort, answe
 abbrev pub longRun : Tables → Edge → Bool
 longRun T e = ltb (2 * mostSegments) (length (curveKnots (edgeCurve T e)))
 
--- drawing into two buffers of so many floats: 7 where one is too short, else what `drawn` comes to once nothing is refused
+-- drawing into two buffers of so many floats: 7 where one is too short, else in their room
 abbrev pub inBuffers : Tables → Edge → Options → ℕ → ℕ → Result Got
 inBuffers T e o first second = cond (tooShort first second) (refused 7) (drawnIn (roomOf first second) T e (localOptions T e o))
 
--- 1 by the tables' lengths alone; then 2, 3 or 6 of the edge and the options; then 3 for a run of segments that no table has room for;
--- else drawing over what the rows read as
+-- 1 by the tables' lengths; then 2, 3 or 6 of the edge and the options; then 3 for a run that no table has room for; else the edge is
+-- drawn over what the rows read as
 unfoldable pub drawnOver : Tables → Edge → Options → ℕ → ℕ → Result Got
 drawnOver T e o first second =
     cond (oversize T) (refused 1)
