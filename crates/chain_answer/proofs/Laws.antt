@@ -1,16 +1,19 @@
 -- What is printed, by the way through reading and drawing. Assumes nothing but what its statements say.
 use mathlib.Core.Path.{_≡_, refl, sym, ap, subst, _∙_}
-use mathlib.Core.Bool.{cond}
+use mathlib.Core.Bool.{Bool, true, false, cond}
 use mathlib.Core.List.{List, []}
-use Prim.Native.Nat.{ℕ, _+_, _*_, _-_, _≤_}
+use Prim.Native.Nat.{ℕ, _+_, _*_, _-_, _<_, _≤_}
 use native.Mathlib.Omega.{arith}
-use lib.ListN.{length, replicate, length-append, length-replicate}
-use lib.Seq.{sets}
+use lib.ListN.{length, take, replicate, length-append, length-replicate}
+use lib.Seq.{sets, take-all, length-take-le}
+use lib.Dec.{leb}
 use lib.Ieee.{Float, binary64, ofBits}
+use borrow.Author.Tests.{leb-true, leb-false}
 use Rattle.base_lists.specs.Result.{Result, refused, got}
 use Rattle.base_lists.specs.Room.{filled}
-use Rattle.sheet_layout.specs.Layout.{readSheet}
+use Rattle.sheet_layout.specs.Layout.{size, readSheet}
 use Rattle.sheet.specs.Own.Leading.{leading}
+use Rattle.sheet.proofs.Parts.{too-long}
 use Rattle.sheet.proofs.Laws.{SheetRead}
 use Rattle.brep.specs.Rows.{Tables}
 use Rattle.brep.specs.declared.Edge.{Edge}
@@ -21,12 +24,12 @@ use Rattle.draw_spec.specs.declared.Way.{Way}
 use Rattle.draw_spec.specs.declared.Drawn.{Drawn}
 use Rattle.draw_spec.specs.declared.Drawn.the-variants.{Refused, Chain}
 use Rattle.draw_spec.specs.Repair.{Got}
-use Rattle.draw_spec.specs.Draw.{roomOf, drawn, answerOf, inFirst, firstAfter, secondAfter, chainIn, Outcome}
+use Rattle.draw_spec.specs.Draw.{roomOf, programFloats, drawn, answerOf, inFirst, firstAfter, secondAfter, chainIn, Outcome}
 use Rattle.draw_spec.proofs.Sound.{drawn-fits}
 use Rattle.draw_spec.proofs.ReadBack.{read-back}
 use Rattle.draw_spec.specs.Draw.{chainFloats}
 use Rattle.chain_answer.specs.Own.Shown.{shown}
-use Rattle.chain_answer.specs.Printed.{lastBits, printedDrawn, drawnOf, printedRead, firstAfterSheet, secondAfterSheet, Prints}
+use Rattle.chain_answer.specs.Printed.{lastBits, printedDrawn, drawnOf, printedRead, printed, programPrints, ReadEnough, firstAfterSheet, secondAfterSheet, Prints}
 
 -- bytes at the start of a buffer, and how many they are
 abbrev pub Put : ℕ → List ℕ → List ℕ → List ℕ → Type 0
@@ -116,3 +119,18 @@ module _ (text : List ℕ) (first second : List Float) (out : List ℕ) (r : ℕ
       firstHolds = rw (read .is) (h .firstHolds ∙ ap (firstAfter first) made-is);
       secondHolds = rw (read .is) (h .secondHolds ∙ ap (secondAfter second) made-is);
     }
+
+-- ---- an input of which no more is read than one byte too many
+pub read-enough : ReadEnough
+read-enough n h input first second = ap (printedRead first second) (go (leb (length input) n) refl)
+  where
+    go : (b : Bool) → leb (length input) n ≡ b → readSheet (take n input) ≡ readSheet input
+    go true e = ap readSheet (take-all n input (leb-true (length input) n e))
+    go false e =
+        let m = leb-false (length input) n e in
+        let l = length-take-le n input (omega arith) in
+        too-long (take n input) (omega arith) ∙ sym (too-long input (omega arith))
+
+-- so what is printed for what was read is printed for the whole input
+pub read-prints : (n : ℕ) → size < n → (text input : List ℕ) → text ≡ take n input → printed text programFloats programFloats ≡ programPrints input
+read-prints n h text input e = ap programPrints e ∙ read-enough n h input programFloats programFloats

@@ -1,19 +1,19 @@
 -- What is printed for a sheet, byte by byte, and what both chain buffers hold afterwards. Definitions only.
 use mathlib.Core.Path.{_≡_}
 use mathlib.Core.List.{List}
-use Prim.Native.Nat.{ℕ}
-use lib.ListN.{length}
+use Prim.Native.Nat.{ℕ, _<_}
+use lib.ListN.{length, take}
 use lib.Seq.{sets}
 use lib.Ieee.{Float}
 use Rattle.base_lists.specs.Result.{Result, refused, got}
-use Rattle.sheet_layout.specs.Layout.{RawSheet, readSheet}
+use Rattle.sheet_layout.specs.Layout.{RawSheet, size, readSheet}
 use Rattle.sheet_row.specs.Rows.{rawEdgeOf, rawOptionsOf}
 use Rattle.sheet.specs.Sheet.{edgeFrom, optionsFrom, tablesOf}
 use Rattle.text_listing.specs.Listing.{listing, refusal}
 use Rattle.draw_spec.specs.declared.Way.{Way}
 use Rattle.draw_spec.specs.declared.Way.the-variants.{AsDrawn, Chord, Complement, ShortArc, Runaway}
 use Rattle.draw_spec.specs.Repair.{Got}
-use Rattle.draw_spec.specs.Draw.{drawn, firstAfter, secondAfter}
+use Rattle.draw_spec.specs.Draw.{programFloats, drawn, firstAfter, secondAfter}
 
 -- ---- what is printed
 -- the bits of a chain's last parameter if it is NaN: a copy of hi; the runaway chord has lo twice
@@ -42,6 +42,15 @@ printedRead first second (got raw) =
 -- THE BYTES for a text: the chain of the sheet that it stands for, or the refusal
 abbrev pub printed : List ℕ → ℕ → ℕ → List ℕ
 printed text first second = printedRead first second (readSheet text)
+
+-- ---- the program
+-- THE BYTES that the program prints for an input
+abbrev pub programPrints : List ℕ → List ℕ
+programPrints input = printed input programFloats programFloats
+
+-- whoever reads more than `size` bytes of an input prints what is printed for all of it (`read-enough` in proofs/Laws.antt)
+abbrev pub ReadEnough : Type 0
+ReadEnough = (n : ℕ) → size < n → (input : List ℕ) (first second : ℕ) → printed (take n input) first second ≡ printed input first second
 
 -- ---- the chain buffers afterwards: as before where there is no sheet
 unfoldable pub firstAfterSheet : List Float → ℕ → Result RawSheet → List Float

@@ -6,8 +6,8 @@ use borrow.Author.Needs.{needs}
 use Rattle.chain.proofs.main.Statement.{statement}
 use Rattle.chain.proofs.main.Tie as tie
 
-slice-aggregate-write-all : tie.Need-slice-aggregate-write-all
-slice-aggregate-write-all c = sym (length-take-le _ _ (omega arith))
+slice-aggregate-write : tie.Need-slice-aggregate-write
+slice-aggregate-write c = sym (length-take-le _ _ (omega arith))
 
 pub main-spec : {M : Type 1} → statement M
 main-spec =
@@ -15,13 +15,12 @@ main-spec =
     (tie.spec
     (λ c. search needs)
     (λ c κs. search needs)
+    (λ c. search needs)
+    (λ c. search needs)
     (λ c κs. search needs)
     (λ c. search needs)
-    (λ c. search needs)
-    (λ c. search needs)
+    slice-aggregate-write
     (λ c κs. search needs)
-    (λ c. search needs)
-    slice-aggregate-write-all
     (λ c κs. search needs)
     (λ c. search needs)
     (λ c. search needs))
