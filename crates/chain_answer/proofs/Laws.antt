@@ -5,7 +5,7 @@ use mathlib.Core.List.{List, []}
 use Prim.Native.Nat.{ℕ, _+_, _*_, _-_, _<_, _≤_}
 use native.Mathlib.Omega.{arith}
 use lib.ListN.{length, take, replicate, length-append, length-replicate}
-use lib.Seq.{sets, take-all, length-take-le}
+use lib.Seq.{take-all, length-take-le}
 use lib.Dec.{leb}
 use lib.Ieee.{Float, binary64, ofBits}
 use borrow.Author.Tests.{leb-true, leb-false}
@@ -19,7 +19,7 @@ use Rattle.brep.specs.Rows.{Tables}
 use Rattle.brep.specs.declared.Edge.{Edge}
 use Rattle.options.specs.declared.Options.{Options}
 use Rattle.edge_record.specs.Chain.{width, flat, samples}
-use Rattle.text_listing.specs.Listing.{floatBytes, lineBytes, refusalBytes, listing, refusal}
+use Rattle.text_listing.specs.Listing.{floatBytes, lineBytes, refusalBytes, listing, refusal, Put}
 use Rattle.draw_spec.specs.declared.Way.{Way}
 use Rattle.draw_spec.specs.declared.Drawn.{Drawn}
 use Rattle.draw_spec.specs.declared.Drawn.the-variants.{Refused, Chain}
@@ -29,22 +29,18 @@ use Rattle.draw_spec.proofs.Sound.{drawn-fits}
 use Rattle.draw_spec.proofs.ReadBack.{read-back}
 use Rattle.draw_spec.specs.Draw.{chainFloats}
 use Rattle.chain_answer.specs.Own.Shown.{shown}
-use Rattle.chain_answer.specs.Printed.{lastBits, printedDrawn, drawnOf, printedRead, printed, programPrints, ReadEnough, firstAfterSheet, secondAfterSheet, Prints}
-
--- bytes at the start of a buffer, and how many they are
-abbrev pub Put : ℕ → List ℕ → List ℕ → List ℕ → Type 0
-Put n out out' l = (n ≡ length l) × (out' ≡ sets out 0 l)
+use Rattle.chain_answer.specs.Printed.{lastBits, printedDrawn, drawnOf, printedRead, programPrints, ReadEnough, firstAfterSheet, secondAfterSheet, Prints}
 
 -- ---- the listing of an answer
 module _ (lo hi : ℕ) (d : Drawn) (first second : List Float) (r : ℕ) (out out' : List ℕ) where
-  pub show-refusal : (n : ℕ) → d ≡ Refused n → Put r out out' (refusal n) → Put r out out' (shown lo hi d (chainIn first second d))
+  pub show-refusal : (n : ℕ) → d ≡ Refused n → Put (refusal n) out r out' → Put (shown lo hi d (chainIn first second d)) out r out'
   unfolding shown
-  show-refusal n e h = subst (λ (x : Drawn). Put r out out' (shown lo hi x (chainIn first second x))) (sym e) h
+  show-refusal n e h = subst (λ (x : Drawn). Put (shown lo hi x (chainIn first second x)) out r out') (sym e) h
 
-  pub show-chain : (way : Way) (n : ℕ) → d ≡ Chain way n → Put r out out' (listing lo (lastBits way lo hi) (samples n (cond (inFirst way) first second)))
-      → Put r out out' (shown lo hi d (chainIn first second d))
+  pub show-chain : (way : Way) (n : ℕ) → d ≡ Chain way n → Put (listing lo (lastBits way lo hi) (samples n (cond (inFirst way) first second))) out r out'
+      → Put (shown lo hi d (chainIn first second d)) out r out'
   unfolding shown chainIn
-  show-chain way n e h = subst (λ (x : Drawn). Put r out out' (shown lo hi x (chainIn first second x))) (sym e) h
+  show-chain way n e h = subst (λ (x : Drawn). Put (shown lo hi x (chainIn first second x)) out r out') (sym e) h
 
 -- ---- the room that a chain needs
 filled-long : (n : ℕ) (l : List Float) → n ≤ length (filled n l)
@@ -97,9 +93,9 @@ module _ (t : Tables) (e : Edge) (o : Options) (first second : List Float) (d : 
 -- ---- the whole answer
 module _ (text : List ℕ) (first second : List Float) (out : List ℕ) (r : ℕ) (out' : List ℕ) where
   -- no sheet was read
-  pub no-sheet : (cause : ℕ) → readSheet text ≡ refused cause → Put r out out' (refusal cause) → Prints text first second out r first second out'
+  pub no-sheet : (cause : ℕ) → readSheet text ≡ refused cause → Put (refusal cause) out r out' → Prints text first second out r first second out'
   unfolding printedRead firstAfterSheet secondAfterSheet
-  no-sheet cause q h = record { count = rw q (h .0); bytes = rw q (h .1); firstHolds = rw q; secondHolds = rw q }
+  no-sheet cause q h = record { put = rw q h; firstHolds = rw q; secondHolds = rw q }
 
   -- a sheet was read, and its edge was drawn
   module _ (n m k : ℕ) (e : Edge) (o : Options) (lo hi : ℕ) (t : Tables) (read : SheetRead text n m k e o lo hi t) (d : Drawn) (f s : List Float)
@@ -111,11 +107,10 @@ module _ (text : List ℕ) (first second : List Float) (out : List ℕ) (r : ℕ
     unfolding printedRead
     bytes-are = rw (read .is) (shown-is (leading n m k t) e o first second d f s h lo hi ∙ rw (read .lo-is, read .hi-is, made-is))
 
-    pub sheet-drawn : Put r out out' (shown lo hi d (chainIn f s d)) → Prints text first second out r f s out'
+    pub sheet-drawn : Put (shown lo hi d (chainIn f s d)) out r out' → Prints text first second out r f s out'
     unfolding firstAfterSheet secondAfterSheet
     sheet-drawn p = record {
-      count = p .0 ∙ ap length bytes-are;
-      bytes = p .1 ∙ ap (sets out 0) bytes-are;
+      put = subst (λ l. Put l out r out') bytes-are p;
       firstHolds = rw (read .is) (h .firstHolds ∙ ap (firstAfter first) made-is);
       secondHolds = rw (read .is) (h .secondHolds ∙ ap (secondAfter second) made-is);
     }
@@ -132,5 +127,7 @@ read-enough n h input first second = ap (printedRead first second) (go (leb (len
         too-long (take n input) (omega arith) ∙ sym (too-long input (omega arith))
 
 -- so what is printed for what was read is printed for the whole input
-pub read-prints : (n : ℕ) → size < n → (text input : List ℕ) → text ≡ take n input → printed text programFloats programFloats ≡ programPrints input
-read-prints n h text input e = ap programPrints e ∙ read-enough n h input programFloats programFloats
+pub put-for-all : (n : ℕ) → size < n → (text input : List ℕ) → text ≡ take n input → {out : List ℕ} {r : ℕ} {out' : List ℕ}
+    → Put (programPrints text) out r out' → Put (programPrints input) out r out'
+put-for-all n h text input e {out} {r} {out'} p =
+    subst (λ l. Put l out r out') (ap programPrints e ∙ read-enough n h input programFloats programFloats) p

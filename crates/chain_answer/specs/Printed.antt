@@ -3,13 +3,12 @@ use mathlib.Core.Path.{_≡_}
 use mathlib.Core.List.{List}
 use Prim.Native.Nat.{ℕ, _<_}
 use lib.ListN.{length, take}
-use lib.Seq.{sets}
 use lib.Ieee.{Float}
 use Rattle.base_lists.specs.Result.{Result, refused, got}
 use Rattle.sheet_layout.specs.Layout.{RawSheet, size, readSheet}
 use Rattle.sheet_row.specs.Rows.{rawEdgeOf, rawOptionsOf}
 use Rattle.sheet.specs.Sheet.{edgeFrom, optionsFrom, tablesOf}
-use Rattle.text_listing.specs.Listing.{listing, refusal}
+use Rattle.text_listing.specs.Listing.{listing, refusal, Put}
 use Rattle.draw_spec.specs.declared.Way.{Way}
 use Rattle.draw_spec.specs.declared.Way.the-variants.{AsDrawn, Chord, Complement, ShortArc, Runaway}
 use Rattle.draw_spec.specs.Repair.{Got}
@@ -61,9 +60,8 @@ unfoldable pub secondAfterSheet : ℕ → List Float → Result RawSheet → Lis
 secondAfterSheet first second (refused cause) = second
 secondAfterSheet first second (got raw) = secondAfter second (drawnOf raw first (length second))
 
--- ---- the whole answer: how many bytes, those bytes at the start of `out`, and both buffers
+-- ---- the whole answer: the bytes at the start of `out`, and both buffers
 pub record Prints (text : List ℕ) (first second : List Float) (out : List ℕ) (n : ℕ) (first' second' : List Float) (out' : List ℕ) : Type 0 where
-  pub count : n ≡ length (printed text (length first) (length second))
-  pub bytes : out' ≡ sets out 0 (printed text (length first) (length second))
+  pub put : Put (printed text (length first) (length second)) out n out'
   pub firstHolds : first' ≡ firstAfterSheet first (length second) (readSheet text)
   pub secondHolds : second' ≡ secondAfterSheet (length first) second (readSheet text)

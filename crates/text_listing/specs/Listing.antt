@@ -1,8 +1,10 @@
 -- The listings of a chain and of a refusal, byte by byte. Definitions only.
+use mathlib.Core.Path.{_≡_}
 use mathlib.Core.Bool.{cond}
 use mathlib.Core.List.{List, [], _∷_, _++_, flatMap}
-use Prim.Native.Nat.{ℕ, suc, _+_, _-_, _*_, _^_}
+use Prim.Native.Nat.{ℕ, suc, _+_, _-_, _*_, _^_, _≤_}
 use lib.ListN.{length}
+use lib.Seq.{sets}
 use lib.Dec.{eqb}
 use lib.Ieee.{Float, isNan, binary64, toBits}
 use Rattle.text_format.specs.Bytes.{bytes}
@@ -68,3 +70,10 @@ listing first last l = names columns ++ flatMap lineOf (rowsOf first last l)
 -- THE LISTING of a refusal: the word, then the cause on the next line
 unfoldable pub refusal : ℕ → List ℕ
 refusal cause = bytes "refusal\n" ++ plain (2 ^ 32 - 1) 10 .write cause
+
+-- ---- a text at the start of a buffer
+-- so many bytes as it has; they fit; the buffer holds them afterwards, and is as before behind them
+pub record Put (text out : List ℕ) (n : ℕ) (out' : List ℕ) : Type 0 where
+  pub count : n ≡ length text
+  pub fits : n ≤ length out'
+  pub bytes : out' ≡ sets out 0 text

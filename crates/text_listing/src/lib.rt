@@ -6,7 +6,7 @@ ghost use lib.ListN.{length};
 ghost use lib.Seq.{sets};
 ghost use Rattle.text_format.specs.Format.{digits, hex16, _ending_};
 ghost use Rattle.edge_record.specs.Chain.{width, samples};
-ghost use Rattle.text_listing.specs.Listing.{headingBytes, floatBytes, lineBytes, refusalBytes, bitsOr, rowOf, ownOf, lineOf, listing, refusal};
+ghost use Rattle.text_listing.specs.Listing.{headingBytes, floatBytes, lineBytes, refusalBytes, bitsOr, rowOf, ownOf, lineOf, listing, refusal, Put};
 ghost use Rattle.text_listing.specs.Own.Top.{TopOf};
 use edge_record::Sample;
 
@@ -104,8 +104,7 @@ fn own_of(first: u64, last: u64, n: usize, i: usize) -> u64
 // the bits that the first and the last parameter have if they are NaN.
 pub fn write_chain(chain: &[f64], n: usize, first: u64, last: u64, out: &mut [u8]) -> usize
     requires { ⌜ (width * n ≤ length (now chain)) × (headingBytes + lineBytes * n ≤ length (now out)) ⌝ }
-    ensures { λ r. ⌜ (r ≡ length (listing first last (samples n (now (chain .entry)))))
-        × (now (out .exit) ≡ sets (now (out .entry)) 0 (listing first last (samples n (now (chain .entry))))) ⌝ }
+    ensures { λ r. ⌜ Put (listing first last (samples n (now (chain .entry)))) (now (out .entry)) r (now (out .exit)) ⌝ }
 {
     let mut at = put_bytes(b"x y z t\n", out, 0);
     let mut i = 0usize;
@@ -137,7 +136,7 @@ fn top_of(n: u64) -> Top
 // The listing of a refusal, at the buffer's start; answers how many bytes it has.
 pub fn write_refusal(cause: u32, out: &mut [u8]) -> usize
     requires { ⌜ refusalBytes ≤ length (now out) ⌝ }
-    ensures { λ r. ⌜ (r ≡ length (refusal cause)) × (now (out .exit) ≡ sets (now (out .entry)) 0 (refusal cause)) ⌝ }
+    ensures { λ r. ⌜ Put (refusal cause) (now (out .entry)) r (now (out .exit)) ⌝ }
 {
     let at = put_bytes(b"refusal\n", out, 0);
     let n = cause as u64;

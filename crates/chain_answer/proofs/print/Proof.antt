@@ -1,11 +1,10 @@
 -- `chain_answer::print` meets its contract: there is room for every listing, and what is left of the input changes nothing.
 -- Assumes nothing.
-use mathlib.Core.Path.{sym, ap, _∙_}
+use mathlib.Core.Path.{sym}
 use native.Mathlib.Omega.{arith}
-use lib.ListN.{length}
-use lib.Seq.{sets, length-take-le}
+use lib.Seq.{length-take-le}
 use Rattle.draw_spec.specs.Draw.{roomOf}
-use Rattle.chain_answer.proofs.Laws.{read-prints}
+use Rattle.chain_answer.proofs.Laws.{put-for-all}
 use borrow.Author.Needs.{needs}
 use Rattle.chain_answer.proofs.print.Statement.{statement}
 use Rattle.chain_answer.proofs.print.Tie as tie
@@ -18,11 +17,10 @@ unfolding roomOf
 answer-requires c κs = omega arith
 
 returns : tie.Need-returns
-returns c = λ input read.
+returns c =
     let st = c .before .before .before .before .before .before .before .before .before .before .before in
-    let p = c .before .before .before .before .answer .ensures in
-    let same = read-prints _ (st .pre .0) _ input read in
-    (p .count ∙ ap length same, p .bytes ∙ ap (sets (st .args .out .now) 0) same)
+    let p = c .before .before .before .before .answer .ensures .put in
+    (p .fits, λ input read. put-for-all _ (st .pre .0) _ input read p)
 
 pub print-spec : {M : Type 1} → statement M
 print-spec =
