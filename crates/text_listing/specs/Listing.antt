@@ -6,7 +6,7 @@ use Prim.Native.Nat.{ℕ, suc, _+_, _-_, _*_, _^_, _≤_}
 use lib.ListN.{length}
 use lib.Seq.{sets}
 use lib.Dec.{eqb}
-use lib.Ieee.{Float, isNan, binary64, toBits}
+use lib.Ieee.{Float, isNan, binary64, nanBits, toBits}
 use Rattle.text_format.specs.Bytes.{bytes}
 use Rattle.text_format.specs.Format.{plain}
 use Rattle.text_format.specs.Table.{float, Column, _of_, fields, names, line}
@@ -37,16 +37,17 @@ refusalBytes = 19
 abbrev pub quiet : ℕ
 quiet = 0x7ff8000000000000
 
--- the bits of x, and `own` for a NaN: a float does not say which NaN it is
+-- the bits of x. A float does not say which NaN it is: one that was copied from a NaN's bits `own` has these, any other those of
+-- one that an operation makes
 unfoldable pub bitsOr : ℕ → Float → ℕ
-bitsOr own x = cond (isNan x) own (toBits binary64 x)
+bitsOr own x = cond (isNan x) (cond (nanBits binary64 own) own quiet) (toBits binary64 x)
 
--- a sample's numbers, where a NaN parameter has the bits `own`
+-- a sample's numbers, where a NaN parameter was copied from the bits `own`
 abbrev pub rowOf : ℕ → Sample → List ℕ
 rowOf own s =
     bitsOr quiet (s .point .x) ∷ bitsOr quiet (s .point .y) ∷ bitsOr quiet (s .point .z) ∷ bitsOr own (s .param) ∷ []
 
--- those bits for sample i of n: a NaN is a copy of the range's end that the first or the last sample has
+-- those bits for sample i of n: the first has the range's one end, the last the other
 unfoldable pub ownOf : ℕ → ℕ → ℕ → ℕ → ℕ
 ownOf first last n i = cond (eqb i 0) first (cond (eqb (i + 1) n) last quiet)
 
@@ -55,7 +56,7 @@ unfoldable pub rowsFrom : ℕ → ℕ → ℕ → ℕ → List Sample → List (
 rowsFrom first last n i [] = []
 rowsFrom first last n i (s ∷ l) = rowOf (ownOf first last n i) s ∷ rowsFrom first last n (suc i) l
 
--- the numbers of a chain's samples, where those of a NaN parameter are `first` and `last` at the ends
+-- the numbers of a chain's samples, where a NaN parameter was copied from `first` at the start and from `last` at the end
 abbrev pub rowsOf : ℕ → ℕ → List Sample → List (List ℕ)
 rowsOf first last l = rowsFrom first last (length l) 0 l
 
