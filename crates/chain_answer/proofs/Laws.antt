@@ -12,7 +12,7 @@ use borrow.Author.Tests.{leb-true, leb-false}
 use Rattle.base_lists.specs.Result.{Result, refused, got}
 use Rattle.base_lists.specs.Room.{filled}
 use Rattle.sheet_layout.specs.Layout.{size, readSheet}
-use Rattle.sheet.specs.Own.Leading.{leading}
+use Rattle.sheet.specs.Sheet.{leading}
 use Rattle.sheet.proofs.Parts.{too-long}
 use Rattle.sheet.proofs.Laws.{SheetRead}
 use Rattle.brep.specs.Rows.{Tables}

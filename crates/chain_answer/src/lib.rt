@@ -5,7 +5,7 @@ ghost use Prim.Native.Nat.{ℕ, _+_, _*_, _<_, _≤_};
 ghost use lib.ListN.{length, take};
 ghost use Rattle.brep.specs.Rows.{lent, given};
 ghost use Rattle.sheet_layout.specs.Layout.{size};
-ghost use Rattle.sheet.specs.Own.Leading.{leading};
+ghost use Rattle.sheet.specs.Sheet.{leading};
 ghost use Rattle.draw_spec.specs.Draw.{roomOf, chainIn, programFloats, chainFloats, Outcome};
 ghost use Rattle.text_listing.specs.Listing.{floatBytes, lineBytes, refusalBytes, Put};
 ghost use Rattle.chain_answer.specs.Own.Shown.{shown};

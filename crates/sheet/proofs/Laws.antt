@@ -21,8 +21,7 @@ use Rattle.sheet_tables.proofs.Fits.{wholes-length, floats-length}
 use Rattle.brep.specs.Rows.{Tables}
 use Rattle.brep.specs.declared.Edge.{Edge}
 use Rattle.options.specs.declared.Options.{Options}
-use Rattle.sheet.specs.Own.Leading.{leading}
-use Rattle.sheet.specs.Sheet.{floatOf, edgeFrom, optionsFrom, answer, tablesOf, stored, tablesAfter}
+use Rattle.sheet.specs.Sheet.{floatOf, edgeFrom, optionsFrom, answer, tablesOf, stored, leading, tablesAfter}
 use Rattle.sheet.specs.declared.Sheet.the-variants.{Read, Refused}
 
 -- ---- how many rows a table has within 65,536 bytes
