@@ -8,14 +8,15 @@ use lib.ListN.{length, take, replicate, length-append, length-replicate}
 use lib.Seq.{take-all, length-take-le}
 use lib.Dec.{leb}
 use lib.Ieee.{Float, binary64, ofBits}
-use borrow.Author.Tests.{leb-true, leb-false}
+use borrow.Author.Tests.{leb-true, leb-false, le-ltb}
 use Rattle.base_lists.specs.Result.{Result, refused, got}
 use Rattle.base_lists.specs.Room.{filled}
 use Rattle.sheet_layout.specs.Layout.{size, readSheet}
-use Rattle.sheet.specs.Sheet.{leading}
+use Rattle.sheet.specs.Sheet.{tablesOf, leading}
 use Rattle.sheet.proofs.Parts.{too-long}
-use Rattle.sheet.proofs.Laws.{SheetRead}
-use Rattle.brep.specs.Rows.{Tables}
+use Rattle.sheet.proofs.Laws.{points-few, curves-few, segments-few, table-lengths, SheetRead}
+use Rattle.brep.specs.Rows.{Tables, mostPoints, mostRows, mostSegments}
+use Rattle.causes.specs.Causes.{oversize}
 use Rattle.brep.specs.declared.Edge.{Edge}
 use Rattle.options.specs.declared.Options.{Options}
 use Rattle.edge_record.specs.Chain.{width, flat, samples}
@@ -29,7 +30,7 @@ use Rattle.draw_spec.proofs.Sound.{drawn-fits}
 use Rattle.draw_spec.proofs.ReadBack.{read-back}
 use Rattle.draw_spec.specs.Draw.{chainFloats}
 use Rattle.chain_answer.specs.Own.Shown.{shown}
-use Rattle.chain_answer.specs.Printed.{lastBits, printedDrawn, drawnOf, printedRead, programPrints, ReadEnough, firstAfterSheet, secondAfterSheet, Prints}
+use Rattle.chain_answer.specs.Printed.{lastBits, printedDrawn, drawnOf, printedRead, programPrints, ReadEnough, NeverOversize, firstAfterSheet, secondAfterSheet, Prints}
 
 -- ---- the listing of an answer
 module _ (lo hi : ℕ) (d : Drawn) (first second : List Float) (r : ℕ) (out out' : List ℕ) where
@@ -131,3 +132,13 @@ pub put-for-all : (n : ℕ) → size < n → (text input : List ℕ) → text �
     → Put (programPrints text) out r out' → Put (programPrints input) out r out'
 put-for-all n h text input e {out} {r} {out'} p =
     subst (λ l. Put l out r out') (ap programPrints e ∙ read-enough n h input programFloats programFloats) p
+
+-- ---- a sheet's tables are within their sizes
+pub never-oversize : NeverOversize
+unfolding oversize
+never-oversize text raw f =
+    let p = points-few text raw f in
+    let c = curves-few text raw f in
+    let s = segments-few text raw f in
+    let l = table-lengths text raw f in
+    rw (le-ltb (3 * mostPoints) (length (tablesOf raw .points)) (omega (arith, l .0)), le-ltb (3 * mostRows) (length (tablesOf raw .curves)) (omega (arith, l .1)), le-ltb (2 * mostRows) (length (tablesOf raw .reals)) (omega (arith, l .2)), le-ltb (2 * mostSegments) (length (tablesOf raw .parts)) (omega (arith, l .3)), le-ltb (2 * mostSegments) (length (tablesOf raw .ranges)) (omega (arith, l .4)))

@@ -1,11 +1,13 @@
 -- What is printed for a sheet, byte by byte, and what both chain buffers hold afterwards. Definitions only.
 use mathlib.Core.Path.{_≡_}
+use mathlib.Core.Bool.{false}
 use mathlib.Core.List.{List}
 use Prim.Native.Nat.{ℕ, _<_}
 use lib.ListN.{length, take}
 use lib.Ieee.{Float}
 use Rattle.base_lists.specs.Result.{Result, refused, got}
-use Rattle.sheet_layout.specs.Layout.{RawSheet, size, readSheet}
+use Rattle.causes.specs.Causes.{oversize}
+use Rattle.sheet_layout.specs.Layout.{RawSheet, size, readSheet, Follows}
 use Rattle.sheet_row.specs.Rows.{rawEdgeOf, rawOptionsOf}
 use Rattle.sheet.specs.Sheet.{edgeFrom, optionsFrom, tablesOf}
 use Rattle.text_listing.specs.Listing.{listing, refusal, Put}
@@ -50,6 +52,10 @@ programPrints input = printed input programFloats programFloats
 -- whoever reads more than `size` bytes of an input prints what is printed for all of it (`read-enough` in proofs/Laws.antt)
 abbrev pub ReadEnough : Type 0
 ReadEnough = (n : ℕ) → size < n → (input : List ℕ) (first second : ℕ) → printed (take n input) first second ≡ printed input first second
+
+-- no sheet has a table above its size, so that cause 1 cannot come from one (`never-oversize` in proofs/Laws.antt)
+abbrev pub NeverOversize : Type 0
+NeverOversize = (text : List ℕ) (raw : RawSheet) → Follows text raw → oversize (tablesOf raw) ≡ false
 
 -- ---- the chain buffers afterwards: as before where there is no sheet
 unfoldable pub firstAfterSheet : List Float → ℕ → Result RawSheet → List Float
