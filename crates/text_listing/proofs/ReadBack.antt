@@ -6,7 +6,7 @@ use Prim.Native.Nat.{ℕ, suc, _+_, _^_, _<_}
 use native.Mathlib.Omega.{arith}
 use lib.ListN.{length}
 use lib.Dec.{T, eqb}
-use lib.Ieee.{Float, nan, inf, fin, isNan, binary64, fits, ofBits, nanBits, toBits}
+use lib.Ieee.{Float, nan, inf, fin, isNan, binary64, fits, ofBits, nanBits}
 use lib.Ieee.Bits.{nanBits-is, ofBits-toBits, toBits-lt}
 use Rattle.base_lists.specs.All.{All, none, more}
 use Rattle.base_lists.specs.Result.{got}

@@ -2,7 +2,7 @@
 use mathlib.Core.Path.{_≡_, refl, sym, ap, _∙_}
 use mathlib.Core.List.{[], _∷_}
 use lib.ListN.{length, drop}
-use Rattle.text_format.specs.Format.{Lawful, _ending_, _then_}
+use Rattle.text_format.specs.Format.{_ending_, _then_}
 use Rattle.text_format.specs.Table.{single}
 use Rattle.sheet_layout.specs.Layout.{edgeColumns, optionColumns, ends}
 use Rattle.sheet_layout.proofs.Laws.{edge-law, options-law}

@@ -3,7 +3,7 @@ use mathlib.Core.Path.{_≡_, refl, sym, ap, _∙_}
 use mathlib.Core.List.{[], _∷_}
 use lib.ListN.{drop}
 use Rattle.text_format.specs.Bytes.{bytes}
-use Rattle.text_format.specs.Format.{Lawful, oneOf}
+use Rattle.text_format.specs.Format.{oneOf}
 use Rattle.text_format.specs.Own.Answers.{parsedAt}
 use Rattle.text_format.proofs.Place.{Read, parsed-bad, read-at, read-bad, ending-is, ending-bad}
 use Rattle.sheet_layout.specs.Layout.{kinds}
