@@ -1,11 +1,9 @@
 // Reads one sheet from standard input and writes the chain of its edge, or the number of a refusal.
+use libc::STDERR_FILENO;
 use libc::STDIN_FILENO;
 use libc::STDOUT_FILENO;
 
-// One byte more than a sheet may have: a text that fills it is too long.
-const SIZE: usize = sheet_layout::SIZE + 1;
-
-// Reads what a text that is too long has left, so that whoever writes it can end. The loop counts its turns down, from a
+// Reads what an input that is too long has left, so that whoever writes it can end. The loop counts its turns down, from a
 // number that no run uses up, since nothing says that an input ends.
 fn drain() {
     let mut chunk = io::large_buffer();
@@ -19,15 +17,21 @@ fn drain() {
     }
 }
 
+// Writes the bytes. A program has no exit status: that they could not be written, as to a full disk, it can only say.
+fn write(bytes: &[u8]) {
+    if !io::write_all(STDOUT_FILENO, bytes) {
+        io::write_all(STDERR_FILENO, b"chain: the answer could not be written\n");
+    }
+}
+
 fn main() {
-    let mut text = [0u8; SIZE];
+    let mut text = [0u8; chain_answer::READ];
     let mut out = [0u8; chain_answer::BYTES];
     let n = io::read_full(STDIN_FILENO, &mut text);
-    drain();
-    let written = chain_answer::print(&text[..n], &mut out);
-    // Always so, but the contract of `print` names the bytes and not how many they are at most.
-    if written <= chain_answer::BYTES {
-        // A program has no exit status: what cannot be written, as to a full disk, is lost without a word.
-        io::write_all(STDOUT_FILENO, &out[..written]);
+    let written = chain_answer::print(&text, n, &mut out);
+    write(&out[..written]);
+    // After the answer, since an input may have no end.
+    if n == chain_answer::READ {
+        drain();
     }
 }

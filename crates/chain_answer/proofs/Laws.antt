@@ -1,47 +1,47 @@
 -- What is printed, by the way through reading and drawing. Assumes nothing but what its statements say.
 use mathlib.Core.Path.{_≡_, refl, sym, ap, subst, _∙_}
-use mathlib.Core.Bool.{cond}
+use mathlib.Core.Bool.{Bool, true, false, cond}
 use mathlib.Core.List.{List, []}
-use Prim.Native.Nat.{ℕ, _+_, _*_, _-_, _≤_}
+use Prim.Native.Nat.{ℕ, _+_, _*_, _-_, _<_, _≤_}
 use native.Mathlib.Omega.{arith}
-use lib.ListN.{length, replicate, length-append, length-replicate}
-use lib.Seq.{sets}
+use lib.ListN.{length, take, replicate, length-append, length-replicate}
+use lib.Seq.{take-all, length-take-le}
+use lib.Dec.{leb}
 use lib.Ieee.{Float, binary64, ofBits}
+use borrow.Author.Tests.{leb-true, leb-false, le-ltb}
 use Rattle.base_lists.specs.Result.{Result, refused, got}
 use Rattle.base_lists.specs.Room.{filled}
-use Rattle.sheet_layout.specs.Layout.{readSheet}
-use Rattle.sheet.specs.Own.Leading.{leading}
-use Rattle.sheet.proofs.Laws.{SheetRead}
-use Rattle.brep.specs.Rows.{Tables}
+use Rattle.sheet_layout.specs.Layout.{size, readSheet}
+use Rattle.sheet.specs.Sheet.{tablesOf, leading}
+use Rattle.sheet.proofs.Parts.{too-long}
+use Rattle.sheet.proofs.Laws.{points-few, curves-few, segments-few, table-lengths, SheetRead}
+use Rattle.brep.specs.Rows.{Tables, mostPoints, mostRows, mostSegments}
+use Rattle.causes.specs.Causes.{oversize}
 use Rattle.brep.specs.declared.Edge.{Edge}
 use Rattle.options.specs.declared.Options.{Options}
 use Rattle.edge_record.specs.Chain.{width, flat, samples}
-use Rattle.text_listing.specs.Listing.{floatBytes, lineBytes, refusalBytes, listing, refusal}
+use Rattle.text_listing.specs.Listing.{floatBytes, lineBytes, refusalBytes, listing, refusal, Put}
 use Rattle.draw_spec.specs.declared.Way.{Way}
 use Rattle.draw_spec.specs.declared.Drawn.{Drawn}
 use Rattle.draw_spec.specs.declared.Drawn.the-variants.{Refused, Chain}
 use Rattle.draw_spec.specs.Repair.{Got}
-use Rattle.draw_spec.specs.Draw.{roomOf, drawn, answerOf, inFirst, firstAfter, secondAfter, chainIn, Outcome}
+use Rattle.draw_spec.specs.Draw.{roomOf, programFloats, drawn, answerOf, inFirst, firstAfter, secondAfter, chainIn, Outcome}
 use Rattle.draw_spec.proofs.Sound.{drawn-fits}
 use Rattle.draw_spec.proofs.ReadBack.{read-back}
 use Rattle.draw_spec.specs.Draw.{chainFloats}
 use Rattle.chain_answer.specs.Own.Shown.{shown}
-use Rattle.chain_answer.specs.Printed.{lastBits, printedDrawn, drawnOf, printedRead, firstAfterSheet, secondAfterSheet, Prints}
-
--- bytes at the start of a buffer, and how many they are
-abbrev pub Put : ℕ → List ℕ → List ℕ → List ℕ → Type 0
-Put n out out' l = (n ≡ length l) × (out' ≡ sets out 0 l)
+use Rattle.chain_answer.specs.Printed.{lastBits, printedDrawn, drawnOf, printedRead, programPrints, ReadEnough, NeverOversize, firstAfterSheet, secondAfterSheet, Prints}
 
 -- ---- the listing of an answer
 module _ (lo hi : ℕ) (d : Drawn) (first second : List Float) (r : ℕ) (out out' : List ℕ) where
-  pub show-refusal : (n : ℕ) → d ≡ Refused n → Put r out out' (refusal n) → Put r out out' (shown lo hi d (chainIn first second d))
+  pub show-refusal : (n : ℕ) → d ≡ Refused n → Put (refusal n) out r out' → Put (shown lo hi d (chainIn first second d)) out r out'
   unfolding shown
-  show-refusal n e h = subst (λ (x : Drawn). Put r out out' (shown lo hi x (chainIn first second x))) (sym e) h
+  show-refusal n e h = subst (λ (x : Drawn). Put (shown lo hi x (chainIn first second x)) out r out') (sym e) h
 
-  pub show-chain : (way : Way) (n : ℕ) → d ≡ Chain way n → Put r out out' (listing lo (lastBits way lo hi) (samples n (cond (inFirst way) first second)))
-      → Put r out out' (shown lo hi d (chainIn first second d))
+  pub show-chain : (way : Way) (n : ℕ) → d ≡ Chain way n → Put (listing lo (lastBits way lo hi) (samples n (cond (inFirst way) first second))) out r out'
+      → Put (shown lo hi d (chainIn first second d)) out r out'
   unfolding shown chainIn
-  show-chain way n e h = subst (λ (x : Drawn). Put r out out' (shown lo hi x (chainIn first second x))) (sym e) h
+  show-chain way n e h = subst (λ (x : Drawn). Put (shown lo hi x (chainIn first second x)) out r out') (sym e) h
 
 -- ---- the room that a chain needs
 filled-long : (n : ℕ) (l : List Float) → n ≤ length (filled n l)
@@ -94,9 +94,9 @@ module _ (t : Tables) (e : Edge) (o : Options) (first second : List Float) (d : 
 -- ---- the whole answer
 module _ (text : List ℕ) (first second : List Float) (out : List ℕ) (r : ℕ) (out' : List ℕ) where
   -- no sheet was read
-  pub no-sheet : (cause : ℕ) → readSheet text ≡ refused cause → Put r out out' (refusal cause) → Prints text first second out r first second out'
+  pub no-sheet : (cause : ℕ) → readSheet text ≡ refused cause → Put (refusal cause) out r out' → Prints text first second out r first second out'
   unfolding printedRead firstAfterSheet secondAfterSheet
-  no-sheet cause q h = record { count = rw q (h .0); bytes = rw q (h .1); firstHolds = rw q; secondHolds = rw q }
+  no-sheet cause q h = record { put = rw q h; firstHolds = rw q; secondHolds = rw q }
 
   -- a sheet was read, and its edge was drawn
   module _ (n m k : ℕ) (e : Edge) (o : Options) (lo hi : ℕ) (t : Tables) (read : SheetRead text n m k e o lo hi t) (d : Drawn) (f s : List Float)
@@ -108,11 +108,37 @@ module _ (text : List ℕ) (first second : List Float) (out : List ℕ) (r : ℕ
     unfolding printedRead
     bytes-are = rw (read .is) (shown-is (leading n m k t) e o first second d f s h lo hi ∙ rw (read .lo-is, read .hi-is, made-is))
 
-    pub sheet-drawn : Put r out out' (shown lo hi d (chainIn f s d)) → Prints text first second out r f s out'
+    pub sheet-drawn : Put (shown lo hi d (chainIn f s d)) out r out' → Prints text first second out r f s out'
     unfolding firstAfterSheet secondAfterSheet
     sheet-drawn p = record {
-      count = p .0 ∙ ap length bytes-are;
-      bytes = p .1 ∙ ap (sets out 0) bytes-are;
+      put = subst (λ l. Put l out r out') bytes-are p;
       firstHolds = rw (read .is) (h .firstHolds ∙ ap (firstAfter first) made-is);
       secondHolds = rw (read .is) (h .secondHolds ∙ ap (secondAfter second) made-is);
     }
+
+-- ---- an input of which no more is read than one byte too many
+pub read-enough : ReadEnough
+read-enough n h input first second = ap (printedRead first second) (go (leb (length input) n) refl)
+  where
+    go : (b : Bool) → leb (length input) n ≡ b → readSheet (take n input) ≡ readSheet input
+    go true e = ap readSheet (take-all n input (leb-true (length input) n e))
+    go false e =
+        let m = leb-false (length input) n e in
+        let l = length-take-le n input (omega arith) in
+        too-long (take n input) (omega arith) ∙ sym (too-long input (omega arith))
+
+-- so what is printed for what was read is printed for the whole input
+pub put-for-all : (n : ℕ) → size < n → (text input : List ℕ) → text ≡ take n input → {out : List ℕ} {r : ℕ} {out' : List ℕ}
+    → Put (programPrints text) out r out' → Put (programPrints input) out r out'
+put-for-all n h text input e {out} {r} {out'} p =
+    subst (λ l. Put l out r out') (ap programPrints e ∙ read-enough n h input programFloats programFloats) p
+
+-- ---- a sheet's tables are within their sizes
+pub never-oversize : NeverOversize
+unfolding oversize
+never-oversize text raw f =
+    let p = points-few text raw f in
+    let c = curves-few text raw f in
+    let s = segments-few text raw f in
+    let l = table-lengths text raw f in
+    rw (le-ltb (3 * mostPoints) (length (tablesOf raw .points)) (omega (arith, l .0)), le-ltb (3 * mostRows) (length (tablesOf raw .curves)) (omega (arith, l .1)), le-ltb (2 * mostRows) (length (tablesOf raw .reals)) (omega (arith, l .2)), le-ltb (2 * mostSegments) (length (tablesOf raw .parts)) (omega (arith, l .3)), le-ltb (2 * mostSegments) (length (tablesOf raw .ranges)) (omega (arith, l .4)))

@@ -1,21 +1,24 @@
 // The answer to a sheet: its text in, the listing of its edge's chain or of a refusal out.
 ghost use mathlib.Core.Path.{_≡_};
 ghost use mathlib.Core.List.{List};
-ghost use Prim.Native.Nat.{ℕ, _+_, _*_, _≤_};
-ghost use lib.ListN.{length};
-ghost use lib.Seq.{sets};
+ghost use Prim.Native.Nat.{ℕ, _+_, _*_, _<_, _≤_};
+ghost use lib.ListN.{length, take};
 ghost use Rattle.brep.specs.Rows.{lent, given};
-ghost use Rattle.sheet.specs.Own.Leading.{leading};
+ghost use Rattle.sheet_layout.specs.Layout.{size};
+ghost use Rattle.sheet.specs.Sheet.{leading};
 ghost use Rattle.draw_spec.specs.Draw.{roomOf, chainIn, programFloats, chainFloats, Outcome};
-ghost use Rattle.text_listing.specs.Listing.{floatBytes, lineBytes, refusalBytes};
+ghost use Rattle.text_listing.specs.Listing.{floatBytes, lineBytes, refusalBytes, Put};
 ghost use Rattle.chain_answer.specs.Own.Shown.{shown};
-ghost use Rattle.chain_answer.specs.Printed.{printed, Prints};
+ghost use Rattle.chain_answer.specs.Printed.{Prints, programPrints};
 ghost use Rattle.chain_answer.specs.Own.ReadTables.{WasRead, SomeText};
 use brep::Edge;
 use draw_spec::Drawn;
 use draw_spec::Way;
 use options::Options;
 use sheet::Sheet;
+
+// The most bytes that the program reads of its input: one more than a sheet may have, so that an input that is too long shows.
+pub const READ: usize = sheet_layout::SIZE + 1;
 
 // The records of each chain buffer of the program.
 const POINTS: usize = 2048;
@@ -30,8 +33,7 @@ pub const BYTES: usize = text_listing::REFUSAL_BYTES + text_listing::FLOAT_BYTES
 // range: a NaN parameter is a copy of one of them.
 fn show(drawn: Drawn, first: &[f64], second: &[f64], lo: u64, hi: u64, out: &mut [u8]) -> usize
     requires { ⌜ (chainFloats drawn ≤ length (now first)) × (chainFloats drawn ≤ length (now second)) × (refusalBytes + floatBytes * chainFloats drawn ≤ length (now out)) ⌝ }
-    ensures { λ r. ⌜ (r ≡ length (shown lo hi drawn (chainIn (now (first .entry)) (now (second .entry)) drawn)))
-        × (now (out .exit) ≡ sets (now (out .entry)) 0 (shown lo hi drawn (chainIn (now (first .entry)) (now (second .entry)) drawn))) ⌝ }
+    ensures { λ r. ⌜ Put (shown lo hi drawn (chainIn (now (first .entry)) (now (second .entry)) drawn)) (now (out .entry)) r (now (out .exit)) ⌝ }
 {
     match drawn {
         Drawn::Refused(n) => text_listing::write_refusal(n, out),
@@ -157,13 +159,15 @@ pub fn answer(text: &[u8], first: &mut [f64], second: &mut [f64], out: &mut [u8]
     )
 }
 
-// WHAT THE PROGRAM PRINTS for a text, and how many bytes: the answer, in chain buffers of `FLOATS` floats.
-pub fn print(text: &[u8], out: &mut [u8]) -> usize
-    requires { ⌜ refusalBytes + floatBytes * programFloats ≤ length (now out) ⌝ }
-    ensures { λ r. ⌜ (r ≡ length (printed (now (text .entry)) programFloats programFloats))
-        × (now (out .exit) ≡ sets (now (out .entry)) 0 (printed (now (text .entry)) programFloats programFloats)) ⌝ }
+// WHAT THE PROGRAM PRINTS for an input, and how many bytes: the answer, in chain buffers of `FLOATS` floats. The first n bytes
+// of `text` are what was read of the input: all of it, or as much as `text` has room for.
+pub fn print(text: &[u8], n: usize, out: &mut [u8]) -> usize
+    requires { ⌜ (size < length (now text)) × (n ≤ length (now text)) × (refusalBytes + floatBytes * programFloats ≤ length (now out)) ⌝ }
+    ensures { λ r. ⌜ (r ≤ length (now (out .exit)))
+        × ((input : List ℕ) → take n (now (text .entry)) ≡ take (length (now (text .entry))) input
+        → Put (programPrints input) (now (out .entry)) r (now (out .exit))) ⌝ }
 {
     let mut first = [0.0f64; FLOATS];
     let mut second = [0.0f64; FLOATS];
-    answer(text, &mut first, &mut second, out)
+    answer(&text[..n], &mut first, &mut second, out)
 }

@@ -21,8 +21,7 @@ use Rattle.sheet_tables.proofs.Fits.{wholes-length, floats-length}
 use Rattle.brep.specs.Rows.{Tables}
 use Rattle.brep.specs.declared.Edge.{Edge}
 use Rattle.options.specs.declared.Options.{Options}
-use Rattle.sheet.specs.Own.Leading.{leading}
-use Rattle.sheet.specs.Sheet.{floatOf, edgeFrom, optionsFrom, answer, tablesOf, stored, tablesAfter}
+use Rattle.sheet.specs.Sheet.{floatOf, edgeFrom, optionsFrom, answer, tablesOf, stored, leading, tablesAfter}
 use Rattle.sheet.specs.declared.Sheet.the-variants.{Read, Refused}
 
 -- ---- how many rows a table has within 65,536 bytes
@@ -54,6 +53,19 @@ module _ (text : List ℕ) (raw : RawSheet) (f : Follows text raw) where
   unfolding sheet as-of _then_ fields isFloat least
   segments-few = let l = long .2 in let h = rows-few segmentColumns segments-good (raw .segments) (f .valid .0 .1 .1) in omega arith
 
+  -- its tables have three numbers for a point, three and two for a curve, two and two for a segment
+  pub table-lengths : (length (tablesOf raw .points) ≡ 3 * length (raw .points)) × (length (tablesOf raw .curves) ≡ 3 * length (raw .curves))
+      × (length (tablesOf raw .reals) ≡ 2 * length (raw .curves)) × (length (tablesOf raw .parts) ≡ 2 * length (raw .segments))
+      × (length (tablesOf raw .ranges) ≡ 2 * length (raw .segments))
+  unfolding tablesOf sheet as-of _then_ _before_ lines fields isFloat columnCount
+  table-lengths = (
+    floats-length (fields pointColumns) (raw .points) (f .valid .0 .0),
+    wholes-length (fields curveColumns) (raw .curves) (f .valid .0 .1 .0),
+    floats-length (fields curveColumns) (raw .curves) (f .valid .0 .1 .0),
+    wholes-length (fields segmentColumns) (raw .segments) (f .valid .0 .1 .1),
+    floats-length (fields segmentColumns) (raw .segments) (f .valid .0 .1 .1),
+  )
+
 -- ---- its tables, as they lie in those lent
 first-part : {E : Type 0} (n k : ℕ) (z : E) (l : List E) → length l ≡ k → take k (padded n z l) ≡ l
 unfolding padded
@@ -61,14 +73,10 @@ first-part n k z l e = take-at l (replicate (n - length l) z) k e
 
 pub leading-is : (text : List ℕ) (raw : RawSheet) → Follows text raw
     → leading (length (raw .points)) (length (raw .curves)) (length (raw .segments)) (stored (tablesOf raw)) ≡ tablesOf raw
-unfolding leading stored tablesOf sheet as-of _then_ _before_ lines fields isFloat columnCount
+unfolding leading stored
 leading-is text raw f =
-    let p = floats-length (fields pointColumns) (raw .points) (f .valid .0 .0) in
-    let c = wholes-length (fields curveColumns) (raw .curves) (f .valid .0 .1 .0) in
-    let r = floats-length (fields curveColumns) (raw .curves) (f .valid .0 .1 .0) in
-    let w = wholes-length (fields segmentColumns) (raw .segments) (f .valid .0 .1 .1) in
-    let g = floats-length (fields segmentColumns) (raw .segments) (f .valid .0 .1 .1) in
-    rw (first-part (3 * sheetPoints) _ (floatOf 0) _ p, first-part {E = ℕ} (3 * sheetCurves) _ 0 _ c, first-part (2 * sheetCurves) _ (floatOf 0) _ r, first-part {E = ℕ} (2 * sheetSegments) _ 0 _ w, first-part (2 * sheetSegments) _ (floatOf 0) _ g)
+    let l = table-lengths text raw f in
+    rw (first-part (3 * sheetPoints) _ (floatOf 0) _ (l .0), first-part {E = ℕ} (3 * sheetCurves) _ 0 _ (l .1), first-part (2 * sheetCurves) _ (floatOf 0) _ (l .2), first-part {E = ℕ} (2 * sheetSegments) _ 0 _ (l .3), first-part (2 * sheetSegments) _ (floatOf 0) _ (l .4))
 
 -- ---- THE law for callers
 -- a sheet was read: the text follows it, its rows are few, its tables are the leading rows of t

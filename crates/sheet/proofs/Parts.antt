@@ -19,7 +19,7 @@ use Rattle.sheet_row.specs.declared.RawEdge.{RawEdge}
 use Rattle.sheet_row.specs.declared.RawOptions.{RawOptions}
 use Rattle.text_format.proofs.Place.{Read, placed, then-bad, then-bad-on, then-read, as-bad, as-read}
 use Rattle.sheet_tables.specs.Flattened.{flattened}
-use Rattle.sheet_tables.specs.Own.Answers.{TableStored}
+use Rattle.sheet_tables.specs.Own.Answers.{numbersOf}
 use Rattle.sheet_tables.proofs.Stores.{stored-is as table-is}
 use Rattle.sheet_edge.specs.Own.Answers.{parsedEnds}
 use Rattle.sheet_edge.specs.declared.Last.the-variants.{Pair, NoPair}
@@ -33,7 +33,7 @@ use Rattle.sheet.specs.declared.TableCounts.the-variants.{Counts, NoTabl
 
 -- ---- a table of n places that was read
 pub table-stored : {A E : Type 0} (numbers : A → List E) (z : E) (n : ℕ) (q : Parsed A) (l : A) (rest : List ℕ) (old new : List E) → length old ≡ n
-    → q ≡ parsed l rest → TableStored numbers z q (length old) new → new ≡ padded n z (numbers l)
+    → q ≡ parsed l rest → new ≡ padded (length old) z (numbersOf numbers q) → new ≡ padded n z (numbers l)
 table-stored numbers z n q l rest old new e f g = rw (← e) (table-is numbers z q (length old) new l rest f g)
 
 -- ---- the three tables

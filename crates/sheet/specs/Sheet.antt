@@ -1,7 +1,7 @@
 -- What the reader of a sheet answers, and what its tables hold afterwards.
 use mathlib.Core.List.{List, []}
 use Prim.Native.Nat.{ℕ, _*_}
-use lib.ListN.{length}
+use lib.ListN.{length, take}
 use lib.Ieee.{Float, binary64, ofBits}
 use denote.Ref.{RefT}
 use denote.Triple.Both.{Both}
@@ -76,6 +76,12 @@ stored t =
 -- no rows at all
 abbrev pub noTables : Tables
 noTables = tables [] [] [] [] []
+
+-- the leading rows of tables: so many points, curves and segments
+unfoldable pub leading : ℕ → ℕ → ℕ → Tables → Tables
+leading points curves segments t =
+    tables (take (3 * points) (t .points)) (take (3 * curves) (t .curves)) (take (2 * curves) (t .reals)) (take (2 * segments) (t .parts))
+    (take (2 * segments) (t .ranges))
 
 -- WHAT THE TABLES HOLD afterwards: those of the sheet that was read; zeros alone after a refusal
 unfoldable pub tablesAfter : Result RawSheet → Tables

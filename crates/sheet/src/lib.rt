@@ -109,7 +109,7 @@ fn three(
     TableCounts::Counts(n, m, k, next)
 }
 
-// The sheet, its numbers in the tables. A refusal leaves in them what had been read.
+// The sheet, its numbers in the tables. After a refusal they are for the caller to clear: some may have been read.
 fn try_sheet(
     text: &[u8],
     points: &mut [f64; POINTS],

@@ -6,9 +6,8 @@ use Prim.Native.Nat.{ℕ, zero, suc, _+_, _-_, _^_, _<_, _≤_}
 use native.Mathlib.Omega.{arith}
 use lib.ListN.{length, getD, drop, replicate, length-drop}
 use Rattle.text_format.specs.Bytes.{bytes}
-use Rattle.text_format.specs.Format.{Format, Parsed, bad, parsed, plain, _and_, noItems as no-cells, ValidCons, _before_}
+use Rattle.text_format.specs.Format.{Format, Lawful, Parsed, bad, parsed, plain, _and_, noItems as no-cells, ValidCons, _before_}
 use Rattle.text_format.specs.Table.{Field, float, whole, word, fields, endByte, names, cell, line, single}
-use Rattle.text_format.proofs.Laws.{Lawful}
 use Rattle.sheet_layout.specs.Layout.{edgeColumns, optionColumns}
 use Rattle.sheet_layout.specs.Padded.{padded}
 use Rattle.sheet_layout.specs.Own.Letters.{fieldOf}

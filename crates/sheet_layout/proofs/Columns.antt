@@ -9,9 +9,8 @@ use lib.ListN.{length, getD, drop, length-append, drop-of-length-le}
 use lib.Seq.{drop-cons}
 use lib.Dec.{eqb}
 use Rattle.base_lists.specs.All.{All, none as all-none, more}
-use Rattle.text_format.specs.Format.{Parsed, bad, parsed, Format, andThen, _and_, noItems}
+use Rattle.text_format.specs.Format.{Parsed, bad, parsed, Format, Lawful, andThen, _and_, noItems}
 use Rattle.text_format.specs.Table.{Field, float, whole, word, endByte, cell, line}
-use Rattle.text_format.proofs.Laws.{Lawful}
 use Rattle.text_format.proofs.Tables.{Good, end-byte-no-digit, cell-law, line-law}
 use Rattle.sheet_layout.specs.Layout.{u32, u64, kind}
 use Rattle.sheet_layout.specs.Own.Letters.{fieldOf, shapeOf}

@@ -10,9 +10,9 @@ use borrow.Author.Tests.{le-leb, leb-true}
 use Rattle.base_lists.specs.All.{All, none, more}
 use Rattle.base_lists.specs.Result.{Result, refused, got}
 use Rattle.text_format.specs.Bytes.{bytes}
-use Rattle.text_format.specs.Format.{Format, Parsed, bad, parsed, all, oneOf, _ending_, _then_, wholeText}
+use Rattle.text_format.specs.Format.{Format, Lawful, Parsed, bad, parsed, all, oneOf, _ending_, _then_, wholeText}
 use Rattle.text_format.specs.Table.{Field, Column, fields, line, table, single}
-use Rattle.text_format.proofs.Laws.{Lawful, Is, ending-law, then-law, as-law, whole-back, whole-was}
+use Rattle.text_format.proofs.Laws.{Is, ending-law, then-law, as-law, whole-back, whole-was}
 use Rattle.text_format.proofs.Words.{oneOf-law}
 use Rattle.text_format.proofs.Lines.{NoLine}
 use Rattle.text_format.proofs.Tables.{Good, line-law, no-line, table-law, single-law}

@@ -5,8 +5,7 @@ use mathlib.Core.List.{List, [], _∷_}
 use Prim.Native.Nat.{ℕ, _-_, _≤_}
 use native.Mathlib.Omega.{arith}
 use lib.ListN.{length, drop, length-drop}
-use Rattle.text_format.specs.Format.{Parsed, bad, parsed, Format}
-use Rattle.text_format.proofs.Laws.{Lawful}
+use Rattle.text_format.specs.Format.{Parsed, bad, parsed, Format, Lawful}
 use Rattle.text_format.proofs.Place.{Read, placed}
 use Rattle.sheet_layout.specs.Padded.{padded}
 use Rattle.sheet_layout.specs.Own.Letters.{parsedRow}

@@ -78,7 +78,7 @@ Valid = sheet .valid
 abbrev pub size : ℕ
 size = 65536
 
--- the most rows that so many bytes hold: points of 51 bytes, curves of 40 or more, segments of 38
+-- so many bytes hold no more rows than these: points of 51 bytes, curves of 40 or more, segments of 38 or more
 abbrev pub sheetPoints : ℕ
 sheetPoints = 1285
 

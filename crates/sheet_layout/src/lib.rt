@@ -12,13 +12,13 @@ use text_format::Num;
 // The most bytes that a sheet may have.
 pub const SIZE: usize = 65536;
 
-// The most points that so many bytes hold, of 51 bytes each.
+// So many bytes hold no more points than these, of 51 bytes each.
 pub const SHEET_POINTS: usize = 1285;
 
-// The most curves, of 40 bytes or more.
+// No more curves, of 40 bytes or more.
 pub const SHEET_CURVES: usize = 1638;
 
-// The most segments, of 38 bytes or more.
+// No more segments, of 38 bytes or more.
 pub const SHEET_SEGMENTS: usize = 1724;
 
 // A line's numbers, zeros behind them, and the next place; no line where `ok` is false.

@@ -1,5 +1,5 @@
 -- What a table holds: one more number, one more row; what was read is stored. Assumes nothing.
-use mathlib.Core.Path.{_≡_, sym, ap, subst, _∙_}
+use mathlib.Core.Path.{_≡_, sym, ap, _∙_}
 use mathlib.Core.List.{List, [], _∷_, _++_, append-assoc, append-nil}
 use Prim.Native.Nat.{ℕ, _+_, _≤_}
 use native.Mathlib.Omega.{arith}
@@ -9,7 +9,7 @@ use Rattle.text_format.specs.Format.{Parsed, bad, parsed}
 use Rattle.text_format.proofs.Buffer.{sets-append}
 use Rattle.sheet_layout.specs.Padded.{padded}
 use Rattle.sheet_tables.specs.Flattened.{flattened}
-use Rattle.sheet_tables.specs.Own.Answers.{TableStored}
+use Rattle.sheet_tables.specs.Own.Answers.{numbersOf}
 
 -- ---- more numbers behind those that are there
 pub more-stored : {E : Type 0} (before out next xs ys : List E) (k : ℕ) → k ≡ length xs → out ≡ sets before 0 xs → next ≡ sets out k ys
@@ -33,19 +33,24 @@ cleared-behind zero before out after xs k e h f g =
     ∙ ap (λ o. padded (length before) zero (take k o)) (f ∙ sets-eq xs before 0 (omega arith))
     ∙ ap (padded (length before) zero) (take-at xs (drop (0 + length xs) before) k (sym e))
 
+-- ---- from its start on
+pub all-cleared : {E : Type 0} (zero : E) (before out after : List E) → length out ≡ length before → after ≡ padded (length out) zero (take 0 out)
+    → after ≡ padded (length before) zero []
+all-cleared zero before out after e g = g ∙ ap (λ n. padded n zero []) e
+
 -- ---- what was read
 module _ {A E : Type 0} (row : A → List E) (zero : E) (q : Parsed A) (n : ℕ) (after : List E) where
-  pub stored-bad : q ≡ bad → TableStored row zero q n after
-  unfolding TableStored
-  stored-bad e = rw (e, TableStored) tt
+  pub stored-bad : q ≡ bad → after ≡ padded n zero [] → after ≡ padded n zero (numbersOf row q)
+  unfolding numbersOf
+  stored-bad e f = f ∙ ap (λ z. padded n zero (numbersOf row z)) (sym e)
 
-  pub stored-parsed : (a : A) (rest : List ℕ) → q ≡ parsed a rest → after ≡ padded n zero (row a) → TableStored row zero q n after
-  unfolding TableStored
-  stored-parsed a rest e f = rw (e, TableStored) f
+  pub stored-parsed : (a : A) (rest : List ℕ) → q ≡ parsed a rest → after ≡ padded n zero (row a) → after ≡ padded n zero (numbersOf row q)
+  unfolding numbersOf
+  stored-parsed a rest e f = f ∙ ap (λ z. padded n zero (numbersOf row z)) (sym e)
 
-  pub stored-same : (r : Parsed A) → q ≡ r → TableStored row zero q n after → TableStored row zero r n after
-  stored-same r e t = subst (λ z. TableStored row zero z n after) e t
+  pub stored-same : (r : Parsed A) → q ≡ r → after ≡ padded n zero (numbersOf row q) → after ≡ padded n zero (numbersOf row r)
+  stored-same r e t = t ∙ ap (λ z. padded n zero (numbersOf row z)) e
 
-  pub stored-is : (a : A) (rest : List ℕ) → q ≡ parsed a rest → TableStored row zero q n after → after ≡ padded n zero (row a)
-  unfolding TableStored
+  pub stored-is : (a : A) (rest : List ℕ) → q ≡ parsed a rest → after ≡ padded n zero (numbersOf row q) → after ≡ padded n zero (row a)
+  unfolding numbersOf
   stored-is a rest e t = stored-same (parsed a rest) e t

@@ -11,9 +11,8 @@ use lib.Seq.{sets, drop-cons, length-sets}
 use lib.Ieee.{Float, binary64, ofBits}
 use borrow.Author.Tests.{eq-eqb, ne-eqb}
 use Rattle.base_lists.specs.All.{All}
-use Rattle.text_format.specs.Format.{Parsed, bad, parsed, Format, andThen, readLines, lines}
+use Rattle.text_format.specs.Format.{Parsed, bad, parsed, Format, Lawful, andThen, readLines, lines}
 use Rattle.text_format.specs.Table.{Field, line}
-use Rattle.text_format.proofs.Laws.{Lawful}
 use Rattle.text_format.proofs.Lines.{NoLine, line-some, turns}
 use Rattle.text_format.proofs.Tables.{no-line}
 use Rattle.sheet_layout.specs.Layout.{size}

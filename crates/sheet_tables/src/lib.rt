@@ -1,26 +1,37 @@
 // The sheet's three tables: points, curves and segments. Whole numbers go into one table, floats into another, zeros behind
-// them. Where a table cannot be read, what was read of it stays, for the caller to clear.
+// them. Where a table cannot be read, both are all zeros.
 ghost use mathlib.Core.Path.{_≡_};
 ghost use Prim.Native.Nat.{_*_, _≤_};
-ghost use lib.ListN.{length, drop};
+ghost use lib.ListN.{length, take, drop};
 ghost use lib.Ieee.{binary64, ofBits};
 ghost use Rattle.text_format.specs.Format.{lines};
 ghost use Rattle.text_format.specs.Table.{fields, line, table};
 ghost use Rattle.text_format.specs.Own.Answers.{parsedList};
 ghost use Rattle.sheet_layout.specs.Layout.{size, sheetPoints, sheetCurves, sheetSegments, pointColumns, curveColumns, segmentColumns};
+ghost use Rattle.sheet_layout.specs.Padded.{padded};
 ghost use Rattle.sheet_layout.specs.Own.Letters.{shapeOf};
 ghost use Rattle.sheet_row.specs.Rows.{floatsOf, wholesOf};
 ghost use Rattle.sheet_tables.specs.Own.Room.{Roomy};
 ghost use Rattle.sheet_tables.specs.Flattened.{flattened};
-ghost use Rattle.sheet_tables.specs.Own.Answers.{tableOf, TableStored};
+ghost use Rattle.sheet_tables.specs.Own.Answers.{tableOf, numbersOf};
 use text_format::Num;
+
+// Zeros from number w of one table on, and from number f of the other.
+fn clear_behind(wholes: &mut [u32], w: usize, floats: &mut [f64], f: usize)
+    requires { ⌜ (w ≤ length (now wholes)) × (f ≤ length (now floats)) ⌝ }
+    ensures { λ _. ⌜ (now (wholes .exit) ≡ padded (length (now (wholes .entry))) 0 (take w (now (wholes .entry))))
+        × (now (floats .exit) ≡ padded (length (now (floats .entry))) (ofBits binary64 0) (take f (now (floats .entry)))) ⌝ }
+{
+    sheet_row::clear_wholes(wholes, w);
+    base_lists::clear_from(floats, f);
+}
 
 // The rows of a table, up to the empty line behind them.
 fn rows(s: &[u8], at: usize, shape: &[u8], wholes: &mut [u32], floats: &mut [f64]) -> Num
     requires { ⌜ (at ≤ length (now s)) × (length (now s) ≤ size) × Roomy (now shape) (length (now wholes)) (length (now floats)) ⌝ }
     ensures { λ r. ⌜ (r ≡ parsedList (now (s .entry)) (lines (line (shapeOf (now (shape .entry)))) .read (drop at (now (s .entry)))))
-        × TableStored (flattened (wholesOf (shapeOf (now (shape .entry))))) 0 (lines (line (shapeOf (now (shape .entry)))) .read (drop at (now (s .entry)))) (length (now (wholes .entry))) (now (wholes .exit))
-        × TableStored (flattened (floatsOf (shapeOf (now (shape .entry))))) (ofBits binary64 0) (lines (line (shapeOf (now (shape .entry)))) .read (drop at (now (s .entry)))) (length (now (floats .entry))) (now (floats .exit)) ⌝ }
+        × (now (wholes .exit) ≡ padded (length (now (wholes .entry))) 0 (numbersOf (flattened (wholesOf (shapeOf (now (shape .entry))))) (lines (line (shapeOf (now (shape .entry)))) .read (drop at (now (s .entry))))))
+        × (now (floats .exit) ≡ padded (length (now (floats .entry))) (ofBits binary64 0) (numbersOf (flattened (floatsOf (shapeOf (now (shape .entry))))) (lines (line (shapeOf (now (shape .entry)))) .read (drop at (now (s .entry)))))) ⌝ }
 {
     let mut p = at;
     let mut n = 0usize;
@@ -28,8 +39,7 @@ fn rows(s: &[u8], at: usize, shape: &[u8], wholes: &mut [u32], floats: &mut [f64
     let mut f = 0usize;
     while p < s.len() {
         if s[p] == b'\n' {
-            sheet_row::clear_wholes(wholes, w);
-            base_lists::clear_from(floats, f);
+            clear_behind(wholes, w, floats, f);
             return Num::Got(n as u64, p + 1);
         }
         let row = sheet_layout::line(s, p, shape);
@@ -40,9 +50,11 @@ fn rows(s: &[u8], at: usize, shape: &[u8], wholes: &mut [u32], floats: &mut [f64
             n += 1;
             p = row.next;
         } else {
+            clear_behind(wholes, 0, floats, 0);
             return Num::Bad;
         }
     }
+    clear_behind(wholes, 0, floats, 0);
     Num::Bad
 }
 
@@ -57,12 +69,15 @@ fn table(
 ) -> Num
     requires { ⌜ (at ≤ length (now s)) × (length (now s) ≤ size) × Roomy (now shape) (length (now wholes)) (length (now floats)) ⌝ }
     ensures { λ r. ⌜ (r ≡ parsedList (now (s .entry)) (tableOf (now (names .entry)) (now (shape .entry)) .read (drop at (now (s .entry)))))
-        × TableStored (flattened (wholesOf (shapeOf (now (shape .entry))))) 0 (tableOf (now (names .entry)) (now (shape .entry)) .read (drop at (now (s .entry)))) (length (now (wholes .entry))) (now (wholes .exit))
-        × TableStored (flattened (floatsOf (shapeOf (now (shape .entry))))) (ofBits binary64 0) (tableOf (now (names .entry)) (now (shape .entry)) .read (drop at (now (s .entry)))) (length (now (floats .entry))) (now (floats .exit)) ⌝ }
+        × (now (wholes .exit) ≡ padded (length (now (wholes .entry))) 0 (numbersOf (flattened (wholesOf (shapeOf (now (shape .entry))))) (tableOf (now (names .entry)) (now (shape .entry)) .read (drop at (now (s .entry))))))
+        × (now (floats .exit) ≡ padded (length (now (floats .entry))) (ofBits binary64 0) (numbersOf (flattened (floatsOf (shapeOf (now (shape .entry))))) (tableOf (now (names .entry)) (now (shape .entry)) .read (drop at (now (s .entry)))))) ⌝ }
 {
     match text_format::word(s, at, names, 0) {
         Num::Got(_, p) => rows(s, p, shape, wholes, floats),
-        Num::Bad => Num::Bad,
+        Num::Bad => {
+            clear_behind(wholes, 0, floats, 0);
+            Num::Bad
+        }
     }
 }
 
@@ -70,7 +85,7 @@ fn table(
 pub fn points(s: &[u8], at: usize, floats: &mut [f64]) -> Num
     requires { ⌜ (at ≤ length (now s)) × (length (now s) ≤ size) × (3 * sheetPoints ≤ length (now floats)) ⌝ }
     ensures { λ r. ⌜ (r ≡ parsedList (now (s .entry)) (table pointColumns .read (drop at (now (s .entry)))))
-        × TableStored (flattened (floatsOf (fields pointColumns))) (ofBits binary64 0) (table pointColumns .read (drop at (now (s .entry)))) (length (now (floats .entry))) (now (floats .exit)) ⌝ }
+        × (now (floats .exit) ≡ padded (length (now (floats .entry))) (ofBits binary64 0) (numbersOf (flattened (floatsOf (fields pointColumns))) (table pointColumns .read (drop at (now (s .entry)))))) ⌝ }
 {
     let mut wholes = [0u32; 1];
     table(s, at, b"x y z\n", b"fff", &mut wholes, floats)
@@ -80,8 +95,8 @@ pub fn points(s: &[u8], at: usize, floats: &mut [f64]) -> Num
 pub fn curves(s: &[u8], at: usize, wholes: &mut [u32], floats: &mut [f64]) -> Num
     requires { ⌜ (at ≤ length (now s)) × (length (now s) ≤ size) × (3 * sheetCurves ≤ length (now wholes)) × (2 * sheetCurves ≤ length (now floats)) ⌝ }
     ensures { λ r. ⌜ (r ≡ parsedList (now (s .entry)) (table curveColumns .read (drop at (now (s .entry)))))
-        × TableStored (flattened (wholesOf (fields curveColumns))) 0 (table curveColumns .read (drop at (now (s .entry)))) (length (now (wholes .entry))) (now (wholes .exit))
-        × TableStored (flattened (floatsOf (fields curveColumns))) (ofBits binary64 0) (table curveColumns .read (drop at (now (s .entry)))) (length (now (floats .entry))) (now (floats .exit)) ⌝ }
+        × (now (wholes .exit) ≡ padded (length (now (wholes .entry))) 0 (numbersOf (flattened (wholesOf (fields curveColumns))) (table curveColumns .read (drop at (now (s .entry))))))
+        × (now (floats .exit) ≡ padded (length (now (floats .entry))) (ofBits binary64 0) (numbersOf (flattened (floatsOf (fields curveColumns))) (table curveColumns .read (drop at (now (s .entry)))))) ⌝ }
 {
     table(s, at, b"kind first count p q\n", b"kwwff", wholes, floats)
 }
@@ -90,8 +105,8 @@ pub fn curves(s: &[u8], at: usize, wholes: &mut [u32], floats: &mut [f64]) -> Nu
 pub fn segments(s: &[u8], at: usize, wholes: &mut [u32], floats: &mut [f64]) -> Num
     requires { ⌜ (at ≤ length (now s)) × (length (now s) ≤ size) × (2 * sheetSegments ≤ length (now wholes)) × (2 * sheetSegments ≤ length (now floats)) ⌝ }
     ensures { λ r. ⌜ (r ≡ parsedList (now (s .entry)) (table segmentColumns .read (drop at (now (s .entry)))))
-        × TableStored (flattened (wholesOf (fields segmentColumns))) 0 (table segmentColumns .read (drop at (now (s .entry)))) (length (now (wholes .entry))) (now (wholes .exit))
-        × TableStored (flattened (floatsOf (fields segmentColumns))) (ofBits binary64 0) (table segmentColumns .read (drop at (now (s .entry)))) (length (now (floats .entry))) (now (floats .exit)) ⌝ }
+        × (now (wholes .exit) ≡ padded (length (now (wholes .entry))) 0 (numbersOf (flattened (wholesOf (fields segmentColumns))) (table segmentColumns .read (drop at (now (s .entry))))))
+        × (now (floats .exit) ≡ padded (length (now (floats .entry))) (ofBits binary64 0) (numbersOf (flattened (floatsOf (fields segmentColumns))) (table segmentColumns .read (drop at (now (s .entry)))))) ⌝ }
 {
     table(s, at, b"curve lo hi sense\n", b"wffw", wholes, floats)
 }

@@ -11,8 +11,8 @@ use native.Mathlib.Nat.{add-mul, mul-add, mul-assoc, mul-comm, mul-left-comm, mu
 use lib.ListN.{length}
 use lib.Dec.{ltb, leb, eqb}
 use borrow.Author.Tests.{ltb-true, ltb-false, lt-ltb, le-ltb, leb-true, leb-false, le-leb, eqb-true, eqb-false, eq-eqb, ne-eqb}
-use Rattle.text_format.specs.Format.{Parsed, bad, parsed, Format, when, expect, charOf, digitOf, digits, readDigits, hex16, widthUpTo, decimal, readDecimal, readPlain, plain}
-use Rattle.text_format.proofs.Laws.{Was, Lawful, no-parsed, when-parsed, same-parsed, expect-back, expect-was}
+use Rattle.text_format.specs.Format.{Parsed, bad, parsed, Format, Was, Lawful, when, expect, charOf, digitOf, digits, readDigits, hex16, widthUpTo, decimal, readDecimal, readPlain, plain}
+use Rattle.text_format.proofs.Laws.{no-parsed, when-parsed, same-parsed, expect-back, expect-was}
 
 ruleset ring = (add-mul, mul-add, mul-assoc, mul-comm, mul-left-comm)
 

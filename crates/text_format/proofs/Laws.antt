@@ -1,5 +1,5 @@
 -- Every format is lawful: what is written is read back, whatever follows it, and what is read was written so.
--- Here: the law, and that each way to put formats together keeps it. Assumes nothing.
+-- Here: each way to put formats together keeps the law. Assumes nothing.
 use mathlib.Core.Path.{_≡_, refl, sym, ap, subst, _∙_}
 use mathlib.Core.Bool.{Bool, true, false}
 use mathlib.Core.List.{List, [], _∷_, _++_, append-assoc, append-nil}
@@ -8,16 +8,7 @@ use native.Mathlib.Omega.{arith}
 use lib.Dec.{eqb}
 use borrow.Author.Tests.{eqb-true, eq-eqb}
 use Rattle.base_lists.specs.Result.{Result, refused, got}
-use Rattle.text_format.specs.Format.{Parsed, bad, parsed, Format, when, andThen, orElse, expect, _ending_, _before_, _then_, noItems, ValidCons, writeCons, _and_, as-of, wholeText, all}
-
--- what is read: a valid value, and its text in front of what is left
-pub record Was {A : Type 0} (F : Format A) (bs : List ℕ) (a : A) (rest : List ℕ) : Type 0 where
-  pub right : F .valid a
-  pub text : F .write a ++ rest ≡ bs
-
-pub record Lawful {A : Type 0} (F : Format A) : Type 0 where
-  pub back : (a : A) (rest : List ℕ) → F .valid a → F .read (F .write a ++ rest) ≡ parsed a rest
-  pub was : (bs : List ℕ) (a : A) (rest : List ℕ) → F .read bs ≡ parsed a rest → Was F bs a rest
+use Rattle.text_format.specs.Format.{Parsed, bad, parsed, Format, Was, Lawful, when, andThen, orElse, expect, _ending_, _before_, _then_, noItems, ValidCons, writeCons, _and_, as-of, wholeText, all}
 
 -- ---- reading on
 pub no-parsed : {A : Type 0} {X : Type 0} (a : A) (rest : List ℕ) → bad ≡ parsed a rest → X

@@ -9,8 +9,8 @@ use lib.ListN.{length, length-append}
 use lib.Dec.{eqb}
 use borrow.Author.Tests.{eqb-true, ne-eqb}
 use Rattle.base_lists.specs.All.{All, none, more}
-use Rattle.text_format.specs.Format.{Parsed, bad, parsed, Format, andThen, writeLines, readLines, lines}
-use Rattle.text_format.proofs.Laws.{Lawful, no-parsed, then-parsed, same-parsed}
+use Rattle.text_format.specs.Format.{Parsed, bad, parsed, Format, Lawful, andThen, writeLines, readLines, lines}
+use Rattle.text_format.proofs.Laws.{no-parsed, then-parsed, same-parsed}
 
 -- a text that begins with the newline is no line
 abbrev pub NoLine : {A : Type 0} → Format A → Type 0

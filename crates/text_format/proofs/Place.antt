@@ -7,8 +7,8 @@ use native.Mathlib.Omega.{arith}
 use lib.ListN.{length, drop, length-drop, length-append}
 use lib.Seq.{drop-drop, drop-append-seam}
 use lib.Dec.{eqb}
-use Rattle.text_format.specs.Format.{Parsed, bad, parsed, Format, when, andThen, expect, _ending_, _before_, _then_, as-of}
-use Rattle.text_format.proofs.Laws.{Lawful, no-parsed, same-parsed, when-parsed, expect-was}
+use Rattle.text_format.specs.Format.{Parsed, bad, parsed, Format, Lawful, when, andThen, expect, _ending_, _before_, _then_, as-of}
+use Rattle.text_format.proofs.Laws.{no-parsed, same-parsed, when-parsed, expect-was}
 use Rattle.text_format.specs.Own.Answers.{parsedAt, parsedList}
 use Rattle.text_format.specs.declared.Num.{Num}
 use Rattle.text_format.specs.declared.Num.the-variants.{Got, Bad}

@@ -7,9 +7,9 @@ use native.Mathlib.Omega.{arith}
 use lib.Dec.{eqb}
 use borrow.Author.Tests.{eqb-true, eqb-false, ne-eqb}
 use Rattle.base_lists.specs.All.{All, none as all-none, more}
-use Rattle.text_format.specs.Format.{Parsed, bad, parsed, Format, when, andThen, orElse, expect, digitOf, hex16, plain, oneOf, readDigits, readPlain, readWord, _ending_, _before_, _and_, noItems, lines}
+use Rattle.text_format.specs.Format.{Parsed, bad, parsed, Format, Lawful, when, andThen, orElse, expect, digitOf, hex16, plain, oneOf, readDigits, readPlain, readWord, _ending_, _before_, _and_, noItems, lines}
 use Rattle.text_format.specs.Table.{Field, float, whole, word, Column, fields, endByte, names, cell, line, table, single}
-use Rattle.text_format.proofs.Laws.{Lawful, ending-law, before-law, and-law, none-law}
+use Rattle.text_format.proofs.Laws.{ending-law, before-law, and-law, none-law}
 use Rattle.text_format.proofs.Digits.{hex16-law, plain-law}
 use Rattle.text_format.proofs.Words.{differ, differAll, apart, oneOf-law, and-left, and-right, no-truth}
 use Rattle.text_format.proofs.Lines.{NoLine, lines-law}

@@ -6,8 +6,8 @@ use Prim.Native.Nat.{ℕ, zero, suc, _+_, _-_, _<_, _≤_}
 use native.Mathlib.Omega.{arith}
 use lib.ListN.{length, getD}
 use lib.Dec.{eqb}
-use Rattle.text_format.specs.Format.{Parsed, bad, parsed, Format, when, expect, orElse, readWord, oneOf}
-use Rattle.text_format.proofs.Laws.{Lawful, no-parsed, same-parsed, expect-back, expect-was}
+use Rattle.text_format.specs.Format.{Parsed, bad, parsed, Format, Lawful, when, expect, orElse, readWord, oneOf}
+use Rattle.text_format.proofs.Laws.{no-parsed, same-parsed, expect-back, expect-was}
 
 abbrev pub differ : List ℕ → List ℕ → Bool
 differ [] v = false

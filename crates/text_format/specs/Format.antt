@@ -1,5 +1,5 @@
--- Formats: how a value is written down as bytes, and how it is read from the front of a text. Every format made here is lawful
--- (proofs/Laws.antt): what is written is read back, and what is read was written so. So only `valid` and `write` need to be believed.
+-- Formats: how a value is written down as bytes, and how it is read from the front of a text. Every format that is used is `Lawful`
+-- (proofs/Laws.antt: each way to put formats together keeps the law). So only `valid` and `write` need to be believed.
 use mathlib.Core.Path.{_≡_}
 use mathlib.Core.Bool.{Bool, true, false, cond}
 use mathlib.Core.List.{List, [], _∷_, _++_}
@@ -19,6 +19,17 @@ pub record Format (A : Type 0) : Type 1 where
   pub valid : A → Type 0
   pub write : A → List ℕ
   pub read : List ℕ → Parsed A
+
+-- ---- the law of a format
+-- what was read of the text bs: a valid value, and its text in front of what is left
+pub record Was {A : Type 0} (F : Format A) (bs : List ℕ) (a : A) (rest : List ℕ) : Type 0 where
+  pub right : F .valid a
+  pub text : F .write a ++ rest ≡ bs
+
+-- what is written is read back, whatever follows it; what is read was written so
+pub record Lawful {A : Type 0} (F : Format A) : Type 0 where
+  pub back : (a : A) (rest : List ℕ) → F .valid a → F .read (F .write a ++ rest) ≡ parsed a rest
+  pub was : (bs : List ℕ) (a : A) (rest : List ℕ) → F .read bs ≡ parsed a rest → Was F bs a rest
 
 -- ---- reading on
 -- p where the test holds

@@ -2,3 +2,4 @@ pub mod Written
 pub mod Lines
 pub mod Laws
 pub mod Examples
+pub mod ReadBack

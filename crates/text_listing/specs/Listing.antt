@@ -1,10 +1,12 @@
 -- The listings of a chain and of a refusal, byte by byte. Definitions only.
+use mathlib.Core.Path.{_≡_}
 use mathlib.Core.Bool.{cond}
 use mathlib.Core.List.{List, [], _∷_, _++_, flatMap}
-use Prim.Native.Nat.{ℕ, suc, _+_, _-_, _*_, _^_}
+use Prim.Native.Nat.{ℕ, suc, _+_, _-_, _*_, _^_, _≤_}
 use lib.ListN.{length}
+use lib.Seq.{sets}
 use lib.Dec.{eqb}
-use lib.Ieee.{Float, isNan, binary64, toBits}
+use lib.Ieee.{Float, isNan, binary64, nanBits, toBits}
 use Rattle.text_format.specs.Bytes.{bytes}
 use Rattle.text_format.specs.Format.{plain}
 use Rattle.text_format.specs.Table.{float, Column, _of_, fields, names, line}
@@ -35,16 +37,17 @@ refusalBytes = 19
 abbrev pub quiet : ℕ
 quiet = 0x7ff8000000000000
 
--- the bits of x, and `own` for a NaN: a float does not say which NaN it is
+-- the bits of x. A float does not say which NaN it is: one that was copied from a NaN's bits `own` has these, any other those of
+-- one that an operation makes
 unfoldable pub bitsOr : ℕ → Float → ℕ
-bitsOr own x = cond (isNan x) own (toBits binary64 x)
+bitsOr own x = cond (isNan x) (cond (nanBits binary64 own) own quiet) (toBits binary64 x)
 
--- a sample's numbers, where a NaN parameter has the bits `own`
+-- a sample's numbers, where a NaN parameter was copied from the bits `own`
 abbrev pub rowOf : ℕ → Sample → List ℕ
 rowOf own s =
     bitsOr quiet (s .point .x) ∷ bitsOr quiet (s .point .y) ∷ bitsOr quiet (s .point .z) ∷ bitsOr own (s .param) ∷ []
 
--- those bits for sample i of n: a NaN is a copy of the range's end that the first or the last sample has
+-- those bits for sample i of n: the first has the range's one end, the last the other
 unfoldable pub ownOf : ℕ → ℕ → ℕ → ℕ → ℕ
 ownOf first last n i = cond (eqb i 0) first (cond (eqb (i + 1) n) last quiet)
 
@@ -53,7 +56,7 @@ unfoldable pub rowsFrom : ℕ → ℕ → ℕ → ℕ → List Sample → List (
 rowsFrom first last n i [] = []
 rowsFrom first last n i (s ∷ l) = rowOf (ownOf first last n i) s ∷ rowsFrom first last n (suc i) l
 
--- the numbers of a chain's samples, where those of a NaN parameter are `first` and `last` at the ends
+-- the numbers of a chain's samples, where a NaN parameter was copied from `first` at the start and from `last` at the end
 abbrev pub rowsOf : ℕ → ℕ → List Sample → List (List ℕ)
 rowsOf first last l = rowsFrom first last (length l) 0 l
 
@@ -68,3 +71,10 @@ listing first last l = names columns ++ flatMap lineOf (rowsOf first last l)
 -- THE LISTING of a refusal: the word, then the cause on the next line
 unfoldable pub refusal : ℕ → List ℕ
 refusal cause = bytes "refusal\n" ++ plain (2 ^ 32 - 1) 10 .write cause
+
+-- ---- a text at the start of a buffer
+-- so many bytes as it has; they fit; the buffer holds them afterwards, and is as before behind them
+pub record Put (text out : List ℕ) (n : ℕ) (out' : List ℕ) : Type 0 where
+  pub count : n ≡ length text
+  pub fits : n ≤ length out'
+  pub bytes : out' ≡ sets out 0 text

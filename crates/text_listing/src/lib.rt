@@ -6,7 +6,7 @@ ghost use lib.ListN.{length};
 ghost use lib.Seq.{sets};
 ghost use Rattle.text_format.specs.Format.{digits, hex16, _ending_};
 ghost use Rattle.edge_record.specs.Chain.{width, samples};
-ghost use Rattle.text_listing.specs.Listing.{headingBytes, floatBytes, lineBytes, refusalBytes, bitsOr, rowOf, ownOf, lineOf, listing, refusal};
+ghost use Rattle.text_listing.specs.Listing.{headingBytes, floatBytes, lineBytes, refusalBytes, bitsOr, rowOf, ownOf, lineOf, listing, refusal, Put};
 ghost use Rattle.text_listing.specs.Own.Top.{TopOf};
 use edge_record::Sample;
 
@@ -22,17 +22,26 @@ pub const REFUSAL_BYTES: usize = 19;
 // The bits of a NaN that an operation makes.
 const QUIET: u64 = 0x7FF8000000000000;
 
+// The bit of the sign. Below it, what is above the bits of infinity is a NaN.
+const SIGN: u64 = 0x8000000000000000;
+
+const INFINITE: u64 = 0x7FF0000000000000;
+
 // How many digits a number has, and the power of ten that the first stands for.
 struct Top {
     count: usize,
     power: u64,
 }
 
-// The bits of x; `own` for a NaN, since a float does not say which NaN it is.
+// The bits of x. A float does not say which NaN it is: a NaN has the bits `own` that it was copied from, if they are a NaN's.
 fn bits_or(own: u64, x: f64) -> u64
     ensures { λ r. ⌜ r ≡ bitsOr own x ⌝ }
 {
-    if x != x { own } else { f64::to_bits(x) }
+    if x != x {
+        if INFINITE < own % SIGN { own } else { QUIET }
+    } else {
+        f64::to_bits(x)
+    }
 }
 
 // The bytes of w, from `at` on; answers the next place.
@@ -77,7 +86,7 @@ fn put_hex(v: u64, end: u8, out: &mut [u8], at: usize)
     out[at + 16] = end;
 }
 
-// The line of a sample whose parameter, if it is NaN, has the bits `own`; answers the next place.
+// The line of a sample whose parameter, if it is NaN, was copied from the bits `own`; answers the next place.
 fn put_sample(s: Sample, own: u64, out: &mut [u8], at: usize) -> usize
     requires { ⌜ at + lineBytes ≤ length (now out) ⌝ }
     ensures { λ r. ⌜ (r ≡ at + lineBytes) × (now (out .exit) ≡ sets (now (out .entry)) at (lineOf (rowOf own s))) ⌝ }
@@ -89,7 +98,7 @@ fn put_sample(s: Sample, own: u64, out: &mut [u8], at: usize) -> usize
     at + LINE_BYTES
 }
 
-// The bits of a NaN parameter of sample i of n.
+// The bits that a NaN parameter of sample i of n was copied from.
 fn own_of(first: u64, last: u64, n: usize, i: usize) -> u64
     requires { ⌜ i < n ⌝ }
     ensures { λ r. ⌜ r ≡ ownOf first last n i ⌝ }
@@ -101,11 +110,10 @@ fn own_of(first: u64, last: u64, n: usize, i: usize) -> u64
 }
 
 // The listing of a chain's first n samples, at the buffer's start; answers how many bytes it has. `first` and `last` are
-// the bits that the first and the last parameter have if they are NaN.
+// the bits that the first and the last parameter were copied from if they are NaN.
 pub fn write_chain(chain: &[f64], n: usize, first: u64, last: u64, out: &mut [u8]) -> usize
     requires { ⌜ (width * n ≤ length (now chain)) × (headingBytes + lineBytes * n ≤ length (now out)) ⌝ }
-    ensures { λ r. ⌜ (r ≡ length (listing first last (samples n (now (chain .entry)))))
-        × (now (out .exit) ≡ sets (now (out .entry)) 0 (listing first last (samples n (now (chain .entry))))) ⌝ }
+    ensures { λ r. ⌜ Put (listing first last (samples n (now (chain .entry)))) (now (out .entry)) r (now (out .exit)) ⌝ }
 {
     let mut at = put_bytes(b"x y z t\n", out, 0);
     let mut i = 0usize;
@@ -137,7 +145,7 @@ fn top_of(n: u64) -> Top
 // The listing of a refusal, at the buffer's start; answers how many bytes it has.
 pub fn write_refusal(cause: u32, out: &mut [u8]) -> usize
     requires { ⌜ refusalBytes ≤ length (now out) ⌝ }
-    ensures { λ r. ⌜ (r ≡ length (refusal cause)) × (now (out .exit) ≡ sets (now (out .entry)) 0 (refusal cause)) ⌝ }
+    ensures { λ r. ⌜ Put (refusal cause) (now (out .entry)) r (now (out .exit)) ⌝ }
 {
     let at = put_bytes(b"refusal\n", out, 0);
     let n = cause as u64;

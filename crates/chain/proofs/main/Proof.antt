@@ -1,13 +1,15 @@
--- `chain::main` meets its contract. Assumes nothing.
+-- `chain::main` meets its contract: what is printed fits. Assumes nothing.
 use mathlib.Core.Path.{sym}
-use native.Mathlib.Omega.{arith}
 use lib.Seq.{length-take-le}
 use borrow.Author.Needs.{needs}
 use Rattle.chain.proofs.main.Statement.{statement}
 use Rattle.chain.proofs.main.Tie as tie
 
-slice-aggregate-write-all : tie.Need-slice-aggregate-write-all
-slice-aggregate-write-all c = sym (length-take-le _ _ (omega arith))
+array-share-prefix-out : tie.Need-array-share-prefix-out
+array-share-prefix-out c = c .before .print .ensures .0
+
+slice-aggregate-write : tie.Need-slice-aggregate-write
+slice-aggregate-write c = sym (length-take-le _ _ (c .before .before .print .ensures .0))
 
 pub main-spec : {M : Type 1} → statement M
 main-spec =
@@ -15,13 +17,12 @@ main-spec =
     (tie.spec
     (λ c. search needs)
     (λ c κs. search needs)
-    (λ c κs. search needs)
-    (λ c. search needs)
     (λ c. search needs)
     (λ c. search needs)
     (λ c κs. search needs)
-    (λ c. search needs)
-    slice-aggregate-write-all
+    array-share-prefix-out
+    slice-aggregate-write
+    (λ c κs. search needs)
     (λ c κs. search needs)
     (λ c. search needs)
     (λ c. search needs))

@@ -3,7 +3,7 @@ use mathlib.Core.Path.{sym}
 use Prim.Native.Nat.{_*_}
 use native.Mathlib.Omega.{arith}
 use lib.Seq.{length-take-le}
-use Rattle.sheet.specs.Own.Leading.{leading}
+use Rattle.sheet.specs.Sheet.{leading}
 use borrow.Author.Needs.{needs}
 use Rattle.chain_answer.proofs.draw_rows.Statement.{statement}
 use Rattle.chain_answer.proofs.draw_rows.Tie as tie

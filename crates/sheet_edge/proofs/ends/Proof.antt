@@ -5,7 +5,6 @@ use lib.ListN.{length, drop}
 use Rattle.text_format.specs.Format.{_ending_, _then_}
 use Rattle.text_format.specs.Table.{single}
 use Rattle.sheet_layout.specs.Layout.{edgeColumns, optionColumns, ends}
-use Rattle.text_format.proofs.Laws.{Lawful}
 use Rattle.sheet_layout.proofs.Laws.{edge-law, options-law}
 use Rattle.text_format.proofs.Place.{Read, ending-bad, ending-none, ending-read, then-bad, then-bad-on, then-read}
 use Rattle.sheet_edge.proofs.Singles.{EdgeRead, read-edge, read-no-edge, OptionsRead, read-options, read-no-options, parsed-ends, parsed-no-ends}

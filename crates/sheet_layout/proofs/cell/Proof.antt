@@ -4,7 +4,6 @@ use mathlib.Core.List.{[], _∷_}
 use lib.ListN.{drop}
 use Rattle.text_format.specs.Bytes.{bytes}
 use Rattle.text_format.specs.Format.{oneOf}
-use Rattle.text_format.proofs.Laws.{Lawful}
 use Rattle.text_format.specs.Own.Answers.{parsedAt}
 use Rattle.text_format.proofs.Place.{Read, parsed-bad, read-at, read-bad, ending-is, ending-bad}
 use Rattle.sheet_layout.specs.Layout.{kinds}

@@ -7,14 +7,13 @@ use lib.ListN.{length, drop}
 use lib.Ieee.{binary64, ofBits}
 use Rattle.text_format.specs.Format.{bad, lines}
 use Rattle.text_format.specs.Table.{line}
-use Rattle.sheet_layout.specs.Padded.{padded}
 use Rattle.sheet_layout.specs.Own.Letters.{shapeOf}
 use Rattle.sheet_row.specs.Rows.{floatsOf, wholesOf}
 use Rattle.sheet_tables.specs.Flattened.{flattened}
 use Rattle.text_format.proofs.Place.{Read, parsed-list, parsed-no-list}
 use Rattle.sheet_layout.proofs.Columns.{shape-law}
 use Rattle.sheet_layout.proofs.Rows.{RowRead, row-read, no-row-read}
-use Rattle.sheet_tables.proofs.Stores.{cleared-behind, stored-bad, stored-parsed}
+use Rattle.sheet_tables.proofs.Stores.{cleared-behind, all-cleared, stored-bad, stored-parsed}
 use Rattle.sheet_tables.proofs.Turns.{Rows, Next, no-rows, rows-end, rows-bad, all-rows, next-row}
 use borrow.Author.Needs.{needs}
 use Rattle.sheet_tables.proofs.rows.Statement.{statement}
@@ -58,30 +57,26 @@ loop-holds c =
     let a = c .before .before .before .before .args in
     no-rows (a .s .now) (a .shape .now) (a .at) (a .wholes .now) (a .floats .now) (c .before .before .before .before .pre .0)
 
-clear-wholes-requires : tie.Need-clear-wholes-requires Inv-loop μ-loop
-clear-wholes-requires c κs = let i = c .before .before .before .before .loop .inv in let h = i .w-fits in let e = i .wholes-same in omega arith
-
-clear-from-requires : tie.Need-clear-from-requires Inv-loop μ-loop
-clear-from-requires c κs = let i = c .before .before .before .before .before .before .before .before .loop .inv in let h = i .f-fits in let e = i .floats-same in omega arith
+clear-behind-requires : tie.Need-clear-behind-requires Inv-loop μ-loop
+clear-behind-requires c κs = let i = c .before .before .before .before .before .loop .inv in (omega (arith, i .w-fits, i .wholes-same), omega (arith, i .f-fits, i .floats-same))
 
 same-length : tie.Need-same-length Inv-loop μ-loop
-same-length c = c .before .before .before .before .before .wholes .given ∙ c .before .before .before .before .before .before .before .before .before .before .before .loop .inv .wholes-same
+same-length c = c .before .before .before .wholes .given ∙ c .before .before .before .before .before .before .before .before .before .before .loop .inv .wholes-same
 
 same-length-2 : tie.Need-same-length-2 Inv-loop μ-loop
-same-length-2 c = c .before .floats .given ∙ c .before .before .before .before .before .before .before .before .before .before .before .loop .inv .floats-same
+same-length-2 c = c .before .floats .given ∙ c .before .before .before .before .before .before .before .before .before .before .loop .inv .floats-same
 
 returns : tie.Need-returns Inv-loop μ-loop
-unfolding padded
 returns c =
-    let a = c .before .before .before .before .before .before .before .before .before .before .before .before .before .before .before .before .args in
-    let l = c .before .before .before .before .before .before .before .before .before .before .before .loop in
+    let a = c .before .before .before .before .before .before .before .before .before .before .before .before .before .before .before .args in
+    let l = c .before .before .before .before .before .before .before .before .before .before .loop in
     let i = l .inv in
     let q = lines (line (shapeOf (a .shape .now))) .read (drop (a .at) (a .s .now)) in
-    let all = all-rows (a .s .now) (a .shape .now) (a .at) (a .wholes .now) (a .floats .now) (c .before .before .before .before .before .before .before .before .before .before .before .before .before .before .before .before .pre .2) (l .wholes) (l .floats) (l .p) (l .n) (l .w) (l .f) i (omega arith) (c .before .before .before .before .before .before .before .before .if1 .taken) in
+    let all = all-rows (a .s .now) (a .shape .now) (a .at) (a .wholes .now) (a .floats .now) (c .before .before .before .before .before .before .before .before .before .before .before .before .before .before .before .pre .2) (l .wholes) (l .floats) (l .p) (l .n) (l .w) (l .f) i (omega arith) (c .before .before .before .before .before .before .before .if1 .taken) in
     let r : Read (a .s .now) q (i .taken) (l .p + 1) = record { within = omega arith; is = all } in (
       parsed-list (a .s .now) q (i .taken) (l .n) (l .p + 1) (sym (i .count)) r,
-      stored-parsed _ _ q _ _ (i .taken) _ all (cleared-behind 0 (a .wholes .now) (l .wholes) _ (flattened (wholesOf (shapeOf (a .shape .now))) (i .taken)) (l .w) (i .w-place) (i .w-fits) (i .wholes-are) (c .before .before .before .before .before .before .clear-wholes .ensures)),
-      stored-parsed _ _ q _ _ (i .taken) _ all (cleared-behind (ofBits binary64 0) (a .floats .now) (l .floats) _ (flattened (floatsOf (shapeOf (a .shape .now))) (i .taken)) (l .f) (i .f-place) (i .f-fits) (i .floats-are) (c .before .before .clear-from .ensures)),
+      stored-parsed _ _ q _ _ (i .taken) _ all (cleared-behind 0 (a .wholes .now) (l .wholes) _ (flattened (wholesOf (shapeOf (a .shape .now))) (i .taken)) (l .w) (i .w-place) (i .w-fits) (i .wholes-are) (c .before .before .before .before .clear-behind .ensures .0)),
+      stored-parsed _ _ q _ _ (i .taken) _ all (cleared-behind (ofBits binary64 0) (a .floats .now) (l .floats) _ (flattened (floatsOf (shapeOf (a .shape .now))) (i .taken)) (l .f) (i .f-place) (i .f-fits) (i .floats-are) (c .before .before .before .before .clear-behind .ensures .1)),
     )
 
 line-requires : tie.Need-line-requires Inv-loop μ-loop
@@ -117,33 +112,39 @@ loop-again c =
     next (c .before .before .before .before .before .before .before .before .before .before .before) .turn _ _ _ _ (c .before .before .before .before .before .before .before .put-wholes .ensures .0) (c .before .before .before .before .before .before .before .put-wholes .ensures .1) (c .before .before .put-floats .ensures .0) (c .before .before .put-floats .ensures .1)
 
 same-length-3 : tie.Need-same-length-3 Inv-loop μ-loop
-same-length-3 c = c .before .before .before .before .before .loop .inv .wholes-same
+same-length-3 c = c .before .before .before .wholes3 .given ∙ c .before .before .before .before .before .before .before .before .before .before .before .before .loop .inv .wholes-same
 
 same-length-4 : tie.Need-same-length-4 Inv-loop μ-loop
-same-length-4 c = c .before .before .before .before .before .loop .inv .floats-same
+same-length-4 c = c .before .floats3 .given ∙ c .before .before .before .before .before .before .before .before .before .before .before .before .loop .inv .floats-same
 
 returns-2 : tie.Need-returns-2 Inv-loop μ-loop
 returns-2 c =
-    let a = c .before .before .before .before .before .before .before .before .before .before .args in
-    let l = c .before .before .before .before .before .loop in
-    let line-bad = no-row-read (a .s .now) _ (c .before .line .result) (c .before .line .ensures) (c .if2 .left) in
+    let a = c .before .before .before .before .before .before .before .before .before .before .before .before .before .before .before .before .before .args in
+    let l = c .before .before .before .before .before .before .before .before .before .before .before .before .loop in
+    let line-bad = no-row-read (a .s .now) _ (c .before .before .before .before .before .before .before .before .line .result) (c .before .before .before .before .before .before .before .before .line .ensures) (c .before .before .before .before .before .before .before .if2 .left) in
     let q = lines (line (shapeOf (a .shape .now))) .read (drop (a .at) (a .s .now)) in
-    let none : q ≡ bad = rows-bad (a .s .now) (a .shape .now) (a .at) (a .wholes .now) (a .floats .now) (c .before .before .before .before .before .before .before .before .before .before .pre .2) (l .wholes) (l .floats) (l .p) (l .n) (l .w) (l .f) (l .inv) (omega arith) (c .before .before .if1 .left) line-bad in
-    (parsed-no-list (a .s .now) q none, stored-bad _ _ q _ _ none, stored-bad _ _ q _ _ none)
+    let none : q ≡ bad = rows-bad (a .s .now) (a .shape .now) (a .at) (a .wholes .now) (a .floats .now) (c .before .before .before .before .before .before .before .before .before .before .before .before .before .before .before .before .before .pre .2) (l .wholes) (l .floats) (l .p) (l .n) (l .w) (l .f) (l .inv) (omega arith) (c .before .before .before .before .before .before .before .before .before .if1 .left) line-bad in (
+      parsed-no-list (a .s .now) q none,
+      stored-bad _ _ q _ _ none (all-cleared 0 (a .wholes .now) (l .wholes) _ (l .inv .wholes-same) (c .before .before .before .before .clear-behind2 .ensures .0)),
+      stored-bad _ _ q _ _ none (all-cleared (ofBits binary64 0) (a .floats .now) (l .floats) _ (l .inv .floats-same) (c .before .before .before .before .clear-behind2 .ensures .1)),
+    )
 
 same-length-5 : tie.Need-same-length-5 Inv-loop μ-loop
-same-length-5 c = c .before .loop .inv .wholes-same
+same-length-5 c = c .before .before .before .wholes4 .given ∙ c .before .before .before .before .before .before .before .before .loop .inv .wholes-same
 
 same-length-6 : tie.Need-same-length-6 Inv-loop μ-loop
-same-length-6 c = c .before .loop .inv .floats-same
+same-length-6 c = c .before .floats4 .given ∙ c .before .before .before .before .before .before .before .before .loop .inv .floats-same
 
 returns-3 : tie.Need-returns-3 Inv-loop μ-loop
 returns-3 c =
-    let a = c .before .before .before .before .before .before .args in
-    let l = c .before .loop in
+    let a = c .before .before .before .before .before .before .before .before .before .before .before .before .before .args in
+    let l = c .before .before .before .before .before .before .before .before .loop in
     let q = lines (line (shapeOf (a .shape .now))) .read (drop (a .at) (a .s .now)) in
-    let none : q ≡ bad = rows-end (a .s .now) (a .shape .now) (a .at) (a .wholes .now) (a .floats .now) (c .before .before .before .before .before .before .pre .2) (l .wholes) (l .floats) (l .p) (l .n) (l .w) (l .f) (l .inv) (omega arith) in
-    (parsed-no-list (a .s .now) q none, stored-bad _ _ q _ _ none, stored-bad _ _ q _ _ none)
+    let none : q ≡ bad = rows-end (a .s .now) (a .shape .now) (a .at) (a .wholes .now) (a .floats .now) (c .before .before .before .before .before .before .before .before .before .before .before .before .before .pre .2) (l .wholes) (l .floats) (l .p) (l .n) (l .w) (l .f) (l .inv) (omega arith) in (
+      parsed-no-list (a .s .now) q none,
+      stored-bad _ _ q _ _ none (all-cleared 0 (a .wholes .now) (l .wholes) _ (l .inv .wholes-same) (c .before .before .before .before .clear-behind3 .ensures .0)),
+      stored-bad _ _ q _ _ none (all-cleared (ofBits binary64 0) (a .floats .now) (l .floats) _ (l .inv .floats-same) (c .before .before .before .before .clear-behind3 .ensures .1)),
+    )
 
 pub rows-spec : {M : Type 1} → statement M
 rows-spec =
@@ -153,8 +154,7 @@ rows-spec =
     μ-loop
     loop-holds
     (λ c. search needs)
-    clear-wholes-requires
-    clear-from-requires
+    clear-behind-requires
     (λ c. search needs)
     same-length
     same-length-2
@@ -167,9 +167,11 @@ rows-spec =
     add-n
     loop-less
     loop-again
+    (λ c κs. search needs)
     same-length-3
     same-length-4
     returns-2
+    (λ c κs. search needs)
     same-length-5
     same-length-6
     returns-3)

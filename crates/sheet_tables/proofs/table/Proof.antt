@@ -1,5 +1,5 @@
 -- `sheet_tables::table` meets its contract. Assumes nothing.
-use mathlib.Core.Path.{sym, ap, _∙_}
+use mathlib.Core.Path.{refl, sym, ap, _∙_}
 use lib.ListN.{drop}
 use lib.Ieee.{binary64, ofBits}
 use Rattle.text_format.specs.Format.{expect, lines}
@@ -10,7 +10,7 @@ use Rattle.sheet_row.specs.Rows.{floatsOf, wholesOf}
 use Rattle.sheet_tables.specs.Flattened.{flattened}
 use Rattle.sheet_tables.specs.Own.Answers.{tableOf}
 use Rattle.text_format.proofs.Place.{Read, parsed-no-list, names-read, names-bad, before-bad, before-is}
-use Rattle.sheet_tables.proofs.Stores.{stored-bad, stored-same}
+use Rattle.sheet_tables.proofs.Stores.{all-cleared, stored-bad, stored-same}
 use borrow.Author.Needs.{needs}
 use Rattle.sheet_tables.proofs.table.Statement.{statement}
 use Rattle.sheet_tables.proofs.table.Tie as tie
@@ -39,14 +39,14 @@ returns c =
 
 returns-2 : tie.Need-returns-2
 returns-2 c =
-    let a = c .before .before .before .before .before .before .before .before .args in
+    let a = c .before .before .before .before .before .before .before .before .before .before .before .before .before .before .before .args in
     let F = lines (line (shapeOf (a .shape .now))) in
     let q = tableOf (a .names .now) (a .shape .now) .read (drop (a .at) (a .s .now)) in
-    let no-names = names-bad (a .s .now) (a .names .now) 0 (a .at) (sym (c .enum-told .given .1) ∙ c .before .before .word .ensures) in
+    let no-names = names-bad (a .s .now) (a .names .now) 0 (a .at) (sym (c .before .before .before .before .before .before .before .enum-told .given .1) ∙ c .before .before .before .before .before .before .before .before .before .word .ensures) in
     let none = before-bad (a .s .now) (a .names .now) F (a .at) no-names in (
       parsed-no-list (a .s .now) q none,
-      stored-bad _ _ q _ _ none,
-      stored-bad _ _ q _ _ none,
+      stored-bad _ _ q _ _ none (all-cleared 0 (a .wholes .now) (a .wholes .now) _ refl (c .before .before .before .before .clear-behind .ensures .0)),
+      stored-bad _ _ q _ _ none (all-cleared (ofBits binary64 0) (a .floats .now) (a .floats .now) _ refl (c .before .before .before .before .clear-behind .ensures .1)),
     )
 
 pub table-spec : {M : Type 1} → statement M
@@ -57,7 +57,10 @@ table-spec =
     (λ c. search needs)
     rows-requires
     (λ c. search needs)
+    (λ c κs. search needs)
     (λ c. search needs)
     (λ c. search needs)
     returns
+    (λ c. search needs)
+    (λ c. search needs)
     returns-2)

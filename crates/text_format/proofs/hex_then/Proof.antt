@@ -2,7 +2,6 @@
 use mathlib.Core.Path.{_≡_, refl, sym, ap, _∙_}
 use mathlib.Core.List.{[], _∷_}
 use Rattle.text_format.specs.Format.{hex16}
-use Rattle.text_format.proofs.Laws.{Lawful}
 use Rattle.text_format.proofs.Digits.{hex16-law}
 use Rattle.text_format.specs.Own.Answers.{parsedAt}
 use Rattle.text_format.proofs.Place.{parsed-bad, read-at, read-bad, ending-is, ending-bad}

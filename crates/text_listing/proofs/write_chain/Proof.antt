@@ -7,6 +7,7 @@ use Rattle.text_format.specs.Bytes.{bytes}
 use Rattle.text_format.proofs.Buffer.{Part, none-written, some-written, some-fit, all-written}
 use Rattle.text_listing.specs.Listing.{lineBytes, rowOf, lineOf}
 use Rattle.text_listing.proofs.Lines.{row-length, linesFrom, next-line, no-line, lines-length, names-are, chain-written}
+use Rattle.text_listing.proofs.Laws.{listing-length, put-is}
 use borrow.Author.Needs.{needs}
 use Rattle.text_listing.proofs.write_chain.Statement.{statement}
 use Rattle.text_listing.proofs.write_chain.Tie as tie
@@ -54,7 +55,9 @@ returns c =
     let l = c .before .loop in
     let none = no-line (a .first) (a .last) (a .n) (a .chain .now) (l .i) (omega arith) in
     let all = all-written _ _ _ (l .out) (l .at) _ (l .inv .1) none in
-    chain-written (a .first) (a .last) (a .n) (a .chain .now) (a .out .now) _ (l .out) _ _ (l .at) names-are (c .before .before .before .before .put-bytes .ensures .0) (c .before .before .before .before .put-bytes .ensures .1) all
+    let few = listing-length (a .first) (a .last) (a .n) (a .chain .now) in
+    put-is _ (a .out .now) _ _ (omega (arith, c .before .before .before .before .before .before .before .before .before .pre .1))
+    (chain-written (a .first) (a .last) (a .n) (a .chain .now) (a .out .now) _ (l .out) _ _ (l .at) names-are (c .before .before .before .before .put-bytes .ensures .0) (c .before .before .before .before .put-bytes .ensures .1) all)
 
 pub write-chain-spec : {M : Type 1} → statement M
 write-chain-spec =

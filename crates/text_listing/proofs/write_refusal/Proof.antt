@@ -1,8 +1,10 @@
 -- `text_listing::write_refusal` meets its contract. Assumes nothing.
 use mathlib.Core.Path.{_∙_}
+use native.Mathlib.Omega.{arith}
 use lib.ListN.{length-set}
 use Rattle.text_format.specs.Bytes.{bytes}
 use Rattle.text_listing.proofs.Lines.{refusal-written}
+use Rattle.text_listing.proofs.Laws.{refusal-length, put-is}
 use borrow.Author.Needs.{needs}
 use Rattle.text_listing.proofs.write_refusal.Statement.{statement}
 use Rattle.text_listing.proofs.write_refusal.Tie as tie
@@ -14,7 +16,9 @@ returns : tie.Need-returns
 unfolding bytes
 returns c =
     let a = c .before .before .before .before .before .before .before .before .before .before .before .args in
-    refusal-written (a .cause) (c .before .before .before .before .top-of .result .count) (c .before .before .before .before .before .before .before .put-bytes .result) (a .out .now) _ _ (c .before .before .before .before .before .before .before .put-bytes .ensures .0) (c .before .before .before .before .before .before .before .put-bytes .ensures .1) (c .before .before .before .before .top-of .ensures .width) (c .before .before .put-digits .ensures)
+    let few = refusal-length (a .cause) (omega arith) in
+    put-is _ (a .out .now) _ _ (omega arith)
+    (refusal-written (a .cause) (c .before .before .before .before .top-of .result .count) (c .before .before .before .before .before .before .before .put-bytes .result) (a .out .now) _ _ (c .before .before .before .before .before .before .before .put-bytes .ensures .0) (c .before .before .before .before .before .before .before .put-bytes .ensures .1) (c .before .before .before .before .top-of .ensures .width) (c .before .before .put-digits .ensures))
 
 pub write-refusal-spec : {M : Type 1} → statement M
 write-refusal-spec =
