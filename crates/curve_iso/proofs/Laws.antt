@@ -16,6 +16,7 @@ use Rattle.curve.specs.Eval.{pointAt, segmentPoint, naturalRange, ellipsePoint,
 use Rattle.curve_iso.specs.Iso.{value, exact, rounded, roundedVector, isoLine, rustLine, isoCircle, rustCircle, isoEllipse, rustEllipse, isoParabola, rustParabola, isoPolyline, isoPolylineFromOne, rustPolyline, isoSegment, rustSegment, crossPart}
 use Rattle.curve_iso.specs.Claims.{NumbersFollow, PlacementFollows, LineFollows, CircleFollows, EllipseFollows, ParabolaFollows, PolylineFollows, segmentsFrom, CompositeFollows, TrimFollows}
 use Rattle.curve_iso.proofs.Taken.{kept, open-kept, holds, clamped-lies}
+use Rattle.curve_iso.proofs.Wrapped.{wrapped, ended}
 
 -- what is used of the ring's laws
 module _ {ℓ} {A : Type ℓ} (K : CommRing A) where
@@ -119,6 +120,8 @@ polyline-follows = record {
   exactFromOne = λ K P next i u. rw (add-sub-add-right-eq-sub (group K) (exact K u) (exact K i) (K .one)) (weights K (exact K P) (exact K next) (exact K i) (exact K u));
   rounded = λ ps t l. rw (ne-eqb (length ps) 0 (λ e. omega arith), ne-eqb (length ps) 1 (λ e. omega arith));
   parameter = open-kept;
+  wrapped = λ ps t c b. wrapped ps c b t;
+  ended = ended;
   taken = λ ps t l b lies. rw (two-less (length ps)) at (holds (length ps - 1) (polylineParameter ps t) (omega arith) (omega arith) lies);
 }
   where

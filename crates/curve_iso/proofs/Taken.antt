@@ -3,22 +3,22 @@ use mathlib.Core.Path.{_≡_, refl, sym, ap, _∙_, subst}
 use mathlib.Core.Bool.{Bool, true, false, not, cond}
 use mathlib.Core.List.{List}
 use Prim.Native.Nat.{ℕ, _+_, _-_, _*_, _/_, _%_, _^_, _≤_, _<_, min}
-use native.Mathlib.Nat.{le-of-lt, le-trans, le-of-mul-le-mul-right, mul-le-mul-right, zero-mul, zero-mod, zero-div, add-mul, div-mul-le-self, div-lt-iff-lt-mul, min-eq-left, min-eq-right}
+use native.Mathlib.Nat.{le-of-lt, le-trans, le-of-mul-le-mul-right, mul-le-mul-right, zero-mul, zero-mod, add-mul, le-mul-of-pos-right, div-add-mod', div-mul-le-self, div-lt-iff-lt-mul, div-eq-of-lt-le, div-eq-of-eq-mul-left, min-eq-left, min-eq-right}
 use native.Mathlib.Omega.{arith}
 use lib.Dec.{T, leb, leb→le, nleb→lt, eqb}
 use lib.ListN.{length}
 use lib.Ieee.{Float, nan, inf, fin, binary64, up, down, lt, le, isNan, ofBits, ofInt, toUnsigned}
 use lib.Ieee.Bits.{is-true}
-use lib.Ieee.Back.{unsigned-back}
+use lib.Ieee.Fits.{down-pos}
 use lib.Ieee.Scale.{finite}
 use lib.Ieee.Positive.{den, den-pos}
-use borrow.Author.Tests.{eq-eqb}
+use borrow.Author.Tests.{eqb-true}
 use Rattle.arith_order.proofs.Signed.{plus, neg', le→, le←, no-sign, ring}
 use Rattle.arith_order.proofs.Laws.{number, number-right, le-refl, lt→nle, nlt→le, refuted, between, whole, whole-le}
 use Rattle.arith.specs.Notation.{count, plusZero}
 use Rattle.arith.specs.Floor.{floorOf}
 use Rattle.arith.proofs.Cmp.{never, holds as holds-true, finite-number}
-use Rattle.arith.proofs.Floors.{picked, kept as whole-kept, as-float}
+use Rattle.arith.proofs.Floors.{picked, kept as whole-kept}
 use Rattle.math.specs.declared.Vec3.{Vec3}
 use Rattle.curve.specs.Eval.{closes, polylineParameter, indexIn, clampedTo}
 use Rattle.curve_iso.specs.Claims.{LiesOn, Holds}
@@ -39,32 +39,53 @@ module _ (k : ℕ) (K : k ≤ 2 ^ 53) (u : Float) (f : T (finite u)) where
       let g = simp ring at (mul-le-mul-right (den x) h) in
       is-true (le u x) (le← u x f (w .0) (rw (w .1, w .2) (simp ring (omega (arith, g, zero-mul (den u))))))
 
-  at-most : le u (count k) ≡ true → plus u ≤ k * den u + neg' u
+  pub at-most : le u (count k) ≡ true → plus u ≤ k * den u + neg' u
   at-most h =
       let w = whole binary64 k K in
       let x = count k in
       let g = rw (w .1, w .2) at (le→ u x f (w .0) (holds-true h)) in
       le-of-mul-le-mul-right {k = den x} (simp ring (omega (arith, simp ring at g, zero-mul (den u)))) (den-pos x)
 
--- ---- a u that is not below zero, without its fraction
-floor-cut : (u : Float) → T (finite u) → neg' u ≡ 0 → plus u / den u ≤ 2 ^ 53 → toUnsigned 64 (floorOf u) ≡ plus u / den u
-unfolding toUnsigned
-floor-cut nan f z l = absurd f
-floor-cut (inf s) f z l = absurd f
-floor-cut (fin true m e) f z l =
-    ap (toUnsigned 64) (sym (whole-kept true m e (eq-eqb (m * up e % down e) 0 (ap (λ (a : ℕ). a % down e) z ∙ zero-mod (down e))))) ∙ sym (zero-div (down e))
-floor-cut (fin false m e) f z l = go (eqb (m * up e % down e) 0) refl
+  pub at-least : le (count k) u ≡ true → k * den u + neg' u ≤ plus u
+  at-least h =
+      let w = whole binary64 k K in
+      let x = count k in
+      let g = rw (w .1, w .2) at (le→ x u (w .0) f (holds-true h)) in
+      le-of-mul-le-mul-right {k = den x} (simp ring (omega (arith, simp ring at g, zero-mul (den u)))) (den-pos x)
+
+-- ---- the floor of a q from k to below k + 1 is k
+abbrev pub Is : Float → ℕ → Type 0
+Is x k = T (finite x) × (plus x ≡ k * den x) × (neg' x ≡ 0)
+
+pub floor-is : (q : Float) (k : ℕ) → k ≤ 2 ^ 53 → T (finite q) → neg' q ≡ 0 → k * den q ≤ plus q → plus q < k * den q + den q → Is (floorOf q) k
+floor-is nan k K f z l h = absurd f
+floor-is (inf s) k K f z l h = absurd f
+floor-is (fin true m e) k K f z l h = subst (λ (x : Float). Is x k) (whole-kept true m e (rw (z, zero-mod (down e)))) (tt, omega arith, z)
+floor-is (fin false m e) k K f z l h = go (eqb (m * up e % down e) 0) refl
   where
-    go : (o : Bool) → eqb (m * up e % down e) 0 ≡ o → toUnsigned 64 (floorOf (fin false m e)) ≡ m * up e / down e
-    go true h = ap (toUnsigned 64) (sym (whole-kept false m e h)) ∙ omega arith
-    go false h = ap (toUnsigned 64) (picked false m e h) ∙ unsigned-back binary64 64 (m * up e / down e) (as-float (m * up e / down e) l) (omega arith) .1
+    quotient : m * up e / down e ≡ k
+    quotient = div-eq-of-lt-le (down e) l (omega (arith, add-mul k 1 (down e)))
+
+    go : (o : Bool) → eqb (m * up e % down e) 0 ≡ o → Is (floorOf (fin false m e)) k
+    go true w =
+        let r = ap (λ (x : ℕ). x * down e) quotient in
+        subst (λ (x : Float). Is x k) (whole-kept false m e w) (tt, omega (arith, r, div-add-mod' (m * up e) (down e), eqb-true (m * up e % down e) 0 w), refl)
+    go false w = subst (λ (x : Float). Is x k) (sym (picked false m e w ∙ ap count quotient)) (whole binary64 k K)
+
+-- so the cast of a whole number gives it
+cut : (x : Float) (k : ℕ) → k ≤ 2 ^ 53 → Is x k → toUnsigned 64 x ≡ k
+unfolding toUnsigned
+cut nan k K i = absurd (i .0)
+cut (inf s) k K i = absurd (i .0)
+cut (fin true m e) k K i = omega (arith, i .1, le-mul-of-pos-right k (down-pos e))
+cut (fin false m e) k K i = omega (arith, div-eq-of-eq-mul-left (down-pos e) (i .1))
 
 -- ---- the segment taken
-zero-finite : T (finite plusZero)
+pub zero-finite : T (finite plusZero)
 unfolding ofBits
 zero-finite = tt
 
-no-sign-of : (u : Float) → T (finite u) → le plusZero u ≡ true → neg' u ≡ 0
+pub no-sign-of : (u : Float) → T (finite u) → le plusZero u ≡ true → neg' u ≡ 0
 unfolding ofBits
 no-sign-of u f h = no-sign u f (holds-true h)
 
@@ -84,8 +105,9 @@ module _ (n : ℕ) (u : Float) (p : 0 < n) (b : n ≤ 2 ^ 53) (l : LiesOn n u) w
       let d = den-pos u in
       let top : plus u ≤ n * den u = omega (arith, at-most n b u is-finite (l .high)) in
       let most : q < n + 1 = div-lt-iff-lt-mul d .1 (omega (arith, add-mul n 1 (den u))) in
-      let cut = floor-cut u is-finite z (omega arith) in
-      subst (λ (k : ℕ). Holds n (min k (n - 1)) u) (sym cut) (go (leb q (n - 1)) (leb→le q (n - 1)) (nleb→lt q (n - 1)) top)
+      let next : plus u < (q + 1) * den u = div-lt-iff-lt-mul d .0 (omega arith) in
+      let i = floor-is u q (omega arith) is-finite z (div-mul-le-self (plus u) (den u)) (omega (arith, next, add-mul q 1 (den u))) in
+      subst (λ (k : ℕ). Holds n (min k (n - 1)) u) (sym (cut (floorOf u) q (omega arith) i)) (go (leb q (n - 1)) (leb→le q (n - 1)) (nleb→lt q (n - 1)) top)
     where
       go : (o : Bool) → (T o → plus u / den u ≤ n - 1) → (T (not o) → n - 1 < plus u / den u) → plus u ≤ n * den u → Holds n (min (plus u / den u) (n - 1)) u
       go true h k top =

@@ -8,7 +8,8 @@ use mathlib.Core.List.{List}
 use mathlib.Mathlib.Algebra.Ring.Defs.{CommRing}
 use Prim.Native.Nat.{ℕ, zero, suc, _+_, _-_, _^_, _≤_, _<_}
 use lib.ListN.{length, getD}
-use lib.Ieee.{Float, le, isNan}
+use lib.Dec.{T}
+use lib.Ieee.{Float, binary64, fits, lt, le, eq, isNan}
 use Rattle.arith.specs.Notation.{count, plusZero}
 use Rattle.arith_trig.specs.Trig.{sinOf, cosOf}
 use Rattle.math.specs.declared.Vec3.{Vec3}
@@ -82,7 +83,12 @@ pub record PolylineFollows {ℓ} : Type (ℓ + 1) where
       pointAt (polyline ps) t ≡ roundedVector (λ part. rustPolyline (part (getD ps i vZero)) (part (getD ps (i + 1) vZero)) (value (count i)) (value u))
   -- on an open polyline u is t itself, -0.0 too
   pub parameter : (ps : List Vec3) (t : Float) → closes ps ≡ false → LiesOn (length ps - 1) t → polylineParameter ps t ≡ t
-  -- the segment taken is the one that holds u, where u lies on the polyline: by `parameter`, on an open one wherever t does
+  -- on a closed one u equals t, for a double t from 0 to below the end; the sign of a zero is left open
+  pub wrapped : (ps : List Vec3) (t : Float) → closes ps ≡ true → length ps ≤ 2 ^ 53 → T (fits binary64 t) →
+      le plusZero t ≡ true → lt t (count (length ps - 1)) ≡ true → eq (polylineParameter ps t) t ≡ true
+  -- and at the end u is 0 again
+  pub ended : (ps : List Vec3) → closes ps ≡ true → length ps ≤ 2 ^ 53 → eq (polylineParameter ps (count (length ps - 1))) plusZero ≡ true
+  -- the segment taken is the one that holds u, where u lies on the polyline: by the three above, wherever a double t does
   pub taken : (ps : List Vec3) (t : Float) → 2 ≤ length ps → length ps ≤ 2 ^ 53 → let u = polylineParameter ps t in
       LiesOn (length ps - 1) u → Holds (length ps - 1) (indexIn (length ps - 2) u) u
 
