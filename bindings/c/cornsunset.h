@@ -52,7 +52,9 @@ typedef struct {
     size_t points_len;    /* each length counts numbers, not rows */
     const uint32_t *curves; /* kind first count of each curve row; at most 4,096 rows. Kinds: 1 line, 2 circle, 3 ellipse,
                              * 4 parabola, 5 polyline, 6 trimmed, 7 composite. first is the first of count points (1: origin
-                             * direction; 2 to 4: origin axis ref_dir), the base row (6), or the first of count segments (7) */
+                             * direction; 2 to 4: origin axis ref_dir), the base row (6), or the first of count segments (7). axis and
+                             * ref_dir are taken as they are: hand unit vectors at right angles. A circle of radius 20 with
+                             * ref_dir (2,0,0) is drawn with radius 40, and nothing tells */
     size_t curves_len;
     const double *reals; /* p q of each curve row: radius, semi-axes, focal distance, a trim's range; unused ones are 0 */
     size_t reals_len;
@@ -73,11 +75,14 @@ typedef struct {
 } cs_edge;
 
 typedef struct {
-    double deflection; /* largest distance of chord and curve; where relative is 1, as a fraction of scale */
-    cs_angle angle;    /* largest turn between two chords */
+    double deflection; /* the sag: how far a span's chord may lie from the curve at the span's middle parameter; a length, or
+                        * where relative is 1 a fraction of scale */
+    cs_angle angle;    /* how far the tangents at a span's two ends may turn from each other; on a circle or an ellipse the
+                        * largest step too. Both are what a span is tested by, and no bounds on the chain: what a curve does
+                        * between those places is not seen, and a span with no depth left is not tested again */
     uint32_t relative; /* 0 or 1 */
-    uint64_t segments; /* least number of segments of an edge */
-    uint32_t depth;    /* largest depth of bisection, 1 to 24 */
+    uint64_t segments; /* least number of segments of an edge; 0 counts as 1 */
+    uint32_t depth;    /* how often a span may be halved, held to 1..24 */
     double scale;      /* size of the part; not finite or not above 0: none */
 } cs_options;
 

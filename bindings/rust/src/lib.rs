@@ -30,7 +30,8 @@ use std::ops::Deref;
 /// Points, curve rows and segments as five lent slices. `bindings/c/cornsunset.h` says what a row holds.
 #[derive(Debug, Clone, Copy, Default)]
 pub struct Tables<'a> {
-    /// x y z of each point.
+    /// x y z of each point. A curve's axis and ref_dir are points too, and are taken as they are: hand unit vectors at right
+    /// angles. A circle of radius 20 with ref_dir (2,0,0) is drawn with radius 40, and nothing tells.
     pub points: &'a [f64],
     /// kind first count of each curve row.
     pub curves: &'a [u32],
@@ -98,18 +99,20 @@ impl Angle {
     }
 }
 
-/// How finely to draw.
+/// How finely to draw. `deflection` and `angle` are what a span is tested by, and no bounds on the chain: what a curve does
+/// between the places that are looked at is not seen, and a span with no depth left is not tested again.
 #[derive(Debug, Clone, Copy, PartialEq)]
 pub struct Options {
-    /// The largest distance between chord and curve, or that as a fraction of the scale where relative is 1.
+    /// The sag: how far a span's chord may lie from the curve at the span's middle parameter. A length; where relative is 1,
+    /// a fraction of the scale.
     pub deflection: f64,
-    /// The largest turn between two chords.
+    /// How far the tangents at a span's two ends may turn from each other; on a circle or an ellipse the largest step too.
     pub angle: Angle,
     /// 0 or 1.
     pub relative: u32,
-    /// The least number of segments.
+    /// The least number of segments; 0 counts as 1.
     pub segments: u64,
-    /// The largest depth of bisection, 1 to 24.
+    /// How often a span may be halved, held to 1..24.
     pub depth: u32,
     /// The size of the part; not finite or not above zero, it is none.
     pub scale: f64,

@@ -1,7 +1,8 @@
 -- sin, cos and acos in fixed steps, every operation rounded once. Definitions only.
 -- Where t is NaN or an infinity, so is k, r is NaN, and so are sin and cos. The steps are the same for every other t. Measured, not proved: up to
--- 6e6 in magnitude they give the sine and the cosine to about one rounding; at 1e9 to within 6e-8; beyond about 1e15 what is left of t is no
--- longer small, and what they give is neither, but still one fixed float.
+-- 7 in magnitude they were within 1.3e-16 of the sine and the cosine, up to 6e6 within 1.5e-16, at 1e9 within 6e-8 (absolute: near a zero of the
+-- sine that is many units in the last place); beyond about 1e15 what is left of t is no longer small, and what they give is neither, but still
+-- one fixed float.
 use mathlib.Core.Bool.{true, false, cond}
 use mathlib.Core.List.{List, [], _∷_}
 use Prim.Native.Nat.{ℕ, zero, suc, _-_, _*_, _/_, _%_}

@@ -32,6 +32,7 @@ tangentTurn Nothing b = plusZero
 unfoldable pub isWithin : Resolved → End → End → Vec3 → Bool
 isWithin r a b pm = le (sagOf (a .point) (b .point) pm) (r .sag) && le (tangentTurn (a .tangent) (b .tangent)) (r .angle)
 
--- a curve between two parameters is within budget: deviation at most the sag, and turn at most the angle
+-- a curve between two parameters is within budget: deviation at most the sag, and turn at most the angle. The deviation is that of one point,
+-- at the middle parameter, and the turn that of the tangents at the two ends: what the curve does elsewhere in the span is not looked at
 unfoldable pub withinBudget : CurveTree → Resolved → Float → Float → Bool
 withinBudget c r a b = isWithin r (endAt c a) (endAt c b) (pointAt c (midpoint a b))

@@ -48,14 +48,21 @@ impl Angle {
     }
 }
 
-// How finely to draw.
+// How finely to draw. `deflection` and `angle` are what a span is tested by, and no bounds on the chain: what a curve does
+// between the places that are looked at is not seen, and a span with no depth left is not tested again.
 pub struct Options {
-    // The largest distance between chord and curve, or that as a fraction of the scale where relative is 1.
+    // The sag: how far a span's chord may lie from the curve at the span's middle parameter. A length; where relative is 1, a
+    // fraction of the scale.
     pub deflection: f64,
+    // How far the tangents at a span's two ends may turn from each other; on a circle or an ellipse the largest step too.
     pub angle: Angle,
+    // 0 or 1.
     pub relative: u32,
+    // The least number of segments; 0 counts as 1.
     pub segments: u64,
+    // How often a span may be halved, held to 1..24.
     pub depth: u32,
+    // The size of the model; not finite, or not above zero, it is none.
     pub scale: f64,
 }
 
