@@ -1,5 +1,5 @@
-/* Cornsunset in C: an edge of a part becomes a chain of points. Link with target/staticlib/libffi.a (rt staticlib ffi),
- * by its path or under a name of its own, since -lffi is GNU libffi.
+/* Cornsunset in C: an edge of a part becomes a chain of points. Link with target/staticlib/libcornsunset.a
+ * (rt staticlib cornsunset).
  *
  * Every function is proved to answer as its definition says for any numbers and any contents of any lengths; cs_draw_over
  * alone asks for tables that cs_check_tables accepted. What else is left to the caller is what C leaves to every caller: a

@@ -1,9 +1,9 @@
--- `ffi::cs_degrees` meets its contract. Assumes nothing.
+-- `cornsunset::cs_degrees` meets its contract. Assumes nothing.
 use mathlib.Core.Path.{ap, _∙_}
 use Rattle.options.specs.declared.Angle.{Angle}
 use borrow.Author.Needs.{needs}
-use Rattle.ffi.proofs.cs_degrees.Statement.{statement}
-use Rattle.ffi.proofs.cs_degrees.Tie as tie
+use Rattle.cornsunset.proofs.cs_degrees.Statement.{statement}
+use Rattle.cornsunset.proofs.cs_degrees.Tie as tie
 
 returns : tie.Need-returns
 returns c = c .to-radians .ensures ∙ ap (λ (r : Angle). r .0) (c .before .degrees .ensures)

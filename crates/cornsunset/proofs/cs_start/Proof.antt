@@ -1,7 +1,7 @@
--- `ffi::cs_start` meets its contract. Assumes nothing.
+-- `cornsunset::cs_start` meets its contract. Assumes nothing.
 use borrow.Author.Needs.{needs}
-use Rattle.ffi.proofs.cs_start.Statement.{statement}
-use Rattle.ffi.proofs.cs_start.Tie as tie
+use Rattle.cornsunset.proofs.cs_start.Statement.{statement}
+use Rattle.cornsunset.proofs.cs_start.Tie as tie
 
 returns : tie.Need-returns
 returns c = c .start-at .ensures

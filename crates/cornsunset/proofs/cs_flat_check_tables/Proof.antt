@@ -1,10 +1,10 @@
--- `ffi::cs_flat_check_tables` meets its contract. Assumes nothing.
+-- `cornsunset::cs_flat_check_tables` meets its contract. Assumes nothing.
 use mathlib.Core.Path.{ap, _∙_}
 use Rattle.ffi_numbers.specs.Numbers.{causeOf}
-use Rattle.ffi.proofs.Laws.{accepted}
+use Rattle.cornsunset.proofs.Laws.{accepted}
 use borrow.Author.Needs.{needs}
-use Rattle.ffi.proofs.cs_flat_check_tables.Statement.{statement}
-use Rattle.ffi.proofs.cs_flat_check_tables.Tie as tie
+use Rattle.cornsunset.proofs.cs_flat_check_tables.Statement.{statement}
+use Rattle.cornsunset.proofs.cs_flat_check_tables.Tie as tie
 
 returns : tie.Need-returns
 returns c =

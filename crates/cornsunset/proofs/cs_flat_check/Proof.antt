@@ -1,7 +1,7 @@
--- `ffi::cs_flat_check` meets its contract. Assumes nothing.
+-- `cornsunset::cs_flat_check` meets its contract. Assumes nothing.
 use borrow.Author.Needs.{needs}
-use Rattle.ffi.proofs.cs_flat_check.Statement.{statement}
-use Rattle.ffi.proofs.cs_flat_check.Tie as tie
+use Rattle.cornsunset.proofs.cs_flat_check.Statement.{statement}
+use Rattle.cornsunset.proofs.cs_flat_check.Tie as tie
 
 returns : tie.Need-returns
 returns c = rw (c .cause-of .ensures, c .before .check .ensures, c .before .before .options-of .ensures, c .before .before .before .edge-of .ensures)

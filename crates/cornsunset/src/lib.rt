@@ -10,7 +10,7 @@ ghost use Rattle.causes.specs.Causes.{verdict, tablesVerdict};
 ghost use Rattle.options.specs.Options.{radians as inRadians, degrees, isClamped, defaultOptions, draftOptions, fineOptions};
 ghost use Rattle.edge_walker.specs.Walk.{startOf, stepped};
 ghost use Rattle.ffi_numbers.specs.Numbers.{edgeOf, optionsOf, causeOf, passed, pointAfter};
-ghost use Rattle.ffi.specs.Numbered.{NumberedOutcome};
+ghost use Rattle.cornsunset.specs.Numbered.{NumberedOutcome};
 
 // Draws an edge: 0, or the refusal's number.
 #[no_mangle]

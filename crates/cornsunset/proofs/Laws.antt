@@ -25,7 +25,7 @@ use Rattle.draw_spec.proofs.Sound.{drawn-numbers}
 use Rattle.draw_spec.proofs.ReadBack.{fits-first, fits-second}
 use Rattle.ffi_numbers.specs.declared.Codes.{Codes}
 use Rattle.ffi_numbers.specs.Numbers.{causeOf, numberOf, codesOf}
-use Rattle.ffi.specs.Numbered.{answerTo, Numbered, NumberedOutcome}
+use Rattle.cornsunset.specs.Numbered.{answerTo, Numbered, NumberedOutcome}
 
 -- ways are numbered from 1 to 5
 way-numbers : (w : Way) → (1 ≤ numberOf w) × (numberOf w ≤ 5)

@@ -1,9 +1,9 @@
--- `ffi::cs_is_clamped` meets its contract. Assumes nothing.
+-- `cornsunset::cs_is_clamped` meets its contract. Assumes nothing.
 use mathlib.Core.Path.{ap, _∙_}
 use Rattle.options.specs.Options.{isClamped}
 use borrow.Author.Needs.{needs}
-use Rattle.ffi.proofs.cs_is_clamped.Statement.{statement}
-use Rattle.ffi.proofs.cs_is_clamped.Tie as tie
+use Rattle.cornsunset.proofs.cs_is_clamped.Statement.{statement}
+use Rattle.cornsunset.proofs.cs_is_clamped.Tie as tie
 
 returns : tie.Need-returns
 returns c = c .is-clamped .ensures ∙ ap isClamped (c .before .radians .ensures)

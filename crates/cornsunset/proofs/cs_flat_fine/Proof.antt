@@ -1,7 +1,7 @@
--- `ffi::cs_flat_fine` meets its contract: what it stores are the preset's six numbers. Assumes nothing.
+-- `cornsunset::cs_flat_fine` meets its contract: what it stores are the preset's six numbers. Assumes nothing.
 use borrow.Author.Needs.{needs}
-use Rattle.ffi.proofs.cs_flat_fine.Statement.{statement}
-use Rattle.ffi.proofs.cs_flat_fine.Tie as tie
+use Rattle.cornsunset.proofs.cs_flat_fine.Statement.{statement}
+use Rattle.cornsunset.proofs.cs_flat_fine.Tie as tie
 
 returns : tie.Need-returns
 returns c = rw (c .to-radians .ensures) (c .before .fine .ensures)

@@ -1,10 +1,10 @@
--- `ffi::cs_step` meets its contract. Assumes nothing.
+-- `cornsunset::cs_step` meets its contract. Assumes nothing.
 use mathlib.Core.Path.{ap, _∙_}
 use Rattle.edge_walker.specs.declared.Stepped.{Stepped}
 use Rattle.ffi_numbers.specs.Numbers.{passed, pointAfter}
 use borrow.Author.Needs.{needs}
-use Rattle.ffi.proofs.cs_step.Statement.{statement}
-use Rattle.ffi.proofs.cs_step.Tie as tie
+use Rattle.cornsunset.proofs.cs_step.Statement.{statement}
+use Rattle.cornsunset.proofs.cs_step.Tie as tie
 
 returns : tie.Need-returns
 returns c =
