@@ -141,11 +141,11 @@ fn compare(seen: &mut Seen, sheet: &Sheet, (m, n): (usize, usize)) -> usize {
             0
         }
         (Ok(chain), Drawn::Chain(way, count)) => {
-            assert_eq!((chain.way() as usize, chain.len()), (way as usize + 1, count), "buffers {m} {n}:\n{sheet:?}");
-            assert_eq!(chain.floats().as_ptr(), buffers[usize::from(chain.way() as u32 > 2)]);
+            assert_eq!((chain.way().number(), chain.len()), (way as u32 + 1, count), "buffers {m} {n}:\n{sheet:?}");
+            assert_eq!(chain.floats().as_ptr(), buffers[usize::from(chain.way().number() > 2)]);
             walk(&chain);
             let copied = |x: f64| x.is_nan() && x.to_bits() << 1 != 0x7ff8_0000_0000_0000 << 1;
-            seen.payloads += u64::from(chain.iter().any(|p| copied(p[3])));
+            seen.payloads += u64::from(chain.iter().any(|p| copied(p.t())));
             *seen.answers.entry(format!("{:?}", chain.way())).or_default() += 1;
             seen.longest = seen.longest.max(count);
             cs::WIDTH * count
@@ -188,9 +188,9 @@ fn tables_cause(tables: &Tables) -> Option<u32> {
 
 /// A walk passes the chain's points, there and back.
 fn walk(chain: &cs::Chain) {
-    let bits = |p: cs::Point| p.map(f64::to_bits);
-    assert!(chain.forwards().map(bits).eq(chain.iter().map(|p| bits(*p))));
-    assert!(chain.backwards().map(bits).eq(chain.iter().rev().map(|p| bits(*p))));
+    let bits = |p: &cs::Point| [p.x(), p.y(), p.z(), p.t()].map(f64::to_bits);
+    assert!(chain.forwards().map(|p| bits(&p)).eq(chain.iter().map(bits)));
+    assert!(chain.backwards().map(|p| bits(&p)).eq(chain.iter().rev().map(bits)));
 }
 
 fn same(a: &[f64], b: &[f64]) -> bool {

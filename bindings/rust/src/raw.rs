@@ -1,10 +1,5 @@
 //! The library's functions over numbers, as bindings/c/cornsunset.h describes them. A slice is a pointer and a length.
-
-/// How many floats a point of a chain has.
-pub const WIDTH: usize = 4;
-
-/// A point of a chain: x y z t.
-pub type Point = [f64; WIDTH];
+use crate::chain::Point;
 
 /// Declares functions that take tables, an edge and options, and then what is named here, and return a refusal's number or 0.
 macro_rules! edge_functions {
