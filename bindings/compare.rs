@@ -36,7 +36,7 @@ fn main() {
         }
     }
     println!("{} sheets, {} draws alike, longest chain {} points", number(1), seen.draws, seen.longest);
-    println!("  over checked tables: {}", seen.over);
+    println!("  over checked tables: {}, of these in buffers that grow: {}", seen.over, seen.grown);
     for (answer, times) in &seen.answers {
         println!("  {answer}: {times}");
     }
@@ -48,6 +48,7 @@ fn main() {
 struct Seen {
     draws: u64,
     over: u64,
+    grown: u64,
     longest: usize,
     payloads: u64,
     answers: BTreeMap<String, u64>,
@@ -177,6 +178,28 @@ fn compare_over(
     assert_eq!(got.map(|chain| (chain.way(), chain.len())), answer, "over, buffers {m} {n}:\n{sheet:?}");
     assert!(same(&first, buffers.0) && same(&second, buffers.1), "other floats over, buffers {m} {n}:\n{sheet:?}");
     seen.over += 1;
+    if m.min(n) >= MOST {
+        compare_grown(seen, sheet, &checked, answer, buffers);
+    }
+}
+
+/// Draws into buffers that grow, for this answer in the largest buffers.
+fn compare_grown(
+    seen: &mut Seen,
+    sheet: &Sheet,
+    checked: &cs::Checked,
+    answer: Result<(cs::Way, usize), cs::Refusal>,
+    buffers: (&[f64], &[f64]),
+) {
+    let grown = checked.draw(&our_edge(&sheet.edge), &our_options(&sheet.options));
+    let got = grown.as_ref().map(|chain| (chain.way(), chain.len())).map_err(|refusal| *refusal);
+    assert_eq!(got, answer, "grown:\n{sheet:?}");
+    if let Ok(chain) = grown {
+        let floats = chain.as_chain().floats();
+        let buffer = if chain.way().number() > 2 { buffers.1 } else { buffers.0 };
+        assert!(same(floats, &buffer[..floats.len()]), "other floats grown:\n{sheet:?}");
+    }
+    seen.grown += 1;
 }
 
 /// The lowest cause with an edge and options that have none, but that the tables may be empty.

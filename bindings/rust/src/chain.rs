@@ -235,8 +235,9 @@ impl Iterator for Walk<'_> {
 
     fn next(&mut self) -> Option<Point> {
         let (chain, mut point) = (self.chain, Point::ORIGIN);
-        // SAFETY: a slice is lent for the call, and two values of its own to write.
-        let passed = unsafe { raw::cs_step(chain.as_ptr(), chain.len(), self.forward, &mut self.at, &mut point) };
+        let floats: *mut f64 = (&raw mut point).cast();
+        // SAFETY: a slice is lent for the call, and two values of its own to write; the point is WIDTH floats.
+        let passed = unsafe { raw::cs_step(chain.as_ptr(), chain.len(), self.forward, &mut self.at, floats) };
         (passed == 1).then_some(point)
     }
 }

@@ -178,6 +178,20 @@ fn buffers_grow_up_to_the_most_points() {
 }
 
 #[test]
+fn a_checked_part_is_drawn_from_many_threads() {
+    let mut part = part();
+    let circle = part.circle(O, Z, X, 20.0).unwrap();
+    let vertex = part.point([20.0, 0.0, 0.0]);
+    let edge = part.edge(circle, vertex, vertex, Angle::ZERO..Angle::FULL_TURN);
+    let part = part.check().unwrap();
+    let expected = part.draw(&edge, &options()).unwrap();
+    std::thread::scope(|scope| {
+        let threads = [0; 3].map(|_| scope.spawn(|| part.draw(&edge, &options())));
+        assert!(threads.into_iter().all(|thread| thread.join().unwrap() == Ok(expected.clone())));
+    });
+}
+
+#[test]
 fn composites_and_trims_run_on() {
     let mut part = part();
     let line = part.line([10.0, 0.0, 0.0], [-1.0, 0.0, 0.0]).unwrap();
