@@ -90,8 +90,9 @@ typedef struct {
     uint32_t end;   /* point of the end vertex */
     uint32_t sense; /* 1 if the edge runs with its curve, 0 if against it; looked at where start and end are within ten
                      * tolerances of each other, as on a full circle: else the chain runs from start to end by itself */
-    double lo, hi;  /* range of the curve's parameter, lo below hi. One that does not rise, or is NaN or infinite, counts as lost:
-                     * then the curve's whole range is drawn, a full turn on a circle, and on a line the chord */
+    double lo, hi;  /* range of the curve's parameter, lo below hi. One that does not rise, or is NaN or infinite, counts as
+                     * lost: then the curve's whole range is drawn, a full turn on a circle; on a line the chord; and a parabola
+                     * from -1e6 to 1e6, which mostly ends in CS_NO_ROOM */
     double tolerance; /* how exact the file says the edge is, a length; 0 where it says nothing. Neighbours in the chain within
                        * four tolerances, and within half the sag, become one point; 0 or less merges none. A short arc has to
                        * come within ten tolerances, or the sag, of both vertices. At most 1e9 in magnitude, not clamped */
@@ -168,7 +169,7 @@ static inline const char *cs_sentence(uint32_t refusal) {
 }
 
 /* ---- the library's own functions, over plain numbers: cs_draw, cs_draw_over, cs_check and cs_check_tables below hand them the
- * fields of the structs in order. These here take no NULL, as Rust's slices have none; those below put another for it */
+ * fields of the structs in order. Hand these here no NULL, not even with a length of 0; those below put a pointer for it */
 
 /* Draws an edge into the two chain buffers: 0, or the number of the refusal that applies, the lowest from 1 to 7, else 8 or 9
  * as drawing meets it. *way is the way in which the chain was got (0 for a refusal) and *count how many points it has (0).
