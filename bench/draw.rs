@@ -8,7 +8,7 @@
 use std::hint::black_box;
 use std::time::Instant;
 
-// the functions of ffi
+// the functions of cornsunset
 #[allow(dead_code)]
 #[path = "../bindings/rust/src/raw.rs"]
 mod raw;

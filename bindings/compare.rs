@@ -36,7 +36,7 @@ fn main() {
         }
     }
     println!("{} sheets, {} draws alike, longest chain {} points", number(1), seen.draws, seen.longest);
-    println!("  over checked tables: {}", seen.over);
+    println!("  over checked tables: {}, of these in buffers that grow: {}", seen.over, seen.grown);
     for (answer, times) in &seen.answers {
         println!("  {answer}: {times}");
     }
@@ -48,6 +48,7 @@ fn main() {
 struct Seen {
     draws: u64,
     over: u64,
+    grown: u64,
     longest: usize,
     payloads: u64,
     answers: BTreeMap<String, u64>,
@@ -141,11 +142,11 @@ fn compare(seen: &mut Seen, sheet: &Sheet, (m, n): (usize, usize)) -> usize {
             0
         }
         (Ok(chain), Drawn::Chain(way, count)) => {
-            assert_eq!((chain.way() as usize, chain.len()), (way as usize + 1, count), "buffers {m} {n}:\n{sheet:?}");
-            assert_eq!(chain.floats().as_ptr(), buffers[usize::from(chain.way() as u32 > 2)]);
+            assert_eq!((chain.way().number(), chain.len()), (way as u32 + 1, count), "buffers {m} {n}:\n{sheet:?}");
+            assert_eq!(chain.floats().as_ptr(), buffers[usize::from(chain.way().number() > 2)]);
             walk(&chain);
             let copied = |x: f64| x.is_nan() && x.to_bits() << 1 != 0x7ff8_0000_0000_0000 << 1;
-            seen.payloads += u64::from(chain.iter().any(|p| copied(p[3])));
+            seen.payloads += u64::from(chain.iter().any(|p| copied(p.t())));
             *seen.answers.entry(format!("{:?}", chain.way())).or_default() += 1;
             seen.longest = seen.longest.max(count);
             cs::WIDTH * count
@@ -177,6 +178,28 @@ fn compare_over(
     assert_eq!(got.map(|chain| (chain.way(), chain.len())), answer, "over, buffers {m} {n}:\n{sheet:?}");
     assert!(same(&first, buffers.0) && same(&second, buffers.1), "other floats over, buffers {m} {n}:\n{sheet:?}");
     seen.over += 1;
+    if m.min(n) >= MOST {
+        compare_grown(seen, sheet, &checked, answer, buffers);
+    }
+}
+
+/// Draws into buffers that grow, for this answer in the largest buffers.
+fn compare_grown(
+    seen: &mut Seen,
+    sheet: &Sheet,
+    checked: &cs::Checked,
+    answer: Result<(cs::Way, usize), cs::Refusal>,
+    buffers: (&[f64], &[f64]),
+) {
+    let grown = checked.draw(&our_edge(&sheet.edge), &our_options(&sheet.options));
+    let got = grown.as_ref().map(|chain| (chain.way(), chain.len())).map_err(|refusal| *refusal);
+    assert_eq!(got, answer, "grown:\n{sheet:?}");
+    if let Ok(chain) = grown {
+        let floats = chain.as_chain().floats();
+        let buffer = if chain.way().number() > 2 { buffers.1 } else { buffers.0 };
+        assert!(same(floats, &buffer[..floats.len()]), "other floats grown:\n{sheet:?}");
+    }
+    seen.grown += 1;
 }
 
 /// The lowest cause with an edge and options that have none, but that the tables may be empty.
@@ -188,9 +211,9 @@ fn tables_cause(tables: &Tables) -> Option<u32> {
 
 /// A walk passes the chain's points, there and back.
 fn walk(chain: &cs::Chain) {
-    let bits = |p: cs::Point| p.map(f64::to_bits);
-    assert!(chain.forwards().map(bits).eq(chain.iter().map(|p| bits(*p))));
-    assert!(chain.backwards().map(bits).eq(chain.iter().rev().map(|p| bits(*p))));
+    let bits = |p: &cs::Point| [p.x(), p.y(), p.z(), p.t()].map(f64::to_bits);
+    assert!(chain.forwards().map(|p| bits(&p)).eq(chain.iter().map(bits)));
+    assert!(chain.backwards().map(|p| bits(&p)).eq(chain.iter().rev().map(bits)));
 }
 
 fn same(a: &[f64], b: &[f64]) -> bool {

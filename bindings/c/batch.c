@@ -6,13 +6,11 @@
 #include <stdlib.h>
 #include <string.h>
 
-enum { MOST_POINTS = 65536, MOST_ROWS = 4096 };
-
 static const char *const KINDS[] = {"", "line", "circle", "ellipse", "parabola", "polyline", "trimmed", "composite"};
 
 static char line[4096];
-static double points[3 * MOST_POINTS], reals[2 * MOST_ROWS], ranges[2 * MOST_ROWS];
-static uint32_t curves[3 * MOST_ROWS], parts[2 * MOST_ROWS];
+static double points[3 * CS_MOST_TABLE_POINTS], reals[2 * CS_MOST_CURVES], ranges[2 * CS_MOST_SEGMENTS];
+static uint32_t curves[3 * CS_MOST_CURVES], parts[2 * CS_MOST_SEGMENTS];
 static cs_tables tables = {points, 0, curves, 0, reals, 0, parts, 0, ranges, 0};
 static cs_edge edge;
 static cs_options options;
@@ -55,7 +53,7 @@ static void add_curve(void) {
     uint32_t *row = curves + tables.curves_len;
     const int got = sscanf(line, "%15s %" SCNu32 " %" SCNu32 " %" SCNx64 " %" SCNx64, word, row + 1, row + 2, &p, &q);
     demand(got == 5, "a curve row");
-    for (row[0] = 1; row[0] < 7 && strcmp(word, KINDS[row[0]]) != 0; row[0]++) {
+    for (row[0] = CS_KIND_LINE; row[0] < CS_KIND_COMPOSITE && strcmp(word, KINDS[row[0]]) != 0; row[0]++) {
     }
     reals[tables.reals_len] = of_bits(p), reals[tables.reals_len + 1] = of_bits(q);
     tables.curves_len += 3, tables.reals_len += 2;
@@ -129,8 +127,8 @@ static void answer(double *first, size_t m, double *second, size_t n) {
     double p[CS_WIDTH];
     const size_t length = CS_WIDTH * count;
     for (size_t at = cs_start(chain, length, true); cs_step(chain, length, true, &at, p);) {
-        printf("%016" PRIx64 " %016" PRIx64 " %016" PRIx64 " %016" PRIx64 "\n", bits_of(p[0]), bits_of(p[1]), bits_of(p[2]),
-               bits_of(p[3]));
+        printf("%016" PRIx64 " %016" PRIx64 " %016" PRIx64 " %016" PRIx64 "\n", bits_of(p[CS_X]), bits_of(p[CS_Y]),
+               bits_of(p[CS_Z]), bits_of(p[CS_T]));
     }
 }
 

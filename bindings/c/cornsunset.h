@@ -1,17 +1,24 @@
-/* Cornsunset in C: an edge of a part becomes a chain of points. Link with target/staticlib/libffi.a (rt staticlib ffi),
- * by its path or under a name of its own, since -lffi is GNU libffi.
+/* Cornsunset in C: an edge of a part becomes a chain of points. Link with -lcornsunset: target/staticlib/libcornsunset.a, made
+ * by rt staticlib cornsunset, or what bindings/install put into place (pkg-config cornsunset).
  *
  * Every function is proved to answer as its definition says for any numbers and any contents of any lengths; cs_draw_over
  * alone asks for tables that cs_check_tables accepted. What else is left to the caller is what C leaves to every caller: a
- * pointer is not NULL (not even with a length of 0), has so many elements as the length beside it says, and what is written
+ * pointer has so many elements as the length beside it says, NULL is handed only with a length of 0, and what is written
  * (buffers, out values) overlaps nothing else that is handed over. No function keeps a pointer, allocates, prints or fails
- * in another way than it says. All may be called from any thread. */
+ * in another way than it says. All may be called from any thread.
+ *
+ * A later version may add doubles to a point (CS_WIDTH), kinds, refusals, ways, and fields at the end of a struct that mean
+ * nothing new where they are 0. So reckon with CS_WIDTH, give a switch over refusals a default, and set fields by name. */
 #ifndef CORNSUNSET_H
 #define CORNSUNSET_H
 
 #include <stdbool.h>
 #include <stddef.h>
 #include <stdint.h>
+
+/* The version, as text and for #if: 10000 major + 100 minor + patch. */
+#define CS_VERSION "0.2.0"
+#define CS_VERSION_NUMBER 200
 
 #ifdef __cplusplus
 extern "C" {
@@ -44,21 +51,34 @@ static inline cs_angle cs_angle_radians(double x) {
 static inline bool cs_angle_is_clamped(cs_angle a) { return cs_is_clamped(a.radians); }
 
 /* ---- tables, edge and options; coordinates, deflection and tolerance are in the part's own unit of length. Each lo and hi,
- * and a trim's p and q, are in the curve's own parameter: radians on a circle or an ellipse, the point's index on a polyline,
- * the segment's index on a composite, the base's parameter on a trim */
+ * and a trim's p and q, are in the curve's own parameter, which stands beside each kind. */
+
+/* The kinds of curve rows; what a row's first and count name, what its p and q are (0 where nothing is said), its parameter. */
+enum {
+    CS_KIND_LINE = 1,     /* points origin, direction; the parameter counts directions: origin + t direction */
+    CS_KIND_CIRCLE = 2,   /* points origin, axis, ref_dir; p radius; radians from ref_dir, about the axis by the right hand */
+    CS_KIND_ELLIPSE = 3,  /* points origin, axis, ref_dir; p semi-axis along ref_dir, q the other; radians */
+    CS_KIND_PARABOLA = 4, /* points origin, axis, ref_dir; p focal distance; a plain t: p t t along ref_dir, 2 p t beside it */
+    CS_KIND_POLYLINE = 5, /* any run of points; the point's index, from 0 */
+    CS_KIND_TRIMMED = 6,  /* first is the base's row, count is 1; p and q the range; the base's parameter */
+    CS_KIND_COMPOSITE = 7 /* any run of segments; the segment's index, from 0 */
+};
+
+/* The tables' sizes. */
+#define CS_MOST_TABLE_POINTS 65536
+#define CS_MOST_CURVES 4096
+#define CS_MOST_SEGMENTS 4096
+#define CS_MOST_NESTING 8
 
 typedef struct {
-    const double *points; /* x y z of each point; at most 65,536 points */
+    const double *points; /* x y z of each point. A frame's axis and ref_dir are taken as they are: hand unit vectors at right
+                           * angles. A circle of radius 20 with ref_dir (2,0,0) is drawn with radius 40, and nothing tells */
     size_t points_len;    /* each length counts numbers, not rows */
-    const uint32_t *curves; /* kind first count of each curve row; at most 4,096 rows. Kinds: 1 line, 2 circle, 3 ellipse,
-                             * 4 parabola, 5 polyline, 6 trimmed, 7 composite. first is the first of count points (1: origin
-                             * direction; 2 to 4: origin axis ref_dir), the base row (6), or the first of count segments (7). axis and
-                             * ref_dir are taken as they are: hand unit vectors at right angles. A circle of radius 20 with
-                             * ref_dir (2,0,0) is drawn with radius 40, and nothing tells */
+    const uint32_t *curves; /* kind first count of each curve row; a trim's base and a segment's curve are lower rows */
     size_t curves_len;
-    const double *reals; /* p q of each curve row: radius, semi-axes, focal distance, a trim's range; unused ones are 0 */
+    const double *reals; /* p q of each curve row */
     size_t reals_len;
-    const uint32_t *parts; /* curve sense of each segment of a composite; at most 4,096 segments; sense is 0 or 1 */
+    const uint32_t *parts; /* curve sense of each segment of a composite; sense is 0 or 1 */
     size_t parts_len;
     const double *ranges; /* lo hi of each segment */
     size_t ranges_len;
@@ -68,28 +88,41 @@ typedef struct {
     uint32_t curve; /* curve row */
     uint32_t start; /* point of the start vertex */
     uint32_t end;   /* point of the end vertex */
-    uint32_t sense; /* 1 if the edge runs with its curve, 0 if against it */
-    double lo, hi;  /* range of the curve's parameter; may be NaN or infinite */
-    double tolerance;
-    uint32_t low, high; /* points that are the least and the greatest corner of the part's box */
+    uint32_t sense; /* 1 if the edge runs with its curve, 0 if against it; looked at where start and end are within ten
+                     * tolerances of each other, as on a full circle: else the chain runs from start to end by itself */
+    double lo, hi;  /* range of the curve's parameter, lo below hi. One that does not rise, or is NaN or infinite, counts as
+                     * lost: then the curve's whole range is drawn, a full turn on a circle; on a line the chord; and a parabola
+                     * from -1e6 to 1e6, which mostly ends in CS_NO_ROOM */
+    double tolerance; /* how exact the file says the edge is, a length; 0 where it says nothing. Neighbours in the chain within
+                       * four tolerances, and within half the sag, become one point; 0 or less merges none. A short arc has to
+                       * come within ten tolerances, or the sag, of both vertices. At most 1e9 in magnitude, not clamped */
+    uint32_t low, high; /* points that are the least and the greatest corner of the part's box. A chain is repaired that has a
+                         * point further from the box's centre than its diagonal and sixteen sags together */
 } cs_edge;
 
 typedef struct {
     double deflection; /* the sag: how far a span's chord may lie from the curve at the span's middle parameter; a length, or
-                        * where relative is 1 a fraction of scale */
+                        * where relative is 1 a fraction of scale, and for a small edge less, down to an eighth */
     cs_angle angle;    /* how far the tangents at a span's two ends may turn from each other; on a circle or an ellipse the
-                        * largest step too. Both are what a span is tested by, and no bounds on the chain: what a curve does
-                        * between those places is not seen, and a span with no depth left is not tested again */
+                        * largest step too. Clamped to 1e-4 .. pi radians. Both are what a span is tested by, and no bounds on
+                        * the chain: what a curve does between those places is not seen, and a span with no depth left is not
+                        * tested again */
     uint32_t relative; /* 0 or 1 */
-    uint64_t segments; /* least number of segments of an edge; 0 counts as 1 */
-    uint32_t depth;    /* how often a span may be halved, held to 1..24 */
-    double scale;      /* size of the part; not finite or not above 0: none */
+    uint64_t segments; /* least number of segments that an edge is sampled with, before points are merged; 0 counts as 1. No
+                        * upper end but the room: n segments need n + 1 points, or the edge is refused with CS_NO_ROOM */
+    uint32_t depth;    /* how often a span may be halved where a curve is bisected; clamped to 1 .. 24 */
+    double scale;      /* size of the part, a length, as its box's diagonal; not finite or not above 0: none, and deflection is
+                        * a length */
 } cs_options;
 
 /* ---- chains */
 
-/* The doubles of a point in a chain: x y z t. */
-enum { CS_WIDTH = 4 };
+/* The doubles of a point in a chain, x y z t, and the place of each among them. */
+#define CS_WIDTH 4
+enum { CS_X = 0, CS_Y = 1, CS_Z = 2, CS_T = 3 };
+
+/* The most points of a chain: a buffer of CS_WIDTH * CS_MOST_POINTS doubles gives all the room there is. */
+#define CS_MOST_POINTS 16384
 
 /* ---- refusals and ways */
 
@@ -103,7 +136,7 @@ enum {
     CS_TOO_DEEP = 5,     /* trims and composites are nested deeper than 8 */
     CS_MISSING = 6,      /* the edge's curve, start, end, low or high is outside its table */
     CS_SHORT_BUFFER = 7, /* a chain buffer is shorter than two points, 2 * CS_WIDTH doubles */
-    CS_NO_ROOM = 8,      /* a list of parameters is longer than the buffers have room for, or than 16,384 */
+    CS_NO_ROOM = 8,      /* a list of parameters is longer than the buffers have room for, or than CS_MOST_POINTS */
     CS_ENDLESS = 9       /* a span would be split without end, since no distance in it is above zero */
 };
 
@@ -128,7 +161,7 @@ static inline const char *cs_sentence(uint32_t refusal) {
     case CS_UNORDERED: return "A trim's base, or the curve of a composite's segment, is not in a lower row than its own.";
     case CS_TOO_DEEP: return "Trims and composites are nested deeper than 8.";
     case CS_MISSING: return "The edge's curve, or one of its points, is outside its table.";
-    case CS_SHORT_BUFFER: return "A chain buffer is shorter than 8 floats.";
+    case CS_SHORT_BUFFER: return "A chain buffer is shorter than two points.";
     case CS_NO_ROOM: return "A list of parameters is longer than the chain buffers have room for.";
     case CS_ENDLESS: return "A span would be split without end, since no distance in it is above zero.";
     default: return "There is no such refusal.";
@@ -136,7 +169,7 @@ static inline const char *cs_sentence(uint32_t refusal) {
 }
 
 /* ---- the library's own functions, over plain numbers: cs_draw, cs_draw_over, cs_check and cs_check_tables below hand them the
- * fields of the structs in order */
+ * fields of the structs in order. Hand these here no NULL, not even with a length of 0; those below put a pointer for it */
 
 /* Draws an edge into the two chain buffers: 0, or the number of the refusal that applies, the lowest from 1 to 7, else 8 or 9
  * as drawing meets it. *way is the way in which the chain was got (0 for a refusal) and *count how many points it has (0).
@@ -177,7 +210,7 @@ void cs_flat_default(double *deflection, double *radians, uint32_t *relative, ui
 void cs_flat_draft(double *deflection, double *radians, uint32_t *relative, uint64_t *segments, uint32_t *depth, double *scale);
 void cs_flat_fine(double *deflection, double *radians, uint32_t *relative, uint64_t *segments, uint32_t *depth, double *scale);
 
-/* ---- walking a chain; chain_len counts doubles, and only whole points are walked */
+/* ---- walking a chain; chain_len counts doubles, and only whole points are walked. Where it is 0 the chain is not looked at */
 
 /* The place where a walk begins: before the first point, or behind the last. A place counts the points before it. */
 size_t cs_start(const double *chain, size_t chain_len, bool forward);
@@ -187,16 +220,31 @@ uint32_t cs_step(const double *chain, size_t chain_len, bool forward, size_t *at
 
 /* ---- drawing and checking */
 
+/* A pointer for the library, with as many elements: that of a slice of length 0 may be NULL. */
+static inline const double *cs_held_doubles(const double *p, size_t len) {
+    static const double none = 0;
+    return len == 0 ? &none : p;
+}
+
+static inline const uint32_t *cs_held_numbers(const uint32_t *p, size_t len) {
+    static const uint32_t none = 0;
+    return len == 0 ? &none : p;
+}
+
+#define CS_DOUBLES(t, name) cs_held_doubles((t)->name, (t)->name##_len), (t)->name##_len
+#define CS_NUMBERS(t, name) cs_held_numbers((t)->name, (t)->name##_len), (t)->name##_len
+#define CS_BUFFER(p, len, none) (len) == 0 ? (none) : (p), (len)
 #define CS_TABLES(t) \
-    (t)->points, (t)->points_len, (t)->curves, (t)->curves_len, (t)->reals, (t)->reals_len, (t)->parts, (t)->parts_len, \
-        (t)->ranges, (t)->ranges_len
+    CS_DOUBLES(t, points), CS_NUMBERS(t, curves), CS_DOUBLES(t, reals), CS_NUMBERS(t, parts), CS_DOUBLES(t, ranges)
 #define CS_EDGE(e) (e)->curve, (e)->start, (e)->end, (e)->sense, (e)->lo, (e)->hi, (e)->tolerance, (e)->low, (e)->high
 #define CS_OPTIONS(o) (o)->deflection, (o)->angle.radians, (o)->relative, (o)->segments, (o)->depth, (o)->scale
 
 /* Checks everything and draws: as cs_flat_draw. */
 static inline uint32_t cs_draw(const cs_tables *t, const cs_edge *e, const cs_options *o, double *first, size_t first_len,
                                double *second, size_t second_len, uint32_t *way, size_t *count) {
-    return cs_flat_draw(CS_TABLES(t), CS_EDGE(e), CS_OPTIONS(o), first, first_len, second, second_len, way, count);
+    double none = 0;
+    return cs_flat_draw(CS_TABLES(t), CS_EDGE(e), CS_OPTIONS(o), CS_BUFFER(first, first_len, &none),
+                        CS_BUFFER(second, second_len, &none), way, count);
 }
 
 /* Checks tables, edge and options: as cs_flat_check. */
@@ -211,9 +259,14 @@ static inline uint32_t cs_check_tables(const cs_tables *t) { return cs_flat_chec
  * tables, and that nothing in them changed since. */
 static inline uint32_t cs_draw_over(const cs_tables *t, const cs_edge *e, const cs_options *o, double *first,
                                     size_t first_len, double *second, size_t second_len, uint32_t *way, size_t *count) {
-    return cs_flat_draw_over(CS_TABLES(t), CS_EDGE(e), CS_OPTIONS(o), first, first_len, second, second_len, way, count);
+    double none = 0;
+    return cs_flat_draw_over(CS_TABLES(t), CS_EDGE(e), CS_OPTIONS(o), CS_BUFFER(first, first_len, &none),
+                        CS_BUFFER(second, second_len, &none), way, count);
 }
 
+#undef CS_DOUBLES
+#undef CS_NUMBERS
+#undef CS_BUFFER
 #undef CS_TABLES
 #undef CS_EDGE
 #undef CS_OPTIONS

@@ -5,11 +5,10 @@
 int main(void) {
     /* The circle's origin, axis and ref_dir; its vertex; the corners of the box. */
     const double points[] = {0, 0, 0, 0, 0, 1, 1, 0, 0, 2, 0, 0, -2, -2, 0, 2, 2, 0};
-    const uint32_t curves[] = {2, 0, 3};
+    const uint32_t curves[] = {CS_KIND_CIRCLE, 0, 3};
     const double reals[] = {2, 0};
-    const uint32_t parts[1] = {0};
-    const double ranges[1] = {0};
-    const cs_tables tables = {points, 18, curves, 3, reals, 2, parts, 0, ranges, 0};
+    /* It has no segments: NULL and 0. */
+    const cs_tables tables = {.points = points, .points_len = 18, .curves = curves, .curves_len = 3, .reals = reals, .reals_len = 2};
     const cs_edge edge = {.curve = 0, .start = 3, .end = 3, .sense = 1, .lo = 0, .hi = 6.283185307179586, .low = 4, .high = 5};
     cs_options options = cs_options_default();
     options.scale = 4;
@@ -31,7 +30,7 @@ int main(void) {
     for (int forward = 1; forward >= 0; forward--) {
         size_t at = cs_start(chain, CS_WIDTH * count, forward);
         while (cs_step(chain, CS_WIDTH * count, forward, &at, point)) {
-            printf("%9.6f %9.6f %9.6f  t %.6f\n", point[0], point[1], point[2], point[3]);
+            printf("%9.6f %9.6f %9.6f  t %.6f\n", point[CS_X], point[CS_Y], point[CS_Z], point[CS_T]);
         }
     }
     options.angle = cs_angle_radians(8);

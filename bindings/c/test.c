@@ -1,5 +1,5 @@
-/* What no sheet can hold: tables above their size, slices that are not whole rows, short buffers; and tables that are checked
- * once, NaN parameters, walks, presets and angles. */
+/* What no sheet can hold: tables above their size, slices that are not whole rows or are NULL, short buffers; and tables that
+ * are checked once, NaN parameters, walks, presets and angles. */
 #include "cornsunset.h"
 #include <stdio.h>
 #include <stdlib.h>
@@ -16,14 +16,15 @@ static void expect(bool holds, int line) {
 #define EXPECT(x) expect(x, __LINE__)
 
 /* A line with origin 0 and direction (2, 0, 0), vertices at x 0 and 10; the tables have room to be made too long. */
-static double points[3 * 65536 + 1] = {0, 0, 0, 2, 0, 0, 10, 0, 0};
-static uint32_t curves[3 * 4096 + 1] = {1, 0, 2}, parts[2 * 4096 + 1];
-static double reals[2 * 4096 + 1], ranges[2 * 4096 + 1];
+enum { POINTS = 3 * CS_MOST_TABLE_POINTS, CURVES = 3 * CS_MOST_CURVES, REALS = 2 * CS_MOST_CURVES, PARTS = 2 * CS_MOST_SEGMENTS };
+static double points[POINTS + 1] = {0, 0, 0, 2, 0, 0, 10, 0, 0};
+static uint32_t curves[CURVES + 1] = {CS_KIND_LINE, 0, 2}, parts[PARTS + 1];
+static double reals[REALS + 1], ranges[PARTS + 1];
 static const cs_tables LINE = {points, 9, curves, 3, reals, 2, parts, 0, ranges, 0};
 static const cs_edge EDGE = {.end = 2, .sense = 1, .hi = 5, .high = 2};
 static const cs_options OPTIONS = {.deflection = 1, .angle = {1}, .segments = 4, .depth = 12};
 
-enum { LENGTH = 65536 + 8 };
+enum { MOST = CS_WIDTH * CS_MOST_POINTS, LENGTH = MOST + 8 };
 static double first[LENGTH], second[LENGTH], third[LENGTH], fourth[LENGTH];
 static uint32_t way;
 static size_t count;
@@ -64,18 +65,18 @@ static void tables(void) {
     cs_tables t = LINE;
     EXPECT(refusal_of(t) == CS_DRAWN && way == CS_AS_DRAWN && count == 5);
     EXPECT(all(first + 20, 380, 0) && all(second, 401, 0));
-    t.points_len = 3 * 65536, EXPECT(refusal_of(t) == CS_DRAWN);
-    t.points_len = 3 * 65536 + 1, EXPECT(refusal_of(t) == CS_OVERSIZE);
-    t = LINE, t.curves_len = 3 * 4096 + 1, EXPECT(refusal_of(t) == CS_OVERSIZE);
-    t = LINE, t.reals_len = 2 * 4096 + 1, EXPECT(refusal_of(t) == CS_OVERSIZE);
-    t = LINE, t.parts_len = 2 * 4096 + 1, EXPECT(refusal_of(t) == CS_OVERSIZE);
-    t = LINE, t.ranges_len = 2 * 4096 + 1, EXPECT(refusal_of(t) == CS_OVERSIZE);
-    t = LINE, t.parts_len = t.ranges_len = 2 * 4096, EXPECT(refusal_of(t) == CS_DRAWN);
-    for (size_t i = 3; i < 3 * 4096; i++) curves[i] = curves[i % 3];
+    t.points_len = POINTS, EXPECT(refusal_of(t) == CS_DRAWN);
+    t.points_len = POINTS + 1, EXPECT(refusal_of(t) == CS_OVERSIZE);
+    t = LINE, t.curves_len = CURVES + 1, EXPECT(refusal_of(t) == CS_OVERSIZE);
+    t = LINE, t.reals_len = REALS + 1, EXPECT(refusal_of(t) == CS_OVERSIZE);
+    t = LINE, t.parts_len = PARTS + 1, EXPECT(refusal_of(t) == CS_OVERSIZE);
+    t = LINE, t.ranges_len = PARTS + 1, EXPECT(refusal_of(t) == CS_OVERSIZE);
+    t = LINE, t.parts_len = t.ranges_len = PARTS, EXPECT(refusal_of(t) == CS_DRAWN);
+    for (size_t i = 3; i < CURVES; i++) curves[i] = curves[i % 3];
     cs_edge last = EDGE;
-    last.curve = 4095;
-    t = LINE, t.curves_len = 3 * 4096, t.reals_len = 2 * 4096, EXPECT(draw(t, last, OPTIONS, 400, 401) == CS_DRAWN && count == 5);
-    last.curve = 4096, EXPECT(draw(t, last, OPTIONS, 400, 401) == CS_MISSING);
+    last.curve = CS_MOST_CURVES - 1;
+    t = LINE, t.curves_len = CURVES, t.reals_len = REALS, EXPECT(draw(t, last, OPTIONS, 400, 401) == CS_DRAWN && count == 5);
+    last.curve = CS_MOST_CURVES, EXPECT(draw(t, last, OPTIONS, 400, 401) == CS_MISSING);
     t = LINE, t.points_len = 10, EXPECT(refusal_of(t) == CS_ILL_FORMED);
     t = LINE, t.points_len = 8, EXPECT(refusal_of(t) == CS_ILL_FORMED);
     t = LINE, t.curves_len = 4, EXPECT(refusal_of(t) == CS_ILL_FORMED);
@@ -85,25 +86,45 @@ static void tables(void) {
     EXPECT(cs_check(&t, &EDGE, &OPTIONS) == CS_MISSING && cs_check(&LINE, &EDGE, &OPTIONS) == 0);
 }
 
+/* NULL with a length of 0: tables without rows, of each sort, and buffers. */
+static void nulls(void) {
+    const cs_tables none = {0};
+    cs_tables t = LINE;
+    t.parts = NULL, t.ranges = NULL;
+    EXPECT(cs_check_tables(&t) == CS_DRAWN && cs_check(&t, &EDGE, &OPTIONS) == CS_DRAWN);
+    EXPECT(draw_over(t, EDGE, OPTIONS, 400, 401) == CS_DRAWN && way == CS_AS_DRAWN && count == 5);
+    EXPECT(cs_check_tables(&none) == CS_DRAWN && cs_check(&none, &EDGE, &OPTIONS) == CS_MISSING);
+    EXPECT(draw_over(none, EDGE, OPTIONS, 400, 401) == CS_MISSING);
+    t.reals = NULL, t.reals_len = 0, EXPECT(refusal_of(t) == CS_ILL_FORMED);
+    t = LINE, t.curves = NULL, t.curves_len = 0, EXPECT(refusal_of(t) == CS_ILL_FORMED);
+    t = LINE, t.points = NULL, t.points_len = 0, EXPECT(refusal_of(t) == CS_ILL_FORMED);
+    EXPECT(cs_draw(&LINE, &EDGE, &OPTIONS, NULL, 0, NULL, 0, &way, &count) == CS_SHORT_BUFFER && way == CS_NO_CHAIN);
+    EXPECT(cs_draw_over(&LINE, &EDGE, &OPTIONS, first, 400, NULL, 0, &way, &count) == CS_SHORT_BUFFER && count == 0);
+    double p[CS_WIDTH];
+    size_t at = cs_start(NULL, 0, false);
+    EXPECT(at == 0 && cs_step(NULL, 0, true, &at, p) == 0 && cs_step(NULL, 0, false, &at, p) == 0);
+}
+
 static void buffers(void) {
     cs_options o = OPTIONS;
-    EXPECT(draw(LINE, EDGE, o, 7, 400) == CS_SHORT_BUFFER);
+    EXPECT(draw(LINE, EDGE, o, 2 * CS_WIDTH - 1, 400) == CS_SHORT_BUFFER);
     EXPECT(draw(LINE, EDGE, o, 400, 0) == CS_SHORT_BUFFER);
-    EXPECT(draw(LINE, EDGE, o, 19, 400) == CS_NO_ROOM);
-    EXPECT(draw(LINE, EDGE, o, 400, 19) == CS_NO_ROOM);
-    EXPECT(draw(LINE, EDGE, o, 23, 20) == CS_DRAWN && count == 5);
-    o.segments = 1, EXPECT(draw(LINE, EDGE, o, 8, 65536) == CS_DRAWN && count == 2);
-    o.segments = 16383, EXPECT(draw(LINE, EDGE, o, 65536, 65539) == CS_DRAWN && count == 16384);
-    o.segments = 16384, EXPECT(draw(LINE, EDGE, o, 65540, 65544) == CS_NO_ROOM);
-    o.segments = UINT64_MAX, EXPECT(draw(LINE, EDGE, o, 65536, 65536) == CS_NO_ROOM);
+    EXPECT(draw(LINE, EDGE, o, 5 * CS_WIDTH - 1, 400) == CS_NO_ROOM);
+    EXPECT(draw(LINE, EDGE, o, 400, 5 * CS_WIDTH - 1) == CS_NO_ROOM);
+    EXPECT(draw(LINE, EDGE, o, 6 * CS_WIDTH - 1, 5 * CS_WIDTH) == CS_DRAWN && count == 5);
+    o.segments = 1, EXPECT(draw(LINE, EDGE, o, 2 * CS_WIDTH, MOST) == CS_DRAWN && count == 2);
+    o.segments = CS_MOST_POINTS - 1, EXPECT(draw(LINE, EDGE, o, MOST, MOST + 3) == CS_DRAWN && count == CS_MOST_POINTS);
+    o.segments = CS_MOST_POINTS, EXPECT(draw(LINE, EDGE, o, MOST + 4, MOST + 8) == CS_NO_ROOM);
+    o.segments = UINT64_MAX, EXPECT(draw(LINE, EDGE, o, MOST, MOST) == CS_NO_ROOM);
 }
 
 static void once(void) {
     cs_tables t = LINE;
-    t.points_len = 3 * 65536 + 1, EXPECT(cs_check_tables(&t) == CS_OVERSIZE);
+    t.points_len = POINTS + 1, EXPECT(cs_check_tables(&t) == CS_OVERSIZE);
     t = LINE, t.points_len = 8, EXPECT(cs_check_tables(&t) == CS_ILL_FORMED);
     t = LINE, points[0] = 2e9, EXPECT(cs_check_tables(&t) == CS_UNBOUNDED), points[0] = 0;
-    t = LINE, curves[0] = 6, curves[2] = 1, EXPECT(cs_check_tables(&t) == CS_UNORDERED), curves[0] = 1, curves[2] = 2;
+    t = LINE, curves[0] = CS_KIND_TRIMMED, curves[2] = 1, EXPECT(cs_check_tables(&t) == CS_UNORDERED);
+    curves[0] = CS_KIND_LINE, curves[2] = 2;
     t = LINE, t.curves_len = t.reals_len = 0, EXPECT(draw_over(t, EDGE, OPTIONS, 400, 400) == CS_MISSING);
     EXPECT(draw_over(LINE, EDGE, OPTIONS, 400, 401) == CS_DRAWN && count == 5);
     cs_edge e = EDGE;
@@ -111,8 +132,8 @@ static void once(void) {
     e = EDGE, e.sense = 2, EXPECT(draw_over(LINE, e, OPTIONS, 400, 400) == CS_ILL_FORMED);
     e = EDGE, e.curve = 1, EXPECT(draw_over(LINE, e, OPTIONS, 400, 400) == CS_MISSING);
     e = EDGE, e.high = 3, EXPECT(draw_over(LINE, e, OPTIONS, 400, 400) == CS_MISSING);
-    EXPECT(draw_over(LINE, EDGE, OPTIONS, 7, 400) == CS_SHORT_BUFFER);
-    EXPECT(draw_over(LINE, EDGE, OPTIONS, 400, 19) == CS_NO_ROOM);
+    EXPECT(draw_over(LINE, EDGE, OPTIONS, 2 * CS_WIDTH - 1, 400) == CS_SHORT_BUFFER);
+    EXPECT(draw_over(LINE, EDGE, OPTIONS, 400, 5 * CS_WIDTH - 1) == CS_NO_ROOM);
 }
 
 /* A chord without a usable range copies lo and hi with their bits, a runaway's lo twice. */
@@ -121,13 +142,13 @@ static void nans(void) {
     cs_edge e = EDGE;
     memcpy(&e.lo, bits, 8), memcpy(&e.hi, bits + 1, 8);
     EXPECT(draw(LINE, e, OPTIONS, 30, 41) == CS_DRAWN && way == CS_CHORD && count == 2);
-    EXPECT(memcmp(first + 3, bits, 8) == 0 && memcmp(first + 7, bits + 1, 8) == 0);
-    EXPECT(all(first + 8, 22, 0) && all(second, 41, 0));
+    EXPECT(memcmp(first + CS_T, bits, 8) == 0 && memcmp(first + CS_WIDTH + CS_T, bits + 1, 8) == 0);
+    EXPECT(all(first + 2 * CS_WIDTH, 30 - 2 * CS_WIDTH, 0) && all(second, 41, 0));
     cs_options o = OPTIONS;
     e.high = 1, o.deflection = 0.01;
     EXPECT(draw(LINE, e, o, 30, 41) == CS_DRAWN && way == CS_RUNAWAY && count == 2);
-    EXPECT(memcmp(second + 3, bits, 8) == 0 && memcmp(second + 7, bits, 8) == 0);
-    EXPECT(all(first, 30, 0) && all(second + 8, 33, 0));
+    EXPECT(memcmp(second + CS_T, bits, 8) == 0 && memcmp(second + CS_WIDTH + CS_T, bits, 8) == 0);
+    EXPECT(all(first, 30, 0) && all(second + 2 * CS_WIDTH, 41 - 2 * CS_WIDTH, 0));
 }
 
 static void walks(void) {
@@ -158,18 +179,25 @@ static void angles(void) {
     EXPECT(cs_is_clamped(9.9e-5) && !cs_is_clamped(1e-4) && !cs_is_clamped(3.141592653589793) && cs_is_clamped(-1));
 }
 
-/* The scope's numbers of refusals, and those of the ways. */
+/* The scope's numbers of kinds and refusals, those of the ways, and both forms of the version. */
 static void numbers(void) {
+    const uint32_t kinds[] = {CS_KIND_LINE,     CS_KIND_CIRCLE,  CS_KIND_ELLIPSE,  CS_KIND_PARABOLA,
+                              CS_KIND_POLYLINE, CS_KIND_TRIMMED, CS_KIND_COMPOSITE};
     const uint32_t refusals[] = {CS_DRAWN,     CS_OVERSIZE, CS_UNBOUNDED,    CS_ILL_FORMED, CS_UNORDERED,
                                  CS_TOO_DEEP,  CS_MISSING,  CS_SHORT_BUFFER, CS_NO_ROOM,    CS_ENDLESS};
     const uint32_t ways[] = {CS_NO_CHAIN, CS_AS_DRAWN, CS_CHORD, CS_COMPLEMENT, CS_SHORT_ARC, CS_RUNAWAY};
     for (uint32_t n = 0; n <= 9; n++) EXPECT(refusals[n] == n);
     for (uint32_t n = 0; n <= 5; n++) EXPECT(ways[n] == n);
+    for (uint32_t n = 1; n <= 7; n++) EXPECT(kinds[n - 1] == n);
+    char version[16];
+    snprintf(version, sizeof version, "%d.%d.%d", CS_VERSION_NUMBER / 10000, CS_VERSION_NUMBER / 100 % 100, CS_VERSION_NUMBER % 100);
+    EXPECT(strcmp(version, CS_VERSION) == 0);
 }
 
 int main(void) {
     numbers();
     tables();
+    nulls();
     buffers();
     once();
     nans();

@@ -1,10 +1,5 @@
 //! The library's functions over numbers, as bindings/c/cornsunset.h describes them. A slice is a pointer and a length.
-
-/// How many floats a point of a chain has.
-pub const WIDTH: usize = 4;
-
-/// A point of a chain: x y z t.
-pub type Point = [f64; WIDTH];
+//! It leans on no other file of the crate, since bench/draw.rs takes it too.
 
 /// Declares functions that take tables, an edge and options, and then what is named here, and return a refusal's number or 0.
 macro_rules! edge_functions {
@@ -71,7 +66,7 @@ unsafe extern "C" {
     ) -> u32;
 
     pub fn cs_start(chain: *const f64, chain_len: usize, forward: bool) -> usize;
-    pub fn cs_step(chain: *const f64, chain_len: usize, forward: bool, at: &mut usize, point: &mut Point) -> u32;
+    pub fn cs_step(chain: *const f64, chain_len: usize, forward: bool, at: &mut usize, point: *mut f64) -> u32;
 
     pub fn cs_degrees(x: f64) -> f64;
     pub fn cs_is_clamped(radians: f64) -> bool;

@@ -1,5 +1,9 @@
 //! The safe API by itself: refusals, buffers, tables that are checked once, NaN parameters, walks, angles and presets.
-use cornsunset::{check, check_tables, draw, draw_over, Angle, Edge, Options, Point, Refusal, Tables, Walk, Way};
+use cornsunset::{
+    check, check_tables, draw, draw_over, Angle, Edge, Kind, Options, Point, Refusal, Tables, Walk, Way, MOST_POINTS,
+    VERSION, WIDTH,
+};
+use std::fmt::Debug;
 
 /// What no drawing writes.
 const MARK: f64 = f64::from_bits(0x7ff4_dead_0000_beef);
@@ -21,13 +25,16 @@ fn same(a: &[f64], b: &[f64]) -> bool {
     a.iter().map(|x| x.to_bits()).eq(b.iter().map(|x| x.to_bits()))
 }
 
+fn numbers(p: &Point) -> [f64; 4] {
+    [p.x(), p.y(), p.z(), p.t()]
+}
+
 /// The refusal, and that the buffers are as it should leave them.
 fn refused(tables: &Tables, edge: &Edge, options: &Options, (m, n): (usize, usize)) -> u32 {
     let (mut first, mut second) = (vec![MARK; m], vec![MARK; n]);
     let refusal = draw(tables, edge, options, &mut first, &mut second).unwrap_err();
     let left = if refusal.number() <= 7 { MARK } else { 0.0 };
     assert!(all(&first, left) && all(&second, left), "{refusal}");
-    assert!(refusal.to_string().ends_with('.'));
     if refusal.number() <= 6 {
         assert_eq!(check(tables, edge, options), Err(refusal));
     }
@@ -41,8 +48,10 @@ fn a_line_is_drawn_into_the_first_buffer() {
     let chain = draw(&LINE, &EDGE, &options(), &mut first, &mut second).unwrap();
     assert_eq!((chain.way(), chain.len()), (Way::AsDrawn, 5));
     assert_eq!(chain.floats().as_ptr(), start);
-    let expected: Vec<Point> = (0..5).map(|i| [2.5 * i as f64, 0.0, 0.0, 1.25 * i as f64]).collect();
-    assert_eq!(chain.points(), expected);
+    let points: Vec<[f64; 4]> = chain.points().iter().map(numbers).collect();
+    let expected: Vec<[f64; 4]> = (0..5).map(|i| [2.5 * i as f64, 0.0, 0.0, 1.25 * i as f64]).collect();
+    assert_eq!(points, expected);
+    assert_eq!(chain.length(), 10.0);
     assert!(all(&first[20..], 0.0) && all(&second, 0.0));
 }
 
@@ -73,7 +82,6 @@ fn each_refusal_has_its_number_and_leaves_the_buffers() {
     assert_eq!(refused(&LINE, &EDGE, &o, (80, 0)), 7);
     assert_eq!(refused(&LINE, &EDGE, &o, (8, 8)), 8);
     assert_eq!(refused(&LINE, &EDGE, &o, (80, 19)), 8);
-    assert_eq!(Refusal::ShortBuffer.to_string(), "A chain buffer is shorter than 8 floats.");
 }
 
 #[test]
@@ -102,7 +110,8 @@ fn tables_at_their_size_are_accepted() {
     let edge = Edge { curve: 4_095, ..EDGE };
     let (mut first, mut second) = ([MARK; 30], [MARK; 41]);
     assert_eq!(draw(&tables, &edge, &options(), &mut first, &mut second).unwrap().len(), 5);
-    assert_eq!(draw_over(&check_tables(&tables).unwrap(), &edge, &options(), &mut first, &mut second).unwrap().len(), 5);
+    let checked = check_tables(&tables).unwrap();
+    assert_eq!(draw_over(&checked, &edge, &options(), &mut first, &mut second).unwrap().len(), 5);
     assert_eq!(refused(&tables, &Edge { curve: 4_096, ..EDGE }, &options(), (80, 80)), 6);
 }
 
@@ -168,7 +177,7 @@ fn a_nan_parameter_keeps_its_bits() {
         let (mut first, mut second) = ([MARK; 30], [MARK; 41]);
         let chain = draw(&LINE, &edge, &options(), &mut first, &mut second).unwrap();
         assert_eq!((chain.way(), chain.len()), (Way::Chord, 2));
-        let ends = [chain[0][3].to_bits(), chain[1][3].to_bits()];
+        let ends = [chain[0].t().to_bits(), chain[1].t().to_bits()];
         let expected = [lo.to_bits(), hi.to_bits()];
         assert_eq!(ends, expected);
     }
@@ -177,15 +186,15 @@ fn a_nan_parameter_keeps_its_bits() {
 #[test]
 fn a_walk_goes_both_ways_over_whole_points() {
     let floats: Vec<f64> = (0..15).map(f64::from).collect();
-    let there: Vec<f64> = Walk::new(&floats, true).map(|p| p[0]).collect();
+    let there: Vec<f64> = Walk::new(&floats, true).map(|p| p.x()).collect();
     assert_eq!(there, [0.0, 4.0, 8.0]);
-    let back: Vec<Point> = Walk::new(&floats, false).collect();
+    let back: Vec<[f64; 4]> = Walk::new(&floats, false).map(|p| numbers(&p)).collect();
     assert_eq!(back, [[8.0, 9.0, 10.0, 11.0], [4.0, 5.0, 6.0, 7.0], [0.0, 1.0, 2.0, 3.0]]);
     let mut walk = Walk::new(&floats, true);
     assert_eq!(walk.by_ref().count(), 3);
     assert_eq!(walk.next(), None);
     walk.turn();
-    assert_eq!(walk.next().unwrap()[0], 8.0);
+    assert_eq!(walk.next().unwrap().position(), [8.0, 9.0, 10.0]);
     assert_eq!(Walk::new(&[], false).next(), None);
 
     let (mut first, mut second) = ([0.0; 80], [0.0; 80]);
@@ -221,13 +230,54 @@ fn presets() {
     assert_eq!(Options::fine(), preset(0.0001, 4.0));
 }
 
+/// The lines of the header for C, without their comments.
+fn header() -> impl Iterator<Item = &'static str> {
+    include_str!("../../c/cornsunset.h")
+        .lines()
+        .map(|line| line.split("/*").next().unwrap().trim().trim_end_matches(','))
+}
+
 #[test]
-fn numbers_of_refusals_and_ways() {
-    let refusals = [
-        Refusal::Oversize, Refusal::Unbounded, Refusal::IllFormed, Refusal::Unordered, Refusal::TooDeep, Refusal::Missing,
-        Refusal::ShortBuffer, Refusal::NoRoom, Refusal::Endless,
+fn the_header_has_the_same_version_and_limits() {
+    let lines = [
+        format!("#define CS_VERSION \"{VERSION}\""),
+        format!("#define CS_WIDTH {WIDTH}"),
+        format!("#define CS_MOST_POINTS {MOST_POINTS}"),
     ];
-    assert_eq!(refusals.map(Refusal::number), [1, 2, 3, 4, 5, 6, 7, 8, 9]);
-    let ways = [Way::AsDrawn, Way::Chord, Way::Complement, Way::ShortArc, Way::Runaway];
-    assert_eq!(ways.map(|way| way as u32), [1, 2, 3, 4, 5]);
+    for wanted in lines {
+        assert!(header().any(|line| line == wanted), "{wanted}");
+    }
+}
+
+/// That the header has each of these under this number, ShortBuffer as SHORT_BUFFER, and that they run from 1 without a gap.
+fn are_in_the_header<T: Debug + Copy>(prefix: &str, all: &[T], number: impl Fn(T) -> u32) {
+    for (i, member) in all.iter().enumerate() {
+        let mut wanted = prefix.to_string();
+        for c in format!("{member:?}").chars() {
+            wanted.extend(c.is_uppercase().then_some('_'));
+            wanted.push(c.to_ascii_uppercase());
+        }
+        wanted += &format!(" = {}", number(*member));
+        assert!(header().any(|line| line == wanted), "{wanted}");
+        assert_eq!(number(*member), i as u32 + 1);
+    }
+}
+
+#[test]
+fn kinds_refusals_and_ways_have_the_numbers_of_the_header() {
+    are_in_the_header("CS_KIND", Kind::ALL, Kind::number);
+    are_in_the_header("CS", Refusal::ALL, Refusal::number);
+    are_in_the_header("CS", Way::ALL, Way::number);
+    assert_eq!((Kind::ALL.len(), Refusal::ALL.len(), Way::ALL.len()), (7, 9, 5));
+    assert_eq!(Refusal::from_number(9), Some(Refusal::Endless));
+    assert_eq!((Refusal::from_number(0), Way::from_number(6), Kind::from_number(0)), (None, None, None));
+}
+
+#[test]
+fn messages_are_in_lower_case_and_without_a_stop() {
+    for refusal in Refusal::ALL {
+        let message = refusal.to_string();
+        assert!(message.starts_with(|c: char| c.is_lowercase()) && !message.ends_with('.'), "{message}");
+    }
+    assert_eq!(Refusal::ShortBuffer.to_string(), "a chain buffer is shorter than two points");
 }

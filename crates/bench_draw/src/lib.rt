@@ -1,4 +1,4 @@
-// What bench/draw.rs times beside drawing and has no C name in ffi: a point of a curve, sorting breaks, clearing a buffer.
+// What bench/draw.rs times beside drawing and has no C name in cornsunset: a point of a curve, sorting breaks, clearing a buffer.
 ghost use mathlib.Core.Path.{_≡_};
 ghost use mathlib.Core.List.{[]};
 ghost use mathlib.Core.Bool.{cond};
