@@ -74,10 +74,10 @@ def decimal(digits):
 def degrees(digits):
     """An angle in degrees where these are shorter than the radians and read back to the same bits; else none."""
     radians = number(digits)
-    if not math.isfinite(radians):
+    if not math.isfinite(math.degrees(radians)):
         return None
     for places in range(7):
-        text = f"{round(math.degrees(radians), places):.{places}f}deg"
+        text = f"{math.degrees(radians):.{places}f}deg"
         if len(text) < len(repr(radians)) and bits_of(text) == digits:
             return text
     return None
