@@ -1,8 +1,8 @@
 /* Cornsunset in C: an edge of a part becomes a chain of points. Link with -lcornsunset: target/staticlib/libcornsunset.a, made
  * by rt staticlib cornsunset, or what bindings/install put into place (pkg-config cornsunset).
  *
- * Every function is proved to answer as its definition says for any numbers and any contents of any lengths; cs_draw_over
- * alone asks for tables that cs_check_tables accepted. What else is left to the caller is what C leaves to every caller: a
+ * Every function is proved to answer as its definition says for any numbers and any contents of any lengths. What is left to
+ * the caller is what C leaves to every caller: a
  * pointer has so many elements as the length beside it says, NULL is handed only with a length of 0, and what is written
  * (buffers, out values) overlaps nothing else that is handed over. No function keeps a pointer, allocates, prints or fails
  * in another way than it says. All may be called from any thread.
@@ -101,15 +101,18 @@ typedef struct {
 } cs_edge;
 
 typedef struct {
-    double deflection; /* the sag: how far a span's chord may lie from the curve at the span's middle parameter; a length, or
-                        * where relative is 1 a fraction of scale, and for a small edge less, down to an eighth */
-    cs_angle angle;    /* how far the tangents at a span's two ends may turn from each other; on a circle or an ellipse the
-                        * largest step too. Clamped to 1e-4 .. pi radians. Both are what a span is tested by, and no bounds on
-                        * the chain: what a curve does between those places is not seen, and a span with no depth left is not
-                        * tested again */
+    double deflection; /* the sag: how far a span's chord may lie from the curve at the span's middle parameter. A length, unless
+                        * relative is 1 and there is a scale: then this fraction of the scale for an edge whose extent is a
+                        * quarter of the scale up to all of it, of its own extent for a larger edge, and for a smaller one four
+                        * times this fraction of its extent, but never less than an eighth of what it is for the whole */
+    cs_angle angle;    /* where a curve is bisected, how far the tangents at a span's two ends may turn from each other; on a circle
+                        * or an ellipse the largest step of its parameter, 1e-3 at least, and no tangent is looked at. Clamped to
+                        * 1e-4 .. pi radians. Both are what a span is tested by, and no bounds on the chain: what a curve does
+                        * between those places is not seen, and a span with no depth left is not tested again */
     uint32_t relative; /* 0 or 1 */
     uint64_t segments; /* least number of segments that an edge is sampled with, before points are merged; 0 counts as 1. No
-                        * upper end but the room: n segments need n + 1 points, or the edge is refused with CS_NO_ROOM */
+                        * upper end but the room: n segments need n + 1 points, or the edge is refused with CS_NO_ROOM. A chord
+                        * (CS_CHORD, CS_RUNAWAY) has one */
     uint32_t depth;    /* how often a span may be halved where a curve is bisected; clamped to 1 .. 24 */
     double scale;      /* size of the part, a length, as its box's diagonal; not finite or not above 0: none, and deflection is
                         * a length */
@@ -194,9 +197,10 @@ uint32_t cs_flat_check_tables(
     const double *points, size_t points_len, const uint32_t *curves, size_t curves_len, const double *reals, size_t reals_len,
     const uint32_t *parts, size_t parts_len, const double *ranges, size_t ranges_len);
 
-/* As cs_flat_draw, with the same answer, for many edges over one set of tables, which are not checked again; the edge, the options
- * and the buffers are (refusals 2, 3 and 6 to 9). The caller owes that cs_flat_check_tables returned 0 for these very tables and
- * that nothing in them changed since. Otherwise nothing is promised, as with a pointer that is wrong. */
+/* For many edges over one set of tables: as cs_flat_draw, with the same answer, where cs_flat_check_tables returned 0 for these very
+ * tables and nothing in them changed since. Their rows are not gone through again; their lengths, the edge, the options and the
+ * buffers are looked at. Any other tables may be handed too: the answer is then a refusal or the chain that the rows read as, by
+ * a definition (crates/draw/specs/Over.antt), a cause from 2 to 5 that lies in the rows is not told, and nothing crashes. */
 uint32_t cs_flat_draw_over(
     const double *points, size_t points_len, const uint32_t *curves, size_t curves_len, const double *reals, size_t reals_len,
     const uint32_t *parts, size_t parts_len, const double *ranges, size_t ranges_len,
@@ -255,8 +259,8 @@ static inline uint32_t cs_check(const cs_tables *t, const cs_edge *e, const cs_o
 /* Checks the tables alone: as cs_flat_check_tables. */
 static inline uint32_t cs_check_tables(const cs_tables *t) { return cs_flat_check_tables(CS_TABLES(t)); }
 
-/* Draws over tables that are not checked again: as cs_flat_draw_over. The caller owes that cs_check_tables returned 0 for these
- * tables, and that nothing in them changed since. */
+/* Draws over tables whose rows are not gone through again: as cs_flat_draw_over. Call cs_check_tables once before, to be told what is
+ * wrong with them. */
 static inline uint32_t cs_draw_over(const cs_tables *t, const cs_edge *e, const cs_options *o, double *first,
                                     size_t first_len, double *second, size_t second_len, uint32_t *way, size_t *count) {
     double none = 0;

@@ -55,15 +55,18 @@ impl Angle {
 /// ```
 #[derive(Debug, Clone, Copy, PartialEq)]
 pub struct Options {
-    /// The sag: how far a span's chord may lie from the curve at the span's middle parameter. A length; where relative is 1,
-    /// a fraction of the scale, and less for an edge that is smaller than the part, down to an eighth.
+    /// The sag: how far a span's chord may lie from the curve at the span's middle parameter. A length, unless relative is 1 and
+    /// there is a scale: then this fraction of the scale for an edge whose extent is a quarter of the scale up to all of it, of
+    /// its own extent for a larger edge, and for a smaller one four times this fraction of its extent, but never less than an
+    /// eighth of what it is for the whole.
     pub deflection: f64,
-    /// How far the tangents at a span's two ends may turn from each other; on a circle or an ellipse the largest step too.
-    /// Held to 1e-4 radians to π.
+    /// Where a curve is bisected, how far the tangents at a span's two ends may turn from each other; on a circle or an ellipse
+    /// the largest step of its parameter, 1e-3 at least, and no tangent is looked at. Held to 1e-4 radians to π.
     pub angle: Angle,
     /// 0 or 1.
     pub relative: u32,
-    /// The least number of segments of an edge; 0 counts as 1. It has no upper end but the room: n segments need n + 1 points.
+    /// The least number of segments that an edge is sampled with, before points are merged; a chord has one. 0 counts as 1. It
+    /// has no upper end but the room: n segments need n + 1 points.
     pub segments: u64,
     /// How often a span may be halved, where a curve is bisected. Held to 1 to 24.
     pub depth: u32,

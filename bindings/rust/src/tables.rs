@@ -271,7 +271,7 @@ pub fn draw_over<'b>(
 ) -> Result<Chain<'b>, Refusal> {
     let (tables, radians) = (&checked.tables, options.angle.to_radians());
     drawn(first, second, |first, m, second, n, way, count| {
-        // SAFETY: as in `draw`. That the tables were accepted is all that the function asks for, and they have been lent since.
+        // SAFETY: as in `draw`. That the tables were accepted, and have been lent since, makes the answer `draw`'s.
         unsafe { raw::call!(cs_flat_draw_over, tables, edge, options, radians, first, m, second, n, way, count) }
     })
 }
