@@ -3,7 +3,7 @@ use mathlib.Core.Path.{_≡_, ap, subst}
 use mathlib.Core.Bool.{true, false}
 use mathlib.Core.List.{List}
 use Prim.Native.Nat.{ℕ, _+_, _-_, _*_, _^_, _≤_, _<_}
-use native.Mathlib.Nat.{zero-mul, one-mul, mul-one, add-zero, add-mul, mul-pos, mul-le-mul-right, lt-of-mul-lt-mul-right}
+use native.Mathlib.Nat.{zero-mul, one-mul, mul-one, add-zero, mul-pos, mul-le-mul-right, lt-of-mul-lt-mul-right}
 use native.Mathlib.Omega.{arith}
 use lib.IntN.{pos, negsuc}
 use lib.Dec.{T, ltb, ltb→lt}
