@@ -148,14 +148,18 @@ class Curves:
     def own_places(self, index, range_, each):
         """Parameters of a range that show a curve's shape: a polyline's corners, so many places a segment of a composite, and
         eight times as many of another curve."""
-        lo, hi = range_
         row = self.base(index)
         if row["kind"] not in ("polyline", "composite"):
             return steps(range_, 8 * each)
-        fine = 1 if row["kind"] == "polyline" else each
-        first, last = math.ceil(min(lo, hi) * fine), math.floor(max(lo, hi) * fine)
-        # A range of many turns round a closed polyline shows nothing new after the first.
-        between = [i / fine for i in range(first, min(last, first + fine * (row["count"] + 1)) + 1)]
+        fine, last = (1, row["count"] - 1) if row["kind"] == "polyline" else (each, row["count"])
+        low, high = min(range_), max(range_)
+        if self.period(index):
+            # Many turns show nothing that one does not.
+            high = min(high, low + 2 * last)
+        else:
+            low, high = max(low, 0.0), min(high, float(last))
+        between = [i / fine for i in range(math.ceil(low * fine), math.floor(high * fine) + 1)]
+        lo, hi = range_
         return [lo, *(between if lo <= hi else reversed(between)), hi]
 
 

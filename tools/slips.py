@@ -132,15 +132,16 @@ def edge_range_slips(drawing):
     edge, curves = drawing.edge, drawing.curves
     lo, hi = edge["lo"], edge["hi"]
     yield from range_slips(drawing, "the edge", edge, ("lo", "hi"), drawing.index)
+    row = curves.rows[drawing.index]
     if curves.lost(lo, hi):
         yield edge, "lo", lost_range(drawing)
-        return
-    row = curves.rows[drawing.index]
-    if row["kind"] == "trimmed" and not curves.period(drawing.index) and drawing.range != (lo, hi):
+        if drawing.range is None or row["kind"] in ROUND:
+            return
+    elif row["kind"] == "trimmed" and not curves.period(drawing.index) and drawing.range != (lo, hi):
         yield edge, "lo", f"the range {num(lo)} to {num(hi)} is cut to that of the trim, {num(row['p'])} to {num(row['q'])}"
     gap = off_ends(drawing, drawing.range)
     if gap > max(10 * edge["tolerance"], PLACE_SLACK * max(drawing.extent(), drawing.diagonal)):
-        yield edge, "start", f"the vertices lie {num(gap)} off the curve's ends at lo and hi, and the chain's ends are moved there"
+        yield edge, "start", f"the vertices lie {num(gap)} off the ends of the curve as it is drawn, and the chain's ends are moved there"
 
 
 def off_ends(drawing, range_):
@@ -158,7 +159,7 @@ def lost_range(drawing):
     told = f"the range {lo!r} to {hi!r} is {how}: "
     if drawing.range is None:
         return told + "the straight line between the vertices is drawn"
-    if drawing.range != (0.0, TAU):
+    if drawing.curves.rows[drawing.index]["kind"] not in ROUND:
         return told + f"the curve's own is drawn, {num(drawing.range[0])} to {num(drawing.range[1])}"
     told += f"the whole {kind} is drawn, {num(curve_length(drawing, drawing.range))} long"
     arcs = vertex_arcs(drawing)
