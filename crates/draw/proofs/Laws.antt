@@ -89,7 +89,7 @@ refused-left n first second h = record { answered = refl; firstHolds = sym (late
 
 -- ---- drawing in the room answers 8, 9 or a chain that fits it, whatever the tables hold
 pub room-answers : (t : Tables) (e : Edge) (r : Resolved) (first second : ℕ) → shortest ≤ first → shortest ≤ second
-    → Answers (λ (g : Got). Chained ⊥ t e (mergeFloor (e .tolerance) (r .sag)) (roomOf first second) (g .chain)) (within (roomOf first second) (referenced t e r))
+    → Answers (roomOf first second) (λ (g : Got). Chained ⊥ t e (mergeFloor (e .tolerance) (r .sag)) (roomOf first second) (g .chain)) (referenced t e r)
 room-answers t e r first second p q = referenced-answers ⊥ t e (λ x. absurd x) (λ x. absurd x) (roomOf first second) (room-fine first second p q) r
 
 -- ---- drawn_in, after discretise answered w and left f and s

@@ -19,6 +19,7 @@ use Rattle.causes.specs.declared.Verdict.the-variants as verdicts
 use Rattle.causes.specs.Causes.{oversize, tablesVerdict, edgeVerdict}
 use Rattle.causes.proofs.Apart.{verdict-edge}
 use Rattle.causes.proofs.Checked.{tables-of, edge-numbers}
+use Rattle.curve_nests.specs.Nests.{nests}
 use Rattle.knots.specs.Knots.{curveKnots}
 use Rattle.knots_sort.specs.Own.Sortable.{mostKnots}
 use Rattle.edge_record.specs.Chain.{shortest}
@@ -26,22 +27,22 @@ use Rattle.edge_merge.specs.Merge.{mergeFloor}
 use Rattle.draw_spec.specs.declared.Drawn.{Drawn}
 use Rattle.draw_spec.specs.declared.Drawn.the-variants.{Refused}
 use Rattle.draw_spec.specs.Repair.{Got}
-use Rattle.draw_spec.specs.Draw.{localOptions, inBuffers, roomOf, tooShort, drawn, answerOf, firstAfter, secondAfter}
+use Rattle.draw_spec.specs.Draw.{localOptions, inBuffers, roomOf, tooShort, drawn, answerOf, firstAfter, secondAfter, Outcome}
 use Rattle.draw_spec.proofs.Answers as answers
-use Rattle.draw_spec.proofs.Answers.{Answers}
+use Rattle.draw_spec.proofs.Answers.{Answered}
 use Rattle.draw_spec.proofs.Discretised.{Chained}
 use Rattle.draw_spec.proofs.Sound.{Binary, drawn-fits, drawn-numbers}
 use Rattle.draw_spec.proofs.Accepted.{inRoom, given}
 use Rattle.draw_spec.proofs.ReadBack.{outcome}
 use Rattle.edge_repair.specs.Own.Redrawn.{DrawnInto}
-use Rattle.draw.specs.Over.{longRun, drawnOver, Over}
+use Rattle.draw.specs.Over.{longRun, drawnBounded, drawnOver, Over}
 use Rattle.draw.proofs.Few.{knots-fit}
 use Rattle.draw.proofs.Laws.{room-answers, early}
 
 module _ (t : Tables) (e : Edge) (o : Options) (first second : ℕ) where
   -- by the tables' sizes, the edge's verdict, and whether a run is too long
   abbrev overBy : Bool → Verdict → Bool → Result Got
-  overBy z v k = cond z (refused 1) (elim v [ verdicts.Refused n ↦ refused n | verdicts.Accepted ↦ cond k (refused 3) (inBuffers t e o first second) ])
+  overBy z v k = cond z (refused 1) (elim v [ verdicts.Refused n ↦ refused n | verdicts.Accepted ↦ cond k (refused 3) (drawnBounded t e o first second) ])
 
   over-is : (z : Bool) (v : Verdict) (k : Bool) → oversize t ≡ z → edgeVerdict t e o ≡ v → longRun t e ≡ k → drawnOver t e o first second ≡ overBy z v k
   unfolding drawnOver
@@ -62,7 +63,11 @@ module _ (t : Tables) (e : Edge) (o : Options) (first second : ℕ) where
           ∙ sym (given t e o first second (verdicts.Refused n) (tooShort first second) (verdict-edge t e o h ∙ q) refl)
       go verdicts.Accepted q =
           over-is false verdicts.Accepted false (tables-of t h .0) q fits
-          ∙ sym (given t e o first second verdicts.Accepted (tooShort first second) (verdict-edge t e o h ∙ q) refl)
+          ∙ either (nests (tree t (e .curve)))
+        where
+          either : (m : Bool) → cond m (drawn t e o first second) (inBuffers t e o first second) ≡ drawn t e o first second
+          either true = refl
+          either false = sym (given t e o first second verdicts.Accepted (tooShort first second) (verdict-edge t e o h ∙ q) refl)
 
 -- ---- every answer is a refusal from 1 to 9, or a chain that fits both buffers
 abbrev pub Answerable : ℕ → ℕ → Result Got → Type 0
@@ -76,11 +81,23 @@ module _ (t : Tables) (e : Edge) (o : Options) (first second : ℕ) where
       let k = neither (ltb first shortest) (ltb second shortest) h in
       of (room-answers t e (localOptions t e o) first second (ltb-false first shortest (k .0)) (ltb-false second shortest (k .1)))
     where
-      of : {d : Result Got}
-          → Answers (λ (g : Got). Chained ⊥ t e (mergeFloor (e .tolerance) (localOptions t e o .sag)) (roomOf first second) (g .chain)) d → Answerable first second d
+      of : {b : Bool} {x : Result Got}
+          → Answered (λ (g : Got). Chained ⊥ t e (mergeFloor (e .tolerance) (localOptions t e o .sag)) (roomOf first second) (g .chain)) b x
+          → Answerable first second (cond b (refused 8) x)
       of (answers.answer c) = c .fits
       of answers.eight = (omega arith, omega arith)
       of answers.nine = (omega arith, omega arith)
+
+  pub drawn-answerable : Answerable first second (drawn t e o first second)
+  drawn-answerable = go (drawn t e o first second) refl
+    where
+      go : (d : Result Got) → drawn t e o first second ≡ d → Answerable first second d
+      go (refused n) q = drawn-numbers t e o first second n q
+      go (got g) q = drawn-fits t e o first second g q
+
+  bounded-answerable : (m : Bool) → Answerable first second (cond m (drawn t e o first second) (inBuffers t e o first second))
+  bounded-answerable true = drawn-answerable
+  bounded-answerable false = buffers-answerable (tooShort first second) refl
 
   pub over-answerable : Answerable first second (drawnOver t e o first second)
   over-answerable = go (oversize t) (edgeVerdict t e o) (longRun t e) refl refl refl
@@ -92,14 +109,22 @@ module _ (t : Tables) (e : Edge) (o : Options) (first second : ℕ) where
           each true v k b = (omega arith, omega arith)
           each false (verdicts.Refused n) k b = let m = edge-numbers t e o n b in (omega arith, omega arith)
           each false verdicts.Accepted true b = (omega arith, omega arith)
-          each false verdicts.Accepted false b = buffers-answerable (tooShort first second) refl
+          each false verdicts.Accepted false b = bounded-answerable (nests (tree t (e .curve)))
 
-  pub drawn-answerable : Answerable first second (drawn t e o first second)
-  drawn-answerable = go (drawn t e o first second) refl
-    where
-      go : (d : Result Got) → drawn t e o first second ≡ d → Answerable first second d
-      go (refused n) q = drawn-numbers t e o first second n q
-      go (got g) q = drawn-fits t e o first second g q
+-- ---- draw_bounded, by the way out
+module _ (t : Tables) (e : Edge) (o : Options) (first second : List Float) (answer : Drawn) (f s : List Float) where
+  -- by whether composites nest
+  bounded-is : (m : Bool) → nests (tree t (e .curve)) ≡ m
+      → DrawnInto (cond m (drawn t e o (length first) (length second)) (inBuffers t e o (length first) (length second))) first second answer f s
+      → DrawnInto (drawnBounded t e o (length first) (length second)) first second answer f s
+  bounded-is m h = subst (λ (x : Bool). DrawnInto (cond x (drawn t e o (length first) (length second)) (inBuffers t e o (length first) (length second))) first second answer f s) (sym h)
+
+  pub bounded-nested : nests (tree t (e .curve)) ≡ true → Outcome t e o first second answer f s → DrawnInto (drawnBounded t e o (length first) (length second)) first second answer f s
+  bounded-nested h d = bounded-is true h (record { answered = d .answered; firstHolds = d .firstHolds; secondHolds = d .secondHolds })
+
+  pub bounded-flat : nests (tree t (e .curve)) ≡ false → DrawnInto (inBuffers t e o (length first) (length second)) first second answer f s
+      → DrawnInto (drawnBounded t e o (length first) (length second)) first second answer f s
+  bounded-flat h d = bounded-is false h d
 
 -- ---- draw_over, by the way out
 module _ (t : Tables) (e : Edge) (o : Options) (b : Binary t e) (first second : List Float) where
@@ -128,7 +153,7 @@ module _ (t : Tables) (e : Edge) (o : Options) (b : Binary t e) (first second : 
         (over-is t e o (length first) (length second) false verdicts.Accepted true z v (lt-ltb (2 * mostSegments) (length (curveKnots (tree t (e .curve)))) k))
 
     pub over-drawn : edgeVerdict t e o ≡ verdicts.Accepted → length (curveKnots (tree t (e .curve))) ≤ mostKnots
-        → (answer : Drawn) (f s : List Float) → DrawnInto (inBuffers t e o (length first) (length second)) first second answer f s → Over t e o first second answer f s
+        → (answer : Drawn) (f s : List Float) → DrawnInto (drawnBounded t e o (length first) (length second)) first second answer f s → Over t e o first second answer f s
     over-drawn v k answer f s d = whole answer f s
         (subst (λ (x : Result Got). DrawnInto x first second answer f s)
         (sym (over-is t e o (length first) (length second) false verdicts.Accepted false z v (le-ltb (2 * mostSegments) (length (curveKnots (tree t (e .curve)))) k))) d)

@@ -24,7 +24,7 @@ ghost use Rattle.edge_range.specs.Usable.{usableRange};
 ghost use Rattle.draw_spec.specs.Draw.{firstWay, localOptions, referenced, inBuffers, roomOf, Outcome};
 ghost use Rattle.draw_spec.specs.Own.Binary.{AllBinary64};
 ghost use Rattle.edge_repair.specs.Own.Redrawn.{DrawnInto};
-ghost use Rattle.draw.specs.Over.{Over};
+ghost use Rattle.draw.specs.Over.{drawnBounded, Over};
 
 // The way of the first drawing: the chord where the edge has no usable range.
 fn first_way(usable: Usable) -> Way
@@ -169,9 +169,52 @@ fn draw_unchecked(
     )
 }
 
+// Draws an edge over tables of any content, to a depth that is bounded. Evaluation calls itself once for each composite inside a
+// composite, and only the tables' whole verdict says how many these can be: where there is one they are gone through after all.
+// Where there is none, no evaluation is deeper than a composite and a segment of it. (Trims are followed in a loop.)
+fn draw_bounded(
+    points: &[f64],
+    curves: &[u32],
+    reals: &[f64],
+    parts: &[u32],
+    ranges: &[f64],
+    edge: Edge,
+    options: Options,
+    first: &mut [f64],
+    second: &mut [f64],
+) -> Drawn
+    requires { ⌜ length (curveKnots (tree (lent points curves reals parts ranges) (edge .curve))) ≤ mostKnots ⌝ }
+    ensures { λ r. ⌜ DrawnInto (drawnBounded (given points curves reals parts ranges) edge options (length (now (first .entry))) (length (now (second .entry)))) (now (first .entry)) (now (second .entry)) r (now (first .exit)) (now (second .exit)) ⌝ }
+{
+    if curve_nests::nests(curves, parts, edge.curve) {
+        return draw(
+            points,
+            curves,
+            reals,
+            parts,
+            ranges,
+            edge,
+            options,
+            first,
+            second,
+        );
+    }
+    draw_unchecked(
+        points,
+        curves,
+        reals,
+        parts,
+        ranges,
+        edge,
+        options,
+        first,
+        second,
+    )
+}
+
 // Draws an edge over tables that `causes::check_tables` has accepted, for many edges over the same tables: of the tables only the
-// lengths are looked at. Any others are drawn as their rows read, or refused: with so few rows no evaluation follows more than
-// 4,096 references, and a run of more segments than a table may have is turned away before its knots are sorted.
+// lengths are looked at, unless composites nest. Any others are drawn as their rows read, or refused: a run of more segments than a
+// table may have is turned away before its segments are gone through.
 pub fn draw_over(
     points: &[f64],
     curves: &[u32],
@@ -197,7 +240,7 @@ pub fn draw_over(
             if knots_sort::MOST_KNOTS < knots {
                 return Drawn::Refused(3);
             }
-            draw_unchecked(
+            draw_bounded(
                 points,
                 curves,
                 reals,

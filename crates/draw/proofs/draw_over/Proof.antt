@@ -30,7 +30,7 @@ returns-4 : tie.Need-returns-4
 returns-4 c =
     let a = c .before .before .before .before .before .before .before .before .before .before .before .before .before .before .before .before .before .before .before .before .before .before .args in
     let T = lent (a .points) (a .curves) (a .reals) (a .parts) (a .ranges) in
-    over-drawn T (a .edge) (a .options) (binary T (a .edge) (c .before .before .before .before .before .before .before .before .before .before .before .before .before .before .binary64 .ensures)) (a .first .now) (a .second .now) (sym (c .before .before .before .before .before .before .before .before .before .before .before .before .before .oversize .ensures) ∙ c .before .before .before .before .before .before .before .before .before .before .before .before .if1 .left) (sym (c .before .before .before .before .before .before .before .before .before .before .before .check-over .ensures) ∙ c .before .before .before .before .before .before .before .before .before .enum-told .given .1) (omega (arith, c .before .before .before .before .before .before .before .if2 .left, c .before .before .before .before .before .before .before .before .knot-count .ensures)) _ _ _ (c .before .before .before .before .draw-unchecked .ensures)
+    over-drawn T (a .edge) (a .options) (binary T (a .edge) (c .before .before .before .before .before .before .before .before .before .before .before .before .before .before .binary64 .ensures)) (a .first .now) (a .second .now) (sym (c .before .before .before .before .before .before .before .before .before .before .before .before .before .oversize .ensures) ∙ c .before .before .before .before .before .before .before .before .before .before .before .before .if1 .left) (sym (c .before .before .before .before .before .before .before .before .before .before .before .check-over .ensures) ∙ c .before .before .before .before .before .before .before .before .before .enum-told .given .1) (omega (arith, c .before .before .before .before .before .before .before .if2 .left, c .before .before .before .before .before .before .before .before .knot-count .ensures)) _ _ _ (c .before .before .before .before .draw-bounded .ensures)
 
 pub draw-over-spec : {M : Type 1} → statement M
 draw-over-spec =

@@ -23,7 +23,7 @@ returns : tie.Need-returns
 returns c = λ (k : CurveTree) e.
     let f = c .before .before in
     let a = f .before .before .before .before .before .before .args in
-    ap (λ (x : Float). le x (a .sag)) (c .root .ensures ∙ ap rootOf (sym (larger-taken _ (c .before .if1 .taken)))) ∙ miss-within k (a .a) (a .b) _ (a .sag) (search needs) (squared f k e)
+    ap (λ (x : Float). le x (a .sag)) (c .root .ensures .0 ∙ ap rootOf (sym (larger-taken _ (c .before .if1 .taken)))) ∙ miss-within k (a .a) (a .b) _ (a .sag) (search needs) (squared f k e)
 
 returns-2 : tie.Need-returns-2
 returns-2 c = λ (k : CurveTree) e.
