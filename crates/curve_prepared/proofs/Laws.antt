@@ -1,4 +1,4 @@
--- A curve prepared has the points and the derivatives of the curve; and where a row is a line under its trims. Assumes nothing.
+-- A curve prepared has the points and the derivatives of the curve; where a row has no points to look up, and where it is a line under its trims. Assumes nothing.
 use mathlib.Core.Path.{_≡_, refl, sym, ap, _∙_}
 use mathlib.Core.Bool.{Bool, true, false, false≢true}
 use mathlib.Core.List.{List}
@@ -7,15 +7,16 @@ use native.Mathlib.Omega.{arith}
 use lib.Ieee.{Float}
 use Rattle.math.specs.declared.Vec3.{Vec3}
 use Rattle.math.specs.declared.Interval.{Interval}
+use Rattle.math.specs.Math.{vZero}
 use Rattle.brep.specs.declared.Curve.{Curve}
 use Rattle.brep.specs.declared.Curve.the-variants as rows
 use Rattle.brep.specs.Rows.{Tables, pointOf}
 use Rattle.brep.specs.Tree.{CurveTree, analytic, line, circle, ellipse, parabola, polyline, trimmed, composite, rowIn, grown, tree}
 use Rattle.brep.proofs.Laws.{at-row}
-use Rattle.brep.proofs.ByKind.{rowKind, rowFirst, number, at-line}
+use Rattle.brep.proofs.ByKind.{rowKind, rowFirst, number, at-line, at-circle, at-ellipse, at-parabola}
 use Rattle.curve_parameter.specs.Own.Under.{under}
 use Rattle.curve_parameter.specs.Run.{closes}
-use Rattle.curve_parameter.proofs.Under.{under-same, empty-trim}
+use Rattle.curve_parameter.proofs.Under.{under-same, under-rest, empty-trim}
 use Rattle.curve_point.specs.Point as curves
 use Rattle.curve_tangent.specs.Derivative as derivatives
 use Rattle.curve_prepared.specs.declared.Prepared.{Prepared}
@@ -54,6 +55,10 @@ prepared-derivative c t = derivatives-of c c t refl
 pub own-point : (c : CurveTree) (t : Float) {prepared : Prepared} → prepared ≡ preparedOf c → {p : Vec3} → p ≡ preparedPoint prepared c t → p ≡ curves.pointAt c t
 own-point c t R P = P ∙ ap (λ (x : Prepared). preparedPoint x c t) R ∙ prepared-point c t
 
+-- and so is a derivative
+pub own-derivative : (c : CurveTree) (t : Float) {prepared : Prepared} → prepared ≡ preparedOf c → {p : Vec3} → p ≡ preparedDerivative prepared c t → p ≡ derivatives.derivativeAt c t
+own-derivative c t R P = P ∙ ap (λ (x : Prepared). preparedDerivative x c t) R ∙ prepared-derivative c t
+
 -- a curve that needs no tables has the same points without them
 pub plain-by : (t : Float) {r k : Prepared} {p : Vec3} → r ≡ k → p ≡ plainPoint k t → p ≡ plainPoint r t
 plain-by t e h = h ∙ ap (λ x. plainPoint x t) (sym e)
@@ -80,6 +85,21 @@ module _ (c : CurveTree) (t : Float) {r k : Prepared} {p : Vec3} where
 pub known-closed : {closed : Bool} (points : List Vec3) → Other closed ≡ preparedOf (polyline points) → closed ≡ closes points
 unfolding preparedOf
 known-closed points e = cc
+
+-- a row that was left to be looked up, and is neither a polyline nor a composite under its trims, has no points, and zero as its derivative
+module _ (T : Tables) (row : ℕ) {r kind : ℕ} (u : r ≡ under (T .curves) row) (k : kind ≡ rowKind T r) {closed : Bool} (o : Other closed ≡ preparedOf (tree T row)) where
+  not-plain : {p : Prepared} → p ≡ preparedOf (tree T r) → isPlain p ≡ true → ⊥
+  unfolding preparedOf isPlain
+  not-plain e h = false≢true (ap isPlain (o ∙ sym (e ∙ under-same preparedOf (λ b i. refl) T row u)) ∙ h)
+
+  pub no-slope : (Unit {0} × (kind ≡ 5 → ⊥)) × (kind ≡ 7 → ⊥) → (t : Float) → vZero ≡ derivatives.derivativeAt (tree T row) t
+  unfolding preparedOf isPlain derivatives.derivativeAt derivatives.polylineDerivative
+  no-slope n t =
+      let one : kind ≡ 1 → ⊥ = λ e. not-plain (at-line preparedOf T r k e refl) refl in
+      let two : kind ≡ 2 → ⊥ = λ e. not-plain (at-circle preparedOf T r k e refl refl) refl in
+      let three : kind ≡ 3 → ⊥ = λ e. not-plain (at-ellipse preparedOf T r k e refl refl refl) refl in
+      let four : kind ≡ 4 → ⊥ = λ e. not-plain (at-parabola preparedOf T r k e refl refl) refl in
+      under-rest (λ (c : CurveTree). derivatives.derivativeAt c t) (λ b i. refl) T row u k ((((((tt, one), two), three), four), n .0 .1), n .1)
 
 -- ---- a line under trims: the row that the trims of a row lead down to, by its kind's number
 abbrev lineOf : CurveTree → Prepared

@@ -7,6 +7,7 @@ ghost use Prim.Native.Nat.{ℕ, _+_};
 ghost use lib.Ieee.{Float};
 ghost use Rattle.arith_trig.specs.Trig.{sinOf, cosOf};
 ghost use Rattle.brep.specs.Rows.{tables, lent, given, pointOf};
+ghost use Rattle.brep.specs.Own.RunOf.{runOf};
 ghost use Rattle.brep.specs.Tree.{tree, run};
 ghost use Rattle.curve_parameter.specs.Run.{closes, polylineParameter};
 ghost use Rattle.curve_point.specs.Point.{polylinePoint, ellipsePoint, parabolaPoint, pointAt};
@@ -286,8 +287,46 @@ fn other_derivative(
             let spot = polyline_at(points, first, count, closed, t);
             spot.slope
         }
-        _ => curve_tangent::derivative_at(points, curves, reals, parts, ranges, row, t),
+        7 => {
+            let first = brep::int_at(curves, at + 1);
+            let count = brep::int_at(curves, at + 2);
+            composite_slope(points, curves, reals, parts, ranges, r, first, count, t)
+        }
+        // Of an unknown kind, or a trim whose base does not fall: no points.
+        _ => Vec3::ZERO,
     }
+}
+
+// The derivative of a composite's run of segments; their curves lie in rows below row. Each is prepared, as the composite was, so that
+// where curves are drawn only `point_at` reads a row by value.
+fn composite_slope(
+    points: &[f64],
+    curves: &[u32],
+    reals: &[f64],
+    parts: &[u32],
+    ranges: &[f64],
+    row: u32,
+    first: u32,
+    count: u32,
+    t: f64,
+) -> Vec3
+    ensures { λ r. ⌜ r ≡ derivativeAt (runOf (given points curves reals parts ranges) row first count) t ⌝ }
+{
+    if count == 0 {
+        return Vec3::ZERO;
+    }
+    let clamped = arith::clamp(t, 0.0, count as f64);
+    let i = curve_parameter::index_in(count - 1, clamped);
+    let s = brep::segment_at(parts, ranges, first, i);
+    let base = s.curve;
+    let range = s.range;
+    let u = curve_parameter::own_parameter(range, s.same_sense, clamped - i as f64);
+    let k = curve_tangent::signed_span(range, s.same_sense);
+    if base < row {
+        let prepared = prepare(points, curves, reals, parts, ranges, base);
+        return derivative_of(prepared, points, curves, reals, parts, ranges, base, u).scale(k);
+    }
+    Vec3::ZERO.scale(k)
 }
 
 // The derivative at t of the curve of a row, prepared.

@@ -1,5 +1,5 @@
--- The derivative of a run of segments and of a run of points. Assumes nothing.
-use mathlib.Core.Path.{_≡_, refl, sym, ap, _∙_}
+-- The derivative of a row by the curve that it is read as, of a run of segments and of a run of points. Assumes nothing.
+use mathlib.Core.Path.{_≡_, refl, sym, _∙_}
 use mathlib.Core.List.{List}
 use Prim.Native.Nat.{ℕ, _+_, _-_, _<_, _≤_, min}
 use native.Mathlib.Omega.{arith}
@@ -7,14 +7,31 @@ use lib.Ieee.{Float, toUnsigned}
 use borrow.Author.Tests.{lt-ltb, le-ltb}
 use Rattle.arith.specs.Notation.{_⊖_, count}
 use Rattle.arith.specs.Floor.{floorOf}
+use Rattle.math.specs.declared.Interval.{Interval}
 use Rattle.math.specs.Math.{vZero, vSub, vScale}
+use Rattle.brep.specs.declared.Curve.{Curve}
+use Rattle.brep.specs.declared.Curve.the-variants.{Trimmed}
 use Rattle.brep.specs.declared.Segment.{Segment}
 use Rattle.brep.specs.Rows.{Tables, pointOf}
-use Rattle.brep.specs.Tree.{CurveTree, composite, run, segments, segmentIn}
-use Rattle.brep.proofs.Laws.{length-run, getD-run}
+use Rattle.brep.specs.Tree.{CurveTree, composite, run, segments, segmentIn, rowIn, grown, below, tree}
+use Rattle.brep.proofs.Laws.{length-run, getD-run, at-row}
+use Rattle.brep.proofs.ByKind.{number}
+use Rattle.curve_parameter.specs.Own.Under.{under}
 use Rattle.curve_parameter.specs.Run.{clampedTo, indexIn, ownParameter, polylineParameter}
 use Rattle.curve_parameter.proofs.Laws.{of-composite}
+use Rattle.curve_parameter.proofs.Under.{under-same, empty-trim}
 use Rattle.curve_tangent.specs.Derivative.{derivativeAt, segmentDerivative, signedSpan, polylineDerivative}
+
+-- the row under a row's trims, read as the curve c
+module _ (T : Tables) (row : ℕ) (t : Float) {r : ℕ} (u : r ≡ under (T .curves) row) {c : Curve} (e : c ≡ rowIn T r) where
+  pub derivative-row : {k : Curve} → c ≡ k → derivativeAt (grown T (below T r) k) t ≡ derivativeAt (tree T row) t
+  unfolding derivativeAt
+  derivative-row k = at-row (λ (x : CurveTree). derivativeAt x t) T r k e ∙ under-same (λ (x : CurveTree). derivativeAt x t) (λ b i. refl) T row u
+
+  -- a trim is left only where its base does not fall
+  pub derivative-trim : {base : ℕ} {range : Interval} → c ≡ Trimmed base range → vZero ≡ derivativeAt (tree T row) t
+  unfolding derivativeAt polylineDerivative
+  derivative-trim k = empty-trim (λ (x : CurveTree). derivativeAt x t) (λ b i. refl) T row u refl (number T r (sym e ∙ k) (λ v. omega arith))
 
 module _ (T : Tables) (f : ℕ → CurveTree) (first n : ℕ) (t : Float) where
   pub derivative-none : n ≡ 0 → vZero ≡ derivativeAt (composite (segments T f first n)) t

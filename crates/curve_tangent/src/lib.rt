@@ -1,5 +1,5 @@
 // Derivatives and tangents on rows: eval/curve.rs. Each contract is the definition at the row's curve.
-// A row's kind is read by its number, as in `curve`.
+use brep::Curve;
 use math::Direction;
 use math::Interval;
 use math::Vec3;
@@ -25,7 +25,7 @@ fn polyline_derivative(points: &[f64], first: u32, count: u32, t: f64) -> Vec3
 
 // A segment's span, or that the other way round where it is walked against its curve.
 // As in the Rust, a sign times the span.
-fn signed_span(range: Interval, same_sense: bool) -> f64
+pub fn signed_span(range: Interval, same_sense: bool) -> f64
     ensures { λ r. ⌜ r ≡ signedSpan range «same_sense» ⌝ }
 {
     if same_sense {
@@ -63,33 +63,29 @@ pub fn derivative_at(
     ensures { λ r. ⌜ r ≡ derivativeAt (tree (given points curves reals parts ranges) row) t ⌝ }
 {
     let r = curve_parameter::under_trims(curves, row);
-    let at = r as usize * 3;
-    let kind = brep::int_at(curves, at);
-    let first = brep::int_at(curves, at + 1);
-    match kind {
-        1 => brep::point_in(points, first, 1),
-        2 => {
-            let p = brep::float_at(reals, r as usize * 2);
-            let frame = brep::frame_at(points, first);
-            ellipse_derivative(frame.ref_dir, frame.y_dir(), p, p, t)
+    let c = brep::row_at(points, curves, reals, r);
+    match c {
+        Curve::Line {
+            origin: _,
+            direction,
+        } => direction,
+        Curve::Circle { frame, radius } => {
+            ellipse_derivative(frame.ref_dir, frame.y_dir(), radius, radius, t)
         }
-        3 => {
-            let p = brep::float_at(reals, r as usize * 2);
-            let q = brep::float_at(reals, r as usize * 2 + 1);
-            let frame = brep::frame_at(points, first);
-            ellipse_derivative(frame.ref_dir, frame.y_dir(), p, q, t)
+        Curve::Ellipse {
+            frame,
+            semi_major,
+            semi_minor,
+        } => ellipse_derivative(frame.ref_dir, frame.y_dir(), semi_major, semi_minor, t),
+        Curve::Parabola { frame, focal_dist } => {
+            parabola_derivative(frame.ref_dir, frame.y_dir(), focal_dist, t)
         }
-        4 => {
-            let p = brep::float_at(reals, r as usize * 2);
-            let frame = brep::frame_at(points, first);
-            parabola_derivative(frame.ref_dir, frame.y_dir(), p, t)
-        }
-        5 => polyline_derivative(points, first, brep::int_at(curves, at + 2), t),
-        7 => {
-            let count = brep::int_at(curves, at + 2);
+        Curve::Polyline { first, count } => polyline_derivative(points, first, count, t),
+        // Its base does not fall.
+        Curve::Trimmed { base: _, range: _ } => Vec3::ZERO,
+        Curve::Composite { first, count } => {
             composite_derivative(points, curves, reals, parts, ranges, r, first, count, t)
         }
-        _ => Vec3::ZERO,
     }
 }
 

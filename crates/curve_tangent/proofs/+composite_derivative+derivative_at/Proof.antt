@@ -1,11 +1,11 @@
 -- `curve_tangent::composite_derivative` and `curve_tangent::derivative_at` meet their contracts. Assumes nothing.
-use mathlib.Core.Path.{refl, ap, _∙_}
+use mathlib.Core.Path.{ap, _∙_}
 use Rattle.math.specs.Math.{vScale}
 use Rattle.brep.proofs.Laws.{at-lower, at-high}
-use Rattle.brep.proofs.ByKind.{at-line, at-circle, at-ellipse, at-parabola, at-polyline, at-composite}
-use Rattle.curve_parameter.proofs.Under.{under-low, under-same, under-rest}
+use Rattle.brep.specs.Tree.{grown}
+use Rattle.curve_parameter.proofs.Under.{under-low}
 use Rattle.curve_tangent.specs.Derivative.{derivativeAt, polylineDerivative}
-use Rattle.curve_tangent.proofs.Laws.{derivative-none, derivative-some}
+use Rattle.curve_tangent.proofs.Laws.{derivative-row, derivative-trim, derivative-none, derivative-some}
 use borrow.Author.Needs.{needs}
 use Prim.Native.Nat.{ℕ, _<_, _+_, _*_}
 use borrow.Fn.Kinds.{In}
@@ -17,10 +17,7 @@ use Rattle.curve_tangent.proofs.derivative_at.Reads as derivative-at
 use Rattle.curve_tangent.proofs.derivative_at.Kinds as derivative-at-kinds
 use Rattle.curve_tangent.proofs.+composite_derivative+derivative_at.Lts-derivative_at as derivative-at-lts
 use Rattle.arith.proofs.clamp.Reads as clamp-reads
-use Rattle.brep.proofs.float_at.Reads as float-at-reads
-use Rattle.brep.proofs.frame_at.Reads as frame-at-reads
-use Rattle.brep.proofs.int_at.Reads as int-at-reads
-use Rattle.brep.proofs.point_in.Reads as point-in-reads
+use Rattle.brep.proofs.row_at.Reads as row-at-reads
 use Rattle.brep.proofs.segment_at.Reads as segment-at-reads
 use Rattle.curve_parameter.proofs.index_in.Reads as index-in-reads
 use Rattle.curve_parameter.proofs.own_parameter.Reads as own-parameter-reads
@@ -73,14 +70,14 @@ abbrev composite-derivative-claims : ℕ → composite-derivative-lts.Claims
 composite-derivative-claims t = (clamp-reads.Asked, clamp-reads.Learnt, index-in-reads.Asked, index-in-reads.Learnt, segment-at-reads.Asked, segment-at-reads.Learnt, own-parameter-reads.Asked, own-parameter-reads.Learnt, signed-span-reads.Asked, signed-span-reads.Learnt, derivative-at-below t, derivative-at.Post, scale-reads.Asked, scale-reads.Learnt)
 
 abbrev derivative-at-claims : ℕ → derivative-at-lts.Claims
-derivative-at-claims t = (under-trims-reads.Asked, under-trims-reads.Learnt, int-at-reads.Asked, int-at-reads.Learnt, point-in-reads.Asked, point-in-reads.Learnt, float-at-reads.Asked, float-at-reads.Learnt, frame-at-reads.Asked, frame-at-reads.Learnt, y-dir-reads.Asked, y-dir-reads.Learnt, ellipse-derivative-reads.Asked, ellipse-derivative-reads.Learnt, parabola-derivative-reads.Asked, parabola-derivative-reads.Learnt, polyline-derivative-reads.Asked, polyline-derivative-reads.Learnt, composite-derivative-below t, composite-derivative.Post)
+derivative-at-claims t = (under-trims-reads.Asked, under-trims-reads.Learnt, row-at-reads.Asked, row-at-reads.Learnt, y-dir-reads.Asked, y-dir-reads.Learnt, ellipse-derivative-reads.Asked, ellipse-derivative-reads.Learnt, parabola-derivative-reads.Asked, parabola-derivative-reads.Learnt, polyline-derivative-reads.Asked, polyline-derivative-reads.Learnt, composite-derivative-below t, composite-derivative.Post)
 
 composite-derivative-returns : (t : ℕ) → composite-derivative-lts.Need-returns (composite-derivative-claims t) (composite-derivative-at t) composite-derivative.Post
-unfolding derivativeAt polylineDerivative
+unfolding derivativeAt
 composite-derivative-returns t c = derivative-none _ _ _ _ _ (c .if1 .taken)
 
 composite-derivative-returns-2 : (t : ℕ) → composite-derivative-lts.Need-returns-2 (composite-derivative-claims t) (composite-derivative-at t) composite-derivative.Post
-unfolding derivativeAt polylineDerivative
+unfolding derivativeAt
 composite-derivative-returns-2 t c = c .scale .ensures ∙ ap (λ v. vScale v (c .before .before .before .signed-span .result)) (c .before .derivative-at .ensures) ∙ at-lower (λ x. vScale (derivativeAt x (c .before .before .before .before .own-parameter .result)) (c .before .before .before .signed-span .result)) _ _ (c .before .before .if2 .taken) ∙ derivative-some _ _ _ _ _ (c .before .before .before .before .before .before .before .before .before .before .before .if1 .left) _ (c .before .before .before .before .before .before .before .before .before .clamp .ensures) _ (c .before .before .before .before .before .before .before .before .index-in .ensures) _ (c .before .before .before .before .before .before .before .segment-at .ensures) _ (c .before .before .before .before .own-parameter .ensures) _ (c .before .before .before .signed-span .ensures)
 
 composite-derivative-returns-3 : (t : ℕ) → composite-derivative-lts.Need-returns-3 (composite-derivative-claims t) (composite-derivative-at t) composite-derivative.Post
@@ -88,35 +85,34 @@ unfolding derivativeAt polylineDerivative
 composite-derivative-returns-3 t c = c .scale2 .ensures ∙ at-high (λ x. vScale (derivativeAt x (c .before .before .before .own-parameter .result)) (c .before .before .signed-span .result)) _ _ (c .before .if2 .left) ∙ derivative-some _ _ _ _ _ (c .before .before .before .before .before .before .before .before .before .before .if1 .left) _ (c .before .before .before .before .before .before .before .before .clamp .ensures) _ (c .before .before .before .before .before .before .before .index-in .ensures) _ (c .before .before .before .before .before .before .segment-at .ensures) _ (c .before .before .before .own-parameter .ensures) _ (c .before .before .signed-span .ensures)
 
 derivative-at-composite-derivative-requires : (t : ℕ) → derivative-at-lts.Need-composite-derivative-requires (derivative-at-claims t) (derivative-at-at t) derivative-at.Post
-derivative-at-composite-derivative-requires t c κs = let l = under-low (c .before .before .before .before .before .before .before .before .before .before .args .curves .now) (c .before .before .before .before .before .before .before .before .before .before .args .row) (c .before .before .before .before .before .before .before .before .before .before .args .row) in let e = c .before .before .before .before .under-trims .ensures in search needs
+derivative-at-composite-derivative-requires t c κs = let a = c .before .before .before .before .before .before .before .before .before .before .args in let l = under-low (a .curves .now) (a .row) (a .row) in let e = c .before .before .before .before .under-trims .ensures in search needs
 
 derivative-at-returns : (t : ℕ) → derivative-at-lts.Need-returns (derivative-at-claims t) (derivative-at-at t) derivative-at.Post
-unfolding derivativeAt polylineDerivative
-derivative-at-returns t c = c .point-in .ensures ∙ at-line (λ x. derivativeAt x (c .before .before .before .before .before .before .before .before .before .before .args .t)) _ _ (c .before .before .before .int-at .ensures) (c .before .match .keys1) (c .before .before .int-at2 .ensures) ∙ under-same (λ x. derivativeAt x (c .before .before .before .before .before .before .before .before .before .before .args .t)) (λ b r. refl) _ _ (c .before .before .before .before .under-trims .ensures)
+unfolding derivativeAt grown
+derivative-at-returns t c = derivative-row _ _ _ (c .before .before .before .before .under-trims .ensures) (c .before .before .before .row-at .ensures) (c .before .c .given .1)
 
 derivative-at-returns-2 : (t : ℕ) → derivative-at-lts.Need-returns-2 (derivative-at-claims t) (derivative-at-at t) derivative-at.Post
-unfolding derivativeAt polylineDerivative
-derivative-at-returns-2 t c = rw (c .ellipse-derivative .ensures, c .before .y-dir .ensures, c .before .before .frame-at .ensures) (at-circle (λ x. derivativeAt x (c .before .before .before .before .before .before .before .before .before .before .before .before .before .args .t)) _ _ (c .before .before .before .before .before .before .int-at .ensures) (c .before .before .before .before .match .keys2) (c .before .before .before .before .before .int-at2 .ensures) (c .before .before .before .float-at .ensures) ∙ under-same (λ x. derivativeAt x (c .before .before .before .before .before .before .before .before .before .before .before .before .before .args .t)) (λ b r. refl) _ _ (c .before .before .before .before .before .before .before .under-trims .ensures))
+unfolding derivativeAt grown
+derivative-at-returns-2 t c = rw (c .ellipse-derivative .ensures, c .before .y-dir .ensures) (derivative-row _ _ _ (c .before .before .before .before .before .before .under-trims .ensures) (c .before .before .before .before .before .row-at .ensures) (c .before .before .before .c2 .given .1))
 
 derivative-at-returns-3 : (t : ℕ) → derivative-at-lts.Need-returns-3 (derivative-at-claims t) (derivative-at-at t) derivative-at.Post
-unfolding derivativeAt polylineDerivative
-derivative-at-returns-3 t c = rw (c .ellipse-derivative2 .ensures, c .before .y-dir2 .ensures, c .before .before .frame-at2 .ensures) (at-ellipse (λ x. derivativeAt x (c .before .before .before .before .before .before .before .before .before .before .before .before .before .before .args .t)) _ _ (c .before .before .before .before .before .before .before .int-at .ensures) (c .before .before .before .before .before .match .keys3) (c .before .before .before .before .before .before .int-at2 .ensures) (c .before .before .before .before .float-at2 .ensures) (c .before .before .before .float-at3 .ensures) ∙ under-same (λ x. derivativeAt x (c .before .before .before .before .before .before .before .before .before .before .before .before .before .before .args .t)) (λ b r. refl) _ _ (c .before .before .before .before .before .before .before .before .under-trims .ensures))
+unfolding derivativeAt grown
+derivative-at-returns-3 t c = rw (c .ellipse-derivative2 .ensures, c .before .y-dir2 .ensures) (derivative-row _ _ _ (c .before .before .before .before .before .before .under-trims .ensures) (c .before .before .before .before .before .row-at .ensures) (c .before .before .before .c3 .given .1))
 
 derivative-at-returns-4 : (t : ℕ) → derivative-at-lts.Need-returns-4 (derivative-at-claims t) (derivative-at-at t) derivative-at.Post
-unfolding derivativeAt polylineDerivative
-derivative-at-returns-4 t c = rw (c .parabola-derivative .ensures, c .before .y-dir3 .ensures, c .before .before .frame-at3 .ensures) (at-parabola (λ x. derivativeAt x (c .before .before .before .before .before .before .before .before .before .before .before .before .before .args .t)) _ _ (c .before .before .before .before .before .before .int-at .ensures) (c .before .before .before .before .match .keys4) (c .before .before .before .before .before .int-at2 .ensures) (c .before .before .before .float-at4 .ensures) ∙ under-same (λ x. derivativeAt x (c .before .before .before .before .before .before .before .before .before .before .before .before .before .args .t)) (λ b r. refl) _ _ (c .before .before .before .before .before .before .before .under-trims .ensures))
+unfolding derivativeAt grown
+derivative-at-returns-4 t c = rw (c .parabola-derivative .ensures, c .before .y-dir3 .ensures) (derivative-row _ _ _ (c .before .before .before .before .before .before .under-trims .ensures) (c .before .before .before .before .before .row-at .ensures) (c .before .before .before .c4 .given .1))
 
 derivative-at-returns-5 : (t : ℕ) → derivative-at-lts.Need-returns-5 (derivative-at-claims t) (derivative-at-at t) derivative-at.Post
-unfolding derivativeAt polylineDerivative
-derivative-at-returns-5 t c = c .polyline-derivative .ensures ∙ at-polyline (λ x. derivativeAt x (c .before .before .before .before .before .before .before .before .before .before .before .args .t)) _ _ (c .before .before .before .before .int-at .ensures) (c .before .before .match .keys5) (c .before .before .before .int-at2 .ensures) (c .before .int-at3 .ensures) ∙ under-same (λ x. derivativeAt x (c .before .before .before .before .before .before .before .before .before .before .before .args .t)) (λ b r. refl) _ _ (c .before .before .before .before .before .under-trims .ensures)
+unfolding derivativeAt grown
+derivative-at-returns-5 t c = c .polyline-derivative .ensures ∙ derivative-row _ _ _ (c .before .before .before .before .before .under-trims .ensures) (c .before .before .before .before .row-at .ensures) (c .before .before .c5 .given .1)
 
 derivative-at-returns-6 : (t : ℕ) → derivative-at-lts.Need-returns-6 (derivative-at-claims t) (derivative-at-at t) derivative-at.Post
-unfolding derivativeAt polylineDerivative
-derivative-at-returns-6 t c = c .composite-derivative .ensures ∙ at-composite (λ x. derivativeAt x (c .before .before .before .before .before .before .before .before .before .before .before .args .t)) _ _ (c .before .before .before .before .int-at .ensures) (c .before .before .match .keys6) (c .before .before .before .int-at2 .ensures) (c .before .int-at4 .ensures) ∙ under-same (λ x. derivativeAt x (c .before .before .before .before .before .before .before .before .before .before .before .args .t)) (λ b r. refl) _ _ (c .before .before .before .before .before .under-trims .ensures)
+derivative-at-returns-6 t c = derivative-trim _ _ _ (c .before .before .before .under-trims .ensures) (c .before .before .row-at .ensures) (c .enum-told .given .1)
 
 derivative-at-returns-7 : (t : ℕ) → derivative-at-lts.Need-returns-7 (derivative-at-claims t) (derivative-at-at t) derivative-at.Post
-unfolding derivativeAt polylineDerivative
-derivative-at-returns-7 t c = under-rest (λ x. derivativeAt x (c .before .before .before .before .before .before .before .before .before .args .t)) (λ b r. refl) _ _ (c .before .before .before .under-trims .ensures) (c .before .before .int-at .ensures) (c .match .rest)
+unfolding derivativeAt grown
+derivative-at-returns-7 t c = c .composite-derivative .ensures ∙ derivative-row _ _ _ (c .before .before .before .before .before .under-trims .ensures) (c .before .before .before .before .row-at .ensures) (c .before .before .c6 .given .1)
 
 pub +composite-derivative+derivative-at-spec : {M : Type 1} → statement M
 +composite-derivative+derivative-at-spec =
@@ -137,32 +133,9 @@ pub +composite-derivative+derivative-at-spec : {M : Type 1} → statement M
     (composite-derivative-returns-3 t))
     λ t. derivative-at-lts.spec (derivative-at-claims t) (derivative-at-at t) derivative-at.Post
     (λ c κs. search needs)
-    (λ c. search needs)
-    (λ c. search needs)
-    (λ c κs. search needs)
-    (λ c. search needs)
-    (λ c κs. search needs)
     (λ c κs. search needs)
     (λ c. search needs)
     (λ c. search needs)
-    (λ c κs. search needs)
-    (λ c κs. search needs)
-    (λ c κs. search needs)
-    (λ c κs. search needs)
-    (λ c. search needs)
-    (λ c. search needs)
-    (λ c κs. search needs)
-    (λ c. search needs)
-    (λ c. search needs)
-    (λ c. search needs)
-    (λ c κs. search needs)
-    (λ c κs. search needs)
-    (λ c κs. search needs)
-    (λ c κs. search needs)
-    (λ c. search needs)
-    (λ c. search needs)
-    (λ c κs. search needs)
-    (λ c κs. search needs)
     (λ c κs. search needs)
     (λ c κs. search needs)
     (λ c. search needs)
@@ -170,6 +143,11 @@ pub +composite-derivative+derivative-at-spec : {M : Type 1} → statement M
     (λ c κs. search needs)
     (λ c. search needs)
     (λ c κs. search needs)
+    (λ c κs. search needs)
+    (λ c. search needs)
+    (λ c κs. search needs)
+    (λ c. search needs)
+    (λ c. search needs)
     (derivative-at-composite-derivative-requires t)
     (derivative-at-returns t)
     (derivative-at-returns-2 t)
