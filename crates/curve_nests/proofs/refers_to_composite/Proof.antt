@@ -1,5 +1,5 @@
 -- `curve_nests::refers_to_composite` meets its contract. Assumes nothing.
-use mathlib.Core.Path.{refl, _∙_}
+use mathlib.Core.Path.{_∙_}
 use Rattle.brep.specs.Rows.{tables}
 use Rattle.brep.proofs.Laws.{at-lower, at-high}
 use Rattle.curve_nests.specs.Nests.{isComposite}

@@ -3,7 +3,7 @@ use mathlib.Core.Path.{_≡_, sym, _∙_}
 use mathlib.Core.List.{List}
 use Prim.Native.Nat.{_-_}
 use lib.Ieee.{Float}
-use Rattle.brep.specs.Rows.{Tables, tables}
+use Rattle.brep.specs.Rows.{tables}
 use Rattle.brep.specs.Tree.{below, segments}
 use Rattle.curve_nests.specs.Nests.{someComposite}
 use Rattle.curve_nests.proofs.Laws.{left, left-start, left-found, left-next, left-end}
