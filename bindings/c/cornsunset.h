@@ -2,10 +2,9 @@
  * by rt staticlib cornsunset, or what bindings/install put into place (pkg-config cornsunset).
  *
  * Every function is proved to answer as its definition says for any numbers and any contents of any lengths. What is left to
- * the caller is what C leaves to every caller: a
- * pointer has so many elements as the length beside it says, NULL is handed only with a length of 0, and what is written
- * (buffers, out values) overlaps nothing else that is handed over. No function keeps a pointer, allocates, prints or fails
- * in another way than it says. All may be called from any thread.
+ * the caller is what C leaves to every caller: a pointer has so many elements as the length beside it says, NULL is handed
+ * only with a length of 0, and what is written (buffers, out values) overlaps nothing else that is handed over. No function
+ * keeps a pointer, allocates, prints or fails in another way than it says. All may be called from any thread.
  *
  * A later version may add doubles to a point (CS_WIDTH), kinds, refusals, ways, and fields at the end of a struct that mean
  * nothing new where they are 0. So reckon with CS_WIDTH, give a switch over refusals a default, and set fields by name. */
