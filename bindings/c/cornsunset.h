@@ -197,9 +197,10 @@ uint32_t cs_flat_check_tables(
     const uint32_t *parts, size_t parts_len, const double *ranges, size_t ranges_len);
 
 /* For many edges over one set of tables: as cs_flat_draw, with the same answer, where cs_flat_check_tables returned 0 for these very
- * tables and nothing in them changed since. Their rows are not gone through again; their lengths, the edge, the options and the
- * buffers are looked at. Any other tables may be handed too: the answer is then a refusal or the chain that the rows read as, by
- * a definition (crates/draw/specs/Over.antt), a cause from 2 to 5 that lies in the rows is not told, and nothing crashes. */
+ * tables and nothing in them changed since. Their rows are not gone through again, but where a composite lies inside the edge's own
+ * composite; their lengths, the edge, the options and the buffers are looked at. Any other tables may be handed too: the answer is
+ * then a refusal or the chain that the rows read as, by a definition (crates/draw/specs/Over.antt), a cause from 2 to 5 that lies
+ * in rows that are not gone through is not told, and nothing crashes. */
 uint32_t cs_flat_draw_over(
     const double *points, size_t points_len, const uint32_t *curves, size_t curves_len, const double *reals, size_t reals_len,
     const uint32_t *parts, size_t parts_len, const double *ranges, size_t ranges_len,
