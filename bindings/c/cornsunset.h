@@ -2,10 +2,9 @@
  * by rt staticlib cornsunset, or what bindings/install put into place (pkg-config cornsunset).
  *
  * Every function is proved to answer as its definition says for any numbers and any contents of any lengths. What is left to
- * the caller is what C leaves to every caller: a
- * pointer has so many elements as the length beside it says, NULL is handed only with a length of 0, and what is written
- * (buffers, out values) overlaps nothing else that is handed over. No function keeps a pointer, allocates, prints or fails
- * in another way than it says. All may be called from any thread.
+ * the caller is what C leaves to every caller: a pointer has so many elements as the length beside it says, NULL is handed
+ * only with a length of 0, and what is written (buffers, out values) overlaps nothing else that is handed over. No function
+ * keeps a pointer, allocates, prints or fails in another way than it says. All may be called from any thread.
  *
  * A later version may add doubles to a point (CS_WIDTH), kinds, refusals, ways, and fields at the end of a struct that mean
  * nothing new where they are 0. So reckon with CS_WIDTH, give a switch over refusals a default, and set fields by name. */
@@ -198,9 +197,10 @@ uint32_t cs_flat_check_tables(
     const uint32_t *parts, size_t parts_len, const double *ranges, size_t ranges_len);
 
 /* For many edges over one set of tables: as cs_flat_draw, with the same answer, where cs_flat_check_tables returned 0 for these very
- * tables and nothing in them changed since. Their rows are not gone through again; their lengths, the edge, the options and the
- * buffers are looked at. Any other tables may be handed too: the answer is then a refusal or the chain that the rows read as, by
- * a definition (crates/draw/specs/Over.antt), a cause from 2 to 5 that lies in the rows is not told, and nothing crashes. */
+ * tables and nothing in them changed since. Their rows are not gone through again, but where a composite lies inside the edge's own
+ * composite; their lengths, the edge, the options and the buffers are looked at. Any other tables may be handed too: the answer is
+ * then a refusal or the chain that the rows read as, by a definition (crates/draw/specs/Over.antt), a cause from 2 to 5 that lies
+ * in rows that are not gone through is not told, and nothing crashes. */
 uint32_t cs_flat_draw_over(
     const double *points, size_t points_len, const uint32_t *curves, size_t curves_len, const double *reals, size_t reals_len,
     const uint32_t *parts, size_t parts_len, const double *ranges, size_t ranges_len,

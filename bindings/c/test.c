@@ -1,6 +1,7 @@
 /* What no sheet can hold: tables above their size, slices that are not whole rows or are NULL, short buffers; and tables that
- * are checked once, NaN parameters, walks, presets and angles. */
+ * are checked once or never accepted, NaN parameters, walks, presets and angles. */
 #include "cornsunset.h"
+#include <math.h>
 #include <stdio.h>
 #include <stdlib.h>
 #include <string.h>
@@ -105,6 +106,43 @@ static void nulls(void) {
     EXPECT(at == 0 && cs_step(NULL, 0, true, &at, p) == 0 && cs_step(NULL, 0, false, &at, p) == 0);
 }
 
+/* The answer over tables that were never accepted: one of the numbers, and nothing behind the lent floats is touched. */
+static uint32_t draw_over_any(cs_tables t, cs_edge e) {
+    for (size_t i = 0; i < LENGTH; i++) first[i] = second[i] = -7;
+    const uint32_t refusal = cs_draw_over(&t, &e, &OPTIONS, first, 400, second, 401, &way, &count);
+    EXPECT(refusal == CS_DRAWN ? way >= CS_AS_DRAWN && way <= CS_RUNAWAY && count >= 2 && CS_WIDTH * count <= 400
+                               : refusal <= CS_ENDLESS && way == CS_NO_CHAIN && count == 0);
+    EXPECT(all(first + 400, LENGTH - 400, -7) && all(second + 401, LENGTH - 401, -7));
+    return refusal;
+}
+
+/* Rows of this kind, each over the one below and the last over the line: as deep as a table can be. */
+static void nest(uint32_t kind) {
+    for (uint32_t i = 1; i < CS_MOST_CURVES; i++) {
+        curves[3 * i] = kind, curves[3 * i + 1] = i - 1, curves[3 * i + 2] = 1;
+        parts[2 * i - 2] = i - 1, parts[2 * i - 1] = 1;
+    }
+}
+
+static void unaccepted(void) {
+    cs_tables t = LINE;
+    cs_edge e = EDGE;
+    t.points_len = POINTS + 1, EXPECT(draw_over_any(t, e) == CS_OVERSIZE);
+    t = LINE, t.points_len = 8, EXPECT(draw_over_any(t, e) == CS_MISSING);
+    t = LINE, t.reals_len = 1, draw_over_any(t, e);
+    t = LINE, points[0] = NAN, draw_over_any(t, e), points[0] = 0;
+    for (uint32_t kind = 0; kind <= 8; kind++) {
+        for (uint32_t row = 0; row <= 3; row++) {
+            curves[0] = kind, curves[1] = row == 3 ? UINT32_MAX : row, curves[2] = row * row, draw_over_any(LINE, e);
+        }
+    }
+    curves[0] = CS_KIND_LINE, curves[1] = 0, curves[2] = 2;
+    t = LINE, t.curves_len = CURVES, t.reals_len = REALS, t.parts_len = t.ranges_len = PARTS;
+    e.curve = CS_MOST_CURVES - 1;
+    nest(CS_KIND_TRIMMED), EXPECT(cs_check_tables(&t) == CS_TOO_DEEP), draw_over_any(t, e);
+    nest(CS_KIND_COMPOSITE), EXPECT(cs_check_tables(&t) == CS_TOO_DEEP), draw_over_any(t, e);
+}
+
 static void buffers(void) {
     cs_options o = OPTIONS;
     EXPECT(draw(LINE, EDGE, o, 2 * CS_WIDTH - 1, 400) == CS_SHORT_BUFFER);
@@ -200,6 +238,7 @@ int main(void) {
     nulls();
     buffers();
     once();
+    unaccepted();
     nans();
     walks();
     angles();
