@@ -1,8 +1,8 @@
 """Cornsunset in Python: an edge of a part becomes a chain of points.
 
-The work is done by a library of which every function is proved to answer as its definition says, for any contents of any lengths.
-This module sees to what the library leaves to its callers: types, widths, lengths, and that what is written overlaps nothing. It
-needs nothing but Python 3.10 or later, on x86-64 Linux; `bindings/python/build` links the library.
+The work is done by a library of which every function is proved to answer as its definition says, for any contents of any
+lengths. This module sees to what the library leaves to its callers: types, widths, lengths, and that what is written overlaps
+nothing. It needs nothing but Python 3.10 or later, on x86-64 Linux; `bindings/python/build` links the library.
 
 A Part builds the tables, checks them once and draws edges into chains:
 
@@ -28,11 +28,11 @@ Who has such tables already lends them as arrays or lists to Tables, and these t
     Way                     the way in which a chain was got
     Refusal, PartError      why an edge was turned away, and why a curve could not be added: each has a class of its own
 
-A TypeError or an OverflowError says that something is no number of the sort that is asked for; a bare number where an Angle belongs
-is a TypeError.
+A TypeError or an OverflowError says that something is no number of the sort that is asked for; a bare number where an Angle
+belongs is a TypeError.
 
-Everything may be called from any thread. Where memory is the caller's, other threads wait meanwhile; Checked.draw lets them run. A
-thread that draws needs some 200 KB of stack, of which Python gives megabytes unless told otherwise.
+Everything may be called from any thread. Where memory is the caller's, other threads wait meanwhile; Checked.draw lets them
+run. A thread that draws needs some 200 KB of stack, of which Python gives megabytes unless told otherwise.
 
 What a later version may add: members of Kind and Way, classes of Refusal and PartError, fields of Options that mean nothing new
 where they are not given, floats to a Point and with them to WIDTH.

@@ -3,7 +3,8 @@ import enum
 
 
 class Refusal(Exception):
-    """Why an edge was turned away. Each has a class of its own, with its number, which is the same in C and Rust, and a message.
+    """Why an edge was turned away. Each has a class of its own, with its number, which is the same in C and Rust, and a
+    message.
 
     1 to 7 leave both buffers as they were, 8 and 9 leave them all +0.0.
 
@@ -20,7 +21,7 @@ class Refusal(Exception):
     """
 
     number: int
-    message: str
+    message = "an edge was turned away"
     # All of them, in the order of their numbers.
     ALL = ()
 
@@ -28,7 +29,7 @@ class Refusal(Exception):
         return self.message
 
     @staticmethod
-    def from_number(number):
+    def from_number(number: int) -> "type[Refusal] | None":
         """The class of the refusal that has this number, or None."""
         return next((refusal for refusal in Refusal.ALL if refusal.number == number), None)
 
@@ -48,8 +49,8 @@ class Unbounded(Refusal):
 
 
 class IllFormed(Refusal):
-    """Points not in threes, an unknown kind, a wrong count, an unused p or q that is not zero, a sense or relative that is neither
-    0 nor 1, or a run, base or segment's curve outside its table."""
+    """Points not in threes, an unknown kind, a wrong count, an unused p or q that is not zero, a sense or relative that is
+    neither 0 nor 1, or a run, base or segment's curve outside its table."""
 
     number = 3
     message = (

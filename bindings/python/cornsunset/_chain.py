@@ -4,6 +4,7 @@ from ctypes import byref, c_double, c_size_t
 from dataclasses import dataclass
 from math import sqrt
 
+from ._answer import Way
 from ._library import WIDTH, library
 from ._memory import FLOATS, Memory, lent
 
@@ -23,7 +24,7 @@ class Point:
     t: float
 
     @property
-    def position(self):
+    def position(self) -> tuple[float, float, float]:
         """Its x, y and z."""
         return self.x, self.y, self.z
 
@@ -51,16 +52,16 @@ class Chain(Sequence):
         self._memory, self._way = memory, way
 
     @property
-    def way(self):
+    def way(self) -> Way:
         """The way in which it was got."""
         return self._way
 
     @property
-    def floats(self):
-        """Its points as plain floats, WIDTH each: a memoryview to read, for numpy `numpy.asarray(chain.floats).reshape(-1, WIDTH)`."""
+    def floats(self) -> memoryview:
+        """Its points as plain floats, WIDTH each, to read. For numpy: `numpy.asarray(chain.floats).reshape(-1, WIDTH)`."""
         return self._memory.view.toreadonly()
 
-    def length(self):
+    def length(self) -> float:
         """Its length: the distances from each point to its next, summed from the start. This is what a cutter runs."""
         xs, ys, zs = (self._memory.view[i::WIDTH].tolist() for i in range(3))
         total = 0.0
@@ -69,15 +70,15 @@ class Chain(Sequence):
             total += sqrt(x * x + y * y + z * z)
         return total
 
-    def forwards(self):
+    def forwards(self) -> "Walk":
         """A walk from its start."""
         return Walk(self, True)
 
-    def backwards(self):
+    def backwards(self) -> "Walk":
         """A walk from its end."""
         return Walk(self, False)
 
-    def copy(self):
+    def copy(self) -> "Chain":
         """A copy that owns its points."""
         return _chain(bytes(self._memory.view), self._way)
 
@@ -111,8 +112,8 @@ def _chain(stored, way):
 
 
 class Walk(Iterator):
-    """A walk over the whole points of a chain, or of floats that are read as points, from the start if forward, else from the end.
-    A step with no point left keeps its place.
+    """A walk over the whole points of a chain, or of floats that are read as points, from the start if forward, else from the
+    end. A step with no point left keeps its place.
 
     >>> walk = Walk([0.0, 0.0, 0.0, 0.0, 7.0, 0.0, 0.0, 1.0])
     >>> [point.x for point in walk]
@@ -129,7 +130,7 @@ class Walk(Iterator):
         self._forward = bool(forward)
         self._at = c_size_t(library.cs_start(self._memory.address, self._memory.length, self._forward))
 
-    def turn(self):
+    def turn(self) -> None:
         """Turns round: the next step passes the last point again."""
         self._forward = not self._forward
 

@@ -5,7 +5,7 @@ from math import isfinite, sqrt
 class PartError(ValueError):
     """Why a curve could not be added to a part. Each has a class of its own, and a message. There may be more of them later."""
 
-    message: str
+    message = "a curve could not be added"
 
     def __str__(self):
         return self.message

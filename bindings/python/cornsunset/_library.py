@@ -64,7 +64,8 @@ def loaded(loader, file):
 
 
 _FILE = found()
-# Where memory is the caller's, the interpreter's lock is kept, so that no other thread writes to it meanwhile.
+# Where memory is the caller's, the interpreter's lock is kept, so that no other thread writes to it meanwhile. (A Python that has
+# no such lock leaves that to the caller.)
 library = loaded(ctypes.PyDLL, _FILE)
 # Where all memory is the module's own, the lock is let go, so that threads draw side by side.
 parallel = loaded(ctypes.CDLL, _FILE)

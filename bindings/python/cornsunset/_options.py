@@ -30,20 +30,20 @@ class Angle:
         raise TypeError("an angle is made by Angle.degrees or Angle.radians")
 
     @staticmethod
-    def degrees(x):
+    def degrees(x: float) -> "Angle":
         """So many degrees."""
         return _angle(library.cs_degrees(real(x, "an angle")))
 
     @staticmethod
-    def radians(x):
+    def radians(x: float) -> "Angle":
         """So many radians."""
         return _angle(real(x, "an angle"))
 
-    def to_radians(self):
+    def to_radians(self) -> float:
         """In radians."""
         return self._radians
 
-    def is_clamped(self):
+    def is_clamped(self) -> bool:
         """Whether drawing changes it where it stands in Options, as it does below 1e-4 and above pi: a caller can warn."""
         return library.cs_is_clamped(self._radians)
 
@@ -105,8 +105,8 @@ _DEFAULT = _preset(library.cs_flat_default)
 
 @dataclass(frozen=True, kw_only=True, slots=True)
 class Options:
-    """How finely to draw. deflection and angle are what a span is tested by, and no bounds on the chain: what a curve does between
-    the places that are looked at is not seen, and a span with no depth left is not tested again.
+    """How finely to draw. deflection and angle are what a span is tested by, and no bounds on the chain: what a curve does
+    between the places that are looked at is not seen, and a span with no depth left is not tested again.
 
     What is not given is as in the preset `default`: 0.0004 of the scale and 8 degrees. Set the scale before drawing.
 
@@ -116,23 +116,24 @@ class Options:
     >>> Options.draft(scale=470).deflection
     0.01
 
-    deflection: the sag: how far a span's chord may lie from the curve at the span's middle parameter. A length, unless relative is 1
-    and there is a scale: then this fraction of the scale for an edge whose extent is a quarter of the scale up to all of it, of its
-    own extent for a larger edge, and for a smaller one four times this fraction of its extent, but never less than an eighth of what
-    it is for the whole.
+    deflection: the sag: how far a span's chord may lie from the curve at the span's middle parameter. A length, unless relative
+    is 1 and there is a scale: then this fraction of the scale for an edge whose extent is a quarter of the scale up to all of
+    it, of its own extent for a larger edge, and for a smaller one four times this fraction of its extent, but never less than
+    an eighth of what it is for the whole.
 
-    angle: an Angle. Where a curve is bisected, how far the tangents at a span's two ends may turn from each other; on a circle or an
-    ellipse the largest step of its parameter, 1e-3 radians at least, and no tangent is looked at. Held to 1e-4 radians to pi.
+    angle: an Angle. Where a curve is bisected, how far the tangents at a span's two ends may turn from each other; on a circle
+    or an ellipse the largest step of its parameter, 1e-3 radians at least, and no tangent is looked at. Held to 1e-4 radians to
+    pi.
 
     relative: 0 or 1.
 
-    segments: the least number of segments that an edge is sampled with, before points are merged; a chord has one. 0 counts as 1. It
-    has no upper end but the room: n segments need n + 1 points.
+    segments: the least number of segments that an edge is sampled with, before points are merged; a chord has one. 0 counts as
+    1. It has no upper end but the room: n segments need n + 1 points.
 
     depth: how often a span may be halved, where a curve is bisected. Held to 1 to 24.
 
-    scale: the size of the part, in its own unit of length, as the diagonal of its box; not finite or not above zero, it is none, and
-    the deflection is a length whatever relative says.
+    scale: the size of the part, in its own unit of length, as the diagonal of its box; not finite or not above zero, it is
+    none, and the deflection is a length whatever relative says.
     """
 
     deflection: float = _DEFAULT["deflection"]
@@ -150,17 +151,17 @@ class Options:
             object.__setattr__(self, name, whole(getattr(self, name), name, bits))
 
     @classmethod
-    def default(cls, **changes):
+    def default(cls, **changes) -> "Options":
         """0.0004 of the scale and 8 degrees, with these changes."""
         return cls(**changes)
 
     @classmethod
-    def draft(cls, **changes):
+    def draft(cls, **changes) -> "Options":
         """For a quick preview: 0.01 of the scale and 35 degrees, with these changes."""
         return cls(**{**_preset(library.cs_flat_draft), **changes})
 
     @classmethod
-    def fine(cls, **changes):
+    def fine(cls, **changes) -> "Options":
         """For close inspection: 0.0001 of the scale and 4 degrees, with these changes."""
         return cls(**{**_preset(library.cs_flat_fine), **changes})
 

@@ -5,7 +5,7 @@ from dataclasses import dataclass, field
 from ._frame import directed, sized, square
 from ._memory import of_type, real, vector, whole
 from ._options import Angle, angle
-from ._tables import Edge, Kind, Tables, check_tables
+from ._tables import Checked, Edge, Kind, Tables, check_tables
 
 # The points that are the corners of a part's box.
 _LOW, _HIGH = 0, 1
@@ -40,7 +40,7 @@ class PointRun:
         for name in ("first", "count"):
             object.__setattr__(self, name, whole(getattr(self, name), name))
 
-    def at(self, index):
+    def at(self, index: int) -> PointNumber:
         """The number of one of them, counted from 0."""
         if not 0 <= index < self.count:
             raise IndexError(f"a run of {self.count} points has none with the index {index}")
@@ -90,7 +90,7 @@ class Segment:
         self._range()
         object.__setattr__(self, "sense", whole(self.sense, "sense"))
 
-    def reversed(self):
+    def reversed(self) -> "Segment":
         """The same range, run the other way."""
         return Segment(self.curve, self.lo, self.hi, sense=1 - self.sense)
 
@@ -99,13 +99,14 @@ class Segment:
 
 
 class Part:
-    """A part under construction, in a box with these corners. It owns its tables; what it returns are numbers of points and rows.
+    """A part under construction, in a box with these corners. It owns its tables; what it returns are numbers of points and
+    rows.
 
     A chain is repaired (Way) that has a point further from the box's centre than its diagonal and sixteen sags together; a box
     without a diagonal repairs none.
 
-    A frame's axis and ref_dir need be neither unit nor at right angles: here they are made so. Ranges on circles and ellipses are
-    Angles, all others plain numbers of the curve's own parameter.
+    A frame's axis and ref_dir need be neither unit nor at right angles: here they are made so. Ranges on circles and ellipses
+    are Angles, all others plain numbers of the curve's own parameter.
 
     >>> # A half circle of radius 20, within a box; ref_dir is neither unit nor perpendicular.
     >>> part = Part((-20, 0, 0), (20, 20, 0))
@@ -128,27 +129,27 @@ class Part:
         self._parts, self._ranges = array("I"), array("d")
         self.points((low, high))
 
-    def set_box(self, low, high):
+    def set_box(self, low, high) -> None:
         """Other corners for the box, for every edge of the part."""
         self._points[:6] = array("d", (*vector(low, "low"), *vector(high, "high")))
 
-    def point(self, position):
+    def point(self, position) -> PointNumber:
         """Adds a point."""
         return self.points((position,)).at(0)
 
-    def points(self, positions):
+    def points(self, positions) -> PointRun:
         """Adds points, one behind the other, as a polyline needs them."""
         vectors = [vector(position, "a point") for position in positions]
         run = PointRun(len(self._points) // 3, len(vectors))
         self._points.fromlist([x for v in vectors for x in v])
         return run
 
-    def line(self, origin, direction):
+    def line(self, origin, direction) -> Row:
         """Adds a line. A parameter on it counts directions, which need not be unit: at 2 lies origin + 2 direction."""
         run = vector(origin, "origin"), directed(vector(direction, "direction"))
         return self._over_points(Kind.LINE, run, (0.0, 0.0), float)
 
-    def circle(self, origin, axis, ref_dir, radius):
+    def circle(self, origin, axis, ref_dir, radius: float) -> Row:
         """Adds a circle. Its angles turn about the axis by the right hand, from ref_dir.
 
         >>> part = Part((0, 0, 0), (1, 1, 1))
@@ -158,9 +159,9 @@ class Part:
         """
         return self._framed(Kind.CIRCLE, origin, axis, ref_dir, (sized(real(radius, "radius")), 0.0), Angle)
 
-    def ellipse(self, origin, axis, ref_dir, semi_axes):
-        """Adds an ellipse, with the first of its two semi-axes along ref_dir and the other at right angles to it. At an angle u lies
-        origin + first cos u along ref_dir + second sin u beside it."""
+    def ellipse(self, origin, axis, ref_dir, semi_axes) -> Row:
+        """Adds an ellipse, with the first of its two semi-axes along ref_dir and the other at right angles to it. At an angle u
+        lies origin + first cos u along ref_dir + second sin u beside it."""
         try:
             first, second = semi_axes
         except TypeError:
@@ -168,11 +169,11 @@ class Part:
         reals = sized(real(first, "a semi-axis")), sized(real(second, "a semi-axis"))
         return self._framed(Kind.ELLIPSE, origin, axis, ref_dir, reals, Angle)
 
-    def parabola(self, origin, axis, ref_dir, focal):
+    def parabola(self, origin, axis, ref_dir, focal: float) -> Row:
         """Adds a parabola, open along ref_dir. At a parameter u lies origin + focal u u along ref_dir + 2 focal u beside it."""
         return self._framed(Kind.PARABOLA, origin, axis, ref_dir, (sized(real(focal, "focal")), 0.0), float)
 
-    def polyline(self, run):
+    def polyline(self, run: PointRun) -> Row:
         """Adds the polyline through a run of points. A parameter on it is a point's index, from 0.
 
         >>> part = Part((0, 0, 0), (3, 4, 0))
@@ -184,12 +185,12 @@ class Part:
         of_type(PointRun, run, "run")
         return self._row(Kind.POLYLINE, run.first, run.count, (0.0, 0.0), float)
 
-    def trimmed(self, base, lo, hi):
+    def trimmed(self, base: Row, lo, hi) -> Row:
         """Adds a part of a curve. A parameter on it is one on its base, and of the base's sort."""
         of_type(Row, base, "base")
         return self._row(Kind.TRIMMED, base.number, 1, (base._plain(lo, "lo"), base._plain(hi, "hi")), base.parameter)
 
-    def composite(self, segments):
+    def composite(self, segments) -> Row:
         """Adds a chain of segments of other curves. A parameter on it is a segment's index, from 0, and runs on by 1 in each.
 
         >>> part = Part((0, 0, 0), (2, 1, 0))
@@ -208,22 +209,23 @@ class Part:
         self._ranges.fromlist(ranges)
         return self._row(Kind.COMPOSITE, first, len(segments), (0.0, 0.0), float)
 
-    def edge(self, curve, start, end, lo, hi, *, sense=1, tolerance=0.0):
+    def edge(self, curve: Row, start: PointNumber, end: PointNumber, lo, hi, *, sense=1, tolerance=0.0) -> Edge:
         """An edge on one of the part's curves between two of its points."""
         of_type(Row, curve, "curve"), of_type(PointNumber, start, "start"), of_type(PointNumber, end, "end")
         lo, hi = curve._plain(lo, "lo"), curve._plain(hi, "hi")
         return Edge(curve=curve, start=start, end=end, sense=sense, lo=lo, hi=hi, tolerance=tolerance, low=_LOW, high=_HIGH)
 
-    def tables(self):
+    def tables(self) -> Tables:
         """A copy of the tables as they are."""
-        tables = {"points": self._points, "curves": self._curves, "reals": self._reals, "parts": self._parts, "ranges": self._ranges}
-        return Tables(**tables).copy()
+        lent = Tables(points=self._points, curves=self._curves, reals=self._reals, parts=self._parts, ranges=self._ranges)
+        return lent.copy()
 
-    def check(self):
-        """Checks the tables, once for all edges: they, as they are now, or raises the lowest of the refusals 1 to 5 that they have."""
+    def check(self) -> Checked:
+        """Checks the tables, once for all edges. Returns them as they are now, or raises the lowest of the refusals 1 to 5 that
+        they have."""
         return check_tables(self.tables())
 
-    def copy(self):
+    def copy(self) -> "Part":
         """A part of the same tables that goes on by itself."""
         copied = object.__new__(Part)
         copied.__dict__.update({name: table[:] for name, table in self.__dict__.items()})

@@ -40,8 +40,8 @@ _COLUMNS = (("points", FLOATS, 3), ("curves", NUMBERS, 3), ("reals", FLOATS, 2),
 class Tables:
     """Points, curve rows and segments. Part builds such tables and needs no counting.
 
-    points: x y z of each point. A curve's axis and ref_dir are points too, and are taken as they are: hand unit vectors at right
-    angles. A circle of radius 20 with ref_dir (2, 0, 0) is drawn with radius 40, and nothing tells.
+    points: x y z of each point. A curve's axis and ref_dir are points too, and are taken as they are: hand unit vectors at
+    right angles. A circle of radius 20 with ref_dir (2, 0, 0) is drawn with radius 40, and nothing tells.
     curves: kind first count of each curve row: see Kind. first is the first of count points or segments, or a base's row.
     reals: p q of each curve row, zero where unused; a trim's range is in its base's own parameter.
     parts: curve sense of each segment; sense is 0 or 1.
@@ -49,9 +49,9 @@ class Tables:
 
     At most 65,536 points, 4,096 rows and 4,096 segments; floats finite and at most 1e9 in magnitude.
 
-    Each is a sequence of numbers one behind the other, or of rows. array('d') and array('I'), and arrays of numpy that are float64
-    or uint32, contiguous and writable, are lent and not copied: what is changed in them later is changed in the tables, and an
-    array cannot be resized as long as they are. Everything else is copied.
+    Each is a sequence of numbers one behind the other, or of rows. array('d') and array('I'), and arrays of numpy that are
+    float64 or uint32, contiguous and writable, are lent and not copied: what is changed in them later is changed in the tables,
+    and an array cannot be resized as long as they are. Everything else is copied.
 
     >>> from array import array
     >>> points = array("d", [0, 0, 0, 1, 0, 0])
@@ -69,31 +69,31 @@ class Tables:
         self._memory = tuple(lent(sort, values, width, name) for (name, sort, width), values in given)
 
     @property
-    def points(self):
+    def points(self) -> memoryview:
         """x y z of each point, to read."""
         return self._memory[0].view.toreadonly()
 
     @property
-    def curves(self):
+    def curves(self) -> memoryview:
         """kind first count of each curve row, to read."""
         return self._memory[1].view.toreadonly()
 
     @property
-    def reals(self):
+    def reals(self) -> memoryview:
         """p q of each curve row, to read."""
         return self._memory[2].view.toreadonly()
 
     @property
-    def parts(self):
+    def parts(self) -> memoryview:
         """curve sense of each segment, to read."""
         return self._memory[3].view.toreadonly()
 
     @property
-    def ranges(self):
+    def ranges(self) -> memoryview:
         """lo hi of each segment, to read."""
         return self._memory[4].view.toreadonly()
 
-    def copy(self):
+    def copy(self) -> "Tables":
         """A copy that owns all its numbers."""
         rebuild, stored = self.__reduce__()
         return rebuild(*stored)
@@ -118,19 +118,19 @@ def _tables(*stored):
 
 @dataclass(frozen=True, kw_only=True, slots=True)
 class Edge:
-    """An edge: rows of the tables, and a range in its curve's own parameter: radians on a circle or an ellipse, the point's index on
-    a polyline, the segment's index on a composite, the base's parameter on a trim.
+    """An edge: rows of the tables, and a range in its curve's own parameter: radians on a circle or an ellipse, the point's
+    index on a polyline, the segment's index on a composite, the base's parameter on a trim.
 
-    A range has to rise. One that does not, or is not finite, counts as lost: then the curve's whole range is drawn, a full turn on a
-    circle, and on a line the chord of the vertices. The chain runs from start to end whichever way the range does.
+    A range has to rise. One that does not, or is not finite, counts as lost: then the curve's whole range is drawn, a full turn
+    on a circle, and on a line the chord of the vertices. The chain runs from start to end whichever way the range does.
 
     curve: its curve row.
     start, end: the points of its vertices.
-    sense: 1 if it runs with its curve, 0 if against it; looked at where start and end are within ten tolerances of each other, as on
-    a full circle.
+    sense: 1 if it runs with its curve, 0 if against it; looked at where start and end are within ten tolerances of each other,
+    as on a full circle.
     lo, hi: where its range begins and ends; may be NaN or infinite.
-    tolerance: how exact the file says the edge is, in the part's unit of length; 0 where it says nothing. Neighbours in the chain
-    within four tolerances, and within half the sag, become one; 0 or less merges none.
+    tolerance: how exact the file says the edge is, in the part's unit of length; 0 where it says nothing. Neighbours in the
+    chain within four tolerances, and within half the sag, become one; 0 or less merges none.
     low, high: the points that are the least and the greatest corner of the part's box.
 
     >>> import dataclasses
@@ -159,19 +159,19 @@ class Edge:
         return self.curve, self.start, self.end, self.sense, self.lo, self.hi, self.tolerance, self.low, self.high
 
 
-def check(tables, edge, options):
-    """Raises the lowest of the refusals 1 to 6 that applies to an edge: what drawing it looks at before it looks at its buffers."""
+def check(tables: Tables, edge: Edge, options: Options) -> None:
+    """Raises the lowest of the refusals 1 to 6 that applies to an edge: what drawing looks at before it looks at its buffers."""
     accept(library.cs_flat_check(*_asked(tables, edge, options)))
 
 
-def draw(tables, edge, options, first=None, second=None):
+def draw(tables: Tables, edge: Edge, options: Options, first=None, second=None) -> Chain:
     """Draws an edge and returns its chain, or raises its refusal.
 
     Without buffers the chain owns its points, and a refusal 8 means that MOST_POINTS points are too few.
 
-    With two, array('d') or arrays of numpy, it is drawn into one of them, and the chain is the part that holds it. WIDTH floats make a
-    point, so that a buffer of n floats has room for n // WIDTH points. The shorter buffer says what room there is, MOST_POINTS at
-    most. Whatever of the buffers is not the chain is +0.0 afterwards.
+    With two, array('d') or arrays of numpy, it is drawn into one of them, and the chain is the part that holds it. WIDTH floats
+    make a point, so that a buffer of n floats has room for n // WIDTH points. The shorter buffer says what room there is,
+    MOST_POINTS at most. Whatever of the buffers is not the chain is +0.0 afterwards.
 
     >>> from array import array
     >>> from cornsunset import Angle
@@ -190,8 +190,8 @@ def draw(tables, edge, options, first=None, second=None):
 
 
 class Checked:
-    """Tables that check_tables accepted, for many edges over them: drawing does not check the tables again. It has a copy of them, so
-    that no later change reaches it.
+    """Tables that check_tables accepted, for many edges over them: drawing does not check the tables again. It has a copy of
+    them, so that no later change reaches it.
 
     >>> tables = Tables(points=[0, 0, 0, 2, 0, 0, 10, 0, 0], curves=[1, 0, 2], reals=[0, 0])
     >>> checked = check_tables(tables)
@@ -205,11 +205,11 @@ class Checked:
         raise TypeError("a Checked comes from check_tables, or from Part.check")
 
     @property
-    def tables(self):
+    def tables(self) -> Tables:
         """The tables."""
         return self._tables
 
-    def draw(self, edge, options):
+    def draw(self, edge: Edge, options: Options) -> Chain:
         """Draws an edge, as draw_over does without buffers. Threads draw side by side."""
         return draw_over(self, edge, options)
 
@@ -221,7 +221,7 @@ class Checked:
         return f"<Checked {self._tables!r}>"
 
 
-def check_tables(tables):
+def check_tables(tables: Tables) -> Checked:
     """The tables, checked; or raises the lowest of the refusals 1 to 5 that they have, whatever the edge."""
     checked = object.__new__(Checked)
     checked._tables = of_type(Tables, tables, "tables").copy()
@@ -229,9 +229,9 @@ def check_tables(tables):
     return checked
 
 
-def draw_over(checked, edge, options, first=None, second=None):
-    """Draws an edge over tables that check_tables accepted, as draw does and with the same answer; only the edge, the options and the
-    buffers are checked, so that it is refused with 2, 3 or 6 to 9 alone."""
+def draw_over(checked: Checked, edge: Edge, options: Options, first=None, second=None) -> Chain:
+    """Draws an edge over tables that check_tables accepted, as draw does and with the same answer; only the edge, the options
+    and the buffers are checked, so that it is refused with 2, 3 or 6 to 9 alone."""
     tables = of_type(Checked, checked, "checked").tables
     # Without lent buffers nobody else knows of any memory that is handed over.
     call = parallel.cs_flat_draw_over if first is second is None else library.cs_flat_draw_over
