@@ -32,7 +32,7 @@ A TypeError or an OverflowError says that something is no number of the sort tha
 belongs is a TypeError.
 
 Everything may be called from any thread. Where memory is the caller's, other threads wait meanwhile; Checked.draw lets them
-run. A thread that draws needs some 200 KB of stack, of which Python gives megabytes unless told otherwise.
+run. A thread that draws should have 256 KB of stack or more; Python gives megabytes unless told otherwise.
 
 What a later version may add: members of Kind and Way, classes of Refusal and PartError, fields of Options that mean nothing new
 where they are not given, floats to a Point and with them to WIDTH.

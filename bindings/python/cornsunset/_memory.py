@@ -61,14 +61,13 @@ def of_type(kind, value, name):
 
 
 class Memory:
-    """Numbers that stand one behind the other: where, how many, and a hold on them, so that nobody resizes or frees them."""
+    """Numbers that stand one behind the other: where, how many, and a view of them, by which nobody can resize or free them."""
 
-    __slots__ = ("address", "length", "view", "_hold")
+    __slots__ = ("address", "length", "view")
 
     def __init__(self, view):
         self.length, self.view = len(view), view
-        self._hold = c_char.from_buffer(view) if self.length else NOTHING
-        self.address = addressof(self._hold)
+        self.address = addressof(c_char.from_buffer(view) if self.length else NOTHING)
 
     @classmethod
     def own(cls, sort, values):

@@ -286,6 +286,7 @@ class Chains(unittest.TestCase):
         self.assertEqual(chain, cs.draw(line(), EDGE, OPTIONS))
         self.assertNotEqual(chain, cs.draw(line(), edge(start=2, end=0), OPTIONS))
         self.assertNotEqual(chain, list(chain))
+        self.assertNotEqual(chain, cs.Chain(chain._memory, cs.Way.CHORD))
         again = pickle.loads(pickle.dumps(chain))
         self.assertEqual((again, again.way, again.length()), (chain, chain.way, chain.length()))
         self.assertEqual(repr(chain), "<Chain AS_DRAWN, 5 points>")

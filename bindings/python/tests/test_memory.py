@@ -5,9 +5,11 @@ import mmap
 import random
 import struct
 import unittest
+import unittest.mock
 from array import array
 
 import cornsunset as cs
+from cornsunset import _library
 
 from .common import EDGE, LINE, MARK, OPTIONS, POINTS, bits, edge, floats, line, marked, of_bits, options, trims
 
@@ -130,7 +132,12 @@ class Lent(unittest.TestCase):
         ):
             self.assertEqual(cs.draw(line(points=points), EDGE, OPTIONS), EXPECTED)
         mixed = [True, Index(0), cs.Kind.CIRCLE]
-        for curves in ([1, 0, 2], (1, 0, 2), [(1, 0, 2)], array("Q", [1, 0, 2]), array("b", [1, 0, 2]), mixed):
+        # What does not lie at a multiple of its size is not lent either.
+        tables = line(points=shifted)
+        shifted[6] = 8.0
+        self.assertEqual(tables.points[6], 10.0)
+        arrays = [array(code, [1, 0, 2]) for code in "bBhHiILQ"]
+        for curves in ([1, 0, 2], (1, 0, 2), [(1, 0, 2)], mixed, *arrays):
             tables = line(curves=curves)
             self.assertEqual((tables.curves.format, tables.curves.tolist()), ("I", [1, 0, 2]))
         self.assertEqual(line(curves=range(3)).curves.tolist(), [0, 1, 2])
@@ -253,6 +260,8 @@ class Buffers(unittest.TestCase):
         for buffers in ((None, good), (good, None)):
             with self.assertRaisesRegex(TypeError, "both buffers or none"):
                 self.drawn(*buffers)
+        with self.assertRaisesRegex(ValueError, "second has gaps between its floats"):
+            self.drawn(good, memoryview(floats(160))[::2])
         self.assertEqual(bits(good), bits([0.0] * 80))
 
     def test_what_overlaps(self):
@@ -292,6 +301,15 @@ class Buffers(unittest.TestCase):
         second.append(0.0)
         del chain
         first.append(0.0)
+
+    def test_other_threads_wait_where_memory_is_lent(self):
+        """And run where it is not."""
+        checked = cs.check_tables(line())
+        with unittest.mock.patch("cornsunset._tables.parallel.cs_flat_draw_over", side_effect=ZeroDivisionError):
+            self.assertEqual(cs.draw_over(checked, EDGE, OPTIONS, floats(80), floats(80)), EXPECTED)
+            self.assertEqual(cs.draw(line(), EDGE, OPTIONS), EXPECTED)
+            self.assertRaises(ZeroDivisionError, checked.draw, EDGE, OPTIONS)
+        self.assertEqual((type(_library.library), type(_library.parallel)), (ctypes.PyDLL, ctypes.CDLL))
 
     def test_empty_buffers(self):
         for empty in (array("d"), memoryview(array("d")), (ctypes.c_double * 0)()):
