@@ -17,7 +17,7 @@ from .sheets import ROOT, listing, read
 
 HEADER = (ROOT / "bindings/c/cornsunset.h").read_text()
 CODE = re.sub(r"/\*.*?\*/", "", HEADER, flags=re.S)
-CC = os.environ.get("CC", "cc")
+CC = (os.environ.get("CC") or "cc").split()
 TYPES = {"uint32_t": c_uint32, "uint64_t": c_uint64, "size_t": c_size_t, "double": c_double, "bool": c_bool, "void": None}
 
 
@@ -77,7 +77,7 @@ class Loading(unittest.TestCase):
         with tempfile.TemporaryDirectory() as folder:
             for name, source in sources.items():
                 Path(folder, f"{name}.c").write_text(source)
-                subprocess.run([CC, "-shared", "-fPIC", "-o", f"{folder}/{name}.so", f"{folder}/{name}.c"], check=True)
+                subprocess.run([*CC, "-shared", "-fPIC", "-o", f"{folder}/{name}.so", f"{folder}/{name}.c"], check=True)
             with self.assertRaisesRegex(ImportError, "is of version 0.0.1 with 3 floats a point, and the module of"):
                 _library.loaded(_library.ctypes.CDLL, f"{folder}/older.so")
             for name in ("another.so", "another.c", "missing.so"):
