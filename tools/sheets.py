@@ -430,6 +430,9 @@ def put(text):
     except OSError as error:
         # What is left in the buffer is not tried again when the run ends.
         os.dup2(os.open(os.devnull, os.O_WRONLY), sys.stdout.fileno())
+        # Whoever reads and stops has what he wants.
+        if isinstance(error, BrokenPipeError):
+            sys.exit(2)
         raise Unusable(f"standard output: {error.strerror}") from None
 
 
