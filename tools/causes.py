@@ -99,7 +99,8 @@ def too_deep(sheet):
         nests = row["kind"] in ("trimmed", "composite")
         depths.append(1 + max(below, default=(0, 0))[0] if nests else 0)
         if depths[at] == MOST_NESTING + 1:
-            yield row, "kind", f"curve {at} is nested {depths[at]} deep, through {path(sheet, depths, at)}, and {MOST_NESTING} is the most"
+            through = path(sheet, depths, at)
+            yield row, "kind", f"curve {at} is nested {depths[at]} deep, through {through}, and {MOST_NESTING} is the most"
 
 
 def path(sheet, depths, at):

@@ -3,9 +3,9 @@ chain lies from its curve. It follows eval/curve.rs, options.rs and edge.rs, wit
 differ from the program's. For reading alone: no answer rests on it."""
 import math
 
+from sheets import ROUND
+
 TAU = 2 * math.pi
-# What the program lends: points in each of its two buffers.
-ROOM = 2048
 
 
 def along(a, direction, t):
@@ -75,7 +75,7 @@ class Curves:
     def period(self, index):
         """After how much a parameter comes round, or none."""
         row = self.base(index)
-        if row["kind"] in ("circle", "ellipse"):
+        if row["kind"] in ROUND:
             return TAU
         return float(row["count"] - 1) if row["kind"] == "polyline" and self.closed_polyline(row) else None
 
@@ -125,8 +125,11 @@ class Curves:
             return 0.0, 0.0, 0.0
         t = min(max(t, 0.0), float(count))
         i = min(math.floor(t), count - 1)
-        segment = self.sheet.segments[row["first"] + i]
-        local = t - i if segment["sense"] == 1 else 1 - (t - i)
+        return self.segment_point(self.sheet.segments[row["first"] + i], t - i)
+
+    def segment_point(self, segment, local):
+        """A segment's point, from 0 at its start to 1 at its end, as it is walked."""
+        local = local if segment["sense"] == 1 else 1 - local
         return self.point(segment["curve"], segment["lo"] + (segment["hi"] - segment["lo"]) * local)
 
     def reached(self, index):
@@ -158,7 +161,8 @@ class Curves:
             high = min(high, low + 2 * last)
         else:
             low, high = max(low, 0.0), min(high, float(last))
-        between = [i / fine for i in range(math.ceil(low * fine), math.floor(high * fine) + 1)]
+        places = (i / fine for i in range(math.ceil(low * fine), math.floor(high * fine) + 1))
+        between = [t for t in places if t not in range_]
         lo, hi = range_
         return [lo, *(between if lo <= hi else reversed(between)), hi]
 
@@ -170,7 +174,9 @@ class Drawing:
         self.curves = Curves(sheet)
         self.edge, self.options = sheet.edge, sheet.options
         self.index = self.edge["curve"]
-        self.start, self.end, self.low, self.high = (self.curves.places[self.edge[name]] for name in ("start", "end", "low", "high"))
+        self.row, self.base = self.curves.rows[self.index], self.curves.base(self.index)
+        vertices = (self.curves.places[self.edge[name]] for name in ("start", "end", "low", "high"))
+        self.start, self.end, self.low, self.high = vertices
         self.range = self.curves.usable(self.index, self.edge["lo"], self.edge["hi"])
         self.angle = min(max(self.options["angle"], 1e-4), math.pi)
         self.depth = min(max(self.options["depth"], 1), 24)
@@ -199,18 +205,27 @@ class Drawing:
             return sag
         return max(min(max(scale / (2 * extent), 0.5), 2.0) * extent * (deflection * 2), sag / 8)
 
-    def limit(self):
-        """How far from the box's middle a chain may go; none where the box has no size."""
-        if self.diagonal == 0 or any(a > b for a, b in zip(self.low, self.high)):
-            return None
-        return self.diagonal + 16 * self.sag
+    def off_ends(self, range_):
+        """How far the vertices lie from the ends of the curve over a range, whichever way it is walked."""
+        a, b = map(self.at, range_)
+        return min(max(math.dist(self.start, p), math.dist(self.end, q)) for p, q in ((a, b), (b, a)))
+
+    def length(self, range_):
+        """The length of the curve over a range, to some six digits: in many steps for each turn and for each segment."""
+        kind = self.base["kind"]
+        turns = math.ceil(abs(range_[1] - range_[0]) / TAU) if kind in ROUND else 1
+        each = max(64, 8192 // max(self.base["count"], 1)) if kind == "composite" else 128 * max(1, min(turns, 64))
+        points = [self.at(t) for t in self.curves.own_places(self.index, range_, each)]
+        if kind in ("polyline", "composite"):
+            return length(points)
+        # The error of chords falls by four where there are twice as many.
+        return (4 * length(points) - length(points[::2])) / 3
 
     def arc(self):
         """Radius for the closed form of a circle or an ellipse, the step that sag and angle ask for, and the segments."""
-        row = self.curves.base(self.index)
-        radius = abs(row["p"])
-        if row["kind"] == "ellipse":
-            radius = min(radius, abs(row["q"]))
+        radius = abs(self.base["p"])
+        if self.base["kind"] == "ellipse":
+            radius = min(radius, abs(self.base["q"]))
         by_sag = 2 * math.acos(min(max(1 - self.sag / radius, -1.0), 1.0)) if radius > self.sag else self.angle
         step = max(min(by_sag, self.angle), 1e-3)
         span = abs(self.range[1] - self.range[0])

@@ -117,7 +117,7 @@ def strict_float(text):
         meant = bits_of(text)
     except Wrong:
         raise Wrong("a float is the 16 lowercase hex digits of its bits") from None
-    raise Wrong(f"decimals, where a float is the 16 lowercase hex digits of its bits: {meant} (tools/sheet turns decimals into bits)")
+    raise Wrong(f"decimals, where a float is the 16 lowercase hex digits of its bits: {meant} (tools/sheet turns them into bits)")
 
 
 # Values and rows
@@ -165,15 +165,19 @@ def row_of(line, tokens, names, float_of, found):
                 row.text[name] = text
         except Wrong as wrong:
             found.append(Finding(line, column, f"{name} is '{shown(text)}': {wrong}"))
+    counted = f"{len(tokens)} values, and there are {len(names)} names"
     if len(tokens) > len(names):
-        found.append(Finding(line, tokens[len(names)][0], f"{len(tokens)} values, and there are {len(names)} names"))
+        found.append(Finding(line, tokens[len(names)][0], counted))
     elif len(tokens) < len(names):
         column = tokens[-1][0] + len(tokens[-1][1]) if tokens else 1
-        found.append(Finding(line, column, f"{len(tokens)} values, and there are {len(names)} names: {names[len(tokens)]} is missing"))
+        found.append(Finding(line, column, f"{counted}: {names[len(tokens)]} is missing"))
     return row
 
 
 # A sheet
+
+
+MARKS = {"\r": "a carriage return; a line ends in the newline byte alone", "\t": "a tab; one space stands between values"}
 
 
 class Reader:
@@ -198,7 +202,7 @@ class Reader:
             self.note(end, "the last line has no newline at its end", data.count(b"\n") + 1)
             data += b"\n"
         lines = data[:-1].decode("latin-1").split("\n")
-        for mark, told in (("\r", "a carriage return; a line ends in the newline byte alone"), ("\t", "a tab; one space stands between values")):
+        for mark, told in MARKS.items():
             places = [(i, line.index(mark)) for i, line in enumerate(lines, 1) if mark in line]
             if places:
                 more = f" (in {len(places)} lines)" if len(places) > 1 else ""
@@ -300,11 +304,12 @@ def read(data):
 
 def text_of(block, rows):
     """A block as a text has it. A row is its values: floats, or their bits; whole numbers and kinds, or their digits."""
-    lines = [" ".join(block.names)]
-    for row in rows:
-        fields = zip(block.names, row, strict=True)
-        lines.append(" ".join(bits(value) if name in FLOATS and not isinstance(value, str) else str(value) for name, value in fields))
-    return "".join(line + "\n" for line in lines)
+    lines = [block.names, *([field_of(*pair) for pair in zip(block.names, row, strict=True)] for row in rows)]
+    return "".join(" ".join(line) + "\n" for line in lines)
+
+
+def field_of(name, value):
+    return bits(value) if name in FLOATS and not isinstance(value, str) else str(value)
 
 
 def write(points, curves, segments, edge, options):
@@ -425,6 +430,9 @@ def put(text):
     except OSError as error:
         # What is left in the buffer is not tried again when the run ends.
         os.dup2(os.open(os.devnull, os.O_WRONLY), sys.stdout.fileno())
+        # Whoever reads and stops has what he wants.
+        if isinstance(error, BrokenPipeError):
+            sys.exit(2)
         raise Unusable(f"standard output: {error.strerror}") from None
 
 
