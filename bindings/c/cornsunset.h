@@ -130,16 +130,19 @@ enum { CS_X = 0, CS_Y = 1, CS_Z = 2, CS_T = 3 };
 
 enum {
     CS_DRAWN = 0,        /* no refusal */
-    CS_OVERSIZE = 1,     /* a table is above its size */
-    CS_UNBOUNDED = 2,    /* a float is not finite, or above 1e9 in magnitude (lo, hi and scale may be NaN or infinite) */
-    CS_ILL_FORMED = 3,   /* points not in threes, an unknown kind, a wrong count, an unused p or q that is not zero, a sense or
-                          * relative that is neither 0 nor 1, or a run, base or segment's curve outside its table */
+    CS_OVERSIZE = 1,     /* a table is above its size: 65,536 points, 4,096 curve rows, 4,096 segments */
+    CS_UNBOUNDED = 2,    /* a float is not finite, or above 1e9 in magnitude (the edge's lo and hi and the options' scale may be
+                          * NaN or infinite) */
+    CS_ILL_FORMED = 3,   /* points are not in threes, a row is not whole, a kind is unknown, a count is wrong, an unused p or q is
+                          * not zero, a sense or relative is neither 0 nor 1, or a run, a trim's base or a segment's curve is
+                          * outside its table */
     CS_UNORDERED = 4,    /* a trim's base, or the curve of a composite's segment, is not in a lower row than its own */
     CS_TOO_DEEP = 5,     /* trims and composites are nested deeper than 8 */
     CS_MISSING = 6,      /* the edge's curve, start, end, low or high is outside its table */
-    CS_SHORT_BUFFER = 7, /* a chain buffer is shorter than two points, 2 * CS_WIDTH doubles */
-    CS_NO_ROOM = 8,      /* a list of parameters is longer than the buffers have room for, or than CS_MOST_POINTS */
-    CS_ENDLESS = 9       /* a span would be split without end, since no distance in it is above zero */
+    CS_SHORT_BUFFER = 7, /* a chain buffer is shorter than two points */
+    CS_NO_ROOM = 8,      /* a list of parameters is longer than the chain buffers have room for, or than 16,384 */
+    CS_ENDLESS = 9       /* thinning would split a span without end, since no point of it is at a distance above zero from its
+                          * chord */
 };
 
 enum {
@@ -151,21 +154,23 @@ enum {
     CS_RUNAWAY = 5     /* the chord of the vertices, since nothing on the curve stays near the box; in the second buffer */
 };
 
-/* A sentence for the number of a refusal. */
+/* A sentence for the number of a refusal, that of the comments above. */
 static inline const char *cs_sentence(uint32_t refusal) {
     switch (refusal) {
     case CS_DRAWN: return "Nothing was refused.";
     case CS_OVERSIZE: return "A table is above its size: 65,536 points, 4,096 curve rows, 4,096 segments.";
-    case CS_UNBOUNDED: return "A float is not finite, or above 1e9 in magnitude.";
+    case CS_UNBOUNDED:
+        return "A float is not finite, or above 1e9 in magnitude (the edge's lo and hi and the options' scale may be NaN or infinite).";
     case CS_ILL_FORMED:
-        return "Points are not in threes, a kind is unknown, a count is wrong, an unused p or q is not zero, a sense or relative is "
-               "neither 0 nor 1, or a run, base or segment's curve is outside its table.";
+        return "Points are not in threes, a row is not whole, a kind is unknown, a count is wrong, an unused p or q is not zero, a "
+               "sense or relative is neither 0 nor 1, or a run, a trim's base or a segment's curve is outside its table.";
     case CS_UNORDERED: return "A trim's base, or the curve of a composite's segment, is not in a lower row than its own.";
     case CS_TOO_DEEP: return "Trims and composites are nested deeper than 8.";
-    case CS_MISSING: return "The edge's curve, or one of its points, is outside its table.";
+    case CS_MISSING: return "The edge's curve, start, end, low or high is outside its table.";
     case CS_SHORT_BUFFER: return "A chain buffer is shorter than two points.";
-    case CS_NO_ROOM: return "A list of parameters is longer than the chain buffers have room for.";
-    case CS_ENDLESS: return "A span would be split without end, since no distance in it is above zero.";
+    case CS_NO_ROOM: return "A list of parameters is longer than the chain buffers have room for, or than 16,384.";
+    case CS_ENDLESS:
+        return "Thinning would split a span without end, since no point of it is at a distance above zero from its chord.";
     default: return "There is no such refusal.";
     }
 }
