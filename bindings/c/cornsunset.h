@@ -109,9 +109,10 @@ typedef struct {
                         * 1e-4 .. pi radians. Both are what a span is tested by, and no bounds on the chain: what a curve does
                         * between those places is not seen, and a span with no depth left is not tested again */
     uint32_t relative; /* 0 or 1 */
-    uint64_t segments; /* least number of segments that an edge is sampled with, before points are merged; 0 counts as 1. No
-                        * upper end but the room: n segments need n + 1 points, or the edge is refused with CS_NO_ROOM. A chord
-                        * (CS_CHORD, CS_RUNAWAY) has one */
+    uint64_t segments; /* least number of segments that an edge is sampled with, before points are merged; 0 counts as 1. Where
+                        * halving gives fewer, so many even steps of the parameter are drawn instead, and these are not tested.
+                        * No upper end but the room: n segments need n + 1 points, or the edge is refused with CS_NO_ROOM. A
+                        * chord (CS_CHORD, CS_RUNAWAY) has one */
     uint32_t depth;    /* how often a span may be halved where a curve is bisected; clamped to 1 .. 24 */
     double scale;      /* size of the part, a length, as its box's diagonal; not finite or not above 0: none, and deflection is
                         * a length */

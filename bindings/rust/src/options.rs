@@ -65,8 +65,9 @@ pub struct Options {
     pub angle: Angle,
     /// 0 or 1.
     pub relative: u32,
-    /// The least number of segments that an edge is sampled with, before points are merged; a chord has one. 0 counts as 1. It
-    /// has no upper end but the room: n segments need n + 1 points.
+    /// The least number of segments that an edge is sampled with, before points are merged; a chord has one. 0 counts as 1. Where
+    /// halving gives fewer, so many even steps of the parameter are drawn instead, and these are not tested. It has no upper end
+    /// but the room: n segments need n + 1 points.
     pub segments: u64,
     /// How often a span may be halved, where a curve is bisected. Held to 1 to 24.
     pub depth: u32,
