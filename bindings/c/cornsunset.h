@@ -1,7 +1,8 @@
 /* Cornsunset in C: an edge of a part becomes a chain of points. Link with -lcornsunset: target/staticlib/libcornsunset.a, made
  * by rt staticlib cornsunset, or what bindings/install put into place (pkg-config cornsunset).
  *
- * Every function is proved to answer as its definition says for any numbers and any contents of any lengths. What is left to
+ * Every function of the library is proved to answer as its definition says for any numbers and any contents of any lengths;
+ * the inline ones only hand structs on, and are tested. What is left to
  * the caller is what C leaves to every caller: a pointer has so many elements as the length beside it says, NULL is handed
  * only with a length of 0, and what is written (buffers, out values) overlaps nothing else that is handed over. No function
  * keeps a pointer, allocates, prints or fails in another way than it says. All may be called from any thread.
@@ -58,10 +59,13 @@ enum {
     CS_KIND_CIRCLE = 2,   /* points origin, axis, ref_dir; p radius; radians from ref_dir, about the axis by the right hand */
     CS_KIND_ELLIPSE = 3,  /* points origin, axis, ref_dir; p semi-axis along ref_dir, q the other; radians */
     CS_KIND_PARABOLA = 4, /* points origin, axis, ref_dir; p focal distance; a plain t: p t t along ref_dir, 2 p t beside it */
-    CS_KIND_POLYLINE = 5, /* any run of points; the point's index, from 0 */
+    CS_KIND_POLYLINE = 5, /* any run of points; the point's index, from 0. Draw an edge a leg: see below */
     CS_KIND_TRIMMED = 6,  /* first is the base's row, count is 1; p and q the range; the base's parameter */
-    CS_KIND_COMPOSITE = 7 /* any run of segments; the segment's index, from 0 */
+    CS_KIND_COMPOSITE = 7 /* any run of segments; the segment's index, from 0. Draw an edge a segment */
 };
+
+/* Drawn as one edge a polyline of many legs, or a composite, can miss its curve, with no sign (docs/DIFFERENCES.md): draw a
+ * polyline as an edge a leg, and a composite as an edge a segment. */
 
 /* The tables' sizes. */
 #define CS_MOST_TABLE_POINTS 65536
@@ -105,9 +109,10 @@ typedef struct {
                         * quarter of the scale up to all of it, of its own extent for a larger edge, and for a smaller one four
                         * times this fraction of its extent, but never less than an eighth of what it is for the whole */
     cs_angle angle;    /* where a curve is bisected, how far the tangents at a span's two ends may turn from each other; on a circle
-                        * or an ellipse the largest step of its parameter, 1e-3 at least, and no tangent is looked at. Clamped to
-                        * 1e-4 .. pi radians. Both are what a span is tested by, and no bounds on the chain: what a curve does
-                        * between those places is not seen, and a span with no depth left is not tested again */
+                        * or an ellipse the largest step of its parameter, 1e-3 at least, and no tangent is looked at, unless
+                        * these even steps miss the sag: then it is bisected too. Clamped to 1e-4 .. pi radians. Both are what a
+                        * span is tested by, and no bounds on the chain: what a curve does between those places is not seen,
+                        * and a span with no depth left is not tested again */
     uint32_t relative; /* 0 or 1 */
     uint64_t segments; /* least number of segments that an edge is sampled with, before points are merged; 0 counts as 1. Where
                         * halving gives fewer, so many even steps of the parameter are drawn instead, and these are not tested.

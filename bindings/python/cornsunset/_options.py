@@ -122,8 +122,8 @@ class Options:
     an eighth of what it is for the whole.
 
     angle: an Angle. Where a curve is bisected, how far the tangents at a span's two ends may turn from each other; on a circle
-    or an ellipse the largest step of its parameter, 1e-3 radians at least, and no tangent is looked at. Held to 1e-4 radians to
-    pi.
+    or an ellipse the largest step of its parameter, 1e-3 radians at least, and no tangent is looked at, unless these even steps
+    miss the sag: then it is bisected too. Held to 1e-4 radians to pi.
 
     relative: 0 or 1.
 

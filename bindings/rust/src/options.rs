@@ -61,7 +61,8 @@ pub struct Options {
     /// eighth of what it is for the whole.
     pub deflection: f64,
     /// Where a curve is bisected, how far the tangents at a span's two ends may turn from each other; on a circle or an ellipse
-    /// the largest step of its parameter, 1e-3 at least, and no tangent is looked at. Held to 1e-4 radians to π.
+    /// the largest step of its parameter, 1e-3 at least, and no tangent is looked at, unless these even steps miss the sag: then it
+    /// is bisected too. Held to 1e-4 radians to π.
     pub angle: Angle,
     /// 0 or 1.
     pub relative: u32,
