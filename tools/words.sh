@@ -44,11 +44,11 @@ numbers() {
 
 # installed PROGRAM..: each must be on PATH
 installed() {
-    for program; do
-        command -v "$program" >/dev/null 2>&1 || case $program in
+    for wanted; do
+        command -v "$wanted" >/dev/null 2>&1 || case $wanted in
         rt) stop "there is no rt on PATH: install the Rattle kit first" ;;
-        rustc | cargo) stop "there is no $program on PATH: install Rust first" ;;
-        *) stop "there is no $program on PATH: install it first" ;;
+        rustc | cargo) stop "there is no $wanted on PATH: install Rust first" ;;
+        *) stop "there is no $wanted on PATH: install it first" ;;
         esac
     done
 }
