@@ -2,8 +2,11 @@
 # For shell scripts, which source it: help, words that they do not take, and programs that are missing. The comment at the head of a
 # script is its help; a line of it begins with "usage: " and the script's name. tools/command.py is the same for Python.
 
+# Read at once: a script may change its directory, and be named from another.
+script_head=$(sed -n '1d;/^#/!q;s/^# \{0,1\}//;p' "$0")
+
 head_text() {
-    sed -n '1d;/^#/!q;s/^# \{0,1\}//;p' "$0"
+    printf '%s\n' "$script_head"
 }
 
 wrong_words() {
