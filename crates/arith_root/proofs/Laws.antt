@@ -19,12 +19,12 @@ use Rattle.arith_root.proofs.Whole.{not-above}
 use Rattle.arith_root.proofs.Ieee.{nearest-root}
 
 -- ---- what is not below zero: a zero of either sign, a positive finite float, +∞
-data Kind : Float → Type 0 where
+pub data Kind : Float → Type 0 where
   zeros : (s : Bool) (e : ℤ) → Kind (fin s zero e)
   above : (m : ℕ) (e : ℤ) → T (positive (fin false (suc m) e)) → Kind (fin false (suc m) e)
   top : Kind (inf false)
 
-kind : (x : Float) → T (le zeroF x) → Kind x
+pub kind : (x : Float) → T (le zeroF x) → Kind x
 unfolding le
 kind nan h = absurd h
 kind (inf true) h = absurd h

@@ -57,7 +57,7 @@ module _ (x y : Float) (F : T (finite x)) (z : T (le zeroF x)) (q : Part y) wher
       (rw (no-sign x F z, no-sign y (part-finite y q) (q .0)) (high-law (plus x) (plus y) (den x) (den y) (part-plus y q)))
 
 -- a square of a part is a part
-one-fits : T (fits binary64 oneF)
+pub one-fits : T (fits binary64 oneF)
 unfolding fits
 one-fits = tt
 
@@ -278,7 +278,7 @@ chosen : (b : Bool) (x y z : Float) → (T b → T (le x z)) → T (le y z) → 
 chosen true x y z h k = h tt
 chosen false x y z h k = k
 
-equal-le : (x y : Float) → T (eq x y) → T (le x y)
+pub equal-le : (x y : Float) → T (eq x y) → T (le x y)
 unfolding le
 equal-le x y h = go (lt x y) (eq x y) h
   where

@@ -1,9 +1,11 @@
 // An angle compared with a limit by its cosine, mostly without the arc cosine: no angle is above twice the tangent of its half, and
 // where it is small it is not far below it either.
 ghost use mathlib.Core.Path.{_≡_};
-ghost use lib.Ieee.{le};
+ghost use mathlib.Core.Bool.{true};
+ghost use lib.Ieee.{lt, le};
+ghost use Rattle.arith.specs.Notation.{_⊗_, two};
 ghost use Rattle.arith_trig.specs.Trig.{acosOf};
-ghost use Rattle.arith_turn_limit.specs.Own.Limit.{turnCut, Serves, overCut, isOver};
+ghost use Rattle.arith_turn_limit.specs.Own.Limit.{turnCut, Serves, leastTurn, overCut, isOver};
 
 // The cut for a limit, which costs a root: for many comparisons with one limit.
 pub fn turn_cut(limit: f64) -> f64
@@ -47,6 +49,13 @@ const THIRD_DIVISOR: f64 = 2.001953125;
 // The series of what is left is at least this.
 const LEAST_SERIES: f64 = 0.9995;
 
+// What no angle is below whose half has a tangent from y to a quarter.
+fn least_turn(y: f64) -> f64
+    ensures { λ r. ⌜ r ≡ leastTurn y ⌝ }
+{
+    16.0 * (y / FIRST_DIVISOR / SECOND_DIVISOR / THIRD_DIVISOR * LEAST_SERIES)
+}
+
 // The cut from which on an angle is above the limit, which costs a root.
 pub fn over_cut(limit: f64) -> f64
     ensures { λ r. ⌜ r ≡ overCut limit ⌝ }
@@ -54,8 +63,7 @@ pub fn over_cut(limit: f64) -> f64
     // So much that the least turn at the cut is above the limit.
     let half = limit * OVER_HALF;
     let cut = half * half;
-    let least = 16.0
-        * (arith_root::root(cut) / FIRST_DIVISOR / SECOND_DIVISOR / THIRD_DIVISOR * LEAST_SERIES);
+    let least = least_turn(arith_root::root(cut));
     arith_root_limit::cut_if(
         limit < LARGEST_LIMIT,
         arith_root_limit::cut_if(0.0 <= cut, arith_root_limit::cut_if(limit < least, cut)),
@@ -74,4 +82,24 @@ pub fn is_turn_over(a: f64, cut: f64) -> bool
         return false;
     }
     cut <= (1.0 - a) / (1.0 + a)
+}
+
+// A little above a quarter: twice the least turn at a tangent y is 3.9174 y, and 1 / 3.9174 is 0.2553.
+const OVER_QUARTER: f64 = 0.2555;
+
+// Whether twice the angle whose cosine is a is surely above the limit, with no root taken. `false` says nothing.
+pub fn is_double_turn_over(a: f64, limit: f64) -> bool
+    ensures { λ b. ⌜ (b ≡ true → lt limit (two ⊗ acosOf a) ≡ true) ⌝ }
+{
+    if 0.0 <= a && a < 1.0 {
+        // So much that twice the least turn at it is above the limit.
+        let tangent = limit * OVER_QUARTER;
+        if 0.0 < tangent && limit < 2.0 * LARGEST_LIMIT {
+            if limit < 2.0 * least_turn(tangent) {
+                // The tangent of half the angle has a square that is not below this half.
+                return tangent * tangent < (1.0 - a) / 2.0;
+            }
+        }
+    }
+    false
 }

@@ -1,6 +1,8 @@
 // Tessellation tolerances: options.rs.
 ghost use mathlib.Core.Path.{_≡_};
+ghost use mathlib.Core.Bool.{true};
 ghost use Prim.Native.Nat.{min, max};
+ghost use Rattle.arith.specs.Pick.{minOf};
 ghost use Rattle.options.specs.Options.{radians, degrees, isClamped, preset, defaultOptions, draftOptions, fineOptions};
 ghost use Rattle.options.specs.Options.{hasScale, absoluteDeflection, resolvedModel, resolvedRelative, resolve};
 ghost use Rattle.options.specs.Options.{isRelativeTo, sagFor, forExtent, stepBySag, angleStep, segmentsForArc};
@@ -226,11 +228,26 @@ impl Resolved {
         }
     }
 
+    // Whether that step is surely not below the angle, which spares its arc cosine. `false` says nothing.
+    fn is_angle_bound(self, radius: f64) -> bool
+        ensures { λ b. ⌜ (b ≡ true → minOf (stepBySag self radius) (self .angle) ≡ self .angle) ⌝ }
+    {
+        if self.sag < radius {
+            let cosine = arith::clamp(1.0 - self.sag / radius, -1.0, 1.0);
+            return arith_turn_limit::is_double_turn_over(cosine, self.angle);
+        }
+        true
+    }
+
     // Resolved::angle_step_for_radius: the largest step on a circle of this radius that sag and angle allow.
     pub fn angle_step_for_radius(self, radius: f64) -> f64
         ensures { λ r. ⌜ r ≡ angleStep self radius ⌝ }
     {
-        let by_sag = self.step_by_sag(arith::abs(radius));
+        let size = arith::abs(radius);
+        if self.is_angle_bound(size) {
+            return arith::max(self.angle, LEAST_STEP);
+        }
+        let by_sag = self.step_by_sag(size);
         arith::max(arith::min(by_sag, self.angle), LEAST_STEP)
     }
 

@@ -7,7 +7,7 @@ use Rattle.arith_turn_limit.proofs.over_cut.Tie as tie
 
 returns : tie.Need-returns
 unfolding overCut ofBits ofInt
-returns c = rw (c .cut-if3 .ensures, c .before .cut-if2 .ensures, c .before .before .cut-if .ensures, c .before .before .before .root .ensures .0)
+returns c = rw (c .cut-if3 .ensures, c .before .cut-if2 .ensures, c .before .before .cut-if .ensures, c .before .before .before .least-turn .ensures, c .before .before .before .before .root .ensures .0)
 
 pub over-cut-spec : {M : Type 1} → statement M
-over-cut-spec = tie.close (tie.spec (λ c κs. search needs) (λ c κs. search needs) (λ c κs. search needs) (λ c κs. search needs) returns)
+over-cut-spec = tie.close (tie.spec (λ c κs. search needs) (λ c κs. search needs) (λ c κs. search needs) (λ c κs. search needs) (λ c κs. search needs) returns)
