@@ -10,7 +10,6 @@ use lib.Dec.{T}
 use lib.Pow.{pow-pos}
 use lib.Ieee.{Float, nan, inf, fin, binary64, up, down, fits, mul, lt, le}
 use lib.Ieee.Order.{le-of-values}
-use lib.Ieee.Scale.{finite}
 use lib.Ieee.Positive.{positive, den, positive-finite, mul-at}
 use Rattle.arith_order.proofs.Signed.{zeroF, plus, neg', le←}
 use Rattle.arith_order.proofs.Rounds.{Rounds}
@@ -21,7 +20,7 @@ use Rattle.arith_root.specs.Ieee.{Units}
 use Rattle.arith_root.proofs.Whole.{not-above, square-of}
 use Rattle.arith_root.proofs.Cases.{positive-above}
 use Rattle.arith_root.proofs.Ieee.{nearest-root}
-use Rattle.arith_root.proofs.Laws.{Kind, zeros, above, top, kind}
+use Rattle.arith_root.proofs.Laws.{Kind, zeros, above, top, kind, units-below}
 
 -- ---- a float of m units against the fraction a / (2 ^ 1074 * d)
 module _ (y : Float) (m a d : ℕ) (p : T (positive y)) (v : Units y m) where
@@ -63,7 +62,7 @@ module _ (k q : Float) (b n : ℕ) (G : T (fits binary64 q)) (p : T (positive k)
       (mul-pos (pow-pos 1074) (pow-pos 1074)) (at-least q n (b * b) (2 ^ 1074) r v h)
 
 -- a square is not below zero
-square-low : (k : Float) → T (fits binary64 k) → T (lt zeroF k) → T (le zeroF (mul binary64 k k))
+pub square-low : (k : Float) → T (fits binary64 k) → T (lt zeroF k) → T (le zeroF (mul binary64 k k))
 square-low nan F p = absurd (unfold lt in p)
 square-low (inf true) F p = absurd (unfold lt in p)
 square-low (inf false) F p = unfold mul le in tt
@@ -146,13 +145,16 @@ none-above (inf s) h = h
 none-above (fin s n d) h = h
 
 -- √x ≤ k, where x is not below 0.0, and below the square of a k above 0.0, rounded
-pub root-under-square : (k x : Float) → T (fits binary64 k) → T (fits binary64 x) → T (lt zeroF k) → T (finite k) → T (le zeroF x) → T (lt x (mul binary64 k k)) → T (le (rootOf x) k)
-root-under-square k x F G p K q h = go k x F G p K (kind x q) h
+pub root-under-square : (k x : Float) → T (fits binary64 k) → T (fits binary64 x) → T (lt zeroF k) → T (le zeroF x) → T (lt x (mul binary64 k k)) → T (le (rootOf x) k)
+root-under-square k x F G p q h = go k x F G p (kind x q) h
   where
-    go : (k x : Float) → T (fits binary64 k) → T (fits binary64 x) → T (lt zeroF k) → T (finite k) → Kind x → T (lt x (mul binary64 k k)) → T (le (rootOf x) k)
-    go nan x F G p K q h = absurd K
-    go (inf s) x F G p K q h = absurd K
-    go (fin true m e) x F G p K q h = absurd (unfold lt in p)
-    go (fin false m e) x F G p K (zeros s d) h = unfold rootOf in le-trans (fin s zero d) zeroF (fin false m e) (zero-under s d) (lt→le zeroF (fin false m e) p)
-    go (fin false m e) x F G p K (above n d q) h = positive-under (fin false m e) (fin false (suc n) d) F G (positive-above m e p) q h
-    go (fin false m e) x F G p K top h = absurd (none-above (mul binary64 (fin false m e) (fin false m e)) h)
+    go : (k x : Float) → T (fits binary64 k) → T (fits binary64 x) → T (lt zeroF k) → Kind x → T (lt x (mul binary64 k k)) → T (le (rootOf x) k)
+    go nan x F G p q h = absurd (unfold lt in p)
+    go (inf true) x F G p q h = absurd (unfold lt in p)
+    go (inf false) x F G p (zeros s d) h = unfold rootOf le in tt
+    go (inf false) x F G p (above n d q) h = let N = nearest-root (fin false (suc n) d) G q .2 in lt→le (rootOf (fin false (suc n) d)) (inf false) (units-below (rootOf (fin false (suc n) d)) (N .a) (N .value))
+    go (inf false) x F G p top h = absurd (none-above (mul binary64 (inf false) (inf false)) h)
+    go (fin true m e) x F G p q h = absurd (unfold lt in p)
+    go (fin false m e) x F G p (zeros s d) h = unfold rootOf in le-trans (fin s zero d) zeroF (fin false m e) (zero-under s d) (lt→le zeroF (fin false m e) p)
+    go (fin false m e) x F G p (above n d q) h = positive-under (fin false m e) (fin false (suc n) d) F G (positive-above m e p) q h
+    go (fin false m e) x F G p top h = absurd (none-above (mul binary64 (fin false m e) (fin false m e)) h)

@@ -1,27 +1,29 @@
--- In the fixed steps too, an angle whose half has a tangent y up to 1/4 is at least 1.958 y, and at least 0.368 beyond. Assumes nothing.
+-- In the fixed steps too, an angle whose half has a tangent y up to 1/4 is at least 1.958 y, and at least 0.368 beyond; up to 1/8 it is at
+-- least 1.989 y, and at least 0.2448 beyond. Assumes nothing.
 use mathlib.Core.Path.{_≡_, refl, subst}
-use mathlib.Core.Bool.{Bool, true, false, cond, not, _&&_}
+use mathlib.Core.Bool.{Bool, true, false, cond, not}
 use mathlib.Core.Logic.{_⊎_, inl, inr}
 use mathlib.Core.List.{[], _∷_}
 use lib.Dec.{T}
 use lib.Ieee.{Float, nan, inf, fin, binary64, ofBits, ofInt, fits, le, lt, eq, neg, add, sub, mul, div}
-use lib.Ieee.Bits.{is-true, is-false, ofBits-fits}
-use lib.Ieee.Fits.{add-fits, mul-fits, div-fits, and-l, and-r}
+use lib.Ieee.Bits.{is-true, ofBits-fits}
+use lib.Ieee.Fits.{add-fits, mul-fits, div-fits}
 use lib.Ieee.Scale.{finite}
 use Rattle.arith_order.proofs.Signed.{zeroF, oneF}
 use Rattle.arith_order.proofs.Mono.{add-grows, add-mono-right, sub-shrinks, sub-turns, mul-mono, mul-mono-right, div-mono, div-turns, div-low}
-use Rattle.arith_order.proofs.Middle.{zero-fits, between}
+use Rattle.arith_order.proofs.Middle.{between}
 use Rattle.arith_order.proofs.Modest.{sub-up}
 use Rattle.arith_order.proofs.Laws.{refuted, le-trans, le-total, lt-le-trans, lt→le, lt→nle, lt→neq, nlt→le, number-left, number-right}
 use Rattle.arith.proofs.Cmp.{holds, fails}
 use Rattle.arith.specs.Notation.{_⊕_, _⊖_, _⊗_, _⊘_, bits, plusZero, half, one, two, count}
 use Rattle.arith_root.specs.Root.{rootOf}
-use Rattle.arith_root.proofs.Laws.{root-zero, root-monotone}
+use Rattle.arith_root.proofs.Laws.{root-monotone}
 use Rattle.arith_root.proofs.Squares.{root-over-square}
 use Rattle.arith_trig.specs.Trig.{halved, summed, arcOf, angleOf, acosBy, acosOf, pi}
-use Rattle.arith_turn_limit.specs.Own.Limit.{tangentSquare, firstDivisor, secondDivisor, thirdDivisor, leastSeries, leastTurn, overHalf, overFor, largestLimit, overCut, isOver, Exceeds}
+use Rattle.arith_turn_limit.specs.Own.Limit.{tangentSquare, firstDivisor, secondDivisor, thirdDivisor, fourthDivisor, leastSeries, fineSeries, leastTurn, fineTurn, overHalf, fineHalf, largestLimit, fineLimit, overCut, isOver, Exceeds}
 use Rattle.arith_turn_limit.proofs.Bound.{Part, part-finite, one-fits, square-part, scaled-low, scaled-high, part-times, twoF, square-finite, root-finite, divisor-low, divisor-finite, halved-high, halved-part, halved-fits, half-mono, thrice, term, term-fits, series-three, seriesOf, series-part, sixteen-mono, eighths, eighths-mono, angle-high, equal-le}
-use Rattle.arith_root_limit.specs.Own.Limit.{cutIf}
+use Rattle.arith_root_limit.specs.Own.Limit.{cutIf, squareIf}
+use Rattle.arith_root_limit.proofs.Roots.{above-square}
 
 abbrev quarter : Float
 quarter = bits 0x3FD0000000000000
@@ -198,6 +200,10 @@ step-sixteenth : Step sixteenth thirdDivisor
 unfolding ofBits le lt add mul fits rootOf
 step-sixteenth = record { part = (tt, tt); square = bits 0x3FF0100400000000; root = bits 0x3FF0080000000000; format = tt; over = tt; is = refl; known = tt; last = tt; number = tt }
 
+step-thirty-second : Step (bits 0x3FA0000000000000) fourthDivisor
+unfolding ofBits le lt add mul fits rootOf
+step-thirty-second = record { part = (tt, tt); square = bits 0x3FF0040040000000; root = bits 0x3FF0020000000000; format = tt; over = tt; is = refl; known = tt; last = tt; number = tt }
+
 near-steps : Steps quarter eighth sixteenth firstDivisor secondDivisor thirdDivisor
     (bits 0x3FA0000000000000) (bits 0x3F50000000000000) leastSeries
 unfolding ofBits ofInt le lt add sub mul div
@@ -343,21 +349,51 @@ twice-over k x limit X s l (inl r) = lt-le-trans limit (two ⊗ leastTurn k) (tw
     (twice-mono (leastTurn k) x (between zeroF (leastTurn k) x tt X (r .0) (r .1)) X (r .1))
 twice-over k x limit X s l (inr r) = lt-le-trans limit (two ⊗ largestLimit) (two ⊗ x) s (twice-mono largestLimit x tt X r)
 
--- ---- from the cut on
-module _ (a limit cut : Float) (F : T (fits binary64 cut)) (low : T (le zeroF cut)) (small : T (lt limit largestLimit))
-    (least : T (lt limit (leastTurn (rootOf cut)))) (h : T (le cut (tangentSquare a))) where
-  cut-low : T (le zeroF (rootOf cut))
-  unfolding le
-  cut-low = rw root-zero at (root-monotone zeroF cut (zero-fits binary64) F tt low)
+-- ---- the same up to an eighth: it reaches the fine turn at k, or 0.2448
+fine-steps : Steps eighth sixteenth (bits 0x3FA0000000000000) secondDivisor thirdDivisor fourthDivisor
+    (bits 0x3F90000000000000) (bits 0x3F30000000000000) fineSeries
+unfolding ofBits ofInt le lt add sub mul div
+fine-steps = record {
+  one-step = step-eighth;
+  two-step = step-sixteenth;
+  three-step = step-thirty-second;
+  a-half = tt;
+  b-half = tt;
+  c-half = tt;
+  d-over = tt;
+  e-over = tt;
+  f-over = tt;
+  g-part = (tt, tt);
+  m-part = (tt, tt);
+  g-square = tt;
+  v-part = (tt, tt);
+  v-low = tt;
+}
 
-  from-cut : T (le (rootOf cut) (rootOf (tangentSquare a)))
-  from-cut = root-monotone cut (tangentSquare a) F (div-fits binary64 (one ⊖ a) (one ⊕ a)) low h
+module _ (y k : Float) (k0 : T (le zeroF k)) (h : T (le k y)) where
+  small-turn : T (le y eighth) → T (le (fineTurn k) (acosBy y))
+  unfolding acosBy le ofBits
+  small-turn n =
+      let low = le-trans zeroF k y k0 h in
+      let top = le-trans y eighth oneF n tt in
+      let none = refuted (lt one y) (λ (t : T (lt one y)). lt→nle oneF y t top) in
+      rw none (angle-low _ _ _ _ _ _ _ _ _ fine-steps y k (low, top) (between zeroF k y tt (part-finite y (low, top)) k0 h) k0 h n)
 
-  surely-over : eq a one ≡ false → eq a (neg one) ≡ false → le (acosOf a) limit ≡ false
-  unfolding acosOf
-  surely-over e f =
-      let y = rootOf (tangentSquare a) in
-      rw (e, f) (refuted (le (acosBy y) limit) (lt→nle limit (acosBy y) (over-limit (rootOf cut) (acosBy y) limit small least (turn-reaches y (rootOf cut) cut-low from-cut))))
+  large-turn : T (le eighth y) → T (le fineLimit (acosBy y))
+  unfolding le mul div ofInt ofBits
+  large-turn n = go (turn-reaches y eighth tt n)
+    where
+      go : Reaches eighth (acosBy y) → T (le fineLimit (acosBy y))
+      go (inl r) = le-trans fineLimit (leastTurn eighth) (acosBy y) tt (r .1)
+      go (inr r) = le-trans fineLimit largestLimit (acosBy y) tt r
+
+  fine-over : (limit : Float) → T (lt limit fineLimit) → T (lt limit (fineTurn k)) → T (lt limit (acosBy y))
+  unfolding ofBits
+  fine-over limit s l = go (le-total y eighth (number-right k y h) tt)
+    where
+      go : T (le y eighth) ⊎ T (le eighth y) → T (lt limit (acosBy y))
+      go (inl n) = lt-le-trans limit (fineTurn k) (acosBy y) l (small-turn n)
+      go (inr n) = lt-le-trans limit fineLimit (acosBy y) s (large-turn n)
 
 -- ---- twice the angle, by squares: (1 - a) / 2 is not above the square of the tangent of half of it, and k is not above that tangent
 module _ (a k limit : Float) (F : T (fits binary64 k)) (a0 : T (le zeroF a)) (a1 : T (lt a oneF)) (k0 : T (lt zeroF k)) where
@@ -398,31 +434,61 @@ module _ (a k limit : Float) (F : T (fits binary64 k)) (a0 : T (le zeroF a)) (a1
       let b = lt→le zeroF k k0 in
       rw (not-one, not-minus-one) (is-true (lt limit (two ⊗ acosBy y)) (twice-over k (acosBy y) limit (turn-finite y k b t) s l (turn-reaches y k b t)))
 
--- ---- the cut for a limit serves
-parts : (a cut : Float) → isOver a cut ≡ true → (eq a one ≡ false) × (eq a (neg one) ≡ false) × T (le cut (tangentSquare a))
-unfolding isOver
-parts a cut h =
-    let p = not (eq a one) in
-    let q = not (eq a (neg one)) in
-    let r = le cut (tangentSquare a) in
-    let t = and-r p (q && r) (holds h) in
-    (is-false (eq a one) (and-l p (q && r) (holds h)), is-false (eq a (neg one)) (and-l q r t), and-r q r t)
+-- ---- a cosine of 1 has no square of a tangent above zero
+module _ (a : Float) (t : T (eq a oneF)) where
+  one-at-most : T (le oneF a)
+  one-at-most = nlt→le a oneF (number-left a oneF (equal-le a oneF t)) tt (is-not (lt a oneF) (λ (l : T (lt a oneF)). subst T (lt→neq a oneF l) t))
+    where
+      is-not : (b : Bool) → (T b → ⊥) → T (not b)
+      is-not true h = h tt
+      is-not false h = tt
 
-pub exceeds : (limit : Float) → Exceeds (overCut limit) limit
-unfolding overCut ofBits
-exceeds limit = go (lt limit largestLimit) (le plusZero (overFor limit)) (lt limit (leastTurn (rootOf (overFor limit)))) refl refl refl
+  square-high : T (le ((oneF ⊖ a) ⊘ (oneF ⊕ a)) zeroF)
+  unfolding le lt add sub div
+  square-high =
+      let high = equal-le a oneF t in
+      let A = between oneF a oneF tt tt one-at-most high in
+      let d : T (le (oneF ⊖ a) zeroF) = sub-turns binary64 oneF a oneF tt A tt one-at-most in
+      let D = between zeroF (oneF ⊖ a) zeroF tt tt (sub-up oneF a tt A high) d in
+      let s : T (le oneF (oneF ⊕ a)) = add-grows binary64 oneF a one-fits tt A (le-trans zeroF oneF a tt one-at-most) in
+      let S = between oneF (oneF ⊕ a) twoF tt tt s (add-mono-right binary64 a oneF oneF A tt tt high) in
+      le-trans ((oneF ⊖ a) ⊘ (oneF ⊕ a)) (zeroF ⊘ (oneF ⊕ a)) zeroF
+      (div-mono binary64 (oneF ⊖ a) zeroF (oneF ⊕ a) D tt S (lt-le-trans zeroF oneF (oneF ⊕ a) tt s) d)
+      (div-turns binary64 zeroF oneF (oneF ⊕ a) tt tt S tt tt s)
+
+-- ---- an angle above a limit below 0.368, of a cosine with a square of a tangent above zero: π is above it too
+turn-over : (a limit : Float) → T (lt limit largestLimit) → T (lt zeroF (tangentSquare a)) → T (lt limit (acosBy (rootOf (tangentSquare a)))) → le (acosOf a) limit ≡ false
+unfolding acosOf le lt ofBits
+turn-over a limit s q h = refuted (le (acosOf a) limit) (lt→nle limit (acosOf a) (go (eq a one) (eq a (neg one)) refl))
   where
-    none : Exceeds nan limit
-    none = record { above = λ (a : Float) (h : isOver a nan ≡ true). absurd (number-left nan (tangentSquare a) (parts a nan h .2)) }
+    go : (b c : Bool) → eq a one ≡ b → T (lt limit (cond b plusZero (cond c pi (acosBy (rootOf (tangentSquare a))))))
+    go true c e = absurd (lt→nle zeroF (tangentSquare a) q (square-high a (holds e)))
+    go false true e = lt-le-trans limit largestLimit pi s tt
+    go false false e = h
 
-    go : (b c d : Bool) → lt limit largestLimit ≡ b → le plusZero (overFor limit) ≡ c → lt limit (leastTurn (rootOf (overFor limit))) ≡ d
-        → Exceeds (cutIf b (cutIf c (cutIf d (overFor limit)))) limit
-    go true true true s l m = record {
-      above = λ (a : Float) (h : isOver a (overFor limit) ≡ true).
-          let t = parts a (overFor limit) h in
-          surely-over a limit (overFor limit) (mul-fits binary64 (limit ⊗ overHalf) (limit ⊗ overHalf)) (holds l) (holds s) (holds m) (t .2) (t .0) (t .1);
-    }
-    go true true false s l m = none
-    go true false true s l m = none
-    go true false false s l m = none
-    go false c d s l m = none
+below-largest : (limit : Float) → T (lt limit fineLimit) → T (lt limit largestLimit)
+unfolding le ofBits
+below-largest limit s = lt-le-trans limit fineLimit largestLimit s tt
+
+-- ---- the cut for a limit serves
+pub exceeds : (limit : Float) → Exceeds (overCut limit) limit
+unfolding overCut
+exceeds limit = record { above = λ (a : Float) (h : isOver a (overCut limit) ≡ true). fine a (lt limit fineLimit) refl (holds h) }
+  where
+    least : (a : Float) (c : Bool) → lt limit largestLimit ≡ c → T (lt (cutIf c (squareIf (lt limit (leastTurn (limit ⊗ overHalf))) (limit ⊗ overHalf))) (tangentSquare a)) → le (acosOf a) limit ≡ false
+    least a true s h =
+        let k = limit ⊗ overHalf in
+        let y = rootOf (tangentSquare a) in
+        let t = above-square k (tangentSquare a) (mul-fits binary64 limit overHalf) (div-fits binary64 (one ⊖ a) (one ⊕ a)) (lt limit (leastTurn k)) h in
+        turn-over a limit (holds s) (t .2) (over-limit k (acosBy y) limit (holds s) (holds (t .0)) (turn-reaches y k (lt→le zeroF k (t .1)) (t .3)))
+    least a false s h = absurd (number-left nan (tangentSquare a) (lt→le nan (tangentSquare a) h))
+
+    fine : (a : Float) (c : Bool) → lt limit fineLimit ≡ c
+        → T (lt (cond c (squareIf (lt limit (fineTurn (limit ⊗ fineHalf))) (limit ⊗ fineHalf)) (cutIf (lt limit largestLimit) (squareIf (lt limit (leastTurn (limit ⊗ overHalf))) (limit ⊗ overHalf)))) (tangentSquare a))
+        → le (acosOf a) limit ≡ false
+    fine a true s h =
+        let k = limit ⊗ fineHalf in
+        let y = rootOf (tangentSquare a) in
+        let t = above-square k (tangentSquare a) (mul-fits binary64 limit fineHalf) (div-fits binary64 (one ⊖ a) (one ⊕ a)) (lt limit (fineTurn k)) h in
+        turn-over a limit (below-largest limit (holds s)) (t .2) (fine-over y k (lt→le zeroF k (t .1)) (t .3) limit (holds s) (holds (t .0)))
+    fine a false s h = least a (lt limit largestLimit) refl h
