@@ -1,7 +1,8 @@
--- The tangents of a curve prepared, the sag by its square, the limits, and a span by what split_of answers of its ends. Assumes nothing.
+-- The tangents of a curve prepared, the sag by its square, the limits, a span by what split_of answers of its ends, and the ways out of subdivide. Assumes nothing.
 use mathlib.Core.Path.{_≡_, refl, sym, ap, subst, _∙_}
 use mathlib.Core.Bool.{Bool, true, false, _&&_}
-use Prim.Native.Nat.{ℕ}
+use mathlib.Core.List.{List, [], _∷_, _++_}
+use Prim.Native.Nat.{ℕ, _-_}
 use native.Mathlib.Omega.{arith}
 use lib.Ieee.{Float, ofBits, le, eq, neg}
 use Rattle.arith.specs.Notation.{plusZero, one}
@@ -22,8 +23,13 @@ use Rattle.curve_prepared.specs.declared.Prepared.{Prepared}
 use Rattle.curve_prepared.specs.Own.Prepared.{preparedOf, preparedDerivative}
 use Rattle.curve_prepared.proofs.Laws.{prepared-derivative}
 use Rattle.options.specs.declared.Resolved.{Resolved}
-use Rattle.edge_params.specs.Params.{midpoint}
+use Rattle.edge_params.specs.Params.{midpoint, subdivided}
+use Rattle.edge_params.proofs.Lists.{subdivided-zero, subdivided-within, subdivided-split}
+use Rattle.edge_params.specs.declared.Listed.the-variants.{Count}
+use Rattle.edge_subdivide.specs.Own.Recorded.{Room, ListRecorded}
+use Rattle.edge_subdivide.proofs.Recorded.{recorded-none}
 use Rattle.edge_subdivide.specs.declared.End.{End}
+use Rattle.edge_subdivide.specs.declared.Split.{Split}
 use Rattle.edge_subdivide.specs.declared.Split.the-variants.{Within, At}
 use Rattle.edge_subdivide.specs.declared.Limits.{Limits}
 use Rattle.arith_turn_limit.specs.Own.Limit.{Serves, Exceeds}
@@ -143,3 +149,33 @@ module _ (c : CurveTree) (x : Float) (m : End) (e : m ≡ endAt c x) where
 
   pub end-own : m ≡ endAt c (m .t)
   end-own = e ∙ ap (endAt c) (sym end-t)
+
+-- ---- the ways out of subdivide
+module _ (c : CurveTree) (r : Resolved) (depth : ℕ) (a b : End) (A : a ≡ endAt c (a .t)) (B : b ≡ endAt c (b .t)) where
+  -- nothing is pushed
+  none : {out chain : List Float} {k : ℕ} → Room out chain k → subdivided (withinBudget c r) depth (a .t) (b .t) ≡ []
+      → ListRecorded c out chain k (subdivided (withinBudget c r) depth (a .t) (b .t)) (Count k) out chain
+  none {out} {chain} {k} room e = subst (λ (l : List Float). ListRecorded c out chain k l (Count k) out chain) (sym e) (recorded-none c room)
+
+  pub none-deep : {out chain : List Float} {k : ℕ} → Room out chain k → depth ≡ 0
+      → ListRecorded c out chain k (subdivided (withinBudget c r) depth (a .t) (b .t)) (Count k) out chain
+  none-deep room e = none room (subdivided-zero (withinBudget c r) depth (a .t) (b .t) e)
+
+  module _ (deep : depth ≡ 0 → ⊥) (s : Split) (S : s ≡ splitOf c r a b) where
+    pub none-within : {out chain : List Float} {k : ℕ} → Room out chain k → s ≡ Within
+        → ListRecorded c out chain k (subdivided (withinBudget c r) depth (a .t) (b .t)) (Count k) out chain
+    none-within room e = none room (subdivided-within (withinBudget c r) depth (a .t) (b .t) deep (was-within c r a b A B (sym e ∙ S)))
+
+    module _ (m : End) (M : s ≡ At m) where
+      w : Was-split c r a b A B m
+      w = was-split c r a b A B m (sym M ∙ S)
+
+      pub middle-own : m ≡ endAt c (m .t)
+      middle-own = end-own c (midpoint (a .t) (b .t)) m (w .middle)
+
+      pub halves : subdivided (withinBudget c r) (depth - 1) (a .t) (m .t) ++ m .t ∷ subdivided (withinBudget c r) (depth - 1) (m .t) (b .t)
+          ≡ subdivided (withinBudget c r) depth (a .t) (b .t)
+      halves =
+          ap (λ (x : Float). subdivided (withinBudget c r) (depth - 1) (a .t) x ++ x ∷ subdivided (withinBudget c r) (depth - 1) x (b .t))
+          (end-t c (midpoint (a .t) (b .t)) m (w .middle))
+          ∙ sym (subdivided-split (withinBudget c r) depth (a .t) (b .t) deep (w .over))

@@ -73,3 +73,20 @@ module _ (c : CurveTree) where
           listed = behind-then out k a mid (h .listed) n e b (g .listed);
           records = g .records ∙ ap (λ (i : ℕ). sets left (width * i) (flat (located c b))) (behind-count out k a mid (h .listed) (room .taken) n e) ∙ sym (records-then b);
         }
+
+  -- a list, one more, and another list: the ways in which code that writes the three one after the other comes out
+  module _ {out chain : List Float} {k : ℕ} (room : Room out chain k) (front : List Float) (x : Float) (back : List Float) {whole : List Float} (all : front ++ x ∷ back ≡ whole)
+      {r₁ : Listed} {out₁ chain₁ : List Float} (h : ListRecorded c out chain k front r₁ out₁ chain₁) where
+    pub front-refused : r₁ ≡ Refused → ListRecorded c out chain k whole Refused out₁ chain₁
+    front-refused z = subst (λ (l : List Float). ListRecorded c out chain k l Refused out₁ chain₁) all (recorded-refused room h z (x ∷ back))
+
+    module _ {n : ℕ} (N : r₁ ≡ Count n) {r₂ : Listed} {out₂ chain₂ : List Float} (g : ListRecorded c out₁ chain₁ n (x ∷ []) r₂ out₂ chain₂) where
+      joined : {r₃ : Listed} {out₃ chain₃ : List Float} → ListRecorded c out₁ chain₁ n (x ∷ back) r₃ out₃ chain₃ → ListRecorded c out chain k whole r₃ out₃ chain₃
+      joined {r₃} {out₃} {chain₃} f = subst (λ (l : List Float). ListRecorded c out chain k l r₃ out₃ chain₃) all (recorded-then room h N (x ∷ back) f)
+
+      pub one-refused : r₂ ≡ Refused → ListRecorded c out chain k whole Refused out₂ chain₂
+      one-refused z = joined (recorded-refused (recorded-room room h N) g z back)
+
+      pub all-three : {m : ℕ} → r₂ ≡ Count m → {r₃ : Listed} {out₃ chain₃ : List Float} → ListRecorded c out₂ chain₂ m back r₃ out₃ chain₃
+          → ListRecorded c out chain k whole r₃ out₃ chain₃
+      all-three M f = joined (recorded-then (recorded-room room h N) g M back f)

@@ -178,8 +178,7 @@ pub fn push_end(out: &mut [f64], chain: &mut [f64], k: usize, end: End) -> Liste
     Listed::Count(n)
 }
 
-// What bisection puts between a and b, behind the first k floats of out, with the records behind the first k of chain. Only the left
-// half is a call, which copies all that is handed down; the right half is the loop's next turn.
+// What bisection puts between a and b, behind the first k floats of out, with the records behind the first k of chain.
 pub fn subdivide(
     points: &[f64],
     curves: &[u32],
@@ -204,51 +203,50 @@ pub fn subdivide(
         (subdivided (withinBudget (tree (given points curves reals parts ranges) row) r) depth (a .t) (b .t))
         w (now (out .exit)) (now (chain .exit))) ⌝ }
 {
-    let mut left = a;
-    let mut levels = depth;
-    let mut n = k;
-    while 0 < levels {
-        let split = split_of(
-            points,
-            curves,
-            reals,
-            parts,
-            ranges,
-            row,
-            prepared,
-            l,
-            left,
-            b,
-        );
-        let Split::At(m) = split else {
-            return Listed::Count(n);
-        };
-        levels -= 1;
-        let before = subdivide(
-            points,
-            curves,
-            reals,
-            parts,
-            ranges,
-            row,
-            prepared,
-            l,
-            left,
-            m,
-            levels,
-            out,
-            chain,
-            n,
-        );
-        let Listed::Count(next) = before else {
-            return Listed::Refused;
-        };
-        let pushed = push_end(out, chain, next, m);
-        let Listed::Count(after) = pushed else {
-            return Listed::Refused;
-        };
-        n = after;
-        left = m;
+    if depth == 0 {
+        return Listed::Count(k);
     }
-    Listed::Count(n)
+    let split = split_of(points, curves, reals, parts, ranges, row, prepared, l, a, b);
+    let Split::At(m) = split else {
+        return Listed::Count(k);
+    };
+    let before = subdivide(
+        points,
+        curves,
+        reals,
+        parts,
+        ranges,
+        row,
+        prepared,
+        l,
+        a,
+        m,
+        depth - 1,
+        out,
+        chain,
+        k,
+    );
+    let Listed::Count(n) = before else {
+        return Listed::Refused;
+    };
+    let pushed = push_end(out, chain, n, m);
+    let Listed::Count(next) = pushed else {
+        return Listed::Refused;
+    };
+    subdivide(
+        points,
+        curves,
+        reals,
+        parts,
+        ranges,
+        row,
+        prepared,
+        l,
+        m,
+        b,
+        depth - 1,
+        out,
+        chain,
+        next,
+    )
 }
