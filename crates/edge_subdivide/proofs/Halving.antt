@@ -29,10 +29,12 @@ module _ (c : CurveTree) (r : Resolved) (b : Float) where
     pub held : ListRecorded c out₀ chain₀ k₀ front (Count n) out chain
     pub all : front ++ rest levels left ≡ whole
 
-  pub halving-start : {out chain : List Float} {k : ℕ} → Room out chain k → (left : Float) (levels : ℕ) → Halving (rest levels left) out chain k out chain left levels k
+  pub halving-start : {out chain : List Float} {k : ℕ} → Room out chain k → (left : Float) (levels : ℕ)
+      → Halving (rest levels left) out chain k out chain left levels k
   halving-start room left levels = record { begun = room; front = []; held = recorded-none c room; all = refl }
 
-  module _ {whole out₀ chain₀ : List Float} {k₀ : ℕ} {out chain : List Float} {left : Float} {levels n : ℕ} (s : Halving whole out₀ chain₀ k₀ out chain left levels n) where
+  module _ {whole out₀ chain₀ : List Float} {k₀ : ℕ} {out chain : List Float} {left : Float} {levels n : ℕ}
+      (s : Halving whole out₀ chain₀ k₀ out chain left levels n) where
     pub halving-room : Room out chain n
     halving-room = recorded-room c (s .begun) (s .held) refl
 
@@ -44,7 +46,9 @@ module _ (c : CurveTree) (r : Resolved) (b : Float) where
 
     -- nothing is left
     done : rest levels left ≡ [] → ListRecorded c out₀ chain₀ k₀ whole (Count n) out chain
-    done e = subst (λ (l : List Float). ListRecorded c out₀ chain₀ k₀ l (Count n) out chain) (sym (append-nil (s .front)) ∙ ap (λ (l : List Float). s .front ++ l) (sym e) ∙ s .all) (s .held)
+    done e =
+        subst (λ (l : List Float). ListRecorded c out₀ chain₀ k₀ l (Count n) out chain)
+        (sym (append-nil (s .front)) ∙ ap (λ (l : List Float). s .front ++ l) (sym e) ∙ s .all) (s .held)
 
     pub halving-deep : levels ≡ 0 → ListRecorded c out₀ chain₀ k₀ whole (Count n) out chain
     halving-deep e = done (subdivided-zero (withinBudget c r) levels left b e)
@@ -64,7 +68,8 @@ module _ (c : CurveTree) (r : Resolved) (b : Float) where
         both =
             append-assoc (s .front) half (m ∷ rest (levels - 1) m)
             ∙ ap (λ (l : List Float). s .front ++ l)
-            (ap (λ (x : Float). subdivided (withinBudget c r) (levels - 1) left x ++ x ∷ rest (levels - 1) x) M ∙ sym (subdivided-split (withinBudget c r) levels left b deep e))
+            (ap (λ (x : Float). subdivided (withinBudget c r) (levels - 1) left x ++ x ∷ rest (levels - 1) x) M
+            ∙ sym (subdivided-split (withinBudget c r) levels left b deep e))
             ∙ s .all
 
         joined : ListRecorded c out₀ chain₀ k₀ (s .front ++ half) r₁ out₁ chain₁
