@@ -71,7 +71,8 @@ square-low (fin false m e) F p =
     let k = fin false m e in
     let K = nearest-root k F (positive-above m e p) in
     middle.above binary64 zeroF (mul binary64 k k) (K .0 * K .0) 0 (2 ^ 1074 * 2 ^ 1074) (middle.zero-fits binary64) tt
-    (squared k k (K .0) (K .0) F (positive-above m e p) (positive-above m e p) (K .1) (K .1)) (mul-pos (pow-pos 1074) (pow-pos 1074)) (none (K .0 * K .0) (2 ^ 1074 * 2 ^ 1074))
+    (squared k k (K .0) (K .0) F (positive-above m e p) (positive-above m e p) (K .1) (K .1))
+    (mul-pos (pow-pos 1074) (pow-pos 1074)) (none (K .0 * K .0) (2 ^ 1074 * 2 ^ 1074))
   where
     none : (s c : ℕ) → 0 * c + 0 * 1 ≤ s * 1 + 0 * c
     none s c = omega (arith, zero-mul c)
@@ -100,7 +101,8 @@ module _ (k q : Float) (F : T (fits binary64 k)) (G : T (fits binary64 q)) (p : 
       (mul-le-mul-right (2 ^ 1074) (not-above b (N .a) (λ (l : N .a < b).
       lt→nle (mul binary64 k k) q h
       (square-up k q b n G p r (K .1) (Q .1)
-      (below-middle n (2 ^ 1074) (N .a) b l (subst (λ (x : ℕ). x < (N .a + b) * (N .a + b)) (sym (mul-assoc n (2 ^ 1074) 4)) (N .above k b F (K .1) l)))))))
+      (below-middle n (2 ^ 1074) (N .a) b l
+      (subst (λ (x : ℕ). x < (N .a + b) * (N .a + b)) (sym (mul-assoc n (2 ^ 1074) 4)) (N .above k b F (K .1) l)))))))
 
   -- and x < k² gives √x ≤ k
   positive-under : T (lt q (mul binary64 k k)) → T (le (rootOf q) k)
@@ -114,14 +116,17 @@ module _ (k q : Float) (F : T (fits binary64 k)) (G : T (fits binary64 q)) (p : 
       (mul-le-mul-right (2 ^ 1074) (not-above (N .a) b (λ (l : b < N .a).
       lt→nle q (mul binary64 k k) h
       (square-down k q b n G p r (K .1) (Q .1)
-      (above-middle n (2 ^ 1074) (N .a) b l (subst (λ (x : ℕ). (N .a + b) * (N .a + b) < x) (sym (mul-assoc n (2 ^ 1074) 4)) (N .below k b F (K .1) l)))))))
+      (above-middle n (2 ^ 1074) (N .a) b l
+      (subst (λ (x : ℕ). (N .a + b) * (N .a + b) < x) (sym (mul-assoc n (2 ^ 1074) 4)) (N .below k b F (K .1) l)))))))
 
 -- ---- and for all
 -- k ≤ √x, where k is above 0.0 and its square, rounded, below x
-pub root-over-square : (k x : Float) → T (fits binary64 k) → T (fits binary64 x) → T (lt zeroF k) → T (lt (mul binary64 k k) x) → T (le k (rootOf x))
+pub root-over-square : (k x : Float) → T (fits binary64 k) → T (fits binary64 x) → T (lt zeroF k) → T (lt (mul binary64 k k) x)
+    → T (le k (rootOf x))
 root-over-square k x F G p h = go k x F G p (le-lt-trans zeroF (mul binary64 k k) x (square-low k F p) h) h
   where
-    go : (k x : Float) → T (fits binary64 k) → T (fits binary64 x) → T (lt zeroF k) → T (lt zeroF x) → T (lt (mul binary64 k k) x) → T (le k (rootOf x))
+    go : (k x : Float) → T (fits binary64 k) → T (fits binary64 x) → T (lt zeroF k) → T (lt zeroF x) → T (lt (mul binary64 k k) x)
+        → T (le k (rootOf x))
     go nan x F G p q h = absurd (unfold lt in p)
     go (inf true) x F G p q h = absurd (unfold lt in p)
     go (inf false) nan F G p q h = absurd (unfold lt in q)
@@ -132,7 +137,8 @@ root-over-square k x F G p h = go k x F G p (le-lt-trans zeroF (mul binary64 k k
     go (fin false m e) (inf true) F G p q h = absurd (unfold lt in q)
     go (fin false m e) (inf false) F G p q h = unfold rootOf le lt in tt
     go (fin false m e) (fin true n d) F G p q h = absurd (unfold lt in q)
-    go (fin false m e) (fin false n d) F G p q h = positive-over (fin false m e) (fin false n d) F G (positive-above m e p) (positive-above n d q) h
+    go (fin false m e) (fin false n d) F G p q h =
+        positive-over (fin false m e) (fin false n d) F G (positive-above m e p) (positive-above n d q) h
 
 zero-under : (s : Bool) (d : ℤ) → T (le (fin s zero d) zeroF)
 zero-under true d = le← (fin true zero d) zeroF tt tt (omega (arith, zero-mul (up d), zero-mul (down d)))
@@ -145,16 +151,22 @@ none-above (inf s) h = h
 none-above (fin s n d) h = h
 
 -- √x ≤ k, where x is not below 0.0, and below the square of a k above 0.0, rounded
-pub root-under-square : (k x : Float) → T (fits binary64 k) → T (fits binary64 x) → T (lt zeroF k) → T (le zeroF x) → T (lt x (mul binary64 k k)) → T (le (rootOf x) k)
+pub root-under-square : (k x : Float) → T (fits binary64 k) → T (fits binary64 x) → T (lt zeroF k) → T (le zeroF x)
+    → T (lt x (mul binary64 k k)) → T (le (rootOf x) k)
 root-under-square k x F G p q h = go k x F G p (kind x q) h
   where
-    go : (k x : Float) → T (fits binary64 k) → T (fits binary64 x) → T (lt zeroF k) → Kind x → T (lt x (mul binary64 k k)) → T (le (rootOf x) k)
+    go : (k x : Float) → T (fits binary64 k) → T (fits binary64 x) → T (lt zeroF k) → Kind x → T (lt x (mul binary64 k k))
+        → T (le (rootOf x) k)
     go nan x F G p q h = absurd (unfold lt in p)
     go (inf true) x F G p q h = absurd (unfold lt in p)
     go (inf false) x F G p (zeros s d) h = unfold rootOf le in tt
-    go (inf false) x F G p (above n d q) h = let N = nearest-root (fin false (suc n) d) G q .2 in lt→le (rootOf (fin false (suc n) d)) (inf false) (units-below (rootOf (fin false (suc n) d)) (N .a) (N .value))
+    go (inf false) x F G p (above n d q) h =
+        let y = rootOf (fin false (suc n) d) in
+        let N = nearest-root (fin false (suc n) d) G q .2 in
+        lt→le y (inf false) (units-below y (N .a) (N .value))
     go (inf false) x F G p top h = absurd (none-above (mul binary64 (inf false) (inf false)) h)
     go (fin true m e) x F G p q h = absurd (unfold lt in p)
-    go (fin false m e) x F G p (zeros s d) h = unfold rootOf in le-trans (fin s zero d) zeroF (fin false m e) (zero-under s d) (lt→le zeroF (fin false m e) p)
+    go (fin false m e) x F G p (zeros s d) h =
+        unfold rootOf in le-trans (fin s zero d) zeroF (fin false m e) (zero-under s d) (lt→le zeroF (fin false m e) p)
     go (fin false m e) x F G p (above n d q) h = positive-under (fin false m e) (fin false (suc n) d) F G (positive-above m e p) q h
     go (fin false m e) x F G p top h = absurd (none-above (mul binary64 (fin false m e) (fin false m e)) h)

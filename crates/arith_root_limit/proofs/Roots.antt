@@ -64,7 +64,8 @@ module _ (k s : Float) (F : T (fits binary64 k)) (G : T (fits binary64 s)) where
   unfolding ofBits
   above-square b = go (lt plusZero k) b refl
     where
-      go : (a b : Bool) → lt plusZero k ≡ a → T (lt (cutIf a (cutIf b (k ⊗ k))) s) → (b ≡ true) × T (lt zeroF k) × T (lt zeroF s) × T (le k (rootOf s))
+      go : (a b : Bool) → lt plusZero k ≡ a → T (lt (cutIf a (cutIf b (k ⊗ k))) s)
+          → (b ≡ true) × T (lt zeroF k) × T (lt zeroF s) × T (le k (rootOf s))
       go true true e h = (refl, holds e, le-lt-trans zeroF (k ⊗ k) s (square-low k F (holds e)) h, root-over-square k s F G (holds e) h)
       go true false e h = absurd (number-left nan s (lt→le nan s h))
       go false b e h = absurd (number-left nan s (lt→le nan s h))

@@ -202,7 +202,17 @@ step-sixteenth = record { part = (tt, tt); square = bits 0x3FF0100400000000; roo
 
 step-thirty-second : Step (bits 0x3FA0000000000000) fourthDivisor
 unfolding ofBits le lt add mul fits rootOf
-step-thirty-second = record { part = (tt, tt); square = bits 0x3FF0040040000000; root = bits 0x3FF0020000000000; format = tt; over = tt; is = refl; known = tt; last = tt; number = tt }
+step-thirty-second = record {
+  part = (tt, tt);
+  square = bits 0x3FF0040040000000;
+  root = bits 0x3FF0020000000000;
+  format = tt;
+  over = tt;
+  is = refl;
+  known = tt;
+  last = tt;
+  number = tt;
+}
 
 near-steps : Steps quarter eighth sixteenth firstDivisor secondDivisor thirdDivisor
     (bits 0x3FA0000000000000) (bits 0x3F50000000000000) leastSeries
@@ -280,14 +290,16 @@ unfolding le mul div sub ofInt ofBits
 far-off y h =
     let x = oneF ⊘ y in
     let p = turned-part y h in
-    le-trans largestLimit (pi ⊖ eighths oneF) (pi ⊖ angleOf x) tt (sub-turns binary64 (angleOf x) (eighths oneF) pi (angle-finite x p) tt tt (angle-most x p))
+    le-trans largestLimit (pi ⊖ eighths oneF) (pi ⊖ angleOf x) tt
+    (sub-turns binary64 (angleOf x) (eighths oneF) pi (angle-finite x p) tt tt (angle-most x p))
 
 far-finite : (y : Float) → T (lt oneF y) → T (finite (pi ⊖ angleOf (oneF ⊘ y)))
 unfolding ofBits
 far-finite y h =
     let x = oneF ⊘ y in
     let p = turned-part y h in
-    between largestLimit (pi ⊖ angleOf x) pi tt tt (far-off y h) (sub-shrinks binary64 pi (angleOf x) (ofBits-fits binary64 0x400921FB54442D18) tt (angle-finite x p) (angle-zero x p))
+    between largestLimit (pi ⊖ angleOf x) pi tt tt (far-off y h)
+    (sub-shrinks binary64 pi (angleOf x) (ofBits-fits binary64 0x400921FB54442D18) tt (angle-finite x p) (angle-zero x p))
 
 -- ---- an angle whose half has a tangent y, from k on: it reaches the least turn at k, or 0.368
 abbrev Reaches : Float → Float → Type 0
@@ -310,7 +322,8 @@ module _ (y k : Float) (k0 : T (le zeroF k)) (h : T (le k y)) where
       go : T (le y quarter) ⊎ T (le quarter y) → Reaches k (angleOf y)
       go (inl n) = inl (turn-low _ _ _ _ _ _ _ _ _ near-steps y k p K k0 h n, angle-low _ _ _ _ _ _ _ _ _ near-steps y k p K k0 h n)
       go (inr n) = inr
-          (le-trans largestLimit (count 16 ⊗ (quarter ⊘ bits 0x4004000000000000 ⊘ bits 0x4001000000000000 ⊘ firstDivisor ⊗ bits 0x3FEFCED916872B02)) (angleOf y) tt
+          (le-trans largestLimit
+          (count 16 ⊗ (quarter ⊘ bits 0x4004000000000000 ⊘ bits 0x4001000000000000 ⊘ firstDivisor ⊗ bits 0x3FEFCED916872B02)) (angleOf y) tt
           (angle-low _ _ _ _ _ _ _ _ _ far-steps y quarter p tt tt n g))
 
   not-far : lt one y ≡ false → T (le y oneF)
@@ -343,7 +356,8 @@ twice-mono : (x y : Float) → T (finite x) → T (finite y) → T (le x y) → 
 unfolding le ofBits
 twice-mono x y X Y h = mul-mono-right binary64 x y two X Y tt tt h
 
-twice-over : (k x limit : Float) → T (finite x) → T (lt limit (two ⊗ largestLimit)) → T (lt limit (two ⊗ leastTurn k)) → Reaches k x → T (lt limit (two ⊗ x))
+twice-over : (k x limit : Float) → T (finite x) → T (lt limit (two ⊗ largestLimit)) → T (lt limit (two ⊗ leastTurn k)) → Reaches k x
+    → T (lt limit (two ⊗ x))
 unfolding ofBits
 twice-over k x limit X s l (inl r) = lt-le-trans limit (two ⊗ leastTurn k) (two ⊗ x) l
     (twice-mono (leastTurn k) x (between zeroF (leastTurn k) x tt X (r .0) (r .1)) X (r .1))
@@ -411,12 +425,14 @@ module _ (a k limit : Float) (F : T (fits binary64 k)) (a0 : T (le zeroF a)) (a1
   sum-high = le-trans (oneF ⊕ a) (oneF ⊕ oneF) twoF (add-mono-right binary64 a oneF oneF cosine-finite tt tt (lt→le a oneF a1)) tt
 
   quotient-low : T (le ((oneF ⊖ a) ⊘ twoF) ((oneF ⊖ a) ⊘ (oneF ⊕ a)))
-  quotient-low = div-turns binary64 (oneF ⊖ a) (oneF ⊕ a) twoF (part-finite (oneF ⊖ a) difference) (between oneF (oneF ⊕ a) twoF tt tt sum-low sum-high) tt
-      (difference .0) sum-low sum-high
+  quotient-low = div-turns binary64 (oneF ⊖ a) (oneF ⊕ a) twoF (part-finite (oneF ⊖ a) difference)
+      (between oneF (oneF ⊕ a) twoF tt tt sum-low sum-high) tt (difference .0) sum-low sum-high
 
   tangent-over : T (lt (k ⊗ k) ((one ⊖ a) ⊘ two)) → T (le k (rootOf (tangentSquare a)))
   unfolding ofBits
-  tangent-over h = root-over-square k (tangentSquare a) F (div-fits binary64 (one ⊖ a) (one ⊕ a)) k0 (lt-le-trans (k ⊗ k) ((one ⊖ a) ⊘ two) (tangentSquare a) h quotient-low)
+  tangent-over h =
+      root-over-square k (tangentSquare a) F (div-fits binary64 (one ⊖ a) (one ⊕ a)) k0
+      (lt-le-trans (k ⊗ k) ((one ⊖ a) ⊘ two) (tangentSquare a) h quotient-low)
 
   not-one : eq a one ≡ false
   unfolding ofBits
@@ -426,18 +442,21 @@ module _ (a k limit : Float) (F : T (fits binary64 k)) (a0 : T (le zeroF a)) (a1
   unfolding le neg ofBits
   not-minus-one = refuted (eq a (neg one)) (λ (t : T (eq a (neg one))). le-trans zeroF a (neg one) a0 (equal-le a (neg one) t))
 
-  pub twice-surely : T (lt limit (two ⊗ largestLimit)) → T (lt limit (two ⊗ leastTurn k)) → T (lt (k ⊗ k) ((one ⊖ a) ⊘ two)) → lt limit (two ⊗ acosOf a) ≡ true
+  pub twice-surely : T (lt limit (two ⊗ largestLimit)) → T (lt limit (two ⊗ leastTurn k)) → T (lt (k ⊗ k) ((one ⊖ a) ⊘ two))
+      → lt limit (two ⊗ acosOf a) ≡ true
   unfolding acosOf
   twice-surely s l h =
       let y = rootOf (tangentSquare a) in
       let t = tangent-over h in
       let b = lt→le zeroF k k0 in
-      rw (not-one, not-minus-one) (is-true (lt limit (two ⊗ acosBy y)) (twice-over k (acosBy y) limit (turn-finite y k b t) s l (turn-reaches y k b t)))
+      rw (not-one, not-minus-one)
+      (is-true (lt limit (two ⊗ acosBy y)) (twice-over k (acosBy y) limit (turn-finite y k b t) s l (turn-reaches y k b t)))
 
 -- ---- a cosine of 1 has no square of a tangent above zero
 module _ (a : Float) (t : T (eq a oneF)) where
   one-at-most : T (le oneF a)
-  one-at-most = nlt→le a oneF (number-left a oneF (equal-le a oneF t)) tt (is-not (lt a oneF) (λ (l : T (lt a oneF)). subst T (lt→neq a oneF l) t))
+  one-at-most = nlt→le a oneF (number-left a oneF (equal-le a oneF t)) tt
+      (is-not (lt a oneF) (λ (l : T (lt a oneF)). subst T (lt→neq a oneF l) t))
     where
       is-not : (b : Bool) → (T b → ⊥) → T (not b)
       is-not true h = h tt
@@ -457,7 +476,8 @@ module _ (a : Float) (t : T (eq a oneF)) where
       (div-turns binary64 zeroF oneF (oneF ⊕ a) tt tt S tt tt s)
 
 -- ---- an angle above a limit below 0.368, of a cosine with a square of a tangent above zero: π is above it too
-turn-over : (a limit : Float) → T (lt limit largestLimit) → T (lt zeroF (tangentSquare a)) → T (lt limit (acosBy (rootOf (tangentSquare a)))) → le (acosOf a) limit ≡ false
+turn-over : (a limit : Float) → T (lt limit largestLimit) → T (lt zeroF (tangentSquare a)) → T (lt limit (acosBy (rootOf (tangentSquare a))))
+    → le (acosOf a) limit ≡ false
 unfolding acosOf le lt ofBits
 turn-over a limit s q h = refuted (le (acosOf a) limit) (lt→nle limit (acosOf a) (go (eq a one) (eq a (neg one)) refl))
   where
@@ -475,20 +495,28 @@ pub exceeds : (limit : Float) → Exceeds (overCut limit) limit
 unfolding overCut
 exceeds limit = record { above = λ (a : Float) (h : isOver a (overCut limit) ≡ true). fine a (lt limit fineLimit) refl (holds h) }
   where
-    least : (a : Float) (c : Bool) → lt limit largestLimit ≡ c → T (lt (cutIf c (squareIf (lt limit (leastTurn (limit ⊗ overHalf))) (limit ⊗ overHalf))) (tangentSquare a)) → le (acosOf a) limit ≡ false
+    least : (a : Float) (c : Bool) → lt limit largestLimit ≡ c
+        → T (lt (cutIf c (squareIf (lt limit (leastTurn (limit ⊗ overHalf))) (limit ⊗ overHalf))) (tangentSquare a))
+        → le (acosOf a) limit ≡ false
     least a true s h =
         let k = limit ⊗ overHalf in
         let y = rootOf (tangentSquare a) in
-        let t = above-square k (tangentSquare a) (mul-fits binary64 limit overHalf) (div-fits binary64 (one ⊖ a) (one ⊕ a)) (lt limit (leastTurn k)) h in
-        turn-over a limit (holds s) (t .2) (over-limit k (acosBy y) limit (holds s) (holds (t .0)) (turn-reaches y k (lt→le zeroF k (t .1)) (t .3)))
+        let F = div-fits binary64 (one ⊖ a) (one ⊕ a) in
+        let t = above-square k (tangentSquare a) (mul-fits binary64 limit overHalf) F (lt limit (leastTurn k)) h in
+        let x = turn-reaches y k (lt→le zeroF k (t .1)) (t .3) in
+        turn-over a limit (holds s) (t .2) (over-limit k (acosBy y) limit (holds s) (holds (t .0)) x)
     least a false s h = absurd (number-left nan (tangentSquare a) (lt→le nan (tangentSquare a) h))
 
     fine : (a : Float) (c : Bool) → lt limit fineLimit ≡ c
-        → T (lt (cond c (squareIf (lt limit (fineTurn (limit ⊗ fineHalf))) (limit ⊗ fineHalf)) (cutIf (lt limit largestLimit) (squareIf (lt limit (leastTurn (limit ⊗ overHalf))) (limit ⊗ overHalf)))) (tangentSquare a))
+        → T (lt
+        (cond c (squareIf (lt limit (fineTurn (limit ⊗ fineHalf))) (limit ⊗ fineHalf))
+        (cutIf (lt limit largestLimit) (squareIf (lt limit (leastTurn (limit ⊗ overHalf))) (limit ⊗ overHalf)))) (tangentSquare a))
         → le (acosOf a) limit ≡ false
     fine a true s h =
         let k = limit ⊗ fineHalf in
         let y = rootOf (tangentSquare a) in
-        let t = above-square k (tangentSquare a) (mul-fits binary64 limit fineHalf) (div-fits binary64 (one ⊖ a) (one ⊕ a)) (lt limit (fineTurn k)) h in
-        turn-over a limit (below-largest limit (holds s)) (t .2) (fine-over y k (lt→le zeroF k (t .1)) (t .3) limit (holds s) (holds (t .0)))
+        let F = div-fits binary64 (one ⊖ a) (one ⊕ a) in
+        let t = above-square k (tangentSquare a) (mul-fits binary64 limit fineHalf) F (lt limit (fineTurn k)) h in
+        let x = fine-over y k (lt→le zeroF k (t .1)) (t .3) limit (holds s) (holds (t .0)) in
+        turn-over a limit (below-largest limit (holds s)) (t .2) x
     fine a false s h = least a (lt limit largestLimit) refl h

@@ -292,13 +292,15 @@ module _ (a : Float) (A : T (lt zeroF a)) (p : Part (rootOf (tangentSquare a))) 
 
   acos-high : T (le (acosOf a) (eighths (rootOf (tangentSquare a))))
   unfolding acosOf tangent ofBits lt neg
-  acos-high = chosen (eq a one) plusZero (cond (eq a (neg one)) pi (acosBy tangent)) (eighths tangent) (λ (h : T (eq a one)). eighths-low tangent p)
+  acos-high = chosen (eq a one) plusZero (cond (eq a (neg one)) pi (acosBy tangent)) (eighths tangent)
+      (λ (h : T (eq a one)). eighths-low tangent p)
       (chosen (eq a (neg one)) pi (acosBy tangent) (eighths tangent)
       (λ (h : T (eq a (neg one))). absurd (lt-le-trans zeroF a (neg one) A (equal-le a (neg one) h))) by-high)
 
 -- ---- below the cut of a limit the tangent is at most half the limit, and so the angle within it
 module _ (a limit : Float) (A : T (lt zeroF a)) (low : T (le zeroF (tangentSquare a))) where
-  below-cut : (b : Bool) → le (limit ⊗ half) one ≡ b → T (lt (tangentSquare a) (cutIf b (squareIf (le (twiceTangent (limit ⊗ half)) limit) (limit ⊗ half)))) → T (le (acosOf a) limit)
+  below-cut : (b : Bool) → le (limit ⊗ half) one ≡ b
+      → T (lt (tangentSquare a) (cutIf b (squareIf (le (twiceTangent (limit ⊗ half)) limit) (limit ⊗ half)))) → T (le (acosOf a) limit)
   unfolding ofBits
   below-cut true e h =
       let q = tangentSquare a in
@@ -313,6 +315,7 @@ module _ (a limit : Float) (A : T (lt zeroF a)) (low : T (le zeroF (tangentSquar
 pub serves : (limit : Float) → Serves (turnCut limit) limit
 unfolding turnCut ofBits
 serves limit = record {
-  within = λ (a : Float) (h : lt plusZero a ≡ true) (l : le plusZero (tangentSquare a) ≡ true) (k : lt (tangentSquare a) (turnCut limit) ≡ true).
+  within = λ (a : Float) (h : lt plusZero a ≡ true) (l : le plusZero (tangentSquare a) ≡ true)
+      (k : lt (tangentSquare a) (turnCut limit) ≡ true).
       is-true (le (acosOf a) limit) (below-cut a limit (holds h) (holds l) (le (limit ⊗ half) one) refl (holds k));
 }

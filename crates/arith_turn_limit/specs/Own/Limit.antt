@@ -20,7 +20,8 @@ turnCut limit = let k = limit ⊗ half in cutIf (le k one) (squareIf (le (twiceT
 
 -- below the cut every angle of a cosine above zero is within the limit
 pub record Serves (cut limit : Float) : Type 0 where
-  pub within : (a : Float) → lt plusZero a ≡ true → le plusZero (tangentSquare a) ≡ true → lt (tangentSquare a) cut ≡ true → le (acosOf a) limit ≡ true
+  pub within : (a : Float) → lt plusZero a ≡ true → le plusZero (tangentSquare a) ≡ true → lt (tangentSquare a) cut ≡ true
+      → le (acosOf a) limit ≡ true
 
 -- a halving divides a tangent up to 1/4 by at most this, 2.03125
 abbrev pub firstDivisor : Float
