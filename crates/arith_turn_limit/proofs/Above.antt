@@ -1,7 +1,7 @@
 -- In the fixed steps too, an angle whose half has a tangent y up to 1/4 is at least 1.958 y, and at least 0.368 beyond; up to 1/8 it is at
 -- least 1.989 y, and at least 0.2448 beyond. Assumes nothing.
 use mathlib.Core.Path.{_≡_, refl, subst}
-use mathlib.Core.Bool.{Bool, true, false, cond, not}
+use mathlib.Core.Bool.{Bool, true, false, false≢true, cond, not, _&&_}
 use mathlib.Core.Logic.{_⊎_, inl, inr}
 use mathlib.Core.List.{[], _∷_}
 use lib.Dec.{T}
@@ -20,7 +20,7 @@ use Rattle.arith_root.specs.Root.{rootOf}
 use Rattle.arith_root.proofs.Laws.{root-monotone}
 use Rattle.arith_root.proofs.Squares.{root-over-square}
 use Rattle.arith_trig.specs.Trig.{halved, summed, arcOf, angleOf, acosBy, acosOf, pi}
-use Rattle.arith_turn_limit.specs.Own.Limit.{tangentSquare, firstDivisor, secondDivisor, thirdDivisor, fourthDivisor, leastSeries, fineSeries, leastTurn, fineTurn, overHalf, fineHalf, largestLimit, fineLimit, overCut, isOver, Exceeds}
+use Rattle.arith_turn_limit.specs.Own.Limit.{tangentSquare, firstDivisor, secondDivisor, thirdDivisor, fourthDivisor, leastSeries, fineSeries, leastTurn, fineTurn, overHalf, fineHalf, largestLimit, fineLimit, overCut, isOver, overQuarter, isDoubleOver, Exceeds}
 use Rattle.arith_turn_limit.proofs.Bound.{Part, part-finite, one-fits, square-part, scaled-low, scaled-high, part-times, twoF, square-finite, root-finite, divisor-low, divisor-finite, halved-high, halved-part, halved-fits, half-mono, thrice, term, term-fits, series-three, seriesOf, series-part, sixteen-mono, eighths, eighths-mono, angle-high, equal-le}
 use Rattle.arith_root_limit.specs.Own.Limit.{cutIf, squareIf}
 use Rattle.arith_root_limit.proofs.Roots.{above-square}
@@ -442,7 +442,7 @@ module _ (a k limit : Float) (F : T (fits binary64 k)) (a0 : T (le zeroF a)) (a1
   unfolding le neg ofBits
   not-minus-one = refuted (eq a (neg one)) (λ (t : T (eq a (neg one))). le-trans zeroF a (neg one) a0 (equal-le a (neg one) t))
 
-  pub twice-surely : T (lt limit (two ⊗ largestLimit)) → T (lt limit (two ⊗ leastTurn k)) → T (lt (k ⊗ k) ((one ⊖ a) ⊘ two))
+  twice-surely : T (lt limit (two ⊗ largestLimit)) → T (lt limit (two ⊗ leastTurn k)) → T (lt (k ⊗ k) ((one ⊖ a) ⊘ two))
       → lt limit (two ⊗ acosOf a) ≡ true
   unfolding acosOf
   twice-surely s l h =
@@ -451,6 +451,23 @@ module _ (a k limit : Float) (F : T (fits binary64 k)) (a0 : T (le zeroF a)) (a1
       let b = lt→le zeroF k k0 in
       rw (not-one, not-minus-one)
       (is-true (lt limit (two ⊗ acosBy y)) (twice-over k (acosBy y) limit (turn-finite y k b t) s l (turn-reaches y k b t)))
+
+-- ---- by the tests that the code makes
+module _ (a limit : Float) where
+  parts : (x y : Bool) → x && y ≡ true → (T x) × (T y)
+  parts true y e = (tt, holds e)
+  parts false y e = absurd (false≢true e)
+
+  pub double-over : isDoubleOver a limit ≡ true → lt limit (two ⊗ acosOf a) ≡ true
+  unfolding ofBits
+  double-over e =
+      let y = limit ⊗ overQuarter in
+      let p = parts (le plusZero a) _ e in
+      let q = parts (lt a one) _ (is-true _ (p .1)) in
+      let r = parts (lt plusZero y) _ (is-true _ (q .1)) in
+      let s = parts (lt limit (two ⊗ largestLimit)) _ (is-true _ (r .1)) in
+      let t = parts (lt limit (two ⊗ leastTurn y)) _ (is-true _ (s .1)) in
+      twice-surely a y limit (mul-fits binary64 limit overQuarter) (p .0) (q .0) (r .0) (s .0) (t .0) (t .1)
 
 -- ---- a cosine of 1 has no square of a tangent above zero
 module _ (a : Float) (t : T (eq a oneF)) where

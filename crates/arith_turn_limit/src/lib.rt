@@ -1,11 +1,9 @@
 // An angle compared with a limit by its cosine, mostly without the arc cosine: no angle is above twice the tangent of its half, and
 // where it is small it is not far below it either.
 ghost use mathlib.Core.Path.{_≡_};
-ghost use mathlib.Core.Bool.{true};
-ghost use lib.Ieee.{lt, le};
-ghost use Rattle.arith.specs.Notation.{_⊗_, two};
+ghost use lib.Ieee.{le};
 ghost use Rattle.arith_trig.specs.Trig.{acosOf};
-ghost use Rattle.arith_turn_limit.specs.Own.Limit.{turnCut, Serves, leastTurn, fineTurn, overCut, isOver};
+ghost use Rattle.arith_turn_limit.specs.Own.Limit.{turnCut, Serves, leastTurn, fineTurn, overCut, isOver, isDoubleOver};
 
 // The cut for a limit, for many comparisons with one limit: the square of the tangent that half the limit is taken for.
 pub fn turn_cut(limit: f64) -> f64
@@ -100,19 +98,18 @@ pub fn is_turn_over(a: f64, cut: f64) -> bool
 // A little above a quarter: twice the least turn at a tangent y is 3.9174 y, and 1 / 3.9174 is 0.2553.
 const OVER_QUARTER: f64 = 0.2555;
 
-// Whether twice the angle whose cosine is a is surely above the limit, with no root taken. `false` says nothing.
+// Whether twice the angle whose cosine is a is surely above the limit, with no root taken (`double-over`).
 pub fn is_double_turn_over(a: f64, limit: f64) -> bool
-    ensures { λ b. ⌜ (b ≡ true → lt limit (two ⊗ acosOf a) ≡ true) ⌝ }
+    ensures { λ b. ⌜ b ≡ isDoubleOver a limit ⌝ }
 {
-    if 0.0 <= a && a < 1.0 {
-        // So much that twice the least turn at it is above the limit.
-        let tangent = limit * OVER_QUARTER;
-        if 0.0 < tangent && limit < 2.0 * LARGEST_LIMIT {
-            if limit < 2.0 * least_turn(tangent) {
-                // The tangent of half the angle has a square that is not below this half.
-                return tangent * tangent < (1.0 - a) / 2.0;
-            }
-        }
-    }
-    false
+    // So much that twice the least turn at it is above the limit.
+    let tangent = limit * OVER_QUARTER;
+    let least = least_turn(tangent);
+    0.0 <= a
+        && (a < 1.0
+            && (0.0 < tangent
+                && (limit < 2.0 * LARGEST_LIMIT
+                    && (limit < 2.0 * least
+                        // The tangent of half the angle has a square that is not below this half.
+                        && tangent * tangent < (1.0 - a) / 2.0))))
 }

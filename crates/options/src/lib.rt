@@ -59,11 +59,13 @@ pub struct Options {
     // than an eighth of what it is for the whole.
     pub deflection: f64,
     // Where a curve is bisected, how far the tangents at a span's two ends may turn from each other. On a circle or an ellipse
-    // the largest step of its parameter, 1e-3 at least; no tangent is looked at there.
+    // the largest step of its parameter, 1e-3 at least, and no tangent is looked at, unless these even steps miss the sag: then it is
+    // bisected too.
     pub angle: Angle,
     // 0 or 1.
     pub relative: u32,
-    // The least number of segments before points are merged; a chord has one. 0 counts as 1.
+    // The least number of segments before points are merged; a chord has one. 0 counts as 1. Where halving gives fewer, so many even
+    // steps of the parameter are drawn instead, and these are not tested.
     pub segments: u64,
     // How often a span may be halved, held to 1..24.
     pub depth: u32,

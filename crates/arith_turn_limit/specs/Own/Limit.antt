@@ -1,6 +1,6 @@
 -- A limit for angles, with a cut on either side beyond which no arc cosine is taken. Definitions only.
 use mathlib.Core.Path.{_≡_}
-use mathlib.Core.Bool.{Bool, true, false, cond}
+use mathlib.Core.Bool.{Bool, true, false, cond, _&&_}
 use lib.Ieee.{Float, le, lt}
 use Rattle.arith.specs.Notation.{_⊕_, _⊖_, _⊗_, _⊘_, bits, count, plusZero, half, one, two}
 use Rattle.arith_trig.specs.Trig.{acosOf}
@@ -81,6 +81,18 @@ overCut limit =
 -- the cosine of an angle, with the square of the tangent of its half above the cut
 abbrev pub isOver : Float → Float → Bool
 isOver a cut = lt cut (tangentSquare a)
+
+-- a little above a quarter, 0.2555: twice the least turn at a tangent y is 3.9174 y, and 1 / 3.9174 is 0.2553
+abbrev pub overQuarter : Float
+overQuarter = bits 0x3FD05A1CAC083127
+
+-- the cosine of an angle, with half of one less it, which the square of the tangent of half the angle is not below, above the square of a
+-- tangent at which twice the least turn is above the limit
+abbrev pub isDoubleOver : Float → Float → Bool
+isDoubleOver a limit =
+    let y = limit ⊗ overQuarter in
+    le plusZero a
+    && (lt a one && (lt plusZero y && (lt limit (two ⊗ largestLimit) && (lt limit (two ⊗ leastTurn y) && lt (y ⊗ y) ((one ⊖ a) ⊘ two)))))
 
 -- above the cut every angle is above the limit
 pub record Exceeds (cut limit : Float) : Type 0 where
