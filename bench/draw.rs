@@ -4,7 +4,7 @@
 // were checked once before and which checks edge and options. For each case all draw the same edge from the same tables into
 // buffers that just hold the chain. Before anything is timed the library's and the oracle's answers and both buffers are
 // compared bit for bit. The functions take turns, and each figure is the least of many rounds, so that a busy machine does
-// not show.
+// not show. Of the composites of arcs it also says how much shorter than their arcs their chains are.
 use std::hint::black_box;
 use std::time::Instant;
 
@@ -278,12 +278,33 @@ fn polyline(name: &'static str, n: usize) -> Case {
     d.case(name, e, options(4e-4, 480.0))
 }
 
-/// n arcs of half a turn, one after another; rough, so that a midpoint of many arcs does not lie where they begin.
+/// n arcs of half a turn, one after another. In a straight row the middle of many of them lies on their chord, and halving ends there;
+/// rough, it does not.
 fn composite(name: &'static str, n: usize, rough: f64) -> Case {
     let mut d = Draft::new();
     for i in 0..n {
         let row = d.frame(CIRCLE, [20.0 * i as f64, rough * (i * i % 7) as f64, 0.0], 10.0, 0.0);
         d.tables.push_segment(Segment { curve: row, lo: 0.0, hi: std::f64::consts::PI, sense: 0 });
+    }
+    let row = d.tables.push_row(Row { kind: COMPOSITE, first: 0, count: n as u32, p: 0.0, q: 0.0 });
+    let e = d.edge(row, 0.0, n as f64, 1e5);
+    d.case(name, e, Options { relative: 0, ..options(0.01, 480.0) })
+}
+
+/// A flat spiral of n quarter turns, a turn 1 from the next, as of a spring or a coil. It bends one way and passes smoothly from arc
+/// to arc, so that halving finds no middle on its chord, and draws it within the sag.
+fn spiral(name: &'static str, n: usize) -> Case {
+    const GROWTH: f64 = 0.25;
+    let quarter = std::f64::consts::FRAC_PI_2;
+    let mut d = Draft::new();
+    let mut centre = [0.0; 3];
+    for i in 0..n {
+        let row = d.frame(CIRCLE, centre, 10.0 + GROWTH * i as f64, 0.0);
+        let lo = quarter * (i % 4) as f64;
+        d.tables.push_segment(Segment { curve: row, lo, hi: lo + quarter, sense: 1 });
+        // back from the joint by what the radius grows
+        centre[0] -= GROWTH * (lo + quarter).cos();
+        centre[1] -= GROWTH * (lo + quarter).sin();
     }
     let row = d.tables.push_row(Row { kind: COMPOSITE, first: 0, count: n as u32, p: 0.0, q: 0.0 });
     let e = d.edge(row, 0.0, n as f64, 1e5);
@@ -612,6 +633,60 @@ fn others() {
     println!("- the line in two buffers of 65,536 floats less the line in two of 8: {} ns, two plain fills {} ns.", whole(r[2] - r[3]), whole(r[4]));
 }
 
+/// The points and parameters of a case's chain, x y z t.
+fn chain_of(c: &Case) -> Vec<[f64; 4]> {
+    let (mut first, mut second) = (vec![0.0; 65536], vec![0.0; 65536]);
+    let Answer::Chain(1, count) = draw(c, &mut first, &mut second) else { panic!("{}: not as drawn", c.name) };
+    first.as_chunks().0[..count].to_vec()
+}
+
+fn between(a: &[f64], b: &[f64]) -> [f64; 3] {
+    [b[0] - a[0], b[1] - a[1], b[2] - a[2]]
+}
+
+fn dot(a: [f64; 3], b: [f64; 3]) -> f64 {
+    a[0] * b[0] + a[1] * b[1] + a[2] * b[2]
+}
+
+fn length(v: [f64; 3]) -> f64 {
+    dot(v, v).sqrt()
+}
+
+/// How far a point lies from the chord of a and b.
+fn off(p: [f64; 3], a: &[f64], b: &[f64]) -> f64 {
+    let (chord, away) = (between(a, b), between(a, &p));
+    let t = (dot(away, chord) / dot(chord, chord)).clamp(0.0, 1.0);
+    length(std::array::from_fn(|i| away[i] - t * chord[i]))
+}
+
+/// How far the points of a composite's n segments, 256 of each, lie at most from the chord over their parameter.
+fn farthest(c: &Case, chain: &[[f64; 4]], n: usize) -> f64 {
+    let at = fixed::point_at(&c.tables, c.edge.curve);
+    let places = (0..=256 * n).map(|i| i as f64 / 256.0);
+    let offs = places.map(|t| {
+        let chord = chain[1..chain.len() - 1].partition_point(|record| record[3] < t);
+        off(at(t), &chain[chord], &chain[chord + 1])
+    });
+    offs.fold(0.0, f64::max)
+}
+
+/// What the chains of the composites of arcs are worth beside their arcs. A case is called all drawn where its arcs lie within the sag.
+fn fits(cases: &[Case]) {
+    for c in cases.iter().filter(|c| c.tables.lent().segment_count() > 0) {
+        let t = c.tables.lent();
+        let arcs: f64 = t.segments().map(|s| t.row(s.curve as usize).p * (s.hi - s.lo)).sum();
+        let chain = chain_of(c);
+        let drawn: f64 = chain.windows(2).map(|w| length(between(&w[0], &w[1]))).sum();
+        let (far, sag) = (farthest(c, &chain, t.segment_count()), c.options.deflection);
+        assert_eq!(c.name.ends_with("all drawn"), far <= sag, "{}: {far} from the chain", c.name);
+        println!(
+            "- {}: {arcs:.1} long, the chain {:.3} % shorter; the arcs lie within {far:.4} of it, the sag is {sag}.",
+            c.name,
+            100.0 * (1.0 - drawn / arcs)
+        );
+    }
+}
+
 fn draw(c: &Case, first: &mut [f64], second: &mut [f64]) -> Answer {
     ours(black_box(&c.tables), &c.edge, &c.options, first, second)
 }
@@ -701,7 +776,8 @@ fn cases() -> Vec<Case> {
         ellipse(),
         parabola(),
         polyline("polyline of 1,000 points", 1000),
-        composite("composite of 100 arcs", 100, 0.0),
+        composite("composite of 100 arcs, half missed", 100, 0.0),
+        spiral("composite of 100 arcs, all drawn", 100),
         complement(),
         short_arc(),
         runaway(),
@@ -725,8 +801,10 @@ fn main() {
     }
     println!("| case | points | way | draw | draw_over | oracle | its road | native | its road | oracle / draw | its road / over | native / draw | its road / over |");
     println!("|---|---|---|---|---|---|---|---|---|---|---|---|---|");
-    let cases: Vec<Figures> = cases().iter().map(time).collect();
+    let cases = cases();
+    let figures: Vec<Figures> = cases.iter().map(time).collect();
     let part = time_part();
     others();
-    entries(&cases, part);
+    fits(&cases);
+    entries(&figures, part);
 }

@@ -1,11 +1,16 @@
-"""The scope's fixed steps written a second time, and compared with `oracle arith`.
+"""The scope's fixed steps written a second time, and compared with `oracle arith`: the lines that it read, and its answers.
 
-Usage: arith_check.py LINES ANSWERS
+usage: python3 oracle/arith_check.py LINES ANSWERS
 """
 
 import math
+import pathlib
 import struct
 import sys
+
+sys.dont_write_bytecode = True
+sys.path.insert(1, str(pathlib.Path(__file__).resolve().parent.parent / "tools"))
+import command
 
 
 def from_bits(bits):
@@ -129,8 +134,14 @@ def answer(line):
 
 
 def main():
-    with open(sys.argv[1], newline="\n") as lines, open(sys.argv[2], newline="\n") as answers:
-        pairs = [(a.rstrip("\n"), b.rstrip("\n")) for a, b in zip(lines, answers, strict=True)]
+    words = command.words(__doc__)
+    if len(words) != 2:
+        command.wrong_words(__doc__)
+    lines, answers = (pathlib.Path(word).read_bytes().decode("latin-1").removesuffix("\n").split("\n") for word in words)
+    if len(lines) != len(answers):
+        print(f"{len(lines)} lines of arithmetic, and {len(answers)} answers")
+        return 1
+    pairs = list(zip(lines, answers))
     wrong = [(line, got) for line, got in pairs if answer(line) != got]
     for line, got in wrong[:10]:
         print(f"{line}: {got}, not {answer(line)}")
@@ -138,4 +149,4 @@ def main():
     return 1 if wrong else 0
 
 
-sys.exit(main())
+command.end(main)

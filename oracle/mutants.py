@@ -2,11 +2,13 @@
 """How well sheets tell a wrong road from the right one.
 
 Each mutant is the patched road, or the oracle's own code about it, with one operand or comparison changed. It is built like
-the oracle, and its answers to the same sheets are compared with the oracle's.
+the oracle, and its answers to the same sheets are compared with the oracle's. With numbers only those mutants are tried.
 
-    mutants.py SEED N [NUMBER..]    N generated sheets, each asked for its chain and for both buffers; names some that tell
-    mutants.py stored [NUMBER..]    the batch that crates/replay_chain is replayed with; the exit status is 1 where one of MUTANTS
-                                    goes unnoticed, or one of UNTOLD does not
+usage: oracle/mutants.py SEED N [NUMBER..] | stored [NUMBER..]
+
+    oracle/mutants.py SEED N    N generated sheets, each asked for its chain and for both buffers; names some that tell
+    oracle/mutants.py stored    the batch that crates/replay_chain is replayed with; the exit status is 1 where one of MUTANTS
+                                goes unnoticed, or one of UNTOLD does not
 """
 
 import pathlib
@@ -15,7 +17,11 @@ import subprocess
 import sys
 import tempfile
 
+sys.dont_write_bytecode = True
 HERE = pathlib.Path(__file__).resolve().parent
+sys.path.insert(1, str(HERE.parent / "tools"))
+import command
+
 TARGET = HERE / "target"
 STORED = HERE.parent / "crates/replay_chain"
 SEPARATOR = b"====\n"
@@ -177,11 +183,11 @@ UNTOLD = [
 
 
 def compiled(level, work, crate, kind, source, *extern):
-    command = ["rustc", "--edition", "2024", "-A", "warnings", "--out-dir", work, "-L", work]
-    command += ["-C", f"opt-level={level}", "-C", "debug-assertions=off"]
+    words = ["rustc", "--edition", "2024", "-A", "warnings", "--out-dir", work, "-L", work]
+    words += ["-C", f"opt-level={level}", "-C", "debug-assertions=off"]
     for name in extern:
-        command += ["--extern", name]
-    subprocess.run([*command, "--crate-type", kind, "--crate-name", crate, source], check=True)
+        words += ["--extern", name]
+    subprocess.run([*words, "--crate-type", kind, "--crate-name", crate, source], check=True)
 
 
 def answers(program, text):
@@ -218,7 +224,7 @@ def batch(words):
     if words[0] == "stored":
         text, right = (STORED / "stdin").read_bytes(), (STORED / "stdout").read_bytes().split(SEPARATOR)
         if answers(TARGET / "oracle", text) != right:
-            sys.exit("the stored answers are not the oracle's: run oracle/build and oracle/replay-chain")
+            raise command.Stop("the stored answers are not the oracle's: run oracle/build and oracle/replay-chain first")
         return text, right, [f"part {i}" for i in range(len(right))]
     seed, count = words[:2]
     sheets = subprocess.run([TARGET / "oracle", "gen", seed, count], capture_output=True, check=True).stdout
@@ -237,13 +243,14 @@ def shortest(text, right, told):
 
 
 def main():
-    words = sys.argv[1:]
+    words, every = command.words(__doc__), MUTANTS + UNTOLD
     stored = words[:1] == ["stored"]
     which = words[1:] if stored else words[2:]
-    if not words or not all(word.isdecimal() for word in words[1:]) or not (stored or (words[0].isdecimal() and words[1:])):
-        sys.exit(__doc__)
+    if not all(word.isdecimal() for word in words[stored:]) or len(words) < 2 - stored or any(int(n) >= len(every) for n in which):
+        command.wrong_words(__doc__)
+    command.must_be_there((TARGET / "oracle", "oracle/build"), (TARGET / "oracle.d/road", "oracle/build"))
+    command.must_be_installed("rustc")
     text, right, names = batch(words)
-    every = MUTANTS + UNTOLD
     numbers = [int(word) for word in which] or range(len(every))
     unnoticed = []
     for number in numbers:
@@ -256,7 +263,8 @@ def main():
         some = ", ".join(names[i] for i in shortest(text, right, told))
         print(f"{number:3} told by {len(told)} of {len(right)}: {file}: {old!r} -> {new!r}: {some}", flush=True)
     print(f"{len(numbers)} mutants, {len(unnoticed)} unnoticed: {unnoticed}")
-    sys.exit(stored and unnoticed != [number for number in numbers if number >= len(MUTANTS)])
+    return stored and unnoticed != [number for number in numbers if number >= len(MUTANTS)]
 
 
-main()
+if __name__ == "__main__":
+    command.end(main)

@@ -1,4 +1,5 @@
-"""What the scripts share that make stdin and stdout of the programs crates/replay and crates/replay_chain."""
+"""What the scripts share that make stdin and stdout of the programs crates/replay and crates/replay_chain. With it they can import what
+tools/ has."""
 import math
 import pathlib
 import struct
@@ -6,6 +7,7 @@ import subprocess
 import sys
 
 HERE = pathlib.Path(__file__).resolve().parent
+sys.path.insert(1, str(HERE.parent / "tools"))
 SEPARATOR = "====\n"
 INF, NAN = math.inf, math.nan
 # The least float above zero, the least normal one, and the largest.
@@ -50,13 +52,6 @@ def beside(x):
     return [math.nextafter(x, -INF), x, math.nextafter(x, INF)]
 
 
-def must_be_built(*programs):
-    """Ends the run where one of the programs is not there, and says by which command it is built."""
-    for path, command in programs:
-        if not path.exists():
-            sys.exit(f"there is no {path.relative_to(HERE.parent)}: run {command}")
-
-
 def ask(command, text):
     """What the oracle answers. Texts stand for bytes, one character each: a damaged sheet may hold any."""
     run = subprocess.run([HERE / "target/oracle", *command], input=text.encode("latin-1"), capture_output=True, check=True)
@@ -64,10 +59,13 @@ def ask(command, text):
 
 
 def store(crate, parts, answers, checked):
-    """Writes stdin and stdout of a crate; where they are checked, ends the run with status 1 if they are not what is stored."""
+    """Writes stdin and stdout of a crate, or says, where they are checked, whether they are other than what is stored."""
+    differing = 0
     for name, text in (("stdin", parts), ("stdout", answers)):
         path = HERE.parent / "crates" / crate / name
         if not checked:
             path.write_bytes(text)
         elif path.read_bytes() != text:
-            sys.exit(f"{path.relative_to(HERE.parent)} is not what would be stored")
+            differing += 1
+            print(f"{path.relative_to(HERE.parent)} is not what would be stored")
+    return differing > 0

@@ -116,8 +116,8 @@ def missed(drawing, chain, range_, worst, t):
     if spent or kind != "polyline" and middle > 1.5 * sag and len(chain.points) - 1 != drawing.segments:
         return options, "depth", f"{told}: the depth of {drawing.depth} ended first; {more_depth(drawing, max(middle, worst))}"
     if kind in ("polyline", "composite"):
-        pieces = drawing.base["count"] - (kind == "polyline")
-        return options, "segments", f"{told}: halving met no corner there; more segments, a multiple of {pieces}, would"
+        pieces = f"{drawing.base['count'] - 1} legs" if kind == "polyline" else f"{drawing.base['count']} segments"
+        return drawing.edge, "lo", f"{told}: halving met no corner there; an edge for each of its {pieces} would"
     return options, "deflection", told
 
 

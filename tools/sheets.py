@@ -424,6 +424,8 @@ def load(path):
 
 def put(text):
     """Writes to standard output, and sees to it that all is written."""
+    if sys.stdout is None:
+        raise Unusable("standard output is closed")
     try:
         sys.stdout.buffer.write(text.encode("utf-8", "replace"))
         sys.stdout.buffer.flush()

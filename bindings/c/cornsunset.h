@@ -1,7 +1,8 @@
 /* Cornsunset in C: an edge of a part becomes a chain of points. Link with -lcornsunset: target/staticlib/libcornsunset.a, made
  * by rt staticlib cornsunset, or what bindings/install put into place (pkg-config cornsunset).
  *
- * Every function is proved to answer as its definition says for any numbers and any contents of any lengths. What is left to
+ * Every function of the library is proved to answer as its definition says for any numbers and any contents of any lengths;
+ * the inline ones only hand structs on, and are tested. What is left to
  * the caller is what C leaves to every caller: a pointer has so many elements as the length beside it says, NULL is handed
  * only with a length of 0, and what is written (buffers, out values) overlaps nothing else that is handed over. No function
  * keeps a pointer, allocates, prints or fails in another way than it says. All may be called from any thread.
@@ -58,10 +59,13 @@ enum {
     CS_KIND_CIRCLE = 2,   /* points origin, axis, ref_dir; p radius; radians from ref_dir, about the axis by the right hand */
     CS_KIND_ELLIPSE = 3,  /* points origin, axis, ref_dir; p semi-axis along ref_dir, q the other; radians */
     CS_KIND_PARABOLA = 4, /* points origin, axis, ref_dir; p focal distance; a plain t: p t t along ref_dir, 2 p t beside it */
-    CS_KIND_POLYLINE = 5, /* any run of points; the point's index, from 0 */
+    CS_KIND_POLYLINE = 5, /* any run of points; the point's index, from 0. Draw an edge a leg: see below */
     CS_KIND_TRIMMED = 6,  /* first is the base's row, count is 1; p and q the range; the base's parameter */
-    CS_KIND_COMPOSITE = 7 /* any run of segments; the segment's index, from 0 */
+    CS_KIND_COMPOSITE = 7 /* any run of segments; the segment's index, from 0. Draw an edge a segment */
 };
+
+/* Drawn as one edge a polyline of many legs, or a composite, can miss its curve, with no sign (docs/DIFFERENCES.md): draw a
+ * polyline as an edge a leg, and a composite as an edge a segment. */
 
 /* The tables' sizes. */
 #define CS_MOST_TABLE_POINTS 65536
@@ -105,13 +109,15 @@ typedef struct {
                         * quarter of the scale up to all of it, of its own extent for a larger edge, and for a smaller one four
                         * times this fraction of its extent, but never less than an eighth of what it is for the whole */
     cs_angle angle;    /* where a curve is bisected, how far the tangents at a span's two ends may turn from each other; on a circle
-                        * or an ellipse the largest step of its parameter, 1e-3 at least, and no tangent is looked at. Clamped to
-                        * 1e-4 .. pi radians. Both are what a span is tested by, and no bounds on the chain: what a curve does
-                        * between those places is not seen, and a span with no depth left is not tested again */
+                        * or an ellipse the largest step of its parameter, 1e-3 at least, and no tangent is looked at, unless
+                        * these even steps miss the sag: then it is bisected too. Clamped to 1e-4 .. pi radians. Both are what a
+                        * span is tested by, and no bounds on the chain: what a curve does between those places is not seen,
+                        * and a span with no depth left is not tested again */
     uint32_t relative; /* 0 or 1 */
-    uint64_t segments; /* least number of segments that an edge is sampled with, before points are merged; 0 counts as 1. No
-                        * upper end but the room: n segments need n + 1 points, or the edge is refused with CS_NO_ROOM. A chord
-                        * (CS_CHORD, CS_RUNAWAY) has one */
+    uint64_t segments; /* least number of segments that an edge is sampled with, before points are merged; 0 counts as 1. Where
+                        * halving gives fewer, so many even steps of the parameter are drawn instead, and these are not tested.
+                        * No upper end but the room: n segments need n + 1 points, or the edge is refused with CS_NO_ROOM. A
+                        * chord (CS_CHORD, CS_RUNAWAY) has one */
     uint32_t depth;    /* how often a span may be halved where a curve is bisected; clamped to 1 .. 24 */
     double scale;      /* size of the part, a length, as its box's diagonal; not finite or not above 0: none, and deflection is
                         * a length */
@@ -130,16 +136,19 @@ enum { CS_X = 0, CS_Y = 1, CS_Z = 2, CS_T = 3 };
 
 enum {
     CS_DRAWN = 0,        /* no refusal */
-    CS_OVERSIZE = 1,     /* a table is above its size */
-    CS_UNBOUNDED = 2,    /* a float is not finite, or above 1e9 in magnitude (lo, hi and scale may be NaN or infinite) */
-    CS_ILL_FORMED = 3,   /* points not in threes, an unknown kind, a wrong count, an unused p or q that is not zero, a sense or
-                          * relative that is neither 0 nor 1, or a run, base or segment's curve outside its table */
+    CS_OVERSIZE = 1,     /* a table is above its size: 65,536 points, 4,096 curve rows, 4,096 segments */
+    CS_UNBOUNDED = 2,    /* a float is not finite, or above 1e9 in magnitude (the edge's lo and hi and the options' scale may be
+                          * NaN or infinite) */
+    CS_ILL_FORMED = 3,   /* points are not in threes, a row is not whole, a kind is unknown, a count is wrong, an unused p or q is
+                          * not zero, a sense or relative is neither 0 nor 1, or a run, a trim's base or a segment's curve is
+                          * outside its table */
     CS_UNORDERED = 4,    /* a trim's base, or the curve of a composite's segment, is not in a lower row than its own */
     CS_TOO_DEEP = 5,     /* trims and composites are nested deeper than 8 */
     CS_MISSING = 6,      /* the edge's curve, start, end, low or high is outside its table */
-    CS_SHORT_BUFFER = 7, /* a chain buffer is shorter than two points, 2 * CS_WIDTH doubles */
-    CS_NO_ROOM = 8,      /* a list of parameters is longer than the buffers have room for, or than CS_MOST_POINTS */
-    CS_ENDLESS = 9       /* a span would be split without end, since no distance in it is above zero */
+    CS_SHORT_BUFFER = 7, /* a chain buffer is shorter than two points */
+    CS_NO_ROOM = 8,      /* a list of parameters is longer than the chain buffers have room for, or than 16,384 */
+    CS_ENDLESS = 9       /* thinning would split a span without end, since no point of it is at a distance above zero from its
+                          * chord */
 };
 
 enum {
@@ -151,21 +160,23 @@ enum {
     CS_RUNAWAY = 5     /* the chord of the vertices, since nothing on the curve stays near the box; in the second buffer */
 };
 
-/* A sentence for the number of a refusal. */
+/* A sentence for the number of a refusal, that of the comments above. */
 static inline const char *cs_sentence(uint32_t refusal) {
     switch (refusal) {
     case CS_DRAWN: return "Nothing was refused.";
     case CS_OVERSIZE: return "A table is above its size: 65,536 points, 4,096 curve rows, 4,096 segments.";
-    case CS_UNBOUNDED: return "A float is not finite, or above 1e9 in magnitude.";
+    case CS_UNBOUNDED:
+        return "A float is not finite, or above 1e9 in magnitude (the edge's lo and hi and the options' scale may be NaN or infinite).";
     case CS_ILL_FORMED:
-        return "Points are not in threes, a kind is unknown, a count is wrong, an unused p or q is not zero, a sense or relative is "
-               "neither 0 nor 1, or a run, base or segment's curve is outside its table.";
+        return "Points are not in threes, a row is not whole, a kind is unknown, a count is wrong, an unused p or q is not zero, a "
+               "sense or relative is neither 0 nor 1, or a run, a trim's base or a segment's curve is outside its table.";
     case CS_UNORDERED: return "A trim's base, or the curve of a composite's segment, is not in a lower row than its own.";
     case CS_TOO_DEEP: return "Trims and composites are nested deeper than 8.";
-    case CS_MISSING: return "The edge's curve, or one of its points, is outside its table.";
+    case CS_MISSING: return "The edge's curve, start, end, low or high is outside its table.";
     case CS_SHORT_BUFFER: return "A chain buffer is shorter than two points.";
-    case CS_NO_ROOM: return "A list of parameters is longer than the chain buffers have room for.";
-    case CS_ENDLESS: return "A span would be split without end, since no distance in it is above zero.";
+    case CS_NO_ROOM: return "A list of parameters is longer than the chain buffers have room for, or than 16,384.";
+    case CS_ENDLESS:
+        return "Thinning would split a span without end, since no point of it is at a distance above zero from its chord.";
     default: return "There is no such refusal.";
     }
 }

@@ -25,6 +25,11 @@ class Refusal(Exception):
     # All of them, in the order of their numbers.
     ALL = ()
 
+    def __init_subclass__(cls, **more):
+        # Each is documented by its message, as a sentence.
+        super().__init_subclass__(**more)
+        cls.__doc__ = cls.__doc__ or f"{cls.message[0].upper()}{cls.message[1:]}."
+
     def __str__(self):
         return self.message
 
@@ -35,70 +40,53 @@ class Refusal(Exception):
 
 
 class Oversize(Refusal):
-    """A table is above its size."""
-
     number = 1
     message = "a table is above its size: 65,536 points, 4,096 curve rows, 4,096 segments"
 
 
 class Unbounded(Refusal):
-    """A float is not finite, or above 1e9 in magnitude; an edge's lo and hi and the options' scale may be."""
-
     number = 2
-    message = "a float is not finite, or above 1e9 in magnitude"
+    message = (
+        "a float is not finite, or above 1e9 in magnitude (the edge's lo and hi and the options' scale may be NaN or infinite)"
+    )
 
 
 class IllFormed(Refusal):
-    """Points not in threes, an unknown kind, a wrong count, an unused p or q that is not zero, a sense or relative that is
-    neither 0 nor 1, or a run, base or segment's curve outside its table."""
-
     number = 3
     message = (
-        "points are not in threes, a kind is unknown, a count is wrong, an unused p or q is not zero, a sense or relative is "
-        "neither 0 nor 1, or a run, base or segment's curve is outside its table"
+        "points are not in threes, a row is not whole, a kind is unknown, a count is wrong, an unused p or q is not zero, a "
+        "sense or relative is neither 0 nor 1, or a run, a trim's base or a segment's curve is outside its table"
     )
 
 
 class Unordered(Refusal):
-    """A row refers to its own or a higher one."""
-
     number = 4
     message = "a trim's base, or the curve of a composite's segment, is not in a lower row than its own"
 
 
 class TooDeep(Refusal):
-    """Trims and composites are nested too deep."""
-
     number = 5
     message = "trims and composites are nested deeper than 8"
 
 
 class Missing(Refusal):
-    """The edge refers to a row that is not there."""
-
     number = 6
-    message = "the edge's curve, or one of its points, is outside its table"
+    message = "the edge's curve, start, end, low or high is outside its table"
 
 
 class ShortBuffer(Refusal):
-    """A chain buffer is shorter than two points."""
-
     number = 7
     message = "a chain buffer is shorter than two points"
 
 
 class NoRoom(Refusal):
-    """The buffers have no room for what drawing needs."""
-
     number = 8
-    message = "a list of parameters is longer than the chain buffers have room for"
+    message = "a list of parameters is longer than the chain buffers have room for, or than 16,384"
 
 
 class Endless(Refusal):
-    """A span would be split without end."""
-
     number = 9
-    message = "a span would be split without end, since no distance in it is above zero"
+    message = "thinning would split a span without end, since no point of it is at a distance above zero from its chord"
 
 
 Refusal.ALL = (Oversize, Unbounded, IllFormed, Unordered, TooDeep, Missing, ShortBuffer, NoRoom, Endless)

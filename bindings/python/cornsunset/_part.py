@@ -174,7 +174,8 @@ class Part:
         return self._framed(Kind.PARABOLA, origin, axis, ref_dir, (sized(real(focal, "focal")), 0.0), float)
 
     def polyline(self, run: PointRun) -> Row:
-        """Adds the polyline through a run of points. A parameter on it is a point's index, from 0.
+        """Adds the polyline through a run of points. A parameter on it is a point's index, from 0. Drawn as one edge it can miss its
+        curve, with no sign (docs/DIFFERENCES.md): draw it as an edge a leg.
 
         >>> part = Part((0, 0, 0), (3, 4, 0))
         >>> corners = part.points([(0, 0, 0), (3, 0, 0), (3, 4, 0)])
@@ -192,6 +193,7 @@ class Part:
 
     def composite(self, segments) -> Row:
         """Adds a chain of segments of other curves. A parameter on it is a segment's index, from 0, and runs on by 1 in each.
+        Drawn as one edge it can miss its curve, with no sign (docs/DIFFERENCES.md): draw it as an edge a segment.
 
         >>> part = Part((0, 0, 0), (2, 1, 0))
         >>> line = part.line((0, 0, 0), (1, 0, 0))

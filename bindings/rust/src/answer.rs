@@ -25,24 +25,26 @@ numbered! {
     /// }
     /// ```
     Refusal {
-        /// A table is above its size.
+        /// A table is above its size: 65,536 points, 4,096 curve rows, 4,096 segments.
         Oversize = 1,
-        /// A float is not finite, or above 1e9 in magnitude.
+        /// A float is not finite, or above 1e9 in magnitude (the edge's lo and hi and the options' scale may be NaN or
+        /// infinite).
         Unbounded = 2,
-        /// Points not in threes, an unknown kind, a wrong count, an unused p or q that is not zero, a sense or relative that
-        /// is neither 0 nor 1, or a run, base or segment's curve outside its table.
+        /// Points are not in threes, a row is not whole, a kind is unknown, a count is wrong, an unused p or q is not
+        /// zero, a sense or relative is neither 0 nor 1, or a run, a trim's base or a segment's curve is outside its
+        /// table.
         IllFormed = 3,
-        /// A row refers to its own or a higher one.
+        /// A trim's base, or the curve of a composite's segment, is not in a lower row than its own.
         Unordered = 4,
-        /// Trims and composites are nested too deep.
+        /// Trims and composites are nested deeper than 8.
         TooDeep = 5,
-        /// The edge refers to a row that is not there.
+        /// The edge's curve, start, end, low or high is outside its table.
         Missing = 6,
         /// A chain buffer is shorter than two points.
         ShortBuffer = 7,
-        /// The buffers have no room for what drawing needs.
+        /// A list of parameters is longer than the chain buffers have room for, or than 16,384.
         NoRoom = 8,
-        /// A span would be split without end.
+        /// Thinning would split a span without end, since no point of it is at a distance above zero from its chord.
         Endless = 9,
     }
 }
@@ -62,19 +64,26 @@ impl fmt::Display for Refusal {
     fn fmt(&self, f: &mut fmt::Formatter<'_>) -> fmt::Result {
         f.write_str(match self {
             Refusal::Oversize => "a table is above its size: 65,536 points, 4,096 curve rows, 4,096 segments",
-            Refusal::Unbounded => "a float is not finite, or above 1e9 in magnitude",
+            Refusal::Unbounded => {
+                "a float is not finite, or above 1e9 in magnitude (the edge's lo and hi and the options' scale may be \
+                 NaN or infinite)"
+            }
             Refusal::IllFormed => {
-                "points are not in threes, a kind is unknown, a count is wrong, an unused p or q is not zero, a sense or \
-                 relative is neither 0 nor 1, or a run, base or segment's curve is outside its table"
+                "points are not in threes, a row is not whole, a kind is unknown, a count is wrong, an unused p or q \
+                 is not zero, a sense or relative is neither 0 nor 1, or a run, a trim's base or a segment's curve is \
+                 outside its table"
             }
             Refusal::Unordered => {
                 "a trim's base, or the curve of a composite's segment, is not in a lower row than its own"
             }
             Refusal::TooDeep => "trims and composites are nested deeper than 8",
-            Refusal::Missing => "the edge's curve, or one of its points, is outside its table",
+            Refusal::Missing => "the edge's curve, start, end, low or high is outside its table",
             Refusal::ShortBuffer => "a chain buffer is shorter than two points",
-            Refusal::NoRoom => "a list of parameters is longer than the chain buffers have room for",
-            Refusal::Endless => "a span would be split without end, since no distance in it is above zero",
+            Refusal::NoRoom => "a list of parameters is longer than the chain buffers have room for, or than 16,384",
+            Refusal::Endless => {
+                "thinning would split a span without end, since no point of it is at a distance above zero from its \
+                 chord"
+            }
         })
     }
 }

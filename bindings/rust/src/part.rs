@@ -156,7 +156,8 @@ impl Part {
         self.framed(Kind::Parabola, origin, [axis, ref_dir], [sized(focal)?, 0.0])
     }
 
-    /// Adds the polyline through a run of points. A parameter on it is a point's index, from 0.
+    /// Adds the polyline through a run of points. A parameter on it is a point's index, from 0. Drawn as one edge it can miss its
+    /// curve, with no sign (docs/DIFFERENCES.md): draw it as an edge a leg.
     ///
     /// ```
     /// # use cornsunset::{Options, Part};
@@ -188,6 +189,7 @@ impl Part {
     }
 
     /// Adds a chain of segments of other curves. A parameter on it is a segment's index, from 0, and runs on by 1 in each.
+    /// Drawn as one edge it can miss its curve, with no sign (docs/DIFFERENCES.md): draw it as an edge a segment.
     ///
     /// ```
     /// # use cornsunset::{Angle, Part, Segment};

@@ -12,6 +12,8 @@ pub use Rattle.arith_order.proofs.Signed.{number-left, number-right}
 pub use Rattle.arith_order.proofs.Signed.{lt→le, lt→nle, nlt→le, nle→lt, le-lt-trans, lt-le-trans}
 -- two floats of a format that are at most each other are the same float, or both zeros
 pub use Rattle.arith_order.proofs.Equal.{Zeros, eq→same, antisym-same}
+-- and one that is below another is not equal to it
+pub use Rattle.arith_order.proofs.Equal.{lt→neq}
 -- what lies between two finite floats is finite
 pub use Rattle.arith_order.proofs.Middle.{between}
 -- x ≤ y gives -y ≤ -x

@@ -1,15 +1,15 @@
 -- Two roots are told apart by what stands under them: where that differs by one part in a million, the roots differ. Assumes nothing.
-use mathlib.Core.Path.{_≡_, refl, sym, ap, _∙_}
+use mathlib.Core.Path.{refl}
 use Prim.Native.Nat.{ℕ, _+_, _*_, _^_, _≤_, _<_}
-use native.Mathlib.Nat.{zero-mul, mul-assoc, mul-right-comm, add-mul, mul-pos, mul-le-mul, mul-le-mul-right, lt-of-mul-lt-mul-right, le-of-mul-le-mul-right, lt-of-not-le}
+use native.Mathlib.Nat.{mul-right-comm, add-mul, mul-pos, mul-le-mul, lt-of-mul-lt-mul-right, le-of-mul-le-mul-right, lt-of-not-le}
 use native.Mathlib.Omega.{arith}
 use mathlib.Core.Bool.{true, false}
 use lib.Dec.{T, lit<}
 use lib.Pow.{pow-pos}
-use lib.Ieee.{Float, nan, inf, fin, binary64, up, down, ofFields, ofBits, odd, fits, mul, lt, le}
+use lib.Ieee.{Float, nan, inf, fin, binary64, ofFields, ofBits, odd, fits, mul, lt, le}
 use lib.Ieee.Exact.{HasValue}
-use lib.Ieee.Positive.{positive, den, positive-finite, positive-of-value, values-of-le, mul-at}
-use Rattle.arith_order.proofs.Signed.{zeroF, plus, neg'}
+use lib.Ieee.Positive.{positive, positive-finite, positive-of-value, values-of-le, mul-at}
+use Rattle.arith_order.proofs.Signed.{zeroF}
 use Rattle.arith_order.proofs.Rounds.{Rounds}
 use Rattle.arith_order.proofs.Middle as middle
 use Rattle.arith_order.proofs.Laws.{lt→le, lt→nle, nle→lt, lt-le-trans}
@@ -18,6 +18,7 @@ use Rattle.arith_root.specs.Ieee.{Units}
 use Rattle.arith_root.proofs.Laws.{units-number, units-below}
 use Rattle.arith_root.proofs.Cases.{positive-above}
 use Rattle.arith_root.proofs.Close.{close-root}
+use Rattle.arith_root.proofs.Squares.{at-most}
 
 -- ---- roots of a and of b units, for n and m of them: where b is at most a, m is above n by about two parts in 2 ^ 52 at most
 near : (n m a b U : ℕ) → 0 < U → b ≤ a → m * U * 2 ^ 52 ≤ b * b * (2 ^ 52 + 1) → a * a * 2 ^ 52 < n * U * 2 ^ 52 + a * a
@@ -35,18 +36,6 @@ little-value : HasValue little false 0x1000010C6F7A0B (2 ^ 52)
 unfolding ofBits ofFields odd
 little-value = (refl, refl)
 
--- y is at most a fraction: its m units are at most n * c / d
-crossed : (y : Float) (m n c d : ℕ) → T (positive y) → Units y m → m * d ≤ n * c → plus y * (2 ^ 1074 * d) + 0 * den y ≤ n * c * den y + neg' y * (2 ^ 1074 * d)
-crossed nan m n c d p v h = absurd p
-crossed (inf s) m n c d p v h = absurd p
-crossed (fin true w e) m n c d p v h = absurd p
-crossed (fin false w e) m n c d p v h = go (w * up e) (down e) (2 ^ 1074) (v .1)
-  where
-    go : (a b U : ℕ) → a * U ≡ m * b → a * (U * d) + 0 * b ≤ n * c * b + 0 * (U * d)
-    go a b U k =
-        let g : a * (U * d) ≡ m * d * b = sym (mul-assoc a U d) ∙ ap (λ (x : ℕ). x * d) k ∙ mul-right-comm m b d in
-        omega (arith, g, mul-le-mul-right b h, zero-mul b, zero-mul (U * d))
-
 -- the product is n * 1.000001, rounded; rounding keeps the order, so a y above the product is above that
 module _ (x y : Float) (n m : ℕ) (G : T (fits binary64 y)) (p : T (positive x)) (q : T (positive y)) (u : Units x n) (v : Units y m) where
   rounded : Rounds binary64 (mul binary64 x little) (n * 0x1000010C6F7A0B) 0 (2 ^ 1074 * 2 ^ 52)
@@ -61,7 +50,7 @@ module _ (x y : Float) (n m : ℕ) (G : T (fits binary64 y)) (p : T (positive x)
   under-product h = lt-of-not-le (λ (k : m * 2 ^ 52 ≤ n * 0x1000010C6F7A0B).
       lt→nle (mul binary64 x little) y h
       (middle.above binary64 y (mul binary64 x little) (n * 0x1000010C6F7A0B) 0 (2 ^ 1074 * 2 ^ 52) G (positive-finite y q) rounded (mul-pos (pow-pos 1074) (pow-pos 52))
-      (crossed y m n 0x1000010C6F7A0B (2 ^ 52) q v k)))
+      (at-most y m (n * 0x1000010C6F7A0B) (2 ^ 52) q v k)))
 
 -- ---- both cannot be: m above n by one part in a million, and not by more than two in 2 ^ 52
 at-most-twice : (n m : ℕ) → m * 2 ^ 52 < n * 2 ^ 52 + n + m → m ≤ 2 * n

@@ -19,12 +19,12 @@ use Rattle.arith_root.proofs.Whole.{not-above}
 use Rattle.arith_root.proofs.Ieee.{nearest-root}
 
 -- ---- what is not below zero: a zero of either sign, a positive finite float, +∞
-data Kind : Float → Type 0 where
+pub data Kind : Float → Type 0 where
   zeros : (s : Bool) (e : ℤ) → Kind (fin s zero e)
   above : (m : ℕ) (e : ℤ) → T (positive (fin false (suc m) e)) → Kind (fin false (suc m) e)
   top : Kind (inf false)
 
-kind : (x : Float) → T (le zeroF x) → Kind x
+pub kind : (x : Float) → T (le zeroF x) → Kind x
 unfolding le
 kind nan h = absurd h
 kind (inf true) h = absurd h
@@ -129,11 +129,7 @@ root-reflects x y F G h =
     let q = rooted y (number-right (rootOf x) (rootOf y) (lt→le (rootOf x) (rootOf y) h)) in
     nle→lt x y (number-right zeroF x p) (number-right zeroF y q) (λ (k : T (le y x)). lt→nle (rootOf x) (rootOf y) h (root-monotone y x G F q k))
 
--- ---- a cut-off: √cut ≤ c < √up, so that √s is compared with c by comparing s with cut and up
-pub root-under : (s cut c : Float) → T (fits binary64 s) → T (fits binary64 cut) → T (le (rootOf cut) c) → T (le zeroF s) → T (le s cut)
-    → T (le (rootOf s) c)
-root-under s cut c F G h p k = le-trans (rootOf s) (rootOf cut) c (root-monotone s cut F G p k) h
-
+-- ---- a cut-off: c < √up, so that √s is above c wherever s is not below up
 pub root-over : (s up c : Float) → T (fits binary64 s) → T (fits binary64 up) → T (lt c (rootOf up)) → T (le up s) → T (lt c (rootOf s))
 root-over s up c F G h k = lt-le-trans c (rootOf up) (rootOf s) h
     (root-monotone up s G F (rooted up (number-right c (rootOf up) (lt→le c (rootOf up) h))) k)

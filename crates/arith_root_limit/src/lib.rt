@@ -1,13 +1,16 @@
 // A root compared with a limit, mostly without the root: a cut, whose own root stands on the known side of the limit, answers for all
-// that lies beyond it, since a root rises with what stands under it. And two roots compared, mostly without either.
+// that lies beyond it, since a root rises with what stands under it. The square of a number is such a cut, and takes no root itself.
+// And two roots compared, mostly without either.
 ghost use mathlib.Core.Path.{_≡_};
 ghost use mathlib.Core.Bool.{true};
 ghost use lib.Ieee.{lt, le};
 ghost use Rattle.arith_root.specs.Root.{rootOf};
-ghost use Rattle.arith_root_limit.specs.Own.Limit.{cutIf, limitOf, Stands};
+ghost use Rattle.arith_root_limit.specs.Own.Limit.{cutIf, squareIf, limitOf, Stands};
 
 // A millionth more: what is above zero, and times this is below another number, has a smaller root than that.
 pub const A_LITTLE_MORE: f64 = 1.000001;
+
+const A_LITTLE_LESS: f64 = 0.999999;
 
 // A limit for roots, with a cut on either side of it; a cut that does not serve is a NaN.
 pub struct Limit {
@@ -78,15 +81,22 @@ pub fn cut_if(serves: bool, x: f64) -> f64
     if serves { x } else { arith::nan() }
 }
 
-// The limit with its cuts, which cost two roots: for many comparisons with one limit.
+// The square of a number above zero as a cut, where it serves: what is below it has a root that is not above the number, and what is
+// above it one that is not below.
+pub fn square_if(serves: bool, x: f64) -> f64
+    ensures { λ r. ⌜ r ≡ squareIf serves x ⌝ }
+{
+    cut_if(0.0 < x, cut_if(serves, x * x))
+}
+
+// The limit with its cuts, for many comparisons with one limit.
 pub fn limit_of(at: f64) -> Limit
     ensures { λ l. ⌜ l ≡ limitOf at ⌝ }
 {
-    let square = at * at;
-    // A little above the square, so that its root is above the limit.
-    let above = square * A_LITTLE_MORE;
-    let low = cut_if(arith_root::root(square) <= at, square);
-    let high = cut_if(at < arith_root::root(above), above);
+    let less = at * A_LITTLE_LESS;
+    let more = at * A_LITTLE_MORE;
+    let low = square_if(less <= at, less);
+    let high = square_if(at < more, more);
     Limit { at, low, high }
 }
 
@@ -95,10 +105,10 @@ pub fn is_at_most(s: f64, limit: Limit) -> bool
     requires { ⌜ Stands limit ⌝ }
     ensures { λ b. ⌜ b ≡ le (rootOf s) (limit .at) ⌝ }
 {
-    if limit.high <= s {
+    if limit.high < s {
         return false;
     }
-    if 0.0 <= s && s <= limit.low {
+    if 0.0 <= s && s < limit.low {
         return true;
     }
     let root = arith_root::root(s);

@@ -1,5 +1,5 @@
 -- In the fixed steps too, no arc cosine is above twice the tangent of half its angle. Assumes nothing.
-use mathlib.Core.Path.{_≡_, refl, sym}
+use mathlib.Core.Path.{_≡_, refl}
 use mathlib.Core.Bool.{Bool, true, false, cond, _||_}
 use mathlib.Core.List.{[], _∷_}
 use Prim.Native.Nat.{ℕ, _+_, _*_, _≤_}
@@ -9,7 +9,7 @@ use lib.IntN.{pos}
 use lib.Dec.{T}
 use lib.Ieee.{Float, nan, fin, binary64, ofBits, ofInt, fits, le, lt, eq, neg, add, mul, div}
 use lib.Ieee.Bits.{is-true}
-use lib.Ieee.Fits.{add-fits, sub-fits, div-fits}
+use lib.Ieee.Fits.{add-fits, sub-fits, mul-fits, div-fits}
 use lib.Ieee.Scale.{finite}
 use lib.Ieee.Positive.{den, den-pos}
 use Rattle.arith_order.proofs.Signed.{plus, neg', le→, no-sign, zeroF, oneF, ring}
@@ -17,14 +17,15 @@ use Rattle.arith_order.proofs.Rounds.{mul-rounds, mul-swap}
 use Rattle.arith_order.proofs.Mono.{add-mono-right, sub-shrinks, mul-mono, mul-mono-right, div-mono, div-turns, div-low}
 use Rattle.arith_order.proofs.Middle.{zero-fits, above, under, between}
 use Rattle.arith_order.proofs.Modest.{sub-up}
-use Rattle.arith_order.proofs.Laws.{le-trans, lt-le-trans, lt→nle, number-right}
+use Rattle.arith_order.proofs.Laws.{le-trans, lt-le-trans, lt→le, lt→nle, number-right}
 use Rattle.arith.proofs.Cmp.{holds}
-use Rattle.arith.specs.Notation.{_⊕_, _⊖_, _⊗_, _⊘_, plusZero, one, count}
+use Rattle.arith.specs.Notation.{_⊕_, _⊖_, _⊗_, _⊘_, plusZero, half, one, count}
 use Rattle.arith_root.specs.Root.{rootOf}
 use Rattle.arith_root.proofs.Laws.{root-zero, root-monotone}
 use Rattle.arith_trig.specs.Trig.{halved, summed, arcOf, angleOf, acosBy, acosOf, pi}
-use Rattle.arith_turn_limit.specs.Own.Limit.{tangentSquare, twiceTangent, cutFor, turnCut, Serves}
-use Rattle.arith_root_limit.specs.Own.Limit.{cutIf}
+use Rattle.arith_turn_limit.specs.Own.Limit.{tangentSquare, twiceTangent, turnCut, Serves}
+use Rattle.arith_root_limit.specs.Own.Limit.{cutIf, squareIf}
+use Rattle.arith_root_limit.proofs.Roots.{below-square}
 
 -- ---- a float from 0 to 1
 abbrev pub Part : Float → Type 0
@@ -57,7 +58,7 @@ module _ (x y : Float) (F : T (finite x)) (z : T (le zeroF x)) (q : Part y) wher
       (rw (no-sign x F z, no-sign y (part-finite y q) (q .0)) (high-law (plus x) (plus y) (den x) (den y) (part-plus y q)))
 
 -- a square of a part is a part
-one-fits : T (fits binary64 oneF)
+pub one-fits : T (fits binary64 oneF)
 unfolding fits
 one-fits = tt
 
@@ -247,11 +248,10 @@ angle-high y p =
     le-trans (arcOf h) (count 16 ⊗ h) (eighths y) (arc-high h (thrice y p) (halved-fits (halved (halved y))))
     (sixteen-mono h (y ⊘ twoF ⊘ twoF ⊘ twoF) (part-finite h (thrice y p)) (part-finite (y ⊘ twoF ⊘ twoF ⊘ twoF) (eighth y p)) (thrice-high y p))
 
--- ---- the root of a part is a part
-root-part : (q : Float) → T (fits binary64 q) → Part q → Part (rootOf q)
+-- ---- a root is not below zero
+root-not-below : (q : Float) → T (fits binary64 q) → T (le zeroF q) → T (le zeroF (rootOf q))
 unfolding le
-root-part q F p =
-    (rw root-zero at (root-monotone zeroF q (zero-fits binary64) F tt (p .0)), rw root-one at (root-monotone q oneF F one-fits (p .0) (p .1)))
+root-not-below q F p = rw root-zero at (root-monotone zeroF q (zero-fits binary64) F tt p)
 
 eighths-low : (y : Float) → Part y → T (le zeroF (eighths y))
 unfolding le mul ofInt
@@ -268,17 +268,12 @@ eighths-mono x y p q h =
     (half-mono (x ⊘ twoF ⊘ twoF) (y ⊘ twoF ⊘ twoF) (part-finite (x ⊘ twoF ⊘ twoF) c) (part-finite (y ⊘ twoF ⊘ twoF) d)
     (half-mono (x ⊘ twoF) (y ⊘ twoF) (part-finite (x ⊘ twoF) a) (part-finite (y ⊘ twoF) b) (half-mono x y (part-finite x p) (part-finite y q) h)))
 
--- a greater part has a greater root, and a greater bound
-bound-mono : (q r : Float) → T (fits binary64 q) → T (fits binary64 r) → Part q → Part r → T (le q r) → T (le (twiceTangent q) (twiceTangent r))
-unfolding ofBits
-bound-mono q r F G p s h = eighths-mono (rootOf q) (rootOf r) (root-part q F p) (root-part r G s) (root-monotone q r F G (p .0) h)
-
 -- ---- the arc cosine of an a above zero
 chosen : (b : Bool) (x y z : Float) → (T b → T (le x z)) → T (le y z) → T (le (cond b x y) z)
 chosen true x y z h k = h tt
 chosen false x y z h k = k
 
-equal-le : (x y : Float) → T (eq x y) → T (le x y)
+pub equal-le : (x y : Float) → T (eq x y) → T (le x y)
 unfolding le
 equal-le x y h = go (lt x y) (eq x y) h
   where
@@ -286,50 +281,41 @@ equal-le x y h = go (lt x y) (eq x y) h
     go true c h = tt
     go false c h = h
 
-module _ (a : Float) (A : T (lt zeroF a)) (p : Part (tangentSquare a)) where
+module _ (a : Float) (A : T (lt zeroF a)) (p : Part (rootOf (tangentSquare a))) where
   tangent : Float
   tangent = rootOf (tangentSquare a)
 
-  tangent-part : Part tangent
-  unfolding tangent
-  tangent-part = root-part (tangentSquare a) (div-fits binary64 (one ⊖ a) (one ⊕ a)) p
-
   by-high : T (le (acosBy tangent) (eighths tangent))
-  unfolding acosBy ofBits
+  unfolding acosBy tangent ofBits
   by-high = chosen (lt one tangent) (pi ⊖ angleOf (one ⊘ tangent)) (angleOf tangent) (eighths tangent)
-      (λ (h : T (lt one tangent)). absurd (lt→nle one tangent h (tangent-part .1))) (angle-high tangent tangent-part)
+      (λ (h : T (lt one tangent)). absurd (lt→nle one tangent h (p .1))) (angle-high tangent p)
 
-  pub acos-high : T (le (acosOf a) (twiceTangent (tangentSquare a)))
+  acos-high : T (le (acosOf a) (eighths (rootOf (tangentSquare a))))
   unfolding acosOf tangent ofBits lt neg
-  acos-high = chosen (eq a one) plusZero (cond (eq a (neg one)) pi (acosBy tangent)) (eighths tangent) (λ (h : T (eq a one)). eighths-low tangent tangent-part)
+  acos-high = chosen (eq a one) plusZero (cond (eq a (neg one)) pi (acosBy tangent)) (eighths tangent)
+      (λ (h : T (eq a one)). eighths-low tangent p)
       (chosen (eq a (neg one)) pi (acosBy tangent) (eighths tangent)
       (λ (h : T (eq a (neg one))). absurd (lt-le-trans zeroF a (neg one) A (equal-le a (neg one) h))) by-high)
 
--- ---- at or below a cut that serves, the angle is within the limit
-pub surely-within : (a limit cut : Float) → T (fits binary64 cut) → Serves cut limit → lt plusZero a ≡ true → le plusZero (tangentSquare a) ≡ true
-    → le (tangentSquare a) cut ≡ true → true ≡ le (acosOf a) limit
-unfolding ofBits
-surely-within a limit cut F s h low k =
-    let q = tangentSquare a in
-    let c : Part cut = (le-trans zeroF q cut (holds low) (holds k), holds (s .small q k)) in
-    let p : Part q = (holds low, le-trans q cut oneF (holds k) (c .1)) in
-    sym (is-true (le (acosOf a) limit)
-    (le-trans (acosOf a) (twiceTangent q) limit (acos-high a (holds h) p)
-    (le-trans (twiceTangent q) (twiceTangent cut) limit (bound-mono q cut (div-fits binary64 (one ⊖ a) (one ⊕ a)) F p c (holds k)) (holds (s .within q k)))))
+-- ---- below the cut of a limit the tangent is at most half the limit, and so the angle within it
+module _ (a limit : Float) (A : T (lt zeroF a)) (low : T (le zeroF (tangentSquare a))) where
+  below-cut : (b : Bool) → le (limit ⊗ half) one ≡ b
+      → T (lt (tangentSquare a) (cutIf b (squareIf (le (twiceTangent (limit ⊗ half)) limit) (limit ⊗ half)))) → T (le (acosOf a) limit)
+  unfolding ofBits
+  below-cut true e h =
+      let q = tangentSquare a in
+      let y = rootOf q in
+      let k = limit ⊗ half in
+      let t = below-square k q (mul-fits binary64 limit half) (div-fits binary64 (one ⊖ a) (one ⊕ a)) (le (twiceTangent k) limit) low h in
+      let p : Part y = (root-not-below q (div-fits binary64 (one ⊖ a) (one ⊕ a)) low, le-trans y k oneF (t .1) (holds e)) in
+      let m = eighths-mono y k p (le-trans zeroF y k (p .0) (t .1), holds e) (t .1) in
+      le-trans (acosOf a) (eighths y) limit (acos-high a A p) (le-trans (eighths y) (eighths k) limit m (holds (t .0)))
+  below-cut false e h = absurd (number-right (tangentSquare a) nan (lt→le (tangentSquare a) nan h))
 
--- ---- the cut for a limit serves
 pub serves : (limit : Float) → Serves (turnCut limit) limit
-unfolding turnCut
-serves limit = go (le (twiceTangent (cutFor limit)) limit) (le (cutFor limit) one) refl refl
-  where
-    none : Serves nan limit
-    none = record {
-      within = λ (q : Float) (e : le q nan ≡ true). absurd (number-right q nan (holds e));
-      small = λ (q : Float) (e : le q nan ≡ true). absurd (number-right q nan (holds e));
-    }
-
-    go : (b c : Bool) → le (twiceTangent (cutFor limit)) limit ≡ b → le (cutFor limit) one ≡ c → Serves (cutIf b (cutIf c (cutFor limit))) limit
-    go true true h k = record { within = λ (q : Float) (e : le q (cutFor limit) ≡ true). h; small = λ (q : Float) (e : le q (cutFor limit) ≡ true). k }
-    go true false h k = none
-    go false true h k = none
-    go false false h k = none
+unfolding turnCut ofBits
+serves limit = record {
+  within = λ (a : Float) (h : lt plusZero a ≡ true) (l : le plusZero (tangentSquare a) ≡ true)
+      (k : lt (tangentSquare a) (turnCut limit) ≡ true).
+      is-true (le (acosOf a) limit) (below-cut a limit (holds h) (holds l) (le (limit ⊗ half) one) refl (holds k));
+}

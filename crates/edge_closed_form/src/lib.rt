@@ -94,5 +94,6 @@ pub fn meets(
     let prepared = curve_prepared::prepare(points, curves, reals, parts, ranges, row);
     // The largest of the roots is the root of the largest.
     let worst = worst_square(prepared, params, chain);
-    arith_root::root(worst) <= sag
+    let limit = arith_root_limit::limit_of(sag);
+    arith_root_limit::is_at_most(worst, limit)
 }

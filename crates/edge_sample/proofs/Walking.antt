@@ -20,6 +20,8 @@ use Rattle.edge_record.specs.Chain.{width}
 use Rattle.edge_subdivide.specs.declared.End.{End}
 use Rattle.edge_subdivide.specs.Bisect.{endAt, withinBudget}
 use Rattle.edge_subdivide.specs.Own.Recorded.{Room, ListRecorded}
+use Rattle.edge_subdivide.proofs.Laws.{end-t}
+pub use Rattle.edge_subdivide.proofs.Laws.{end-own}
 use Rattle.edge_subdivide.proofs.Recorded.{recorded-none, recorded-room, recorded-refused, recorded-then}
 use Rattle.edge_sample.specs.Sample.{sampler}
 use Rattle.edge_sample.specs.Own.Answered.{stops}
@@ -34,15 +36,6 @@ module _ (range : Interval) (b : Float) where
   pub is-hi : ne b (range .hi) ≡ false → [] ≡ unlessHi range b
   unfolding unlessHi
   is-hi e = sym (ap (λ (t : Bool). elim t [ true ↦ b ∷ [] | false ↦ [] ]) e)
-
--- ---- the curve at a parameter
-module _ (c : CurveTree) (x : Float) (m : End) (e : m ≡ endAt c x) where
-  end-t : m .t ≡ x
-  unfolding endAt
-  end-t = ap (λ (n : End). n .t) e
-
-  pub end-own : m ≡ endAt c (m .t)
-  end-own = e ∙ ap (endAt c) (sym end-t)
 
 -- ---- the walk
 module _ (c : CurveTree) (range : Interval) (r : Resolved) where

@@ -1,10 +1,10 @@
--- The tangents of a curve prepared, the sag by its square, a span by what split_of answers of its ends, and the ways out of subdivide. Assumes nothing.
+-- The tangents of a curve prepared, the sag by its square, the limits, a span by what split_of answers of its ends, and the ways out of subdivide. Assumes nothing.
 use mathlib.Core.Path.{_≡_, refl, sym, ap, subst, _∙_}
 use mathlib.Core.Bool.{Bool, true, false, _&&_}
 use mathlib.Core.List.{List, [], _∷_, _++_}
 use Prim.Native.Nat.{ℕ, _-_}
 use native.Mathlib.Omega.{arith}
-use lib.Ieee.{Float, le, neg}
+use lib.Ieee.{Float, ofBits, le, eq, neg}
 use Rattle.arith.specs.Notation.{plusZero, one}
 use Rattle.arith.specs.Pick.{clampOf}
 use Rattle.arith_root.specs.Root.{rootOf}
@@ -67,20 +67,25 @@ module _ (r : Resolved) (l : Limits) (e : l ≡ limitsOf r) where
   unfolding limitsOf
   turn-exceeds = subst (λ (x : Limits). Exceeds (x .over) (x .angle)) (sym e) (exceeds (r .angle))
 
--- ---- the test, by the branches that the code takes
-module _ (a b : Direction) (limit : Float) where
-  pub turn-no-first : a ≡ Nothing → le plusZero limit ≡ le (tangentTurn a b) limit
-  unfolding tangentTurn
-  turn-no-first e = rw e
+-- ---- the turn, by the branches that the code takes
+straight : acosOf one ≡ plusZero
+unfolding acosOf eq ofBits
+straight = refl
 
-  pub turn-no-second : (ta : Vec3) → a ≡ Unit ta → b ≡ Nothing → le plusZero limit ≡ le (tangentTurn a b) limit
+module _ (a b : Direction) where
+  pub turn-no-first : a ≡ Nothing → acosOf one ≡ tangentTurn a b
   unfolding tangentTurn
-  turn-no-second ta e f = rw (e, f)
+  turn-no-first e = straight ∙ rw e
 
-  pub turn-both : (ta tb : Vec3) → a ≡ Unit ta → b ≡ Unit tb → le (acosOf (clampOf (vDot ta tb) (neg one) one)) limit ≡ le (tangentTurn a b) limit
+  pub turn-no-second : (ta : Vec3) → a ≡ Unit ta → b ≡ Nothing → acosOf one ≡ tangentTurn a b
+  unfolding tangentTurn
+  turn-no-second ta e f = straight ∙ rw (e, f)
+
+  pub turn-both : (ta tb : Vec3) → a ≡ Unit ta → b ≡ Unit tb → acosOf (clampOf (vDot ta tb) (neg one) one) ≡ tangentTurn a b
   unfolding tangentTurn angleBetween
   turn-both ta tb e f = rw (e, f)
 
+-- ---- the test of a span, by the branches that the code takes
 module _ (r : Resolved) (a b : End) (pm : Vec3) where
   pub near-enough : le (sagOf (a .point) (b .point) pm) (r .sag) ≡ true → le (tangentTurn (a .tangent) (b .tangent)) (r .angle) ≡ isWithin r a b pm
   unfolding isWithin
@@ -136,9 +141,14 @@ module _ (c : CurveTree) (r : Resolved) (a b : End) where
         go true e = let z : _≡_ {A = ℕ} 0 1 = cc in absurd (omega arith)
         go false e = (refl, cc)
 
-end-t : (c : CurveTree) (x : Float) (m : End) → m ≡ endAt c x → m .t ≡ x
-unfolding endAt
-end-t c x m e = ap (λ (n : End). n .t) e
+-- ---- the curve's own end at a parameter
+module _ (c : CurveTree) (x : Float) (m : End) (e : m ≡ endAt c x) where
+  pub end-t : m .t ≡ x
+  unfolding endAt
+  end-t = ap (λ (n : End). n .t) e
+
+  pub end-own : m ≡ endAt c (m .t)
+  end-own = e ∙ ap (endAt c) (sym end-t)
 
 -- ---- the ways out of subdivide
 module _ (c : CurveTree) (r : Resolved) (depth : ℕ) (a b : End) (A : a ≡ endAt c (a .t)) (B : b ≡ endAt c (b .t)) where
@@ -161,7 +171,7 @@ module _ (c : CurveTree) (r : Resolved) (depth : ℕ) (a b : End) (A : a ≡ end
       w = was-split c r a b A B m (sym M ∙ S)
 
       pub middle-own : m ≡ endAt c (m .t)
-      middle-own = w .middle ∙ ap (endAt c) (sym (end-t c (midpoint (a .t) (b .t)) m (w .middle)))
+      middle-own = end-own c (midpoint (a .t) (b .t)) m (w .middle)
 
       pub halves : subdivided (withinBudget c r) (depth - 1) (a .t) (m .t) ++ m .t ∷ subdivided (withinBudget c r) (depth - 1) (m .t) (b .t)
           ≡ subdivided (withinBudget c r) depth (a .t) (b .t)

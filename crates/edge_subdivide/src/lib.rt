@@ -7,12 +7,10 @@ use math::Direction;
 use math::Vec3;
 use options::Resolved;
 ghost use mathlib.Core.Path.{_≡_};
-ghost use mathlib.Core.Bool.{true, false};
 ghost use mathlib.Core.List.{[], _∷_};
 ghost use Prim.Native.Nat.{_*_};
 ghost use lib.Seq.{sets};
-ghost use lib.Ieee.{le};
-ghost use Rattle.arith_turn_limit.specs.Own.Limit.{Serves, Exceeds};
+ghost use Rattle.arith_trig.specs.Trig.{acosOf};
 ghost use Rattle.brep.specs.Rows.{lent, given};
 ghost use Rattle.brep.specs.Tree.{tree};
 ghost use Rattle.curve_prepared.specs.Own.Prepared.{preparedOf};
@@ -31,8 +29,8 @@ pub struct End {
     pub tangent: Direction,
 }
 
-// What a span is held to, with the cuts that spare roots and arc cosines. Of a turn they are squared tangents of half of it: up to
-// `turn` it is within the angle, from `over` on above it; a cut that does not serve is a NaN.
+// What a span is held to, with the cuts that spare roots and arc cosines. Of a turn they are squared tangents of half of it: below
+// `turn` it is within the angle, above `over` it is not; a cut that does not serve is a NaN.
 pub struct Limits {
     pub sag: Limit,
     pub angle: f64,
@@ -91,32 +89,17 @@ pub fn end_at(
     End { t, point, tangent }
 }
 
-// Whether the angle between two tangents is at most the limit; it is 0 where one is missing.
-fn turns_within(a: Direction, b: Direction, limit: f64, cut: f64) -> bool
-    requires { ⌜ Serves cut limit ⌝ }
-    ensures { λ w. ⌜ w ≡ le (tangentTurn a b) limit ⌝ }
+// The cosine of the angle between two tangents; where one is missing, of the angle 0.
+fn turn_cosine(a: Direction, b: Direction) -> f64
+    ensures { λ x. ⌜ acosOf x ≡ tangentTurn a b ⌝ }
 {
     let Direction::Unit(ta) = a else {
-        return 0.0 <= limit;
+        return 1.0;
     };
     let Direction::Unit(tb) = b else {
-        return 0.0 <= limit;
+        return 1.0;
     };
-    arith_turn_limit::is_turn_within(arith::clamp(ta.dot(tb), -1.0, 1.0), limit, cut)
-}
-
-// Whether the angle between two tangents is surely above the limit. `false` says nothing.
-fn turns_over(a: Direction, b: Direction, limit: f64, cut: f64) -> bool
-    requires { ⌜ Exceeds cut limit ⌝ }
-    ensures { λ w. ⌜ (w ≡ true → le (tangentTurn a b) limit ≡ false) ⌝ }
-{
-    let Direction::Unit(ta) = a else {
-        return false;
-    };
-    let Direction::Unit(tb) = b else {
-        return false;
-    };
-    arith_turn_limit::is_turn_over(arith::clamp(ta.dot(tb), -1.0, 1.0), cut)
+    arith::clamp(ta.dot(tb), -1.0, 1.0)
 }
 
 // Whether the span from a to b, whose middle has the point pm, is within budget. The sag is compared by its square.
@@ -126,8 +109,9 @@ fn is_within(l: Limits, a: End, b: End, pm: Vec3) -> bool
 {
     let ta = a.tangent;
     let tb = b.tangent;
+    let cosine = turn_cosine(ta, tb);
     // A sharp turn needs no sag.
-    if turns_over(ta, tb, l.angle, l.over) {
+    if arith_turn_limit::is_turn_over(cosine, l.over) {
         return false;
     }
     let chord = b.point.sub(a.point);
@@ -135,7 +119,7 @@ fn is_within(l: Limits, a: End, b: End, pm: Vec3) -> bool
     let offset = math_chord::bisection_offset(a.point, chord, len, pm);
     let sag = l.sag;
     if arith_root_limit::is_at_most(offset.length_squared(), sag) {
-        return turns_within(ta, tb, l.angle, l.turn);
+        return arith_turn_limit::is_turn_within(cosine, l.angle, l.turn);
     }
     false
 }

@@ -1,6 +1,8 @@
 // Tessellation tolerances: options.rs.
 ghost use mathlib.Core.Path.{_≡_};
+ghost use mathlib.Core.Bool.{true};
 ghost use Prim.Native.Nat.{min, max};
+ghost use Rattle.arith.specs.Pick.{minOf};
 ghost use Rattle.options.specs.Options.{radians, degrees, isClamped, preset, defaultOptions, draftOptions, fineOptions};
 ghost use Rattle.options.specs.Options.{hasScale, absoluteDeflection, resolvedModel, resolvedRelative, resolve};
 ghost use Rattle.options.specs.Options.{isRelativeTo, sagFor, forExtent, stepBySag, angleStep, segmentsForArc};
@@ -57,11 +59,13 @@ pub struct Options {
     // than an eighth of what it is for the whole.
     pub deflection: f64,
     // Where a curve is bisected, how far the tangents at a span's two ends may turn from each other. On a circle or an ellipse
-    // the largest step of its parameter, 1e-3 at least; no tangent is looked at there.
+    // the largest step of its parameter, 1e-3 at least, and no tangent is looked at, unless these even steps miss the sag: then it is
+    // bisected too.
     pub angle: Angle,
     // 0 or 1.
     pub relative: u32,
-    // The least number of segments before points are merged; a chord has one. 0 counts as 1.
+    // The least number of segments before points are merged; a chord has one. 0 counts as 1. Where halving gives fewer, so many even
+    // steps of the parameter are drawn instead, and these are not tested.
     pub segments: u64,
     // How often a span may be halved, held to 1..24.
     pub depth: u32,
@@ -226,11 +230,26 @@ impl Resolved {
         }
     }
 
+    // Whether that step is surely not below the angle, which spares its arc cosine. `false` says nothing.
+    fn is_angle_bound(self, radius: f64) -> bool
+        ensures { λ b. ⌜ (b ≡ true → minOf (stepBySag self radius) (self .angle) ≡ self .angle) ⌝ }
+    {
+        if self.sag < radius {
+            let cosine = arith::clamp(1.0 - self.sag / radius, -1.0, 1.0);
+            return arith_turn_limit::is_double_turn_over(cosine, self.angle);
+        }
+        true
+    }
+
     // Resolved::angle_step_for_radius: the largest step on a circle of this radius that sag and angle allow.
     pub fn angle_step_for_radius(self, radius: f64) -> f64
         ensures { λ r. ⌜ r ≡ angleStep self radius ⌝ }
     {
-        let by_sag = self.step_by_sag(arith::abs(radius));
+        let size = arith::abs(radius);
+        if self.is_angle_bound(size) {
+            return arith::max(self.angle, LEAST_STEP);
+        }
+        let by_sag = self.step_by_sag(size);
         arith::max(arith::min(by_sag, self.angle), LEAST_STEP)
     }
 

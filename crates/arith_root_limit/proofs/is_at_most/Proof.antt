@@ -1,7 +1,6 @@
 -- `arith_root_limit::is_at_most` meets its contract: beyond a cut the answer is the cut's own. Assumes nothing.
-use Rattle.arith_root_limit.proofs.Roots.{not-within, within}
-use lib.Ieee.{le, ofBits}
-use mathlib.Core.Path.{ap}
+use lib.Ieee.{le}
+use mathlib.Core.Path.{sym, ap}
 use borrow.Author.Needs.{needs}
 use Rattle.arith_root_limit.proofs.is_at_most.Statement.{statement}
 use Rattle.arith_root_limit.proofs.is_at_most.Tie as tie
@@ -10,11 +9,10 @@ use Rattle.arith_root_limit.proofs.is_at_most.Lts as lts
 use Rattle.arith_root.proofs.root.Reads as root-reads
 
 returns : tie.Need-returns
-returns c = not-within (c .before .before .args .s) (c .before .before .args .limit .high) (c .before .before .args .limit .at) (search needs) (search needs) (c .before .before .pre .highStands _ (c .if1 .taken)) (c .if1 .taken)
+returns c = sym (c .before .before .pre .highStands _ (search needs) (c .if1 .taken))
 
 returns-2 : tie.Need-returns-2
-unfolding ofBits
-returns-2 c = within (c .before .before .before .before .before .args .s) (c .before .before .before .before .before .args .limit .low) (c .before .before .before .before .before .args .limit .at) (search needs) (search needs) (c .before .before .before .before .before .pre .lowStands _ (c .if3 .taken)) (c .before .before .if2 .taken) (c .if3 .taken)
+returns-2 c = sym (c .before .before .before .before .before .pre .lowStands _ (search needs) (c .before .before .if2 .taken) (c .if3 .taken))
 
 returns-3 : tie.Need-returns-3
 returns-3 c = ap (λ d. le d (c .before .before .before .before .before .args .limit .at)) (c .before .root .ensures .0)

@@ -1,7 +1,6 @@
 -- `arith_turn_limit::is_turn_within` meets its contract: at or below the cut the bound answers. Assumes nothing.
-use mathlib.Core.Path.{ap}
+use mathlib.Core.Path.{sym, ap}
 use lib.Ieee.{le}
-use Rattle.arith_turn_limit.proofs.Bound.{surely-within}
 use borrow.Author.Needs.{needs}
 use Rattle.arith_turn_limit.proofs.is_turn_within.Statement.{statement}
 use Rattle.arith_turn_limit.proofs.is_turn_within.Tie as tie
@@ -11,8 +10,8 @@ use Rattle.arith_trig.proofs.acos.Reads as acos-reads
 
 returns : tie.Need-returns
 returns c =
-    let a = c .before .before .before .args in
-    surely-within (a .a) (a .limit) (a .cut) (search needs) (c .before .before .before .pre) (c .before .before .if1 .taken) (c .before .if2 .taken) (c .if3 .taken)
+    let st = c .before .before .before in
+    sym (st .pre .within (st .args .a) (c .before .before .if1 .taken) (c .before .if2 .taken) (c .if3 .taken))
 
 returns-2 : tie.Need-returns-2
 returns-2 c = ap (λ d. le d (c .before .before .args .limit)) (c .acos .ensures)

@@ -4,13 +4,10 @@ use Rattle.arith_turn_limit.specs.Own.Limit.{turnCut}
 use borrow.Author.Needs.{needs}
 use Rattle.arith_turn_limit.proofs.turn_cut.Statement.{statement}
 use Rattle.arith_turn_limit.proofs.turn_cut.Tie as tie
-use Rattle.arith_turn_limit.proofs.turn_cut.Reads as reads
-use Rattle.arith_turn_limit.proofs.turn_cut.Lts as lts
-use Rattle.arith_root.proofs.root.Reads as root-reads
 
 returns : tie.Need-returns
 unfolding turnCut ofBits ofInt
-returns c = rw (c .cut-if2 .ensures, c .before .cut-if .ensures, c .before .before .root .ensures .0)
+returns c = rw (c .cut-if .ensures, c .before .square-if .ensures)
 
 pub turn-cut-spec : {M : Type 1} → statement M
-turn-cut-spec = tie.close (tie.spec (λ c κs. search needs) (λ c κs. search needs) (λ c κs. search needs) returns)
+turn-cut-spec = tie.close (tie.spec (λ c κs. search needs) (λ c κs. search needs) returns)
