@@ -1,25 +1,32 @@
 -- The ways through drawing: the answer and both buffers, by what discretise and repair_runaway left. Assumes nothing but what its statements say.
 use mathlib.Core.Path.{_≡_, refl, sym, ap, subst, _∙_}
 use mathlib.Core.Logic.{_⊎_, inl, inr}
-use mathlib.Core.Bool.{Bool, true, false, cond, _||_}
+use mathlib.Core.Bool.{Bool, true, false, cond, _||_, false≢true}
 use mathlib.Core.List.{List, []}
 use Prim.Native.Nat.{ℕ, _*_, _-_, _<_, _≤_}
 use native.Mathlib.Omega.{arith}
 use lib.ListN.{length, replicate}
 use lib.Dec.{T, ltb}
-use lib.Ieee.{Float, binary64, fits, ofBits}
+use lib.Ieee.{Float, binary64, fits, ofBits, le}
 use borrow.Author.Tests.{lt-ltb, le-ltb, le-leb, lt-leb}
 use Rattle.base_lists.specs.Result.{Result, refused, got, bind}
 use Rattle.base_lists.specs.Own.ListOf.{listOf}
 use Rattle.base_lists.specs.Room.{filled}
 use Rattle.base_lists.proofs.Filled.{filled-length}
+use Rattle.arith.specs.Notation.{plusZero}
+use Rattle.math.specs.declared.Vec3.{Vec3}
+use Rattle.math.specs.declared.Interval.{Interval}
 use Rattle.brep.specs.declared.Edge.{Edge}
 use Rattle.brep.specs.Rows.{Tables}
 use Rattle.options.specs.declared.Options.{Options}
 use Rattle.options.specs.declared.Resolved.{Resolved}
+use Rattle.options.specs.Options.{resolve, forExtent}
 use Rattle.causes.specs.declared.Verdict.the-variants as verdicts
 use Rattle.causes.specs.Causes.{verdict}
 use Rattle.causes.proofs.Checked.{verdict-numbers}
+use Rattle.curve_prepared.specs.declared.Prepared.the-variants.{Line}
+use Rattle.curve_prepared.specs.Own.Prepared.{preparedOf}
+use Rattle.edge_params.specs.Params.{evenly}
 use Rattle.edge_params.specs.Work.{within}
 use Rattle.edge_params.proofs.Work.{within-then}
 use Rattle.edge_range.specs.declared.Usable.{Usable}
@@ -33,10 +40,11 @@ use Rattle.edge_record.specs.Chain.{width, shortest, flat, samples}
 use Rattle.edge_record.proofs.Laws.{length-flat, reads}
 use Rattle.edge_merge.specs.Merge.{mergeFloor}
 use Rattle.draw_spec.specs.declared.Way.{Way}
+use Rattle.draw_spec.specs.declared.Way.the-variants.{AsDrawn}
 use Rattle.draw_spec.specs.declared.Drawn.{Drawn}
-use Rattle.draw_spec.specs.declared.Drawn.the-variants.{Refused}
-use Rattle.draw_spec.specs.Edge.{edgeCurve, discretised}
-use Rattle.draw_spec.specs.Repair.{Got, by, repaired}
+use Rattle.draw_spec.specs.declared.Drawn.the-variants.{Refused, Chain}
+use Rattle.draw_spec.specs.Edge.{edgeCurve, edgeStart, edgeEnd, edgeExtent, placed, overRange, discretised}
+use Rattle.draw_spec.specs.Repair.{Got, by, stays, repaired}
 use Rattle.draw_spec.specs.Draw as draw
 use Rattle.draw_spec.specs.Draw.{firstWay, localOptions, referenced, inBuffers, roomOf, tooShort, drawn, Outcome, inFirst, afterRefusal, firstAfter, secondAfter}
 use Rattle.draw_spec.specs.Own.Binary.{AllBinary64}
@@ -46,8 +54,14 @@ use Rattle.draw_spec.proofs.Repaired.{referenced-answers}
 use Rattle.draw_spec.proofs.Sound.{Binary}
 use Rattle.draw_spec.proofs.Accepted.{given, by-tables, refused-so}
 use Rattle.draw_spec.proofs.ReadBack.{outcome}
+use Rattle.edge_segment.specs.Own.Segment.{SegmentInto}
+use Rattle.edge_segment.proofs.Sag.{sag-above}
+use Rattle.edge_segment.proofs.Laws.{placed-size, placed-chord}
+use Rattle.edge_place.specs.Own.Place.{ofPoints, chordBetween}
 use Rattle.edge_discretise.specs.Own.Discretised.{DiscretisedInto}
 use Rattle.edge_repair.specs.Own.Redrawn.{DrawnInto}
+use Rattle.edge_repair.proofs.Ways.{repaired-kept}
+use Rattle.draw.specs.Own.Straight.{StraightInto}
 
 -- ---- the room of buffers that are long enough
 room-fine : (first second : ℕ) → shortest ≤ first → shortest ≤ second → Room (roomOf first second)
@@ -198,6 +212,28 @@ module _ (t : Tables) (e : Edge) (r : Resolved) (first second : List Float) (p :
           secondHolds = h .secondHolds ∙ ap (secondAfter s) all-mended ∙ same-second whole s second whole-late (c .second-long);
         }
 
+-- ---- draw_straight
+module _ (t : Tables) (e : Edge) (r : Resolved) (first second : List Float) (p : shortest ≤ length first) (q : shortest ≤ length second) (range : Interval)
+    (u : usableRange (edgeCurve t e) (e .range) ≡ Range range) where
+  over-usable : overRange t e r range ≡ discretised t e r
+  unfolding discretised
+  over-usable = rw (u, discretised)
+
+  -- one segment, which stays, is all of the drawing
+  straight-whole : (l : List Sample) → within (roomOf (length first) (length second)) (overRange t e r range) ≡ got l → stays t e r l ≡ true → whole t e r first second p q ≡ got (by AsDrawn l)
+  unfolding firstWay
+  straight-whole l h k =
+      whole-by t e r first second p q (got l) (ap (within (roomOf (length first) (length second))) (sym over-usable) ∙ h)
+      ∙ repaired-kept t e r (roomOf (length first) (length second)) (by (firstWay (usableRange (edgeCurve t e) (e .range))) l) k
+      ∙ ap (λ (v : Usable). got (by (firstWay v) l)) u
+
+  straight-drawn : {b : Bool} {f s : List Float} → SegmentInto t e r range first b f → b ≡ true → stays t e r (placed t e (evenly range 1)) ≡ true → s ≡ filled (length second) []
+      → DrawnInto (whole t e r first second p q) first second (Chain AsDrawn 2) f s
+  unfolding draw.answerOf firstAfter secondAfter
+  straight-drawn d h k c =
+      rw (straight-whole (placed t e (evenly range 1)) (d .chain h (roomOf (length first) (length second)) (room-fine (length first) (length second) p q .least)) k)
+      (record { answered = ap (Chain AsDrawn) (sym (placed-size t e range)); firstHolds = d .holds h; secondHolds = c })
+
 -- ---- draw: answer and buffers, by the way out
 -- what `binary64` says of the tables and the edge's range
 pub binary : (t : Tables) (e : Edge) → AllBinary64 (t .reals) × AllBinary64 (t .ranges) × T (fits binary64 (e .range .lo)) × T (fits binary64 (e .range .hi)) → Binary t e
@@ -242,3 +278,38 @@ second-short a b h = ap (λ (x : Bool). ltb a shortest || x) (lt-ltb b shortest 
 
 pub neither-short : (a b : ℕ) → shortest ≤ a → shortest ≤ b → tooShort a b ≡ false
 neither-short a b g h = ap (λ (x : Bool). x || ltb b shortest) (le-ltb a shortest g) ∙ le-ltb b shortest h
+
+-- ---- draw_straight, by the way out
+pub not-straight : (D : Result Got) (first second : List Float) {f s : List Float} → f ≡ first → s ≡ second → StraightInto D first second false f s
+not-straight D first second h k = record { chain = λ z. absurd (false≢true z); keptFirst = λ z. h; keptSecond = λ z. k }
+
+module _ (t : Tables) (e : Edge) (o : Options) (first second : List Float) (p : shortest ≤ length first) (q : shortest ≤ length second) (range : Interval)
+    (u : usableRange (edgeCurve t e) (e .range) ≡ Range range) {origin direction : Vec3} (line : preparedOf (edgeCurve t e) ≡ Line origin direction)
+    {start end : Vec3} (at-start : start ≡ edgeStart t e) (at-end : end ≡ edgeEnd t e) where
+  -- the vertices' chord stays with any parameters, and so with its own
+  own-stays : (r : Resolved) → ((x y : Float) → stays (ofPoints (t .points)) e r (chordBetween start end x y) ≡ true) → stays t e r (placed t e (evenly range 1)) ≡ true
+  own-stays r k =
+      let z = placed-chord t e line range in
+      ap (λ (l : List Sample). stays t e r l) (sym (z .2)) ∙ rw (at-start, at-end) at (k (z .0) (z .1))
+
+  pub straight : {b : Bool} {f s : List Float} → SegmentInto t e (forExtent (resolve o) (edgeExtent t e)) range first b f → b ≡ true
+      → ((r : Resolved) → le plusZero (r .sag) ≡ true → (x y : Float) → stays (ofPoints (t .points)) e r (chordBetween start end x y) ≡ true)
+      → s ≡ filled (length second) [] → StraightInto (inBuffers t e o (length first) (length second)) first second true f s
+  unfolding localOptions forExtent
+  straight {b} {f} {s} d h k c =
+      let r = forExtent (resolve o) (edgeExtent t e) in
+      record {
+        chain = λ z.
+            in-buffers t e o first second (neither-short (length first) (length second) p q) r refl _ f s
+            (straight-drawn t e r first second p q range u d h (own-stays r (k r (sag-above o (edgeExtent t e)))) c);
+        keptFirst = λ z. absurd (false≢true (sym z));
+        keptSecond = λ z. absurd (false≢true (sym z));
+      }
+
+-- the buffers as they were, and drawing went on from there
+pub drawn-from : (t : Tables) (e : Edge) (r : Resolved) {first second f s : List Float} → f ≡ first → s ≡ second → {answer : Drawn} {f' s' : List Float}
+    → DrawnInto (within (roomOf (length f) (length s)) (referenced t e r)) f s answer f' s'
+    → DrawnInto (within (roomOf (length first) (length second)) (referenced t e r)) first second answer f' s'
+drawn-from t e r {first} {second} {f} {s} h k {answer} {f'} {s'} d =
+    subst (λ (x : List Float). DrawnInto (within (roomOf (length x) (length second)) (referenced t e r)) x second answer f' s') h
+    (subst (λ (y : List Float). DrawnInto (within (roomOf (length f) (length y)) (referenced t e r)) f y answer f' s') k d)

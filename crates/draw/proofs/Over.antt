@@ -11,7 +11,7 @@ use borrow.Author.Tests.{lt-ltb, le-ltb, ltb-false}
 use Rattle.base_lists.specs.Result.{Result, refused, got}
 use Rattle.brep.specs.declared.Edge.{Edge}
 use Rattle.brep.specs.Rows.{Tables, mostSegments}
-use Rattle.brep.specs.Tree.{tree}
+use Rattle.brep.specs.Tree.{CurveTree, analytic, polyline, trimmed, composite, none, segment, tree}
 use Rattle.options.specs.declared.Options.{Options}
 use Rattle.causes_bounds.proofs.Laws.{neither}
 use Rattle.causes.specs.declared.Verdict.{Verdict}
@@ -19,8 +19,8 @@ use Rattle.causes.specs.declared.Verdict.the-variants as verdicts
 use Rattle.causes.specs.Causes.{oversize, tablesVerdict, edgeVerdict}
 use Rattle.causes.proofs.Apart.{verdict-edge}
 use Rattle.causes.proofs.Checked.{tables-of, edge-numbers}
-use Rattle.curve_nests.specs.Nests.{nests}
-use Rattle.knots.specs.Knots.{curveKnots}
+use Rattle.curve_nests.specs.Nests.{someComposite, nests}
+use Rattle.knots.specs.Knots.{segmentKnots, curveKnots}
 use Rattle.knots_sort.specs.Own.Sortable.{mostKnots}
 use Rattle.edge_record.specs.Chain.{shortest}
 use Rattle.edge_merge.specs.Merge.{mergeFloor}
@@ -110,6 +110,15 @@ module _ (t : Tables) (e : Edge) (o : Options) (first second : ℕ) where
           each false (verdicts.Refused n) k b = let m = edge-numbers t e o n b in (omega arith, omega arith)
           each false verdicts.Accepted true b = (omega arith, omega arith)
           each false verdicts.Accepted false b = bounded-answerable (nests (tree t (e .curve)))
+
+-- ---- a curve with no knots has no segments, so that nothing nests
+pub flat-curve : (c : CurveTree) → length (curveKnots c) ≡ 0 → nests c ≡ false
+unfolding curveKnots segmentKnots nests someComposite
+flat-curve (analytic c) h = refl
+flat-curve (polyline ps) h = refl
+flat-curve (trimmed base range) h = flat-curve base h
+flat-curve (composite none) h = refl
+flat-curve (composite (segment curve range same rest)) h = absurd (omega arith)
 
 -- ---- draw_bounded, by the way out
 module _ (t : Tables) (e : Edge) (o : Options) (first second : List Float) (answer : Drawn) (f s : List Float) where

@@ -2,6 +2,7 @@
 // or one of the numbered refusals.
 use brep::Edge;
 use causes::Verdict;
+use curve_prepared::Prepared;
 use draw_spec::Drawn;
 use draw_spec::Way;
 use edge_range::Usable;
@@ -10,11 +11,12 @@ use math::Interval;
 use options::Options;
 use options::Resolved;
 ghost use mathlib.Core.Path.{_≡_};
-ghost use Prim.Native.Nat.{_≤_};
+ghost use mathlib.Core.List.{List};
+ghost use Prim.Native.Nat.{ℕ, _≤_};
 ghost use lib.ListN.{length};
 ghost use lib.Dec.{T};
-ghost use lib.Ieee.{binary64, fits};
-ghost use Rattle.brep.specs.Rows.{lent, given};
+ghost use lib.Ieee.{Float, binary64, fits};
+ghost use Rattle.brep.specs.Rows.{tables, lent, given};
 ghost use Rattle.brep.specs.Tree.{tree};
 ghost use Rattle.knots_sort.specs.Own.Sortable.{mostKnots};
 ghost use Rattle.knots.specs.Knots.{curveKnots};
@@ -24,6 +26,7 @@ ghost use Rattle.edge_range.specs.Usable.{usableRange};
 ghost use Rattle.draw_spec.specs.Draw.{firstWay, localOptions, referenced, inBuffers, roomOf, Outcome};
 ghost use Rattle.draw_spec.specs.Own.Binary.{AllBinary64};
 ghost use Rattle.edge_repair.specs.Own.Redrawn.{DrawnInto};
+ghost use Rattle.draw.specs.Own.Straight.{StraightInto};
 ghost use Rattle.draw.specs.Over.{drawnBounded, Over};
 
 // The way of the first drawing: the chord where the edge has no usable range.
@@ -75,6 +78,42 @@ fn local_options(
     // No extent changes these, so that none is worked out. (A curve whose evaluation can be refused will have to be probed all
     // the same: its probes can refuse.)
     r
+}
+
+// Draws a line's edge in one segment, the commonest, at once, where neither its extent nor its box can change the chain, and says whether
+// it did. If not, both buffers are as they were, and it is drawn as any other.
+fn draw_straight(
+    points: &[f64],
+    curves: &[u32],
+    edge: Edge,
+    usable: Usable,
+    options: Options,
+    first: &mut [f64],
+    second: &mut [f64],
+) -> bool
+    requires { ⌜ (shortest ≤ length (now first)) × (shortest ≤ length (now second)) ⌝ }
+    ensures { λ w. ⌜ ((reals : List Float) (parts : List ℕ) (ranges : List Float) → usable ≡ usableRange (tree (tables (now (points .entry)) (now (curves .entry)) reals parts ranges) (edge .curve)) (edge .range)
+        → StraightInto (inBuffers (tables (now (points .entry)) (now (curves .entry)) reals parts ranges) edge options (length (now (first .entry))) (length (now (second .entry)))) (now (first .entry)) (now (second .entry)) w (now (first .exit)) (now (second .exit))) ⌝ }
+{
+    if 1 < options.segments {
+        return false;
+    }
+    let Usable::Range(range) = usable else {
+        return false;
+    };
+    let line = curve_prepared::line_under(points, curves, edge.curve);
+    let Prepared::Line { origin, direction } = line else {
+        return false;
+    };
+    let start = brep::point(points, edge.start);
+    let end = brep::point(points, edge.end);
+    if edge_repair::stays_between(points, edge, start, end) {
+        if edge_segment::draw_segment(start, end, origin, direction, edge, range, options, first) {
+            base_lists::clear_from(second, 0);
+            return true;
+        }
+    }
+    false
 }
 
 // The closure inside discretise_all: discretise, then repair_runaway.
@@ -154,6 +193,9 @@ fn draw_unchecked(
         edge.curve,
         edge.range,
     );
+    if draw_straight(points, curves, edge, usable, options, first, second) {
+        return Drawn::Chain(Way::AsDrawn, 2);
+    }
     let r = local_options(points, curves, reals, parts, ranges, edge, usable, options);
     drawn_in(
         points,
@@ -239,6 +281,20 @@ pub fn draw_over(
             let knots = knots::knot_count(points, curves, reals, parts, ranges, edge.curve);
             if knots_sort::MOST_KNOTS < knots {
                 return Drawn::Refused(3);
+            }
+            if knots == 0 {
+                // It has no segments, so that nothing nests.
+                return draw_unchecked(
+                    points,
+                    curves,
+                    reals,
+                    parts,
+                    ranges,
+                    edge,
+                    options,
+                    first,
+                    second,
+                );
             }
             draw_bounded(
                 points,

@@ -1,4 +1,4 @@
--- The ways through `draw_sampled`, `draw_range` and `discretise_usable`. Assumes nothing.
+-- The ways through `draw_sampled` and `discretise_usable`. Assumes nothing.
 use mathlib.Core.Path.{_≡_, refl, sym, ap, _∙_}
 use mathlib.Core.Bool.{Bool, true}
 use mathlib.Core.List.{List, [], _∷_, _++_}
@@ -19,13 +19,12 @@ use Rattle.edge_params.specs.declared.Listed.{Listed}
 use Rattle.edge_params.specs.declared.Listed.the-variants as listed
 use Rattle.edge_params.specs.Work.{ends, overflows, within}
 use Rattle.edge_params.specs.Own.Written.{said}
-use Rattle.edge_params.specs.Params.{evenly}
 use Rattle.edge_params.proofs.Work.{within-then}
 use Rattle.edge_record.specs.declared.Sample.{Sample}
 use Rattle.edge_record.specs.declared.Counted.{Counted}
 use Rattle.edge_record.specs.declared.Counted.the-variants.{Refused, Count}
 use Rattle.edge_record.specs.Own.Stored.{countedOf}
-use Rattle.edge_record.specs.Chain.{width, shortest, most, flat, samples}
+use Rattle.edge_record.specs.Chain.{width, most, flat, samples}
 use Rattle.edge_range.specs.declared.Usable.{Usable}
 use Rattle.edge_range.specs.declared.Usable.the-variants.{Range, Unusable}
 use Rattle.edge_range.specs.Usable.{usableRange}
@@ -41,8 +40,6 @@ use Rattle.draw_spec.specs.Edge.{edgeCurve, atLeastTwo, chordOf, placed, thinne
 use Rattle.draw_spec.specs.Draw.{roomOf}
 use Rattle.edge_place.proofs.Records.{read-back}
 use Rattle.edge_place.proofs.Laws.{placed-length}
-use Rattle.edge_segment.specs.Own.Segment.{SegmentInto}
-use Rattle.edge_segment.proofs.Laws.{placed-size}
 use Rattle.edge_discretise.specs.Own.Discretised.{ChainInto}
 
 into-is : (n m : ℕ) (D E : Result (List Sample)) {w : Counted} {g : List Float} → n ≡ m → D ≡ E → ChainInto n D w g → ChainInto m E w g
@@ -159,14 +156,6 @@ pub none-listed : (room : ℕ) (S : Result (List Float)) (w : Listed) {out : Lis
 none-listed room (refused n) w a e h = h
 none-listed room (got l) w a e h = let q : refused 8 ≡ got (length l) = ap said (sym e) ∙ a in let z : _≡_ {A = ℕ} 0 1 = cc in absurd (omega arith)
 
--- ---- `draw_range`
--- one segment, which was drawn
-pub into-segment : {T : Tables} {e : Edge} {r : Resolved} {range : Interval} {chain g : List Float} {b : Bool} → SegmentInto T e r range chain b g → b ≡ true
-    → (room : ℕ) → 2 ≤ room → ChainInto (length chain) (within room (overRange T e r range)) (Count 2) g
-into-segment {T} {e} {r} {range} {chain} s t room h =
-    into-is (length chain) (length chain) (got (placed T e (evenly range 1))) _ refl (sym (s .chain t room h))
-    (record { answered = ap Count (sym (placed-size T e range)); holds = s .holds t })
-
 -- ---- `discretise_usable`
 -- n is the room that both buffers give, and scratch's first n floats are lent
 pub record Lent (first n : ℕ) (scratch : List Float) : Type 0 where
@@ -180,11 +169,6 @@ unfolding roomOf
 lent-part first n scratch e =
     let h : n ≤ length scratch = omega arith in
     record { few = omega arith; fits = omega arith; inside = h; size = length-take-le n scratch h }
-
--- two records fit
-pub two-fit : (first second n : ℕ) → n ≡ roomOf first second → shortest ≤ first → shortest ≤ second → 2 ≤ n
-unfolding roomOf
-two-fit first second n e h k = omega arith
 
 -- scratch afterwards, with what was left in that part, has its length
 pub whole-length : (n : ℕ) (left scratch : List Float) → length left ≡ length (take n scratch) → length (left ++ drop n scratch) ≡ length scratch

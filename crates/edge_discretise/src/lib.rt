@@ -161,42 +161,6 @@ fn draw_sampled(
     finish(points, curves, reals, parts, ranges, edge, r, chain, n)
 }
 
-// Draws a usable range. A line in one segment, the commonest edge, is known without sampling; what that would make of it is the same.
-fn draw_range(
-    points: &[f64],
-    curves: &[u32],
-    reals: &[f64],
-    parts: &[u32],
-    ranges: &[f64],
-    edge: Edge,
-    range: Interval,
-    r: Resolved,
-    chain: &mut [f64],
-    scratch: &mut [f64],
-) -> Counted
-    requires { ⌜ (2 ≤ length (now scratch)) × (length (now scratch) ≤ most) × (width * length (now scratch) ≤ length (now chain))
-        × (length (curveKnots (tree (lent points curves reals parts ranges) (edge .curve))) ≤ mostKnots) ⌝ }
-    ensures { λ w. ⌜ ChainInto (length (now (chain .entry))) (within (length (now (scratch .entry))) (overRange (given points curves reals parts ranges) edge r range)) w (now (chain .exit))
-        × (now (scratch .exit) ≡ filled (length (now (scratch .entry))) []) ⌝ }
-{
-    if edge_segment::draw_segment(points, curves, edge, range, r, chain) {
-        base_lists::clear_from(scratch, 0);
-        return Counted::Count(2);
-    }
-    draw_sampled(
-        points,
-        curves,
-        reals,
-        parts,
-        ranges,
-        edge,
-        range,
-        r,
-        chain,
-        scratch,
-    )
-}
-
 // The edge's chain over its usable range, which is known, from the start of chain, and +0.0 behind it, or everywhere where
 // it is refused; +0.0 in all of scratch.
 pub fn discretise_usable(
@@ -222,7 +186,7 @@ pub fn discretise_usable(
     };
     let n = room(chain.len(), scratch.len());
     let part = &mut scratch[..n];
-    let drawn = draw_range(
+    let drawn = draw_sampled(
         points,
         curves,
         reals,

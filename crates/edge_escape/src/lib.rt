@@ -6,9 +6,11 @@ use math::Vec3;
 use options::Resolved;
 ghost use mathlib.Core.Path.{_≡_};
 ghost use mathlib.Core.Bool.{true, false};
+ghost use mathlib.Core.List.{[], _∷_};
 ghost use Prim.Native.Nat.{_*_, _≤_};
 ghost use lib.ListN.{length};
-ghost use lib.Ieee.{le};
+ghost use lib.Ieee.{Float, le};
+ghost use Rattle.arith.specs.Notation.{plusZero};
 ghost use Rattle.arith_root.specs.Root.{rootOf};
 ghost use Rattle.brep.specs.Rows.{given};
 ghost use Rattle.brep.specs.Tree.{tree};
@@ -61,6 +63,21 @@ fn is_near(reference: Aabb, r: Resolved, chain: &[f64], n: usize) -> bool
     let sag = r.sag;
     if 0.0 <= sag && 0.0 <= square {
         return all_near(reference, r, square, chain, n);
+    }
+    false
+}
+
+// Whether two points lie within the box's diagonal of its centre, by the squares: then no chain of the two escapes, whatever its sag, if
+// that is not below zero. `false` says nothing.
+pub fn are_near(reference: Aabb, p: Vec3, q: Vec3) -> bool
+    ensures { λ b. ⌜ (b ≡ true → (r : Resolved) → le plusZero (r .sag) ≡ true → (s t : Float) → false ≡ escapes reference r (record { point = p; param = s } ∷ record { point = q; param = t } ∷ [])) ⌝ }
+{
+    let square = reference.size().length_squared();
+    let centre = reference.centre();
+    let s = p.sub(centre).length_squared();
+    let t = q.sub(centre).length_squared();
+    if 0.0 <= square && s <= square {
+        return t <= square;
     }
     false
 }

@@ -20,7 +20,7 @@ use Rattle.edge_record.specs.Own.Stored.{recordPoint}
 use Rattle.edge_record.proofs.Laws.{flat-one, push, samplesFrom-length, rest-cleared}
 use Rattle.edge_closed_form.proofs.Located.{located-length}
 use Rattle.draw_spec.specs.Edge.{edgeCurve, edgeStart, edgeEnd, located, nearSquared, degenerateEnds, isReversed, oriented, movedTo, lastPinned, pinned, chordOf, placed}
-use Rattle.edge_place.specs.Own.Place.{ofPoints}
+use Rattle.edge_place.specs.Own.Place.{ofPoints, chordBetween}
 use Rattle.edge_place.proofs.Records.{pass, put-at, read-at, own-samples}
 
 -- ---- pinned
@@ -145,16 +145,19 @@ module _ (T : Tables) (e : Edge) where
     pub held-known : samples (length params) c ≡ located (edgeCurve T e) params → {held : List Float} → held ≡ c → held ≡ sets c 0 (flat (located (edgeCurve T e) params))
     held-known s q = q ∙ own-samples c (length params) ∙ ap (λ (z : List Sample). sets c 0 (flat z)) s
 
--- ---- `chord`
-pub chord-held : (T : Tables) (e : Edge) (a b : Float) (c d f g : List Float) (p q : Vec3) → shortest ≤ length c → p ≡ edgeStart T e → q ≡ edgeEnd T e
+-- ---- `chord_between` and `chord`
+
+pub chord-held : (p q : Vec3) (a b : Float) (c d f g : List Float) → shortest ≤ length c
     → d ≡ sets c 0 (row (record { point = p; param = a })) → f ≡ sets d width (row (record { point = q; param = b })) → g ≡ filled (length f) (take shortest f)
-    → g ≡ filled (length c) (flat (chordOf T e a b))
-chord-held T e a b c d f g p q room s t h k w =
-    let A : Sample = record { point = edgeStart T e; param = a } in
-    let B : Sample = record { point = edgeEnd T e; param = b } in
-    let v : d ≡ sets c 0 (flat (A ∷ [])) =
-    h ∙ ap (λ (x : Vec3). sets c 0 (row (record { point = x; param = a }))) s ∙ ap (sets c 0) (sym (flat-one A)) in
-    let u : f ≡ sets c 0 (flat (chordOf T e a b)) =
-    k ∙ ap (λ (x : Vec3). sets d width (row (record { point = x; param = b }))) t
-    ∙ ap (λ (l : List Float). sets l width (row B)) v ∙ push c (A ∷ []) B in
-    w ∙ ap (λ (l : List Float). filled (length l) (take shortest l)) u ∙ rest-cleared c (chordOf T e a b) room
+    → g ≡ filled (length c) (flat (chordBetween p q a b))
+chord-held p q a b c d f g room h k w =
+    let A : Sample = record { point = p; param = a } in
+    let B : Sample = record { point = q; param = b } in
+    let v : d ≡ sets c 0 (flat (A ∷ [])) = h ∙ ap (sets c 0) (sym (flat-one A)) in
+    let u : f ≡ sets c 0 (flat (chordBetween p q a b)) = k ∙ ap (λ (l : List Float). sets l width (row B)) v ∙ push c (A ∷ []) B in
+    w ∙ ap (λ (l : List Float). filled (length l) (take shortest l)) u ∙ rest-cleared c (chordBetween p q a b) room
+
+pub chord-vertices : (T : Tables) (e : Edge) (a b : Float) (n : ℕ) {p q : Vec3} {g : List Float} → p ≡ edgeStart T e → q ≡ edgeEnd T e
+    → g ≡ filled n (flat (chordBetween p q a b)) → g ≡ filled n (flat (chordOf T e a b))
+chord-vertices T e a b n {p} s t h =
+    h ∙ ap (λ (x : Vec3). filled n (flat (chordBetween p x a b))) t ∙ ap (λ (x : Vec3). filled n (flat (chordBetween x (edgeEnd T e) a b))) s

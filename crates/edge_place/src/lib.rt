@@ -15,7 +15,7 @@ ghost use Rattle.brep.specs.Tree.{tree};
 ghost use Rattle.edge_record.specs.Chain.{width, shortest, row, flat, sampleAt, samples};
 ghost use Rattle.edge_record.specs.Own.Stored.{recordPoint};
 ghost use Rattle.draw_spec.specs.Edge.{edgeCurve, edgeStart, edgeEnd, located, isReversed, oriented, movedTo, pinned, chordOf, placed};
-ghost use Rattle.edge_place.specs.Own.Place.{ofPoints};
+ghost use Rattle.edge_place.specs.Own.Place.{ofPoints, chordBetween};
 
 // Whether a chain that follows its parameters from head to tail runs against the edge, whose vertices are at start and end. Where these are
 // too near each other to tell, the sense does.
@@ -160,13 +160,11 @@ pub fn place(
     pin_ends(points, edge, n, chain);
 }
 
-// The two-vertex chord with the parameters a and b, and +0.0 behind it.
-pub fn chord(points: &[f64], edge: Edge, a: f64, b: f64, chain: &mut [f64])
+// The chord of two points with the parameters a and b, and +0.0 behind it.
+pub fn chord_between(start: Vec3, end: Vec3, a: f64, b: f64, chain: &mut [f64])
     requires { ⌜ shortest ≤ length (now chain) ⌝ }
-    ensures { λ _. ⌜ now (chain .exit) ≡ filled (length (now (chain .entry))) (flat (chordOf (ofPoints (now (points .entry))) edge a b)) ⌝ }
+    ensures { λ _. ⌜ now (chain .exit) ≡ filled (length (now (chain .entry))) (flat (chordBetween start end a b)) ⌝ }
 {
-    let start = brep::point(points, edge.start);
-    let end = brep::point(points, edge.end);
     edge_record::put(
         chain,
         0,
@@ -184,4 +182,14 @@ pub fn chord(points: &[f64], edge: Edge, a: f64, b: f64, chain: &mut [f64])
         },
     );
     base_lists::clear_from(chain, 2 * edge_record::WIDTH);
+}
+
+// The two-vertex chord with the parameters a and b, and +0.0 behind it.
+pub fn chord(points: &[f64], edge: Edge, a: f64, b: f64, chain: &mut [f64])
+    requires { ⌜ shortest ≤ length (now chain) ⌝ }
+    ensures { λ _. ⌜ now (chain .exit) ≡ filled (length (now (chain .entry))) (flat (chordOf (ofPoints (now (points .entry))) edge a b)) ⌝ }
+{
+    let start = brep::point(points, edge.start);
+    let end = brep::point(points, edge.end);
+    chord_between(start, end, a, b, chain);
 }

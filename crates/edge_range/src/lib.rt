@@ -5,9 +5,16 @@ use math::Interval;
 use options::Resolved;
 ghost use mathlib.Core.Path.{_≡_};
 ghost use Prim.Native.Nat.{max};
+ghost use Rattle.arith.specs.Notation.{plusZero};
+ghost use Rattle.math.specs.Math.{interval};
 ghost use Rattle.brep.specs.Rows.{given};
-ghost use Rattle.brep.specs.Tree.{tree};
+ghost use Rattle.brep.specs.Tree.{CurveTree, tree};
+ghost use Rattle.curve.specs.declared.Repeats.the-variants.{Every, Never};
+ghost use Rattle.curve.specs.Eval.{tau, naturalRange, period};
 ghost use Rattle.edge_range.specs.Usable.{ownRange, clampedToDomain, withinDomain, isNoRange, usableRange, ellipseRadius, analyticSegments};
+
+// 2π
+const TAU: f64 = 6.283185307179586;
 
 // What `usable_range` finds: the range to sample, or none.
 pub enum Usable {
@@ -61,8 +68,28 @@ fn is_no_range(range: Interval) -> bool
     true
 }
 
-// usable_range: the edge's own range, where a curve can be drawn over it; else the curve's natural one, where that is short enough.
-pub fn usable_range(
+// usable_range of a curve that never repeats, by its natural range.
+fn usable_once(natural: Interval, range: Interval) -> Usable
+    ensures { λ r. ⌜ ((c : CurveTree) → natural ≡ naturalRange c → Never ≡ period c → r ≡ usableRange c range) ⌝ }
+{
+    if is_no_range(range) {
+        return own_range(natural);
+    }
+    Usable::Range(clamped_to_domain(natural, range))
+}
+
+// usable_range of a circle or an ellipse.
+fn usable_round(range: Interval) -> Usable
+    ensures { λ r. ⌜ ((c : CurveTree) → interval plusZero tau ≡ naturalRange c → Every tau ≡ period c → r ≡ usableRange c range) ⌝ }
+{
+    if is_no_range(range) {
+        return own_range(Interval { lo: 0.0, hi: TAU });
+    }
+    Usable::Range(range)
+}
+
+// usable_range of any curve.
+fn usable_any(
     points: &[f64],
     curves: &[u32],
     reals: &[f64],
@@ -79,6 +106,35 @@ pub fn usable_range(
     }
     let repeats = curve::period(points, curves, reals, parts, ranges, row);
     Usable::Range(within_domain(repeats, natural, range))
+}
+
+// usable_range: the edge's own range, where a curve can be drawn over it; else the curve's natural one, where that is short enough. A
+// row that is no trim and no run is told by its kind alone, as curve::natural_range and curve::period have it.
+pub fn usable_range(
+    points: &[f64],
+    curves: &[u32],
+    reals: &[f64],
+    parts: &[u32],
+    ranges: &[f64],
+    row: u32,
+    range: Interval,
+) -> Usable
+    ensures { λ r. ⌜ r ≡ usableRange (tree (given points curves reals parts ranges) row) range ⌝ }
+{
+    let kind = brep::int_at(curves, row as usize * 3);
+    match kind {
+        1 => usable_once(
+            Interval {
+                lo: -1e12,
+                hi: 1e12,
+            },
+            range,
+        ),
+        2 => usable_round(range),
+        3 => usable_round(range),
+        4 => usable_once(Interval { lo: -1e6, hi: 1e6 }, range),
+        _ => usable_any(points, curves, reals, parts, ranges, row, range),
+    }
 }
 
 // A line has one segment at least.

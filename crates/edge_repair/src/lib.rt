@@ -6,13 +6,16 @@ use draw_spec::Way;
 use edge_record::Counted;
 use math::Aabb;
 use math::Interval;
+use math::Vec3;
 use options::Resolved;
 ghost use mathlib.Core.Path.{_≡_};
 ghost use mathlib.Core.Bool.{true};
 ghost use mathlib.Core.List.{[]};
 ghost use Prim.Native.Nat.{_*_, _≤_};
 ghost use lib.ListN.{length};
+ghost use lib.Ieee.{Float, le};
 ghost use Rattle.base_lists.specs.Room.{filled};
+ghost use Rattle.arith.specs.Notation.{plusZero};
 ghost use Rattle.brep.specs.Rows.{lent, given};
 ghost use Rattle.brep.specs.Tree.{tree};
 ghost use Rattle.knots_sort.specs.Own.Sortable.{mostKnots};
@@ -22,7 +25,7 @@ ghost use Rattle.edge_record.specs.Chain.{width, shortest, flat, samples};
 ghost use Rattle.draw_spec.specs.Edge.{discretised};
 ghost use Rattle.draw_spec.specs.Repair.{by, withRange, reference, runaway, serves, arcOrChord, shortRange, hasShortArc, byShortArc, byComplement, stays, repaired};
 ghost use Rattle.draw_spec.specs.Draw.{roomOf, inFirst};
-ghost use Rattle.edge_place.specs.Own.Place.{ofPoints};
+ghost use Rattle.edge_place.specs.Own.Place.{ofPoints, chordBetween};
 ghost use Rattle.edge_repair.specs.Own.Redrawn.{RedrawnChain, InSecond, RedrawnInto, DrawnInto};
 
 // The edge with another range.
@@ -264,6 +267,17 @@ fn stays(points: &[f64], edge: Edge, r: Resolved, chain: &[f64], n: usize) -> bo
         return !(0.0 < b.diagonal());
     }
     true
+}
+
+// Whether a chain of two points stays, whatever its parameters and its sag, if that is not below zero. `false` says nothing.
+pub fn stays_between(points: &[f64], edge: Edge, p: Vec3, q: Vec3) -> bool
+    ensures { λ b. ⌜ (b ≡ true → (r : Resolved) → le plusZero (r .sag) ≡ true → (s t : Float) → stays (ofPoints (now (points .entry))) edge r (chordBetween p q s t) ≡ true) ⌝ }
+{
+    let b = reference(points, edge);
+    if b.is_empty() {
+        return true;
+    }
+    edge_escape::are_near(b, p, q)
 }
 
 // Keeps the chain of n records that stands alone in the first buffer, or draws another way into the second and clears

@@ -19,9 +19,11 @@ use Rattle.brep.specs.Rows.{Tables}
 use Rattle.brep.specs.Tree.{CurveTree}
 use Rattle.curve.specs.Eval.{pointAt, isSampled}
 use Rattle.curve_prepared.specs.declared.Prepared.the-variants.{Line}
-use Rattle.curve_prepared.specs.Own.Prepared.{preparedOf, lineOnly}
-use Rattle.curve_prepared.proofs.Laws.{through-line, told-line}
+use Rattle.curve_prepared.specs.Own.Prepared.{preparedOf}
+use Rattle.curve_prepared.proofs.Laws.{through-line}
+use Rattle.options.specs.declared.Options.{Options}
 use Rattle.options.specs.declared.Resolved.{Resolved}
+use Rattle.options.specs.Options.{resolve, sagFor, forExtent}
 use Rattle.edge_params.specs.declared.Closed.the-variants.{Segments}
 use Rattle.edge_params.specs.Work.{ends, overflows, within}
 use Rattle.edge_params.specs.Params.{midpoint, steps, evenly}
@@ -39,8 +41,8 @@ use Rattle.edge_sample.specs.Sample.{sampler, sampled}
 use Rattle.edge_sample.specs.Own.Answered.{sampledIn}
 use Rattle.edge_sample.proofs.Laws.{sampled-in}
 use Rattle.edge_merge.specs.Merge.{mergeFloor, spaced, withEnd, merged}
-use Rattle.draw_spec.specs.Edge.{edgeCurve, edgeStart, edgeEnd, located, degenerateEnds, isReversed, oriented, lastPinned, pinned, thinnedIf, chordOf, atLeastTwo, placed, finished, overRange}
-use Rattle.edge_place.specs.Own.Place.{ofPoints}
+use Rattle.draw_spec.specs.Edge.{edgeCurve, edgeStart, edgeEnd, located, isReversed, oriented, lastPinned, pinned, thinnedIf, chordOf, atLeastTwo, placed, finished, overRange}
+use Rattle.edge_place.specs.Own.Place.{chordBetween}
 use Rattle.edge_place.proofs.Laws.{placed-length}
 use Rattle.edge_segment.specs.Own.Segment.{SegmentInto}
 
@@ -145,23 +147,39 @@ module _ (T : Tables) (e : Edge) {o d : Vec3} (R : preparedOf (edgeCurve T e) �
       go a b true = refl
       go a b false = refl
 
+  -- so that it is the vertices' chord, with some parameters
+  pub placed-chord : (a : Float) × (b : Float) × (chordOf T e a b ≡ placed T e (evenly range 1))
+  placed-chord = go (isReversed T e (vAdd o (vScale d (at range plusZero))) (vAdd o (vScale d (at range one)))) line-placed
+    where
+      go : (v : Bool) → cond v (chordOf T e (at range one) (at range plusZero)) (chordOf T e (at range plusZero) (at range one)) ≡ placed T e (evenly range 1)
+          → (a : Float) × (b : Float) × (chordOf T e a b ≡ placed T e (evenly range 1))
+      go true h = (at range one, at range plusZero, h)
+      go false h = (at range plusZero, at range one, h)
+
 -- ---- `draw_segment`
 module _ (T : Tables) (e : Edge) (r : Resolved) (range : Interval) (entry : List Float) where
   pub not-drawn : {exit : List Float} → exit ≡ entry → SegmentInto T e r range entry false exit
   not-drawn h = record { chain = λ z. absurd (false≢true z); holds = λ z. absurd (false≢true z); kept = λ z. h }
 
-  -- a and b are the parameters, pa and pb the points there of the line that was told
-  pub drawn : {o d pa pb : Vec3} {a b : Float} → r .segments ≤ 1 → Line o d ≡ lineOnly (preparedOf (edgeCurve T e))
+  -- a and b are the parameters, pa and pb the points there of the line, p and q the vertices
+  pub drawn : {o d pa pb p q : Vec3} {a b : Float} → p ≡ edgeStart T e → q ≡ edgeEnd T e → preparedOf (edgeCurve T e) ≡ Line o d → r .segments ≤ 1
       → a ≡ at range plusZero → b ≡ at range one → pa ≡ vAdd o (vScale d a) → pb ≡ vAdd o (vScale d b)
-      → ((c : CurveTree) → preparedOf c ≡ Line o d → true ≡ le (worstMiss c plusZero (a ∷ b ∷ [])) (r .sag))
-      → {exit : List Float} → exit ≡ filled (length entry) (flat (cond (isReversed (ofPoints (T .points)) e pa pb) (chordOf (ofPoints (T .points)) e b a) (chordOf (ofPoints (T .points)) e a b)))
+      → le (worstMiss (edgeCurve T e) plusZero (a ∷ b ∷ [])) (r .sag) ≡ true
+      → {exit : List Float} → exit ≡ filled (length entry) (flat (cond (isReversed T e pa pb) (chordBetween p q b a) (chordBetween p q a b)))
       → SegmentInto T e r range entry true exit
-  unfolding isReversed degenerateEnds
-  drawn k L A B P Q M H =
-      let R = told-line (preparedOf (edgeCurve T e)) (sym L) in
-      let m = ap (λ (l : List Float). le (worstMiss (edgeCurve T e) plusZero l) (r .sag)) (two-ends range) ∙ sym (rw (A, B) at (M (edgeCurve T e) R)) in
+  drawn S E R k A B P Q M H =
+      let m = ap (λ (l : List Float). le (worstMiss (edgeCurve T e) plusZero l) (r .sag)) (two-ends range) ∙ rw (A, B) at M in
       record {
         chain = λ z. line-over T e R range r k m;
-        holds = λ z. rw (Q, P, B, A) at H ∙ ap (λ (l : List Sample). filled (length entry) (flat l)) (line-placed T e R range);
+        holds = λ z. rw (Q, P, B, A, S, E) at H ∙ ap (λ (l : List Sample). filled (length entry) (flat l)) (line-placed T e R range);
         kept = λ z. absurd (false≢true (sym z));
       }
+
+-- one segment at least, so that one is asked for where no more are
+pub one-segment : (o : Options) (x : Float) → o .segments ≤ 1 → forExtent (resolve o) x .segments ≤ 1
+unfolding forExtent resolve
+one-segment o x h = omega arith
+
+pub its-sag : (o : Options) (x : Float) → sagFor (resolve o) x ≡ forExtent (resolve o) x .sag
+unfolding forExtent
+its-sag o x = refl

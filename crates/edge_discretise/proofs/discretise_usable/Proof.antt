@@ -6,7 +6,7 @@ use denote.Ref.{now}
 use lib.ListN.{length}
 use Rattle.brep.specs.Rows.{Tables, lent}
 use Rattle.draw_spec.specs.Draw.{roomOf}
-use Rattle.edge_discretise.proofs.Drawing.{Lent, lent-part, two-fit, whole-length, cleared-whole, into-range, into-chord}
+use Rattle.edge_discretise.proofs.Drawing.{Lent, lent-part, whole-length, cleared-whole, into-range, into-chord}
 use borrow.Author.Needs.{needs}
 use Rattle.edge_discretise.proofs.discretise_usable.Statement.{statement}
 use Rattle.edge_discretise.proofs.discretise_usable.Tie as tie
@@ -35,24 +35,24 @@ slice-relend-prefix-part c = told c .inside
 slice-aggregate-part : tie.Need-slice-aggregate-part
 slice-aggregate-part c = sym (told (c .before) .size)
 
-draw-range-requires : tie.Need-draw-range-requires
-draw-range-requires c κs =
+draw-sampled-requires : tie.Need-draw-sampled-requires
+draw-sampled-requires c κs =
     let f = c .before .before in
     let l = told f in
     let p = f .before .before .before .before .before .before .before .before .before .before .before .pre in
-    (omega (arith, l .size, two-fit _ _ _ (f .room .ensures) (p .0) (p .1)), omega (arith, l .few, l .size), omega (arith, l .fits, l .size), p .2)
+    (omega (arith, l .few, l .size), omega (arith, l .fits, l .size), p .2)
 
 clear-from-requires-2 : tie.Need-clear-from-requires-2
 clear-from-requires-2 c κs =
     let l = told (c .before .before .before .before .before .before .before .before) in
-    omega (arith, l .inside, whole-length (c .before .before .before .before .before .before .before .before .room .result) (c .before .before .before .before .before .draw-range .last .1 .1 .1 .1 .1 .1 .1 .1 .1 .0) (now (c .before .before .before .before .before .before .before .before .before .before .before .before .before .before .before .before .before .before .before .args .scratch)) (c .before .before .before .before .scratch2 .given .0))
+    omega (arith, l .inside, whole-length (c .before .before .before .before .before .before .before .before .room .result) (c .before .before .before .before .before .draw-sampled .last .1 .1 .1 .1 .1 .1 .1 .1 .1 .0) (now (c .before .before .before .before .before .before .before .before .before .before .before .before .before .before .before .before .before .before .before .args .scratch)) (c .before .before .before .before .scratch2 .given .0))
 
 returns-2 : tie.Need-returns-2
 returns-2 c =
     let st = c .before .before .before .before .before .before .before .before .before .before .before .before .before .before .before .before .before .before .before .before .before .before in
     let n = c .before .before .before .before .before .before .before .before .before .before .before .room in
     let l = told (c .before .before .before .before .before .before .before .before .before .before .before) in
-    let d = c .before .before .before .before .before .before .before .before .draw-range in
+    let d = c .before .before .before .before .before .before .before .before .draw-sampled in
     record {
       drawn =
           into-range (room-of st) (tables-of st) (st .args .edge) (st .args .r) (length (now (st .args .chain))) _ (st .pre .3) _ _ (c .before .before .before .before .before .before .before .before .before .before .before .before .before .usable .given .1)
@@ -74,7 +74,7 @@ discretise-usable-spec =
     (λ c κs. search needs)
     slice-relend-prefix-part
     slice-aggregate-part
-    draw-range-requires
+    draw-sampled-requires
     clear-from-requires-2
     (λ c. search needs)
     (λ c. search needs)

@@ -1,11 +1,14 @@
 -- `edge_segment::meets` meets its contract: the miss by its square, as a closed form's check has it. Assumes nothing.
 use mathlib.Core.Path.{_≡_, sym, ap, _∙_}
+use mathlib.Core.Bool.{false≢true}
 use lib.Ieee.{Float, le}
 use Rattle.arith_root.specs.Root.{rootOf}
 use Rattle.brep.specs.Tree.{CurveTree}
+use Rattle.options.specs.Options.{resolve, sagFor}
 use Rattle.curve_prepared.specs.declared.Prepared.the-variants.{Line}
 use Rattle.curve_prepared.specs.Own.Prepared.{preparedOf}
 use Rattle.edge_closed_form.specs.Own.Worst.{missSquare}
+use Rattle.edge_segment.proofs.Sag.{sag-above, root-within}
 use Rattle.edge_segment.proofs.Laws.{line-miss, miss-within, larger-taken, larger-left}
 use borrow.Author.Needs.{needs}
 use Rattle.edge_segment.proofs.meets.Statement.{statement}
@@ -20,16 +23,27 @@ squared f k e =
     (rw (sym (st .pre .1), sym (st .pre .0), sym (f .before .before .before .before .before .scale .ensures), sym (f .before .before .before .before .add .ensures), sym (f .before .before .before .add2 .ensures), sym (f .before .before .scale2 .ensures), sym (f .before .sub .ensures)) (f .length-squared .ensures))
 
 returns : tie.Need-returns
-returns c = λ (k : CurveTree) e.
-    let f = c .before .before in
+returns c = λ h (k : CurveTree) e (x : Float).
+    let f = c .before .before .before .before in
     let a = f .before .before .before .before .before .before .args in
-    ap (λ (x : Float). le x (a .sag)) (c .root .ensures .0 ∙ ap rootOf (sym (larger-taken _ (c .before .if1 .taken)))) ∙ miss-within k (a .a) (a .b) _ (a .sag) (search needs) (squared f k e)
+    let s = f .length-squared .result in
+    let sag = sagFor (resolve (a .options)) x in
+    sym (miss-within k (a .a) (a .b) s sag (search needs) (squared f k e))
+    ∙ ap (λ (y : Float). le (rootOf y) sag) (larger-taken s (c .before .before .before .if1 .taken))
+    ∙ root-within (a .options) x s (search needs) (c .before .before .before .if1 .taken) (c .before .before .if2 .taken) (rw (sym (c .before .resolve .ensures)) h)
 
 returns-2 : tie.Need-returns-2
-returns-2 c = λ (k : CurveTree) e.
+returns-2 c = λ h. absurd (false≢true (sym (c .if2 .left) ∙ h))
+
+returns-3 : tie.Need-returns-3
+returns-3 c = λ h (k : CurveTree) e (x : Float).
     let f = c .before in
     let a = f .before .before .before .before .before .before .args in
-    ap (λ (x : Float). le x (a .sag)) (sym (larger-left _ (c .if1 .left))) ∙ miss-within k (a .a) (a .b) _ (a .sag) (search needs) (squared f k e)
+    let s = f .length-squared .result in
+    let sag = sagFor (resolve (a .options)) x in
+    sym (miss-within k (a .a) (a .b) s sag (search needs) (squared f k e))
+    ∙ ap (λ (y : Float). le y sag) (larger-left s (c .if1 .left))
+    ∙ sag-above (a .options) x
 
 pub meets-spec : {M : Type 1} → statement M
 meets-spec =
@@ -43,4 +57,5 @@ meets-spec =
     (λ c κs. search needs)
     (λ c κs. search needs)
     returns
-    returns-2)
+    returns-2
+    returns-3)
