@@ -24,11 +24,6 @@ ghost use Rattle.draw_spec.specs.Edge.{edgeCurve, edgeStart, edgeEnd, isReverse
 ghost use Rattle.edge_place.specs.Own.Place.{chordBetween};
 ghost use Rattle.edge_segment.specs.Own.Segment.{SegmentInto};
 
-// The square of a miss of 2^-25, and 8 times that miss: where the whole model's sag is not below it, none for an extent is below the miss.
-const LITTLE: f64 = 8.881784197001252e-16;
-
-const ENOUGH: f64 = 2.384185791015625e-7;
-
 // Whether a line's middle between a and b, where its points are pa and pb, is within the sag of the middle of these, whatever the extent
 // that the sag is for: the check of a closed form, which only rounding can make a line fail. No root is taken, and `false` says nothing.
 fn meets(
@@ -47,7 +42,9 @@ fn meets(
     let m = origin.add(direction.scale(t));
     let s = m.sub(pa.add(pb).scale(0.5)).length_squared();
     if 0.0 < s {
-        return s <= LITTLE && ENOUGH <= options.resolve().sag;
+        // No sag for an extent is below an eighth of the whole model's.
+        let least = options.resolve().sag / 8.0;
+        return s < least * least;
     }
     // Nothing is missed, or by a NaN, which is passed over.
     true

@@ -1,6 +1,5 @@
 -- `edge_segment::meets` meets its contract: the miss by its square, as a closed form's check has it. Assumes nothing.
 use mathlib.Core.Path.{_≡_, sym, ap, _∙_}
-use mathlib.Core.Bool.{false≢true}
 use lib.Ieee.{Float, le}
 use Rattle.arith_root.specs.Root.{rootOf}
 use Rattle.brep.specs.Tree.{CurveTree}
@@ -24,19 +23,16 @@ squared f k e =
 
 returns : tie.Need-returns
 returns c = λ h (k : CurveTree) e (x : Float).
-    let f = c .before .before .before .before in
+    let f = c .before .before .before in
     let a = f .before .before .before .before .before .before .args in
     let s = f .length-squared .result in
     let sag = sagFor (resolve (a .options)) x in
     sym (miss-within k (a .a) (a .b) s sag (search needs) (squared f k e))
-    ∙ ap (λ (y : Float). le (rootOf y) sag) (larger-taken s (c .before .before .before .if1 .taken))
-    ∙ root-within (a .options) x s (search needs) (c .before .before .before .if1 .taken) (c .before .before .if2 .taken) (rw (sym (c .before .resolve .ensures)) h)
+    ∙ ap (λ (y : Float). le (rootOf y) sag) (larger-taken s (c .before .before .if1 .taken))
+    ∙ root-within (a .options) x s (search needs) (rw (sym (c .before .resolve .ensures)) (search needs)) (c .before .before .if1 .taken) (rw (sym (c .before .resolve .ensures)) h)
 
 returns-2 : tie.Need-returns-2
-returns-2 c = λ h. absurd (false≢true (sym (c .if2 .left) ∙ h))
-
-returns-3 : tie.Need-returns-3
-returns-3 c = λ h (k : CurveTree) e (x : Float).
+returns-2 c = λ h (k : CurveTree) e (x : Float).
     let f = c .before in
     let a = f .before .before .before .before .before .before .args in
     let s = f .length-squared .result in
@@ -57,5 +53,4 @@ meets-spec =
     (λ c κs. search needs)
     (λ c κs. search needs)
     returns
-    returns-2
-    returns-3)
+    returns-2)
