@@ -141,7 +141,7 @@ def whole(name, text):
 def kind(text):
     if text not in KINDS:
         near = difflib.get_close_matches(text.lower(), KINDS, 1)
-        raise Wrong(f"no kind{f'; {near[0]}?' if near else ''} The kinds are {', '.join(KINDS)}")
+        raise Wrong(f"no kind{f'; {near[0]}?' if near else '.'} The kinds are {', '.join(KINDS)}")
     return text
 
 
@@ -416,6 +416,8 @@ class Unusable(Exception):
 
 def load(path):
     """What a file holds; - is standard input."""
+    if path == "-" and sys.stdin is None:
+        raise Unusable("standard input is closed")
     try:
         return sys.stdin.buffer.read() if path == "-" else pathlib.Path(path).read_bytes()
     except (OSError, ValueError) as error:

@@ -100,6 +100,8 @@ def shape_slips(drawing, at, row):
         for name in "pq" if kind == "ellipse" else "p":
             if row[name] == 0:
                 yield row, name, f"{name} of curve {at} is 0: the {kind} has no width"
+            elif row[name] < 0:
+                yield row, name, f"{name} of curve {at} is {num(row[name])}, below zero: it is taken as it is, and turns the {kind} round"
         yield from frame_slips(drawing, at, row)
 
 
@@ -160,10 +162,21 @@ def edge_slips(drawing):
             return
     elif row["kind"] == "trimmed" and not drawing.curves.period(drawing.index) and drawing.range != (lo, hi):
         yield edge, "lo", f"the range {num(lo)} to {num(hi)} is cut to that of the trim, {num(row['p'])} to {num(row['q'])}"
+    yield from tolerance_slips(drawing)
     gap = drawing.off_ends(drawing.range)
     if gap > max(10 * edge["tolerance"], PLACE_SLACK * max(drawing.extent(), drawing.diagonal)):
         ends = " and ".join(map(num, drawing.range))
         yield edge, "start", f"the vertices lie {num(gap)} off the curve's points at {ends}; the chain ends at them all the same"
+
+
+def tolerance_slips(drawing):
+    """A tolerance that says nothing, or that merges as much as any may."""
+    tolerance = drawing.edge["tolerance"]
+    if tolerance < 0:
+        yield drawing.edge, "tolerance", f"tolerance is {num(tolerance)}, below zero: nothing is merged"
+    elif tolerance > drawing.sag:
+        told = f"tolerance is {num(tolerance)}, above the sag of {num(drawing.sag)}: points within half the sag of each other become one"
+        yield drawing.edge, "tolerance", told
 
 
 def lost_range(drawing):

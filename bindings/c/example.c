@@ -1,4 +1,4 @@
-/* A hole of radius 2, drawn with the default options and an angle of 20 degrees, walked there and back. */
+/* A hole of radius 2 in a part of size 4, drawn with a deflection of 2 % and an angle of 20 degrees, walked there and back. */
 #include "cornsunset.h"
 #include <stdio.h>
 

@@ -44,7 +44,7 @@ def found():
     for place in PLACES:
         if place.is_file():
             return str(place)
-    raise ImportError(f"{PLACES[0]} is missing: bindings/python/build makes it")
+    raise ImportError(f"{PLACES[-1]} is missing: bindings/python/build makes it")
 
 
 def loaded(loader, file):
