@@ -23,7 +23,7 @@ unsafe extern "C" {
     fn cs_clear(buffer: *mut f64, n: usize);
 }
 
-use ::fixed::tables::{CIRCLE, COMPOSITE, ELLIPSE, LINE, PARABOLA, POLYLINE, Row, Segment, TRIMMED};
+use ::fixed::tables::{CIRCLE, COMPOSITE, ELLIPSE, HYPERBOLA, LINE, PARABOLA, POLYLINE, Row, Segment, TRIMMED};
 use ::fixed::{Edge, Options, OwnedTables};
 
 #[derive(Debug, Clone, Copy, PartialEq)]
@@ -262,6 +262,29 @@ fn parabola() -> Case {
     let row = d.frame(PARABOLA, [0.0; 3], 5.0, 0.0);
     let e = d.edge(row, -4.0, 4.0, 1e4);
     d.case("parabola, bisected", e, options(4e-4, 480.0))
+}
+
+/// A plane's cut through a cone.
+fn hyperbola() -> Case {
+    let mut d = Draft::new();
+    let row = d.frame(HYPERBOLA, [0.0; 3], 20.0, 12.0);
+    let e = d.edge(row, -1.5, 2.0, 1e4);
+    d.case("hyperbola", e, options(4e-4, 480.0))
+}
+
+/// A line to a cone's cut, the cut, a line on, and an arc.
+fn around_a_cut() -> Case {
+    let mut d = Draft::new();
+    let to = d.row(LINE, &[[-60.0, -25.5, 0.0], [1.0, 0.0, 0.0]], 0.0, 0.0);
+    let cut = d.frame(HYPERBOLA, [0.0; 3], 20.0, 12.0);
+    let on = d.row(LINE, &[[47.0, 25.5, 0.0], [0.0, 1.0, 0.0]], 0.0, 0.0);
+    let arc = d.frame(CIRCLE, [37.0, 60.0, 0.0], 10.0, 0.0);
+    for (curve, lo, hi) in [(to, 0.0, 107.0), (cut, -1.5, 1.5), (on, 0.0, 34.5), (arc, 0.0, std::f64::consts::FRAC_PI_2)] {
+        d.tables.push_segment(Segment { curve, lo, hi, sense: 1 });
+    }
+    let row = d.tables.push_row(Row { kind: COMPOSITE, first: 0, count: 4, p: 0.0, q: 0.0 });
+    let e = d.edge(row, 0.0, 4.0, 1e4);
+    d.case("composite with a hyperbola", e, options(4e-4, 480.0))
 }
 
 /// An arc of n points as a polyline.
@@ -672,7 +695,11 @@ fn farthest(c: &Case, chain: &[[f64; 4]], n: usize) -> f64 {
 
 /// What the chains of the composites of arcs are worth beside their arcs. A case is called all drawn where its arcs lie within the sag.
 fn fits(cases: &[Case]) {
-    for c in cases.iter().filter(|c| c.tables.lent().segment_count() > 0) {
+    let of_arcs = |c: &&Case| {
+        let t = c.tables.lent();
+        t.segment_count() > 0 && t.segments().all(|s| t.row(s.curve as usize).kind == CIRCLE)
+    };
+    for c in cases.iter().filter(of_arcs) {
         let t = c.tables.lent();
         let arcs: f64 = t.segments().map(|s| t.row(s.curve as usize).p * (s.hi - s.lo)).sum();
         let chain = chain_of(c);
@@ -775,9 +802,11 @@ fn cases() -> Vec<Case> {
         circle("circle of 2,000 points", 2000),
         ellipse(),
         parabola(),
+        hyperbola(),
         polyline("polyline of 1,000 points", 1000),
         composite("composite of 100 arcs, half missed", 100, 0.0),
         spiral("composite of 100 arcs, all drawn", 100),
+        around_a_cut(),
         complement(),
         short_arc(),
         runaway(),

@@ -1,4 +1,4 @@
-"""The scope's fixed steps written a second time, and compared with `oracle arith`: the lines that it read, and its answers.
+"""The fixed steps written a second time, and compared with `oracle arith`: the lines that it read, and its answers.
 
 usage: python3 oracle/arith_check.py LINES ANSWERS
 """
@@ -98,6 +98,23 @@ def acos(a):
     return PI - angle if turned else angle
 
 
+def exp(t):
+    k = floor(t * 1.4426950408889634 + 0.5)
+    r = (t - k * from_bits(0x3FE62E42FEE00000)) - k * from_bits(0x3DEA39EF35793C76)
+    w = 1.0
+    for d in range(16, 0, -1):
+        w = 1.0 + (r / d) * w
+    return w * 2.0 ** int(k)
+
+
+def cosh(t):
+    return (exp(t) + exp(-t)) * 0.5
+
+
+def sinh(t):
+    return (exp(t) - exp(-t)) * 0.5
+
+
 def least(a, b):
     return b if a != a or b < a else a
 
@@ -115,6 +132,9 @@ FUNCTIONS = {
     "sin": (1, sin),
     "cos": (1, cos),
     "acos": (1, acos),
+    "exp": (1, exp),
+    "cosh": (1, cosh),
+    "sinh": (1, sinh),
     "floor": (1, floor),
     "ceil": (1, ceil),
     "abs": (1, abs),

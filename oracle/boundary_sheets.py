@@ -104,6 +104,7 @@ def forms():
         (("polyline", 3, 2, 0.0, 0.0), False, ""),
         (("trimmed", 0, 1, 0.0, 1.0), True, "pq"),
         (("composite", 0, 1, 0.0, 0.0), False, ""),
+        (("hyperbola", 2, 3, 1.0, 1.0), True, "pq"),
     ]
     points, segments = [(0.0, 0.0, 1.0), (0.0, 1.0, 0.0)], [(0, 0.0, 1.0, 1)]
     yield on_a_line(points, [LINE, *(row for row, _, _ in kinds)], segments)

@@ -167,6 +167,38 @@ MUTANTS = [
     ("src/causes.rs", "COMPOSITE => unused_p || unused_q", "COMPOSITE => unused_q"),
     ("src/causes.rs", "COMPOSITE => unused_p || unused_q", "COMPOSITE => unused_p"),
     ("src/causes.rs", "deepest.unwrap_or(0) + 1", "deepest.map_or(0, |n| n + 1)"),
+    ("src/causes.rs", "HYPERBOLA => row.count != 3", "HYPERBOLA => row.count < 3"),
+    ("src/causes.rs", "HYPERBOLA => row.count != 3", "HYPERBOLA => row.count > 3"),
+    ("src/causes.rs", "HYPERBOLA => row.count != 3 || run_outside(tables.point_count())", "HYPERBOLA => row.count != 3 || row.q != 0.0"),
+    ("src/tables.rs", "_ => Curve::Hyperbola { frame: self.frame(first), semi_major: p, semi_minor: q }", "_ => Curve::Hyperbola { frame: self.frame(first), semi_major: q, semi_minor: p }"),
+    ("asks.rs", "if t.abs() > MOST {", "if t.abs() >= MOST {"),
+    ("asks.rs", "if t.abs() > MOST {", "if t > MOST {"),
+    ("asks.rs", "if t.abs() > MOST {", "if t < -MOST {"),
+    ("asks.rs", "MOST: f64 = 100.0;", "MOST: f64 = 100.00000000000001;"),
+    ("asks.rs", "=> Err(11),", "=> Err(8),"),
+    ("eval/curve.rs", "asked(t);\n                frame.origin", "frame.origin"),
+    # the probes only where their extent is used
+    ("edge.rs", "options.for_extent(edge_extent(solid, e))", "if options.relative > 0.0 { options.for_extent(edge_extent(solid, e)) } else { options.clone() }"),
+    ("edge.rs", "for i in 0..=PROBES {", "for i in 0..PROBES {"),
+    # 11 wherever a larger room gives it, and 8 wherever evaluation without a limit does
+    ("src/draw.rs", "    asks::drawing(|| discretise_all(solid, options, reference, room))", "    let most = asks::drawing(|| discretise_all(solid, options, reference, 16_384));\n    if most.as_ref().is_err_and(|n| *n == 11) { return most; }\n    asks::drawing(|| discretise_all(solid, options, reference, room))"),
+    ("src/draw.rs", "    asks::drawing(|| discretise_all(solid, options, reference, room))", "    let all = discretise_all(solid, options, reference, room);\n    if all.as_ref().is_err_and(|n| *n == 8) { return all; }\n    asks::drawing(|| discretise_all(solid, options, reference, room))"),
+    # the segment floor's list grows while its points are asked for
+    ("edge.rs", "        let n = options.min_edge_segments;\n        if n >= room {", "        let n = options.min_edge_segments;\n        for i in 0..=n.min(room) { curve.point_at(range.at(i as f64 / n as f64)); }\n        if n >= room {"),
+    # a parameter is asked for before the one to its left has joined, and joins after what is to its right has been asked for
+    ("edge.rs", "    subdivide(curve, a, m, options, depth - 1, out, room)?;\n    join(out, m, room)?;", "    subdivide(curve, a, m, options, depth - 1, out, room)?;\n    curve.point_at(0.5 * (m + b));\n    join(out, m, room)?;"),
+    ("edge.rs", "natural.span().is_finite() && natural.span() > 0.0", "natural.span() < 1e6 && natural.span() > 0.0"),
+    ("src/draw.rs", "Err(number) => Drawn::Refused(number),", "Err(number) => {\n            second[0] = if number == 11 { 1.0 } else { 0.0 };\n            Drawn::Refused(number)\n        }"),
+    ("src/draw.rs", "Err(number) => Drawn::Refused(number),", "Err(number) => {\n            let last = first.len() - 1;\n            first[last] = if number == 11 { 1.0 } else { 0.0 };\n            Drawn::Refused(number)\n        }"),
+    ("eval/curve.rs", "                    + frame.ref_dir * (*semi_major * cosh(t))\n", "                    + frame.ref_dir * (*semi_major * sinh(t))\n"),
+    ("eval/curve.rs", "                    + frame.y_dir() * (*semi_minor * sinh(t))\n", "                    + frame.y_dir() * (*semi_minor * cosh(t))\n"),
+    ("eval/curve.rs", "frame.ref_dir * (*semi_major * sinh(t)) + frame.y_dir() * (*semi_minor * cosh(t))", "frame.ref_dir * (*semi_major * cosh(t)) + frame.y_dir() * (*semi_minor * sinh(t))"),
+    ("eval/curve.rs", "frame.ref_dir * (*semi_major * sinh(t)) + frame.y_dir() * (*semi_minor * cosh(t))", "frame.ref_dir * (*semi_minor * sinh(t)) + frame.y_dir() * (*semi_major * cosh(t))"),
+    ("steps.rs", "(exp(t) + exp(-t)) * 0.5", "(exp(t) + 1.0 / exp(t)) * 0.5"),
+    ("steps.rs", "(exp(t) - exp(-t)) * 0.5", "(exp(t) - 1.0 / exp(t)) * 0.5"),
+    ("steps.rs", "(t * ONE_OVER_LN_2 + 0.5).floor()", "(t * ONE_OVER_LN_2).floor()"),
+    ("steps.rs", "(1..=16).rev()", "(1..=12).rev()"),
+    ("steps.rs", "(t - k * LN_2_HIGH) - k * LN_2_LOW", "t - k * (LN_2_HIGH + LN_2_LOW)"),
 ]
 # What the stored sheets cannot tell, and why: README.md. Four are beyond any sheet; with the others nothing observable changes.
 UNTOLD = [
@@ -179,6 +211,7 @@ UNTOLD = [
     ("edge.rs", "max(edge.tolerance, 0.0) * MERGE_TOLERANCES", "edge.tolerance * MERGE_TOLERANCES"),
     ("edge.rs", "let deviation = if len > 1e-300", "let deviation = if len > 1e-200"),
     ("options.rs", "if r > self.sag {", "if r >= self.sag {"),
+    ("eval/curve.rs", "asked(t);\n                frame.ref_dir", "frame.ref_dir"),
 ]
 
 

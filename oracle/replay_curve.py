@@ -1,6 +1,6 @@
 """Parts `curve` for crates/replay, sheets each with parameters behind it, and the answers of `oracle eval` without its line
 `sampled`. The sheets: some written here, of every kind, with odd runs, trims, senses, ranges and sags; and the accepted ones of
-`oracle gen`."""
+`oracle gen`. Hyperbolas are asked up to 100 alone: sheets whose probes or breaks ask beyond, and such parameters, are left out."""
 import math
 
 from replay_common import INF, LEAST, MOST, NAN, NORMAL, SEPARATOR, Random, ask, beside, floats, hexes
@@ -73,11 +73,16 @@ def bases():
         yield lambda s: s.conic("circle", 2.5, **frame)
         yield lambda s: s.conic("ellipse", 3.0, 1.0, **frame)
         yield lambda s: s.conic("parabola", 0.75, **frame)
+        yield lambda s: s.conic("hyperbola", 1.5, 0.5, **frame)
     yield lambda s: s.conic("circle", 0.0)
     yield lambda s: s.conic("circle", -2.0)
     yield lambda s: s.conic("circle", 1e9, axis=(1e9, 0.0, 0.0), ref=(0.0, 1e9, 0.0))
     yield lambda s: s.conic("ellipse", 1.0, -4.0)
     yield lambda s: s.conic("ellipse", 0.0, 1e-9)
+    yield lambda s: s.conic("hyperbola", 0.0, 1.0)
+    yield lambda s: s.conic("hyperbola", -2.0, -0.0)
+    yield lambda s: s.conic("hyperbola", 1e9, -1e9, axis=(1e9, 0.0, 0.0), ref=(0.0, 1e9, 0.0))
+    yield lambda s: s.conic("hyperbola", 1e-43, 1e-43)
     yield lambda s: s.conic("parabola", 0.0)
     yield lambda s: s.conic("parabola", -1e9)
     for count in range(4):
@@ -123,7 +128,7 @@ def whole_trims():
 
 def nests():
     """Trims and composites in turn, to the deepest nesting there may be."""
-    for base in ("line", "circle", "ellipse", "parabola", "polyline"):
+    for base in ("line", "circle", "ellipse", "parabola", "hyperbola", "polyline"):
         for depth in range(1, 9):
             for start in (0, 1):
                 sheet = Sheet()
@@ -132,7 +137,7 @@ def nests():
                 elif base == "polyline":
                     row = sheet.polyline(*TRIANGLE, (0.0, 3.0, 1.0))
                 else:
-                    row = sheet.conic(base, 2.0, 1.0 if base == "ellipse" else 0.0)
+                    row = sheet.conic(base, 2.0, 1.0 if base in ("ellipse", "hyperbola") else 0.0)
                 for level in range(depth):
                     if (level + start) % 2:
                         row = sheet.trim(row, 0.125 * level, 2.0)
@@ -165,7 +170,7 @@ def breaks():
 def edges():
     """Ranges that an edge may have: reversed, equal, not finite, past the seam, at and beyond both ends of the curve."""
     ranges = [(a, b) for a in (0.0, 2.0, -1e9) for b in (-0.0, 2.0, 3.0 + 1e-9, 7.0)] + [(NAN, 1.0), (0.0, INF), (-INF, 1.0), (1.0, NAN)]
-    for kind in ("line", "circle", "parabola", "polyline", "closed", "composite"):
+    for kind in ("line", "circle", "parabola", "hyperbola", "trim", "polyline", "closed", "composite"):
         for lo, hi in ranges:
             sheet = Sheet()
             if kind == "line":
@@ -176,6 +181,10 @@ def edges():
                 sheet.polyline(*TRIANGLE, TRIANGLE[0])
             elif kind == "composite":
                 sheet.composite(*[(sheet.conic("circle", 1.0), 0.5, 1.5, 1)] * 3)
+            elif kind == "hyperbola":
+                sheet.conic("hyperbola", 1.0, 2.0)
+            elif kind == "trim":
+                sheet.trim(sheet.conic("hyperbola", 1.0, 2.0), -1.0, 2.5)
             else:
                 sheet.conic(kind, 1.0)
             yield sheet.text(lo, hi, deflection=1e-3, relative=1, scale=16.0)
@@ -236,10 +245,31 @@ def parameters(random, text, few):
         chosen = [random.of(inside), random.of(near), random.of(near), random.of(ODD)]
     else:
         chosen = inside + near + ODD
+    hyperbola = "\nhyperbola " in text
+    if hyperbola:
+        # nothing asks one for NaN
+        chosen = [x for x in chosen if x == x]
+        chosen += [random.of([100.0, -100.0, *beside(100.0)]), 200 * random.unit() - 100, 10 * random.unit() - 5]
     lines = [hexes(x) for x in chosen]
     if random.below(20) == 0:
-        lines += [random.of(MALFORMED), random.of(ODD_NANS)]
+        lines += [random.of(MALFORMED), random.of(ODD_NANS)][: 1 if hyperbola else 2]
     return "".join(line + "\n" for line in lines)
+
+
+def answered(text, lines):
+    """A part and its answer, with those of the lines that no hyperbola is asked beyond 100 for; none where there is no such line, or
+    its probes or breaks ask so."""
+    said = ask(["eval"], text + SEPARATOR + lines).splitlines(keepends=True)
+    places = [place for place, line in enumerate(said) if line.startswith("at ") or line == "?\n"]
+    if said[0] == "refusal\n":
+        return f"{text}parameters\n{lines}", "".join(said)
+    head = said[: places[0]]
+    pieces = [said[a:b] for a, b in zip(places, [*places[1:], len(said)])]
+    kept = [pair for pair in zip(lines.splitlines(keepends=True), pieces, strict=True) if not pair[1][-1].startswith("beyond ")]
+    if not kept or any(line.startswith("beyond ") for line in head):
+        return None
+    values = "".join(line for line in head if not line.startswith("sampled "))
+    return f"{text}parameters\n{''.join(line for line, _ in kept)}", values + "".join("".join(piece) for _, piece in kept)
 
 
 def parts(seed, count):
@@ -249,11 +279,7 @@ def parts(seed, count):
     pairs = [(text, parameters(random, text, few)) for text, few in sheets]
     # the malformed lines all at once
     pairs[-1] = (pairs[-1][0], "".join(line + "\n" for line in [*MALFORMED, hexes(1.0)]))
-    found = []
-    for text, lines in pairs:
-        said = ask(["eval"], text + SEPARATOR + lines).splitlines(keepends=True)
-        found.append((f"{text}parameters\n{lines}", "".join(line for line in said if not line.startswith("sampled "))))
-    return found
+    return [pair for pair in (answered(*pair) for pair in pairs) if pair]
 
 
 def stored():

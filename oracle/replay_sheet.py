@@ -7,7 +7,7 @@ import math
 from replay_common import HERE, INF, LEAST, MOST, SEPARATOR, Random, ask, floats, hexes
 
 CAUSES = ["2", "3", "4", "5", "6", "10"]
-KINDS = ["line", "circle", "ellipse", "parabola", "polyline", "trimmed", "composite"]
+KINDS = ["line", "circle", "ellipse", "parabola", "polyline", "trimmed", "composite", "hyperbola"]
 NANS = ["7ff8000000000000", "fff8000000000000", "7ff0000000000001", "ffffffffffffffff", "7ff80000deadbeef"]
 # What stands for a float in the lines below.
 WORDS = {
@@ -86,10 +86,22 @@ CURVES = """
     composite 0 0 minus zero
     composite 1 0 zero zero
     composite 0 1 zero zero
+    hyperbola 0 3 one two
+    hyperbola 0 3 minus lowest
+    hyperbola 1 3 one one
+    hyperbola 0 2 one one
+    hyperbola 0 4 one one
+    hyperbola 0 3 one above
+    hyperbola 0 3 nan1 one
     line 4294967296 2 zero zero
     line 0 4294967298 zero zero
     lines 0 2 zero zero
     Line 0 2 zero zero
+    hyperbolas 0 3 one one
+    hyperbol 0 3 one one
+    Hyperbola 0 3 one one
+    hyperbola  0 3 one one
+    8 0 3 one one
     1 0 2 zero zero
      0 2 zero zero
     line 00 2 zero zero

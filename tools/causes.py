@@ -1,11 +1,11 @@
-"""The causes 2 to 6 for which a sheet is turned away, each with the place that has it. 1 and 7 no sheet can have; 8 and 9 come with
-drawing; 10 is sheets.read's. The program decides: tools/test-explain holds this reading to it."""
+"""The causes 2 to 6 for which a sheet is turned away, each with the place that has it. 1 and 7 no sheet can have; 8, 9 and 11 come
+with drawing; 10 is sheets.read's. The program decides: tools/test-explain holds this reading to it."""
 import math
 
 MOST_MAGNITUDE = 1e9
 MOST_NESTING = 8
-COUNTS = {"line": 2, "circle": 3, "ellipse": 3, "parabola": 3, "trimmed": 1}
-USES = {"circle": "p", "parabola": "p", "ellipse": "pq", "trimmed": "pq"}
+COUNTS = {"line": 2, "circle": 3, "ellipse": 3, "parabola": 3, "hyperbola": 3, "trimmed": 1}
+USES = {"circle": "p", "parabola": "p", "ellipse": "pq", "hyperbola": "pq", "trimmed": "pq"}
 SENSE = "1 is along the range, 0 against it"
 
 

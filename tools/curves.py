@@ -1,11 +1,13 @@
 """The curves of a sheet that passes its checks, and what drawing asks of them, in plain floats: ranges, points, the sag, how far a
-chain lies from its curve. It follows eval/curve.rs, options.rs and edge.rs, with Python's sine and cosine, so that a last digit may
-differ from the program's. For reading alone: no answer rests on it."""
+chain lies from its curve. It follows eval/curve.rs, options.rs and edge.rs, with Python's sine, cosine and their hyperbolic kin, so
+that a last digit may differ from the program's. For reading alone: no answer rests on it."""
 import math
 
 from sheets import ROUND
 
 TAU = 2 * math.pi
+# The farthest parameter that a hyperbola is asked for, either way: beyond it drawing ends with refusal 11.
+FARTHEST = 100.0
 
 
 def along(a, direction, t):
@@ -65,7 +67,7 @@ class Curves:
         kind, count = row["kind"], row["count"]
         return {
             "line": (-1e12, 1e12), "circle": (0.0, TAU), "ellipse": (0.0, TAU), "parabola": (-1e6, 1e6),
-            "polyline": (0.0, float(max(count - 1, 0))), "trimmed": (row["p"], row["q"]), "composite": (0.0, float(count)),
+            "hyperbola": (-1e6, 1e6), "polyline": (0.0, float(max(count - 1, 0))), "trimmed": (row["p"], row["q"]), "composite": (0.0, float(count)),
         }[kind]  # fmt: skip
 
     def closed_polyline(self, row):
@@ -106,8 +108,15 @@ class Curves:
         origin, axis, *rest = self.run(row)
         if kind == "line":
             return along(origin, axis, t)
-        p, q = row["p"], row["q"] if kind == "ellipse" else row["p"]
-        x, y = (p * t * t, 2 * p * t) if kind == "parabola" else (p * math.cos(t), q * math.sin(t))
+        p, q = row["p"], row["p"] if kind == "circle" else row["q"]
+        if kind == "parabola":
+            x, y = p * t * t, 2 * p * t
+        elif kind == "hyperbola":
+            # No point beyond is drawn; here the curve ends there, so that nothing overflows.
+            t = min(max(t, -FARTHEST), FARTHEST)
+            x, y = p * math.cosh(t), q * math.sinh(t)
+        else:
+            x, y = p * math.cos(t), q * math.sin(t)
         return along(along(origin, rest[0], x), cross(axis, rest[0]), y)
 
     def polyline_point(self, row, t):

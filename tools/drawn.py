@@ -1,11 +1,11 @@
-"""What the program's answer tells: how a chain was got and how far it lies from its curve, or where a refusal 8 or 9 comes from. In
-plain floats, for reading alone."""
+"""What the program's answer tells: how a chain was got and how far it lies from its curve, or where a refusal 8, 9 or 11 comes
+from. In plain floats, for reading alone."""
 import bisect
 import math
 
-from curves import TAU, length, off_chord
+from curves import FARTHEST, TAU, length, off_chord, steps
 from sheets import ROUND
-from slips import in_radians, none_near, num, with_bits
+from slips import NEAR, at_vertices, in_radians, lost_range, none_near, num, range_slips, with_bits
 
 # The points that each of the program's two buffers has room for.
 ROOM = 2048
@@ -175,3 +175,42 @@ def endless(drawing):
     told = f"points of this polyline lie {num(nearest)} apart and {num(away)} from the origin"
     told += f", where floats are {num(math.ulp(away))} apart: a span of them turns, and no point of it lies off its chord"
     return drawing.base, "first", f"{told}; fewer points, or the part nearer to the origin"
+
+
+def too_far(drawing):
+    """Where refusal 11 comes from: the row, the name of the value, and why."""
+    edge, row, range_ = drawing.edge, drawing.row, drawing.range or ()
+    if drawing.base["kind"] != "hyperbola":
+        return in_segments(drawing)
+    lost = drawing.curves.lost(edge["lo"], edge["hi"])
+    if lost and row["kind"] == "hyperbola":
+        return edge, "lo", lost_range(drawing)
+    beyond = [t for t in (*range_, *(steps(range_, 8) if range_ else ())) if abs(t) > FARTHEST]
+    if not beyond:
+        own = " to ".join(map(num, drawing.curves.natural(drawing.index)))
+        told = f"the chain leaves its box, and is looked for on all of the curve, {own}; a hyperbola is asked for {NEAR} alone"
+        return edge, "lo", f"{told}{at_vertices(drawing)}; is the range right, and the box?"
+    # The range is the edge's, or where that is lost its trim's.
+    title, place, names = (f"curve {drawing.index}", row, ("p", "q")) if lost else ("the edge", edge, ("lo", "hi"))
+    for found in range_slips(drawing, title, place, names, drawing.index):
+        return found
+    return place, names[1], rounded(*range_, title if lost else "the range", names)
+
+
+def rounded(lo, hi, title, names=("lo", "hi")):
+    """Of a range that ends within what a hyperbola is asked for, and whose last place does not."""
+    last = "{0} + ({1} - {0})".format(*names)
+    return f"the last place of {title}, {last}, rounds to {lo + (hi - lo)!r}; a hyperbola is asked for {NEAR} alone"
+
+
+def in_segments(drawing):
+    """The first segment that has too far a range on a hyperbola."""
+    curves = drawing.curves
+    for at, segment in sorted(curves.reached(drawing.index)[1].items()):
+        if curves.base(segment["curve"])["kind"] == "hyperbola":
+            lo, hi, title = segment["lo"], segment["hi"], f"segment {at}"
+            for found in range_slips(drawing, title, segment, ("lo", "hi"), segment["curve"]):
+                return found
+            if abs(lo + (hi - lo)) > FARTHEST:
+                return segment, "hi", rounded(lo, hi, title)
+    return drawing.edge, "lo", f"a hyperbola that this curve is made of is asked for {NEAR} alone"

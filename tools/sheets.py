@@ -13,7 +13,7 @@ import sys
 
 ROOT = pathlib.Path(__file__).resolve().parent.parent
 MOST_BYTES = 65_536
-KINDS = ("line", "circle", "ellipse", "parabola", "polyline", "trimmed", "composite")
+KINDS = ("line", "circle", "ellipse", "parabola", "polyline", "trimmed", "composite", "hyperbola")
 ROUND = ("circle", "ellipse")
 # A block of lines under their names; a single one has exactly one line of values.
 Block = collections.namedtuple("Block", "title names single")

@@ -2,11 +2,13 @@
 what to say of it. In plain floats, for reading alone."""
 import math
 
-from curves import TAU, cross, dot, minus
+from curves import FARTHEST, TAU, cross, dot, minus
 from sheets import ROUND, bits
 
 # A vector that is longer or shorter than 1, or further from the perpendicular, by this is no slip of rounding.
 FRAME_SLACK = 1e-6
+# The parameters that a hyperbola is asked for.
+NEAR = f"{-FARTHEST:g} to {FARTHEST:g}"
 # A place is off by a slip where it is off by ten tolerances, which drawing reckons with, and by this part of the size.
 PLACE_SLACK = 1e-6
 
@@ -96,8 +98,8 @@ def shape_slips(drawing, at, row):
         yield from composite_slips(drawing, at, row)
     elif kind == "line" and not any(drawing.curves.run(row)[1]):
         yield point_row(drawing, row, 1), "x", f"the direction of curve {at} has no length"
-    elif kind in (*ROUND, "parabola"):
-        for name in "pq" if kind == "ellipse" else "p":
+    elif kind in (*ROUND, "parabola", "hyperbola"):
+        for name in "pq" if kind in ("ellipse", "hyperbola") else "p":
             if row[name] == 0:
                 yield row, name, f"{name} of curve {at} is 0: the {kind} has no width"
             elif row[name] < 0:
@@ -138,7 +140,7 @@ def frame_slips(drawing, at, row):
 
 
 def range_slips(drawing, title, row, names, index):
-    """A range that goes more than once round, or past the end of a polyline or a composite."""
+    """A range that goes more than once round, past the end of a polyline or a composite, or too far along a hyperbola."""
     lo, hi = row[names[0]], row[names[1]]
     under, period = drawing.curves.base(index), drawing.curves.period(index)
     if not (math.isfinite(lo) and math.isfinite(hi)):
@@ -151,6 +153,32 @@ def range_slips(drawing, title, row, names, index):
         for name in names:
             if not -1e-9 * last <= row[name] <= last * (1 + 1e-9):
                 yield row, name, f"{name} of {title} is {num(row[name])}, past the ends of the {under['kind']}, 0 and {last}"
+    elif under["kind"] == "hyperbola" and row is drawing.edge:
+        yield from too_far_slips(drawing)
+    elif under["kind"] == "hyperbola":
+        for name in names:
+            if abs(row[name]) > FARTHEST:
+                yield row, name, f"{name} of {title} is {row[name]!r}, and a hyperbola is asked for {NEAR} alone"
+
+
+def too_far_slips(drawing):
+    """The ends of the edge's own range that lie too far along a hyperbola, after its trim has cut them; a range that is lost is not
+    asked for at all."""
+    edge, given, ends = drawing.edge, (drawing.edge["lo"], drawing.edge["hi"]), drawing.curves.natural(drawing.index)
+    if drawing.curves.lost(*given):
+        return
+    # Where an end is cut to just beyond the trim's, the trim's own is near enough, but that the last place may round beyond.
+    lo, hi = (end if used != own else own for own, used, end in zip(given, drawing.range, ends))
+    fits = lo, hi if abs(lo + (hi - lo)) <= FARTHEST else math.nextafter(hi, lo)
+    for name, own, used, end, fit in zip(("lo", "hi"), given, drawing.range, ends, fits):
+        told = f"{name} of the edge is {own!r}"
+        if abs(used) <= FARTHEST:
+            continue
+        if used != own and abs(end) <= FARTHEST:
+            told += f" and is cut to {used!r}, a billionth of the trim's span beyond its end"
+            yield edge, name, f"{told}, and a hyperbola is asked for {NEAR} alone; {fit!r} would do{at_vertices(drawing)}"
+        else:
+            yield edge, name, f"{told}, and a hyperbola is asked for {NEAR} alone{at_vertices(drawing)}"
 
 
 def edge_slips(drawing):
@@ -158,15 +186,27 @@ def edge_slips(drawing):
     edge, row, lo, hi = drawing.edge, drawing.row, drawing.edge["lo"], drawing.edge["hi"]
     if drawing.curves.lost(lo, hi):
         yield edge, "lo", lost_range(drawing)
-        if drawing.range is None or row["kind"] in ROUND:
+        if drawing.range is None or row["kind"] in (*ROUND, "hyperbola"):
             return
-    elif row["kind"] == "trimmed" and not drawing.curves.period(drawing.index) and drawing.range != (lo, hi):
-        yield edge, "lo", f"the range {num(lo)} to {num(hi)} is cut to that of the trim, {num(row['p'])} to {num(row['q'])}"
+    if drawing.base["kind"] == "hyperbola" and max(map(abs, drawing.range)) > FARTHEST:
+        return
+    if row["kind"] == "trimmed" and not drawing.curves.lost(lo, hi) and drawing.range != (lo, hi):
+        yield edge, "lo", cut_range(drawing)
     yield from tolerance_slips(drawing)
     gap = drawing.off_ends(drawing.range)
     if gap > max(10 * edge["tolerance"], PLACE_SLACK * max(drawing.extent(), drawing.diagonal)):
         ends = " and ".join(map(num, drawing.range))
-        yield edge, "start", f"the vertices lie {num(gap)} off the curve's points at {ends}; the chain ends at them all the same"
+        meant = at_vertices(drawing) if drawing.base["kind"] == "hyperbola" else ""
+        yield edge, "start", f"the vertices lie {num(gap)} off the curve's points at {ends}; the chain ends at them all the same{meant}"
+
+
+def cut_range(drawing):
+    """What is left of a range that runs past its trim, each end that is cut by the trim's own, to a billionth."""
+    lo, hi = drawing.edge["lo"], drawing.edge["hi"]
+    ends = zip((lo, hi), drawing.range, drawing.curves.natural(drawing.index))
+    left = " to ".join(num(own if used == own else end) for own, used, end in ends)
+    runs = f"the trim runs from {num(drawing.row['p'])} to {num(drawing.row['q'])}, and a billionth of its span beyond"
+    return f"the range {num(lo)} to {num(hi)} is cut to {left}: {runs}"
 
 
 def tolerance_slips(drawing):
@@ -186,6 +226,9 @@ def lost_range(drawing):
     told = f"the range {lo!r} to {hi!r} is {how}: "
     if drawing.range is None:
         return told + "the straight line between the vertices is drawn"
+    if drawing.base["kind"] == "hyperbola" and max(map(abs, drawing.range)) > FARTHEST:
+        own = f"the curve's own, {num(drawing.range[0])} to {num(drawing.range[1])}, would be drawn"
+        return told + f"{own}, and a hyperbola is asked for {NEAR} alone{at_vertices(drawing)}"
     if drawing.row["kind"] not in ROUND:
         return told + f"the curve's own is drawn, {num(drawing.range[0])} to {num(drawing.range[1])}"
     told += f"the whole {drawing.row['kind']} is drawn, {num(drawing.length(drawing.range))} long"
@@ -195,6 +238,20 @@ def lost_range(drawing):
         told += f"; between the vertices the arcs are {num(shorter)} and {num(longer)} long"
         told += f", the shorter from {with_bits(a)} to {with_bits(b)}"
     return told
+
+
+def at_vertices(drawing):
+    """Where on the edge's hyperbola its vertices lie, to be said behind what is wrong with its range; nothing where they lie on none."""
+    origin, axis, ref_dir = drawing.curves.run(drawing.base)
+    side, q = cross(axis, ref_dir), drawing.base["q"]
+    square = q * dot(side, side)
+    if drawing.start == drawing.end or not square:
+        return ""
+    range_ = sorted(math.asinh(dot(minus(vertex, origin), side) / square) for vertex in (drawing.start, drawing.end))
+    slack = max(10 * drawing.edge["tolerance"], PLACE_SLACK * max(drawing.diagonal, math.dist(drawing.start, drawing.end)))
+    if max(map(abs, range_)) > FARTHEST or not drawing.off_ends(range_) <= slack:
+        return ""
+    return f"; the vertices lie at {with_bits(range_[0])} and {with_bits(range_[1])}"
 
 
 def vertex_arcs(drawing):

@@ -6,7 +6,7 @@
 #include <stdlib.h>
 #include <string.h>
 
-static const char *const KINDS[] = {"", "line", "circle", "ellipse", "parabola", "polyline", "trimmed", "composite"};
+static const char *const KINDS[] = {"", "line", "circle", "ellipse", "parabola", "polyline", "trimmed", "composite", "hyperbola"};
 
 static char line[4096];
 static double points[3 * CS_MOST_TABLE_POINTS], reals[2 * CS_MOST_CURVES], ranges[2 * CS_MOST_SEGMENTS];
@@ -53,7 +53,7 @@ static void add_curve(void) {
     uint32_t *row = curves + tables.curves_len;
     const int got = sscanf(line, "%15s %" SCNu32 " %" SCNu32 " %" SCNx64 " %" SCNx64, word, row + 1, row + 2, &p, &q);
     demand(got == 5, "a curve row");
-    for (row[0] = CS_KIND_LINE; row[0] < CS_KIND_COMPOSITE && strcmp(word, KINDS[row[0]]) != 0; row[0]++) {
+    for (row[0] = CS_KIND_LINE; row[0] < CS_KIND_HYPERBOLA && strcmp(word, KINDS[row[0]]) != 0; row[0]++) {
     }
     reals[tables.reals_len] = of_bits(p), reals[tables.reals_len + 1] = of_bits(q);
     tables.curves_len += 3, tables.reals_len += 2;

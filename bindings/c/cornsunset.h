@@ -55,13 +55,15 @@ static inline bool cs_angle_is_clamped(cs_angle a) { return cs_is_clamped(a.radi
 
 /* The kinds of curve rows; what a row's first and count name, what its p and q are (0 where nothing is said), its parameter. */
 enum {
-    CS_KIND_LINE = 1,     /* points origin, direction; the parameter counts directions: origin + t direction */
-    CS_KIND_CIRCLE = 2,   /* points origin, axis, ref_dir; p radius; radians from ref_dir, about the axis by the right hand */
-    CS_KIND_ELLIPSE = 3,  /* points origin, axis, ref_dir; p semi-axis along ref_dir, q the other; radians */
-    CS_KIND_PARABOLA = 4, /* points origin, axis, ref_dir; p focal distance; a plain t: p t t along ref_dir, 2 p t beside it */
-    CS_KIND_POLYLINE = 5, /* any run of points; the point's index, from 0. Draw an edge a leg: see below */
-    CS_KIND_TRIMMED = 6,  /* first is the base's row, count is 1; p and q the range; the base's parameter */
-    CS_KIND_COMPOSITE = 7 /* any run of segments; the segment's index, from 0. Draw an edge a segment */
+    CS_KIND_LINE = 1,      /* points origin, direction; the parameter counts directions: origin + t direction */
+    CS_KIND_CIRCLE = 2,    /* points origin, axis, ref_dir; p radius; radians from ref_dir, about the axis by the right hand */
+    CS_KIND_ELLIPSE = 3,   /* points origin, axis, ref_dir; p semi-axis along ref_dir, q the other; radians */
+    CS_KIND_PARABOLA = 4,  /* points origin, axis, ref_dir; p focal distance; a plain t: p t t along ref_dir, 2 p t beside it */
+    CS_KIND_POLYLINE = 5,  /* any run of points; the point's index, from 0. Draw an edge a leg: see below */
+    CS_KIND_TRIMMED = 6,   /* first is the base's row, count is 1; p and q the range; the base's parameter */
+    CS_KIND_COMPOSITE = 7, /* any run of segments; the segment's index, from 0. Draw an edge a segment */
+    CS_KIND_HYPERBOLA = 8  /* points origin, axis, ref_dir; p semi-axis along ref_dir, q the other; a plain u from -100 to 100:
+                            * p cosh u along ref_dir, q sinh u beside it */
 };
 
 /* Drawn as one edge a polyline of many legs, or a composite, can miss its curve, with no sign (docs/DIFFERENCES.md): draw a
@@ -95,12 +97,14 @@ typedef struct {
                      * tolerances of each other, as on a full circle: else the chain runs from start to end by itself */
     double lo, hi;  /* range of the curve's parameter, lo below hi. One that does not rise, or is NaN or infinite, counts as
                      * lost: then the curve's whole range is drawn, a full turn on a circle; on a line the chord; and a parabola
-                     * from -1e6 to 1e6, which mostly ends in CS_NO_ROOM */
+                     * from -1e6 to 1e6, which mostly ends in CS_NO_ROOM. A hyperbola has the same range, which always ends in
+                     * CS_TOO_FAR */
     double tolerance; /* how exact the file says the edge is, a length; 0 where it says nothing. Neighbours in the chain within
                        * four tolerances, and within half the sag, become one point; 0 or less merges none. A short arc has to
                        * come within ten tolerances, or the sag, of both vertices. At most 1e9 in magnitude, not clamped */
     uint32_t low, high; /* points that are the least and the greatest corner of the part's box. A chain is repaired that has a
-                         * point further from the box's centre than its diagonal and sixteen sags together */
+                         * point further from the box's centre than its diagonal and sixteen sags together; but one on a
+                         * hyperbola that is no trim is refused with CS_TOO_FAR */
 } cs_edge;
 
 typedef struct {
@@ -147,8 +151,9 @@ enum {
     CS_MISSING = 6,      /* the edge's curve, start, end, low or high is outside its table */
     CS_SHORT_BUFFER = 7, /* a chain buffer is shorter than two points */
     CS_NO_ROOM = 8,      /* a list of parameters is longer than the chain buffers have room for, or than 16,384 */
-    CS_ENDLESS = 9       /* thinning would split a span without end, since no point of it is at a distance above zero from its
+    CS_ENDLESS = 9,      /* thinning would split a span without end, since no point of it is at a distance above zero from its
                           * chord */
+    CS_TOO_FAR = 11      /* a hyperbola would be asked for a parameter beyond 100 in magnitude */
 };
 
 enum {
@@ -177,6 +182,7 @@ static inline const char *cs_sentence(uint32_t refusal) {
     case CS_NO_ROOM: return "A list of parameters is longer than the chain buffers have room for, or than 16,384.";
     case CS_ENDLESS:
         return "Thinning would split a span without end, since no point of it is at a distance above zero from its chord.";
+    case CS_TOO_FAR: return "A hyperbola would be asked for a parameter beyond 100 in magnitude.";
     default: return "There is no such refusal.";
     }
 }
@@ -184,10 +190,10 @@ static inline const char *cs_sentence(uint32_t refusal) {
 /* ---- the library's own functions, over plain numbers: cs_draw, cs_draw_over, cs_check and cs_check_tables below hand them the
  * fields of the structs in order. Hand these here no NULL, not even with a length of 0; those below put a pointer for it */
 
-/* Draws an edge into the two chain buffers: 0, or the number of the refusal that applies, the lowest from 1 to 7, else 8 or 9
+/* Draws an edge into the two chain buffers: 0, or the number of the refusal that applies, the lowest from 1 to 7, else 8, 9 or 11
  * as drawing meets it. *way is the way in which the chain was got (0 for a refusal) and *count how many points it has (0).
  * A chain is CS_WIDTH doubles a point, x y z t, from the start of the buffer that its way names; every other double of both
- * buffers is then +0.0. Refusals 1 to 7 leave both buffers as they were; 8 and 9 leave them all +0.0. */
+ * buffers is then +0.0. Refusals 1 to 7 leave both buffers as they were; 8, 9 and 11 leave them all +0.0. */
 uint32_t cs_flat_draw(
     const double *points, size_t points_len, const uint32_t *curves, size_t curves_len, const double *reals, size_t reals_len,
     const uint32_t *parts, size_t parts_len, const double *ranges, size_t ranges_len,

@@ -111,7 +111,7 @@ static uint32_t draw_over_any(cs_tables t, cs_edge e) {
     for (size_t i = 0; i < LENGTH; i++) first[i] = second[i] = -7;
     const uint32_t refusal = cs_draw_over(&t, &e, &OPTIONS, first, 400, second, 401, &way, &count);
     EXPECT(refusal == CS_DRAWN ? way >= CS_AS_DRAWN && way <= CS_RUNAWAY && count >= 2 && CS_WIDTH * count <= 400
-                               : refusal <= CS_ENDLESS && way == CS_NO_CHAIN && count == 0);
+                               : refusal <= CS_TOO_FAR && refusal != 10 && way == CS_NO_CHAIN && count == 0);
     EXPECT(all(first + 400, LENGTH - 400, -7) && all(second + 401, LENGTH - 401, -7));
     return refusal;
 }
@@ -131,7 +131,7 @@ static void unaccepted(void) {
     t = LINE, t.points_len = 8, EXPECT(draw_over_any(t, e) == CS_MISSING);
     t = LINE, t.reals_len = 1, draw_over_any(t, e);
     t = LINE, points[0] = NAN, draw_over_any(t, e), points[0] = 0;
-    for (uint32_t kind = 0; kind <= 8; kind++) {
+    for (uint32_t kind = 0; kind <= 9; kind++) {
         for (uint32_t row = 0; row <= 3; row++) {
             curves[0] = kind, curves[1] = row == 3 ? UINT32_MAX : row, curves[2] = row * row, draw_over_any(LINE, e);
         }
@@ -189,6 +189,25 @@ static void nans(void) {
     EXPECT(all(first, 30, 0) && all(second + 2 * CS_WIDTH, 41 - 2 * CS_WIDTH, 0));
 }
 
+/* A hyperbola with semi-axes 1 and 2: within 100 of zero, beyond, without a range, and out of its box. */
+static void hyperbolas(void) {
+    const double frame[] = {0, 0, 0, 0, 0, 1, 1, 0, 0, 3, 5, 0};
+    const uint32_t row[] = {CS_KIND_HYPERBOLA, 0, 3};
+    const double axes[] = {1, 2};
+    const cs_tables t = {.points = frame, .points_len = 12, .curves = row, .curves_len = 3, .reals = axes, .reals_len = 2};
+    const cs_edge near = {.start = 2, .end = 3, .sense = 1, .hi = 1.5, .low = 0, .high = 3};
+    cs_edge e = near;
+    EXPECT(draw_over(t, e, OPTIONS, 400, 401) == CS_DRAWN && way == CS_AS_DRAWN && count >= 5);
+    for (const double *p = first + CS_WIDTH; p < first + CS_WIDTH * (count - 1); p += CS_WIDTH) {
+        EXPECT(fabs(p[CS_X] * p[CS_X] - p[CS_Y] * p[CS_Y] / 4 - 1) < 1e-13 && p[CS_T] > 0 && p[CS_T] < 1.5);
+    }
+    e.hi = 101, EXPECT(draw_over(t, e, OPTIONS, 400, 401) == CS_TOO_FAR);
+    e = near, e.lo = NAN, EXPECT(draw_over(t, e, OPTIONS, 2 * CS_WIDTH, 401) == CS_TOO_FAR);
+    e = near, e.lo = 1.5, EXPECT(draw_over(t, e, OPTIONS, 400, 401) == CS_TOO_FAR);
+    e = near, e.high = 2, e.hi = 5, EXPECT(draw_over(t, e, OPTIONS, 400, 401) == CS_TOO_FAR);
+    EXPECT(cs_check(&t, &e, &OPTIONS) == CS_DRAWN);
+}
+
 static void walks(void) {
     const double chain[] = {0, 1, 2, 3, 4, 5, 6, 7, 8, 9};
     double p[4] = {-1, -1, -1, -1};
@@ -220,13 +239,14 @@ static void angles(void) {
 /* The scope's numbers of kinds and refusals, those of the ways, and both forms of the version. */
 static void numbers(void) {
     const uint32_t kinds[] = {CS_KIND_LINE,     CS_KIND_CIRCLE,  CS_KIND_ELLIPSE,  CS_KIND_PARABOLA,
-                              CS_KIND_POLYLINE, CS_KIND_TRIMMED, CS_KIND_COMPOSITE};
+                              CS_KIND_POLYLINE, CS_KIND_TRIMMED, CS_KIND_COMPOSITE, CS_KIND_HYPERBOLA};
     const uint32_t refusals[] = {CS_DRAWN,     CS_OVERSIZE, CS_UNBOUNDED,    CS_ILL_FORMED, CS_UNORDERED,
                                  CS_TOO_DEEP,  CS_MISSING,  CS_SHORT_BUFFER, CS_NO_ROOM,    CS_ENDLESS};
     const uint32_t ways[] = {CS_NO_CHAIN, CS_AS_DRAWN, CS_CHORD, CS_COMPLEMENT, CS_SHORT_ARC, CS_RUNAWAY};
     for (uint32_t n = 0; n <= 9; n++) EXPECT(refusals[n] == n);
     for (uint32_t n = 0; n <= 5; n++) EXPECT(ways[n] == n);
-    for (uint32_t n = 1; n <= 7; n++) EXPECT(kinds[n - 1] == n);
+    for (uint32_t n = 1; n <= 8; n++) EXPECT(kinds[n - 1] == n);
+    EXPECT(CS_TOO_FAR == 11);
     char version[16];
     snprintf(version, sizeof version, "%d.%d.%d", CS_VERSION_NUMBER / 10000, CS_VERSION_NUMBER / 100 % 100, CS_VERSION_NUMBER % 100);
     EXPECT(strcmp(version, CS_VERSION) == 0);
@@ -240,9 +260,10 @@ int main(void) {
     once();
     unaccepted();
     nans();
+    hyperbolas();
     walks();
     angles();
-    for (uint32_t n = 1; n <= 9; n++) EXPECT(strcmp(cs_sentence(n), cs_sentence(99)) != 0);
+    for (uint32_t n = 1; n <= 11; n++) EXPECT((strcmp(cs_sentence(n), cs_sentence(99)) != 0) == (n != 10));
     if (wrong == 0) puts("C: all as expected");
     return wrong != 0;
 }

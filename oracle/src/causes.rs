@@ -1,7 +1,8 @@
 //! Causes 1 to 7, in the order and the words of the scope's table.
 
 use crate::tables::{
-    CIRCLE, COMPOSITE, ELLIPSE, Edge, LINE, Options, PARABOLA, POLYLINE, Row, TRIMMED, Tables,
+    CIRCLE, COMPOSITE, ELLIPSE, Edge, HYPERBOLA, LINE, Options, PARABOLA, POLYLINE, Row, TRIMMED,
+    Tables,
 };
 
 const MOST_POINTS: usize = 65_536;
@@ -87,6 +88,7 @@ fn malformed_row(tables: &Tables, row: Row) -> bool {
         POLYLINE => unused_p || unused_q || run_outside(tables.point_count()),
         TRIMMED => row.count != 1 || row.first as usize >= tables.row_count(),
         COMPOSITE => unused_p || unused_q || run_outside(tables.segment_count()),
+        HYPERBOLA => row.count != 3 || run_outside(tables.point_count()),
         _ => true,
     }
 }

@@ -1,6 +1,6 @@
 //! Demand 3's five clauses, and what the buffers hold, checked on drawn edges.
 
-use crate::draw::{Drawn, WIDTH, draw, in_first, resolved, solid};
+use crate::draw::{Drawn, WIDTH, draw, in_first, resolved, room, solid};
 use crate::generate;
 use crate::random::Random;
 use crate::sheet::{LENT, Sheet, write};
@@ -15,6 +15,14 @@ const MOST: usize = 16_384 * WIDTH;
 
 /// What no drawing writes, so that a float left alone shows.
 const UNTOUCHED: f64 = f64::from_bits(0x7ff4dead0000beef);
+
+/// How an edge was drawn in buffers of one room.
+struct Known {
+    room: usize,
+    drawn: Drawn,
+    /// Empty where it was refused.
+    chain: Vec<f64>,
+}
 
 /// What a run found.
 #[derive(Default)]
@@ -49,18 +57,18 @@ pub fn report(seed: u64, count: u64) -> String {
 fn check_sheet(found: &mut Found, sheet: &Sheet, random: &mut Random) {
     let known = check_draw(found, sheet, (LENT, LENT), None);
     let any = (any_length(random), any_length(random));
-    check_draw(found, sheet, any, known.as_deref());
-    match &known {
-        Some(chain) => {
-            let exact = (chain.len(), chain.len() + random.below(WIDTH));
-            check_draw(found, sheet, exact, known.as_deref());
-            check_draw(found, sheet, (exact.1, exact.0 - 1), known.as_deref());
+    check_draw(found, sheet, any, Some(&known));
+    match known.drawn {
+        Drawn::Chain(..) => {
+            let exact = (known.chain.len(), known.chain.len() + random.below(WIDTH));
+            check_draw(found, sheet, exact, Some(&known));
+            check_draw(found, sheet, (exact.1, exact.0 - 1), Some(&known));
         }
         // With the most room, for some: what was refused for room may take long to draw.
-        None if random.percent(25) => {
-            check_draw(found, sheet, (MOST + random.below(3), MOST), None);
+        Drawn::Refused(_) if random.percent(25) => {
+            check_draw(found, sheet, (MOST + random.below(3), MOST), Some(&known));
         }
-        None => {}
+        Drawn::Refused(_) => {}
     }
 }
 
@@ -73,20 +81,19 @@ fn any_length(random: &mut Random) -> usize {
     }
 }
 
-/// Draws once and notes whatever is wrong. Room refuses and does nothing else, so that an edge has one
-/// chain: `known`, where it is known. The chain is returned.
+/// Draws once and notes whatever is wrong, also beside how it was drawn before, where that is known.
 fn check_draw(
     found: &mut Found,
     sheet: &Sheet,
     (m, n): (usize, usize),
-    known: Option<&[f64]>,
-) -> Option<Vec<f64>> {
+    known: Option<&Known>,
+) -> Known {
     let (mut first, mut second) = (vec![UNTOUCHED; m], vec![UNTOUCHED; n]);
     let tables = sheet.tables.lent();
     let drawn = draw(&tables, &sheet.edge, &sheet.options, &mut first, &mut second);
     found.draws += 1;
-    let (wrong, chain) = match drawn {
-        Drawn::Refused(number) => (broken_refusal(number, &first, &second), None),
+    let (mut wrong, chain) = match drawn {
+        Drawn::Refused(number) => (broken_refusal(number, &first, &second), vec![]),
         Drawn::Chain(way, count) => {
             let (held, other) = if in_first(way) { (first, second) } else { (second, first) };
             let (chain, rest) = held.split_at(WIDTH * count);
@@ -94,22 +101,35 @@ fn check_draw(
             if !all(rest, 0.0) || !all(&other, 0.0) {
                 wrong.push("buffers after a chain");
             }
-            if known.is_some_and(|known| !same_bits(known, chain)) {
-                wrong.push("another chain in other buffers");
-            }
-            (wrong, Some(chain.to_vec()))
+            (wrong, chain.to_vec())
         }
     };
-    note_chain(found, sheet, chain.as_deref());
+    let new = Known { room: room(m, n), drawn, chain };
+    if known.is_some_and(|known| !agree(known, &new)) {
+        wrong.push("another answer in other buffers");
+    }
+    note_chain(found, sheet, &new.chain);
     for what in wrong {
         found.violations += 1;
         writeln!(found.report, "{what}, buffers {m} {n}:\n{}", write(sheet)).unwrap();
     }
-    chain
+    new
 }
 
-fn note_chain(found: &mut Found, sheet: &Sheet, chain: Option<&[f64]>) {
-    let Some(chain) = chain else { return };
+/// Room refuses and does nothing else: an edge has one answer, and 8 instead of it where the room is too small.
+fn agree(one: &Known, other: &Known) -> bool {
+    let (less, more) = if one.room <= other.room { (one, other) } else { (other, one) };
+    match (less.drawn, more.drawn) {
+        (Drawn::Refused(7), _) | (_, Drawn::Refused(7)) => true,
+        (Drawn::Refused(8), Drawn::Refused(8 | 9 | 11) | Drawn::Chain(..)) => true,
+        (a, b) => a == b && same_bits(&less.chain, &more.chain),
+    }
+}
+
+fn note_chain(found: &mut Found, sheet: &Sheet, chain: &[f64]) {
+    if chain.is_empty() {
+        return;
+    }
     found.chains += 1;
     found.longest = found.longest.max(chain.len() / WIDTH);
     let copied = |t: f64| [sheet.edge.lo, sheet.edge.hi].map(f64::to_bits).contains(&t.to_bits());
@@ -117,7 +137,7 @@ fn note_chain(found: &mut Found, sheet: &Sheet, chain: Option<&[f64]>) {
     found.not_finite += u64::from(records(chain).into_iter().any(made));
 }
 
-/// Causes 1 to 7 leave the buffers as they were, 8 and 9 leave them all +0.0.
+/// Causes 1 to 7 leave the buffers as they were, 8, 9 and 11 leave them all +0.0.
 fn broken_refusal(number: u32, first: &[f64], second: &[f64]) -> Vec<&'static str> {
     let left = if number <= 7 { UNTOUCHED } else { 0.0 };
     if all(first, left) && all(second, left) { vec![] } else { vec!["buffers after a refusal"] }

@@ -2,9 +2,11 @@
 
 use crate::causes::{cause, nestings};
 use crate::draw::{Drawn, draw, room};
+use crate::forms;
 use crate::generate;
+use crate::shapes::NEXT;
 use crate::sheet::{LENT, Sheet, read};
-use crate::tables::KIND_WORDS;
+use crate::tables::{HYPERBOLA, KIND_WORDS};
 use road::edge::Way;
 use road::marks;
 use std::collections::BTreeMap;
@@ -41,8 +43,12 @@ pub fn met(bytes: &[u8]) -> String {
 
 /// Every name at zero, so that the table shows what was never met.
 fn names() -> BTreeMap<String, u64> {
-    let refusals = [2, 3, 4, 5, 6, 8, 9, 10].map(|number| format!("answer: refusal {number}"));
-    let others = ["refusal 8 in repair", "refusal 9 in repair", "a chain that fills its room"];
+    let refusals = [2, 3, 4, 5, 6, 8, 9, 10, 11].map(|number| format!("answer: refusal {number}"));
+    let others = [8, 9, 11].map(|number| format!("refusal {number} in repair"));
+    let others = others.into_iter().chain([
+        "refusal 11 in a drawing of repair".to_string(),
+        "a chain that fills its room".to_string(),
+    ]);
     let others = others.map(|name| format!("answer: {name}"));
     let ways = WAYS.map(|way| format!("answer: {way:?}"));
     let by_kind =
@@ -58,6 +64,7 @@ fn names() -> BTreeMap<String, u64> {
         .chain(kinds)
         .chain(nestings)
         .chain(marks)
+        .chain(forms::names())
         .chain(value_tests().map(|(name, _)| format!("value: {name}")))
         .map(|name| (name, 0))
         .collect()
@@ -84,18 +91,25 @@ fn tally(counts: &mut Counts, bytes: &[u8]) {
     let mut second = first.clone();
     let drawn = draw(&sheet.tables.lent(), &sheet.edge, &sheet.options, &mut first, &mut second);
     let marks = marks::take();
-    tally_answer(counts, &sheet, drawn, marks.contains(&"repair: escapes"));
+    tally_answer(counts, &sheet, drawn, &marks);
     for name in marks {
         counts.met(format!("branch: {name}"));
     }
+    if !matches!(drawn, Drawn::Refused(1..=7)) {
+        forms::met(&sheet, drawn).into_iter().for_each(|name| counts.met(name));
+    }
 }
 
-fn tally_answer(counts: &mut Counts, sheet: &Sheet, drawn: Drawn, escaped: bool) {
+fn tally_answer(counts: &mut Counts, sheet: &Sheet, drawn: Drawn, marks: &[&str]) {
     match drawn {
         Drawn::Refused(number) => {
             counts.met(format!("answer: refusal {number}"));
-            if matches!(number, 8 | 9) && escaped {
+            let escaped = marks.contains(&"repair: escapes");
+            if matches!(number, 8 | 9 | 11) && escaped {
                 counts.met(format!("answer: refusal {number} in repair"));
+            }
+            if number == 11 && escaped && !marks.contains(&"11: sweep") {
+                counts.met("answer: refusal 11 in a drawing of repair".to_string());
             }
         }
         Drawn::Chain(way, count) => {
@@ -124,12 +138,16 @@ fn tally_curve(counts: &mut Counts, sheet: &Sheet) {
 type ValueTest = (&'static str, fn(&Sheet) -> bool);
 
 /// Values at the rules' boundaries.
-fn value_tests() -> [ValueTest; 16] {
+fn value_tests() -> [ValueTest; 20] {
     [
         ("a -0.0", |s| any_float(s, |x| x.to_bits() == 1 << 63)),
         ("a subnormal", |s| any_float(s, f64::is_subnormal)),
         ("exactly 1e9", |s| any_float(s, |x| x.abs() == 1e9)),
         ("just above 1e9", |s| any_float(s, |x| x.abs().to_bits() == 1e9f64.to_bits() + 1)),
+        ("exactly 100", |s| any_float(s, |x| x.abs() == 100.0)),
+        ("just above 100", |s| any_float(s, |x| x.abs() == NEXT)),
+        ("a hyperbola's semi-axis of zero", |s| any_semi_axis(s, |x| x == 0.0)),
+        ("a hyperbola's semi-axis below zero", |s| any_semi_axis(s, |x| x < 0.0)),
         ("a NaN range", |s| s.edge.lo.is_nan() || s.edge.hi.is_nan()),
         ("a NaN range with payload", |s| payload(s.edge.lo) || payload(s.edge.hi)),
         ("a signalling NaN range", |s| signalling(s.edge.lo) || signalling(s.edge.hi)),
@@ -150,6 +168,10 @@ fn any_float(sheet: &Sheet, test: fn(f64) -> bool) -> bool {
     let single = [e.lo, e.hi, e.tolerance, o.deflection, o.angle, o.scale];
     let tables = [&sheet.tables.points, &sheet.tables.reals, &sheet.tables.ranges];
     tables.into_iter().flatten().chain(&single).any(|x| test(*x))
+}
+
+fn any_semi_axis(sheet: &Sheet, test: fn(f64) -> bool) -> bool {
+    sheet.tables.lent().rows().any(|row| row.kind == HYPERBOLA && (test(row.p) || test(row.q)))
 }
 
 fn payload(x: f64) -> bool {

@@ -33,7 +33,7 @@ fn set_used_real(random: &mut Random, sheet: &mut Sheet, value: f64) {
     let row = random.below(sheet.tables.lent().row_count());
     let (uses_p, uses_q) = match sheet.tables.lent().row(row).kind {
         2 | 4 => (true, false),
-        3 | 6 => (true, true),
+        3 | 6 | 8 => (true, true),
         _ => (false, false),
     };
     let zero = if random.percent(50) { -0.0 } else { 0.0 };
@@ -93,7 +93,7 @@ fn break_form(random: &mut Random, sheet: &mut Sheet) {
         }
         5 => sheet.edge.sense = flag,
         6 => sheet.options.relative = flag,
-        7 => tables.curves[3 * row] = 1 + (kind + count) % 7,
+        7 => tables.curves[3 * row] = 1 + (kind + count) % 8,
         _ => empty_run_at_end(random, sheet),
     }
 }

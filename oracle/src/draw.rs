@@ -2,6 +2,7 @@
 
 use crate::causes::cause;
 use crate::tables::{Edge, Options, Tables};
+use road::asks;
 use road::brep::{CurveId, Edge as RoadEdge, Solid, VertexId};
 use road::edge::{Chain, Way, discretise_all};
 use road::math::{Aabb, Interval, Vec3};
@@ -20,7 +21,7 @@ pub enum Drawn {
 
 /// Draws an edge into one of two lent buffers.
 ///
-/// Causes 1 to 7 leave both as they were, 8 and 9 leave them all +0.0. A chain starts its buffer, the
+/// Causes 1 to 7 leave both as they were, 8, 9 and 11 leave them all +0.0. A chain starts its buffer, the
 /// first if kept as first drawn and the second if repair replaced it; every other float is +0.0.
 pub fn draw(
     tables: &Tables,
@@ -67,9 +68,19 @@ pub fn draw_chain(
     room: usize,
 ) -> Result<Chain, u32> {
     let solid = solid(tables, edge);
-    let chains = discretise_all(&solid, &resolved(options), &reference(tables, edge), room)?;
+    let chains = road(&solid, &resolved(options), &reference(tables, edge), room)?;
     let chain = chains.into_iter().next().expect("the solid has one edge");
     Ok(with_made_nans(chain))
+}
+
+/// The published road, with cause 11: of 8, 9 and 11 the first that it meets.
+pub fn road(
+    solid: &Solid,
+    options: &Resolved,
+    reference: &Aabb,
+    room: usize,
+) -> Result<Vec<Chain>, u32> {
+    asks::drawing(|| discretise_all(solid, options, reference, room))
 }
 
 /// A solid with the edge's two vertices, its curve and itself.

@@ -5,6 +5,10 @@ use crate::sheet::hex;
 
 const ONE_OPERAND: [&str; 7] = ["root", "sin", "cos", "acos", "floor", "ceil", "abs"];
 
+/// Of one operand too, but asked only up to so large a magnitude.
+const GROWING: [&str; 3] = ["exp", "cosh", "sinh"];
+const LARGEST: f64 = 100.0;
+
 const SPECIAL: [u64; 16] = [
     0x0000000000000000, // 0
     0x0000000000000001, // the least subnormal
@@ -24,12 +28,16 @@ const SPECIAL: [u64; 16] = [
     0x7ff0000000000000, // infinity
 ];
 
-const MALFORMED: [&str; 19] = [
+const MALFORMED: [&str; 23] = [
     "",
     " ",
     "sin",
     "sin ",
     "tan 3ff0000000000000",
+    "tanh 3ff0000000000000",
+    "exp",
+    "sinhh 3ff0000000000000",
+    "cosh 3ff0000000000000 3ff0000000000000",
     "Sin 3ff0000000000000",
     "sin 3FF0000000000000",
     "sin 3ff000000000000",
@@ -52,6 +60,9 @@ pub fn lines(seed: u64) -> Vec<String> {
     let mut lines: Vec<String> = Vec::new();
     for name in ONE_OPERAND {
         lines.extend(operands(&mut random, name).iter().map(|x| line(name, &[*x])));
+    }
+    for name in GROWING {
+        lines.extend(growing(&mut random).iter().map(|x| line(name, &[*x])));
     }
     for name in ["min", "max"] {
         lines.extend(pairs(&mut random).iter().map(|pair| line(name, pair)));
@@ -78,6 +89,26 @@ fn operands(random: &mut Random, name: &str) -> Vec<f64> {
         operands.push(f64::from_bits(sign << 63 | exponent << 52 | fraction));
     }
     operands.extend((0..200).map(|_| bend(random, name)));
+    operands
+}
+
+/// Those of the boundaries that are not too large; all magnitudes, few of the least; and about the halves of ln 2, where k turns.
+fn growing(random: &mut Random) -> Vec<f64> {
+    let mut operands = boundaries(random);
+    let limit = LARGEST.to_bits();
+    operands.extend([limit - 1, limit, limit - 1 | 1 << 63, limit | 1 << 63].map(f64::from_bits));
+    let small = (0..960).step_by(16);
+    for exponent in small.chain(960..1030) {
+        let (sign, fraction) = (random.bits() >> 63, random.bits() >> 12);
+        operands.push(f64::from_bits(sign << 63 | exponent << 52 | fraction));
+    }
+    for _ in 0..150 {
+        let nudge = (random.below(7) as f64 - 3.0) * random.decade(-17, -1);
+        let half = (random.below(578) as f64 - 289.0) * (0.5 * std::f64::consts::LN_2);
+        operands.extend([half + nudge, random.between(-LARGEST, LARGEST)]);
+    }
+    operands.extend((-100..=100).step_by(4).map(f64::from));
+    operands.retain(|x| x.abs() <= LARGEST);
     operands
 }
 

@@ -1,5 +1,6 @@
 //! Seeded sheets, valid and damaged. Each is made alone from the run's seed and its own number.
 
+use crate::beyond;
 use crate::damage;
 use crate::exact;
 use crate::random::Random;
@@ -12,21 +13,27 @@ use road::math::{Aabb, TAU, Vec3};
 /// The bytes of sheet `index` of a run.
 pub fn bytes(seed: u64, index: u64) -> Vec<u8> {
     let mut random = Random::new(seed, index);
-    let sheet = drafted(&mut random);
+    let sheet = drafted(&mut random, index);
     let text = write(&sheet).into_bytes();
     damage::text(&mut random, text)
 }
 
 /// What sheet `index` of a run holds, before its text is damaged.
 pub fn contents(seed: u64, index: u64) -> Sheet {
-    drafted(&mut Random::new(seed, index))
+    drafted(&mut Random::new(seed, index), index)
 }
 
-fn drafted(random: &mut Random) -> Sheet {
+/// Every so many-th sheet may have hyperbolas; the others have none, and are what they were before there were any.
+const EVERY: u64 = 6;
+
+fn drafted(random: &mut Random, index: u64) -> Sheet {
+    let hyperbolas = index % EVERY == 4;
     let mut sheet = match random.below(100) {
+        0..=39 if hyperbolas => beyond::sheet(random),
+        _ if hyperbolas => sound(Draft::with_hyperbolas(random)),
         0..=1 => redrawn(random),
         2..=14 => exact::sheet(random),
-        _ => sound(random),
+        _ => sound(Draft::new(random)),
     };
     damage::tweak(random, &mut sheet);
     damage::contents(random, &mut sheet);
@@ -34,8 +41,7 @@ fn drafted(random: &mut Random) -> Sheet {
 }
 
 /// A sheet as a reader would write it, or as its mistakes would.
-fn sound(random: &mut Random) -> Sheet {
-    let mut draft = Draft::new(random);
+fn sound(mut draft: Draft) -> Sheet {
     if draft.random.percent(20) {
         draft.simple(); // a row and points that the edge may not use
     }
@@ -43,7 +49,7 @@ fn sound(random: &mut Random) -> Sheet {
     if draft.random.percent(5) {
         draft.stray_segment();
     }
-    let (mut tables, size) = (draft.tables, draft.size);
+    let (mut tables, size, random) = (draft.tables, draft.size, draft.random);
     if tables.points.is_empty() {
         tables.push_point([0.0; 3]);
     }
@@ -196,6 +202,10 @@ fn vertex(random: &mut Random, tables: &mut OwnedTables, p: Vec3) -> u32 {
 }
 
 fn shape(draft: &mut Draft) -> Shape {
+    if draft.hyperbolas {
+        let depth = draft.random.pick(&[0, 0, 0, 1, 1, 1, 1, 2, 2, 2, 3, 4, 5, 6, 7, 8]);
+        return draft.nested(depth);
+    }
     match draft.random.below(100) {
         0..=4 => draft.line(),
         5..=19 => draft.circle(),

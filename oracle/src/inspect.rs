@@ -3,6 +3,7 @@
 use crate::causes::cause;
 use crate::draw::{made, resolved, room, solid};
 use crate::sheet::{LENT, Sheet, float, hex, options, read, refusal};
+use road::asks::farthest;
 use road::brep::{Curve, Edge};
 use road::edge::{edge_extent, sample_params, usable_range};
 use road::knots::{curve_breaks, thin_breaks};
@@ -18,6 +19,7 @@ pub fn eval(bytes: &[u8], parameters: &str) -> String {
     if let Some(number) = cause(&sheet.tables.lent(), &sheet.edge, &sheet.options, 8, 8) {
         return refusal(number);
     }
+    farthest(); // what was asked before
     let (mut text, curve) = sampling(&sheet);
     for line in parameters.lines() {
         text += &float(line).map_or("?\n".to_string(), |t| at(&curve, t));
@@ -46,26 +48,34 @@ fn sampling(sheet: &Sheet) -> (String, Curve) {
     (text, curve)
 }
 
+/// A line where a hyperbola was asked for a parameter beyond the limit, since this was last called.
+fn beyond() -> String {
+    farthest().map_or(String::new(), |t| format!("beyond {}\n", bits(&[t])))
+}
+
 /// The breaks inside a range, those that thinning keeps, and the parameters sampled.
 fn samples(curve: &Curve, range: Interval, options: &Resolved) -> String {
     let breaks = curve_breaks(curve, range.lo, range.hi);
     let kept = thin_breaks(&breaks, range.lo, range.hi, options.sag, &|t| curve.point_at(t));
+    let asked = beyond();
     let sampled = match sample_params(curve, range, options, room(LENT, LENT)) {
         Ok(params) => list(&params),
         Err(number) => format!("refusal {number}"),
     };
-    format!("breaks {}\nkept {}\nsampled {sampled}\n", list(&breaks), list(&kept))
+    farthest(); // sampling is told of by its list alone
+    format!("breaks {}\nkept {}\n{asked}sampled {sampled}\n", list(&breaks), list(&kept))
 }
 
 fn at(curve: &Curve, t: f64) -> String {
     let vector = |v: Vec3| v.to_array().to_vec();
-    format!(
+    let values = format!(
         "at {}\npoint {}\nderivative {}\ntangent {}\n",
         hex(&[t]),
         bits(&vector(curve.point_at(t))),
         bits(&vector(curve.derivative_at(t))),
         maybe(curve.tangent_at(t).map(vector))
-    )
+    );
+    values + &beyond()
 }
 
 /// The first line holds options as a sheet does, or a preset's name; each other an extent, a radius and an arc's total, or

@@ -2,6 +2,7 @@
 
 pub mod arith;
 pub mod batch;
+pub mod beyond;
 pub mod causes;
 pub mod check;
 #[cfg(marked)]
@@ -9,6 +10,8 @@ pub mod coverage;
 pub mod damage;
 pub mod draw;
 pub mod exact;
+#[cfg(marked)]
+pub mod forms;
 pub mod gen_arith;
 pub mod generate;
 pub mod inspect;

@@ -2,7 +2,8 @@
 
 use crate::random::Random;
 use crate::tables::{
-    CIRCLE, COMPOSITE, ELLIPSE, LINE, OwnedTables, PARABOLA, POLYLINE, Row, Segment, TRIMMED,
+    CIRCLE, COMPOSITE, ELLIPSE, HYPERBOLA, LINE, OwnedTables, PARABOLA, POLYLINE, Row, Segment,
+    TRIMMED,
 };
 use road::math::TAU;
 use road::steps::{cos, sin};
@@ -16,7 +17,10 @@ pub struct Shape {
 }
 
 /// Ranges of trims about the span of 1e9 from which on a natural range is none to draw.
-const WIDE: [(f64, f64); 4] = [(-1e9, 1e9), (0.0, 1e9), (1e9, 0.0), (0.0, 999999999.9999999)];
+pub const WIDE: [(f64, f64); 4] = [(-1e9, 1e9), (0.0, 1e9), (1e9, 0.0), (0.0, 999999999.9999999)];
+
+/// The least parameter that is too large for a hyperbola.
+pub const NEXT: f64 = 100.00000000000001;
 
 /// Tables that grow row by row.
 pub struct Draft<'a> {
@@ -25,6 +29,8 @@ pub struct Draft<'a> {
     /// The scale of this part.
     pub size: f64,
     pub origin: [f64; 3],
+    /// Whether rows that refer to no other are hyperbolas more often than not; else none is.
+    pub hyperbolas: bool,
 }
 
 pub type Point = [f64; 3];
@@ -52,11 +58,18 @@ impl<'a> Draft<'a> {
             6 => [random.decade(6, 8), -random.decade(6, 8), 0.0],
             _ => [0, 1, 2].map(|_| random.between(-10.0, 10.0) * size),
         };
-        Draft { random, tables: OwnedTables::default(), size, origin }
+        Draft { random, tables: OwnedTables::default(), size, origin, hyperbolas: false }
+    }
+
+    pub fn with_hyperbolas(random: &'a mut Random) -> Draft<'a> {
+        Draft { hyperbolas: true, ..Draft::new(random) }
     }
 
     /// A row of any kind that refers to no other.
     pub fn simple(&mut self) -> Shape {
+        if self.hyperbolas && self.random.percent(70) {
+            return self.hyperbola();
+        }
         match self.random.below(16) {
             0..=1 => self.line(),
             2..=5 => self.circle(),
@@ -124,6 +137,40 @@ impl<'a> Draft<'a> {
         let reach = self.random.pick(&[0.5, 1.0, 3.0, 40.0, 1e3]);
         let lo = self.random.pick(&[-1.0, 0.0, -0.25]) * reach;
         Shape { row, lo, hi: reach }
+    }
+
+    pub fn hyperbola(&mut self) -> Shape {
+        let major = self.radius();
+        let minor = match self.random.below(6) {
+            0 => major,
+            1..=2 => self.radius(),
+            _ => major * self.random.between(0.1, 1.5),
+        };
+        let shape = self.hyperbola_of(major, minor);
+        let (a, b) = (self.random.between(-5.0, 5.0), self.random.between(-5.0, 5.0));
+        let wide = self.random.pick(&[30.0, 99.0, 150.0, 1e3]);
+        let (lo, hi) = match self.random.below(20) {
+            0..=8 => (a.min(b), a.max(b)),
+            9..=10 => (a * 6.0, a * 6.0 + b.abs()),
+            11 => (-wide, wide),
+            12 => (-100.0, 100.0),
+            // lo + (hi - lo) * 1 is not always hi
+            13 => (a * 10.0, 100.0),
+            14 => (-100.0, b * 10.0),
+            15 => (a, NEXT),
+            16 => (-NEXT, b),
+            _ => (shape.lo, shape.hi),
+        };
+        Shape { lo, hi, ..shape }
+    }
+
+    /// With these semi-axes, over the range of a cone's cut.
+    pub fn hyperbola_of(&mut self, major: f64, minor: f64) -> Shape {
+        let first = self.frame();
+        let row = self.row(HYPERBOLA, first, 3, major, minor);
+        let hi = self.random.pick(&[0.5, 1.0, 2.0, 3.0]);
+        let lo = self.random.pick(&[-1.0, -1.0, 0.0, -0.25]) * hi;
+        Shape { row, lo, hi }
     }
 
     pub fn polyline(&mut self) -> Shape {
@@ -220,7 +267,7 @@ impl<'a> Draft<'a> {
     }
 
     /// A segment with its curve's own range, or with one whose ends are breaks of the composite.
-    fn segment(&mut self, shape: Shape, count: usize) -> Segment {
+    pub fn segment(&mut self, shape: Shape, count: usize) -> Segment {
         let breaks = |draft: &mut Self| draft.random.below(4 * count + 3) as f64 * 0.25;
         // What breaks must be away from the range's ends by, where the edge runs over the whole.
         let least = count as f64 * 1e-9;

@@ -11,10 +11,11 @@ pub const PARABOLA: u32 = 4;
 pub const POLYLINE: u32 = 5;
 pub const TRIMMED: u32 = 6;
 pub const COMPOSITE: u32 = 7;
+pub const HYPERBOLA: u32 = 8;
 
 /// The kinds' words, kind 1 first.
-pub const KIND_WORDS: [&str; 7] =
-    ["line", "circle", "ellipse", "parabola", "polyline", "trimmed", "composite"];
+pub const KIND_WORDS: [&str; 8] =
+    ["line", "circle", "ellipse", "parabola", "polyline", "trimmed", "composite", "hyperbola"];
 
 /// Points, curve rows and segments as five lent slices.
 #[derive(Debug, Clone, Copy)]
@@ -186,11 +187,12 @@ impl<'a> Tables<'a> {
             TRIMMED => {
                 Curve::Trimmed { base: self.shared(first, known), range: Interval::new(p, q) }
             }
-            _ => Curve::Composite {
+            COMPOSITE => Curve::Composite {
                 segments: (first..first + count)
                     .map(|i| self.composite_segment(i as usize, known))
                     .collect(),
             },
+            _ => Curve::Hyperbola { frame: self.frame(first), semi_major: p, semi_minor: q },
         }
     }
 

@@ -1,15 +1,14 @@
 //! How long a draw takes, in process.
 
-use crate::draw::{Drawn, draw, reference, resolved, room, solid};
+use crate::draw::{Drawn, draw, reference, resolved, road, room, solid};
 use crate::sheet::{LENT, Sheet, read};
-use road::edge::discretise_all;
 use std::hint::black_box;
 use std::time::{Duration, Instant};
 
 /// A line for one sheet of a batch: its answer, ns per draw, and ns of the road alone.
 ///
 /// The draw is the whole entry point: causes, tables turned into the Rust's curves, the road, both
-/// buffers. The road alone is `discretise_all` on a solid that stands ready.
+/// buffers. The road alone is `discretise_all`, with cause 11, on a solid that stands ready.
 pub fn line(number: usize, bytes: &[u8]) -> String {
     let Some(sheet) = read(bytes) else {
         return format!("{number} refusal 10\n");
@@ -19,12 +18,13 @@ pub fn line(number: usize, bytes: &[u8]) -> String {
     let tables = sheet.tables.lent();
     let mut draws =
         || draw(black_box(&tables), &sheet.edge, &sheet.options, &mut first, &mut second);
-    let answer = match draws() {
+    let drawn = draws();
+    let answer = match drawn {
         Drawn::Refused(number) => format!("refusal {number}"),
         Drawn::Chain(way, count) => format!("{way:?} {count}"),
     };
     let draw_ns = nanoseconds(draws);
-    if answer.starts_with("refusal") && !answer.ends_with(['8', '9']) {
+    if matches!(drawn, Drawn::Refused(1..=7)) {
         return format!("{number} {answer} draw {draw_ns:.0}\n");
     }
     format!("{number} {answer} draw {draw_ns:.0} road {:.0}\n", road_ns(&sheet))
@@ -36,7 +36,7 @@ fn road_ns(sheet: &Sheet) -> f64 {
     let reference = reference(&tables, &sheet.edge);
     let resolved = resolved(&sheet.options);
     let room = room(LENT, LENT);
-    nanoseconds(|| discretise_all(black_box(&solid), &resolved, &reference, room))
+    nanoseconds(|| road(black_box(&solid), &resolved, &reference, room))
 }
 
 /// The least mean of many short runs: another program's turn on the machine spoils few of them.

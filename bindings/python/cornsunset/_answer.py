@@ -6,7 +6,7 @@ class Refusal(Exception):
     """Why an edge was turned away. Each has a class of its own, with its number, which is the same in C and Rust, and a
     message.
 
-    1 to 7 leave both buffers as they were, 8 and 9 leave them all +0.0.
+    1 to 7 leave both buffers as they were, 8, 9 and 11 leave them all +0.0. 10 is a sheet's, and no drawing answers it.
 
     >>> import cornsunset
     >>> Refusal.from_number(8)
@@ -89,7 +89,12 @@ class Endless(Refusal):
     message = "thinning would split a span without end, since no point of it is at a distance above zero from its chord"
 
 
-Refusal.ALL = (Oversize, Unbounded, IllFormed, Unordered, TooDeep, Missing, ShortBuffer, NoRoom, Endless)
+class TooFar(Refusal):
+    number = 11
+    message = "a hyperbola would be asked for a parameter beyond 100 in magnitude"
+
+
+Refusal.ALL = (Oversize, Unbounded, IllFormed, Unordered, TooDeep, Missing, ShortBuffer, NoRoom, Endless, TooFar)
 
 
 def accept(number):

@@ -98,6 +98,15 @@ class Segment:
         return [self.curve._plain(self.lo, "lo"), self.curve._plain(self.hi, "hi")]
 
 
+def _semi_axes(given):
+    """Two sizes, the first of them along ref_dir."""
+    try:
+        first, second = given
+    except TypeError:
+        raise TypeError(f"semi_axes are two floats, not of type {type(given).__name__}") from None
+    return sized(real(first, "a semi-axis")), sized(real(second, "a semi-axis"))
+
+
 class Part:
     """A part under construction, in a box with these corners. It owns its tables; what it returns are numbers of points and
     rows.
@@ -162,16 +171,31 @@ class Part:
     def ellipse(self, origin, axis, ref_dir, semi_axes) -> Row:
         """Adds an ellipse, with the first of its two semi-axes along ref_dir and the other at right angles to it. At an angle u
         lies origin + first cos u along ref_dir + second sin u beside it."""
-        try:
-            first, second = semi_axes
-        except TypeError:
-            raise TypeError(f"semi_axes are two floats, not of type {type(semi_axes).__name__}") from None
-        reals = sized(real(first, "a semi-axis")), sized(real(second, "a semi-axis"))
-        return self._framed(Kind.ELLIPSE, origin, axis, ref_dir, reals, Angle)
+        return self._framed(Kind.ELLIPSE, origin, axis, ref_dir, _semi_axes(semi_axes), Angle)
 
     def parabola(self, origin, axis, ref_dir, focal: float) -> Row:
         """Adds a parabola, open along ref_dir. At a parameter u lies origin + focal u u along ref_dir + 2 focal u beside it."""
         return self._framed(Kind.PARABOLA, origin, axis, ref_dir, (sized(real(focal, "focal")), 0.0), float)
+
+    def hyperbola(self, origin, axis, ref_dir, semi_axes) -> Row:
+        """Adds the branch of a hyperbola that opens along ref_dir. At a parameter u lies origin + first cosh u along ref_dir +
+        second sinh u beside it. A range is within -100 to 100: an edge that would ask for another parameter, since its range is
+        lost or it leaves the box, is refused with TooFar.
+
+        >>> import math
+        >>> # A cone of half angle 45 degrees, cut 3 from its axis: 3 cosh u high, 3 sinh u to the side.
+        >>> part = Part((-4, 3, 0), (4, 5, 0))
+        >>> cut = part.hyperbola((0, 0, 0), (0, 0, -1), (0, 1, 0), (3, 3))
+        >>> start, end = part.point((-4, 5, 0)), part.point((4, 5, 0))
+        >>> side = math.log(3)  # 3 cosh u is 5, and 3 sinh u is 4
+        >>> chain = part.check().draw(part.edge(cut, start, end, -side, side), Options(scale=8.2))
+        >>> all(abs(p.y * p.y - p.x * p.x - 9) < 1e-12 for p in chain)
+        True
+        >>> part.check().draw(part.edge(cut, start, end, math.nan, math.nan), Options(scale=8.2))
+        Traceback (most recent call last):
+        cornsunset.TooFar: a hyperbola would be asked for a parameter beyond 100 in magnitude
+        """
+        return self._framed(Kind.HYPERBOLA, origin, axis, ref_dir, _semi_axes(semi_axes), float)
 
     def polyline(self, run: PointRun) -> Row:
         """Adds the polyline through a run of points. A parameter on it is a point's index, from 0. Drawn as one edge it can miss its

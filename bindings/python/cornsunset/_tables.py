@@ -31,6 +31,8 @@ class Kind(enum.IntEnum):
     TRIMMED = 6
     #: A run of segments. The parameter is the segment's index.
     COMPOSITE = 7
+    #: Points: origin, axis, ref_dir; p and q are the semi-axes. The parameter is a plain number from -100 to 100.
+    HYPERBOLA = 8
 
 
 # The tables' names, what stands in them, and how many of it make a row.
@@ -122,7 +124,8 @@ class Edge:
     index on a polyline, the segment's index on a composite, the base's parameter on a trim.
 
     A range has to rise. One that does not, or is not finite, counts as lost: then the curve's whole range is drawn, a full turn
-    on a circle, and on a line the chord of the vertices. The chain runs from start to end whichever way the range does.
+    on a circle, and on a line the chord of the vertices; a hyperbola is refused with TooFar, and so is one that leaves the box. The
+    chain runs from start to end whichever way the range does.
 
     curve: its curve row.
     start, end: the points of its vertices.

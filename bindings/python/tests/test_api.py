@@ -145,6 +145,15 @@ class Refusals(unittest.TestCase):
         tables = line(points=[x, x, 0, x + u, x, 0, x + 10 * u, x + 3 * u, 0], curves=[5, 0, 3])
         self.refused(9, tables, edge(hi=2.0), options(angle=cs.Angle.radians(0.14), segments=1, depth=1))
 
+    def test_a_hyperbola_beyond_a_hundred(self):
+        tables = line(points=[0, 0, 0, 0, 0, 1, 1, 0, 0], curves=[8, 0, 3], reals=[1, 2])
+        near = edge(hi=100.0, high=0)
+        self.assertIsNone(cs.check(tables, near, OPTIONS))
+        self.refused(11, tables, edge(hi=100.00000000000001, high=0))
+        self.refused(11, tables, edge(lo=math.nan, high=0), lengths=(8, 8))
+        self.refused(3, line(curves=[8, 0, 2]), near)
+        self.refused(3, line(curves=[9, 0, 3]), near)
+
     def test_tables_are_refused_whatever_the_edge(self):
         def number(tables):
             with self.assertRaises(cs.Refusal) as caught:
@@ -186,6 +195,7 @@ class Refusals(unittest.TestCase):
 class Checking(unittest.TestCase):
     def test_over_checked_tables_an_edge_is_drawn_as_by_itself(self):
         trimmed = {"curves": [1, 0, 2, 6, 0, 1], "reals": [0.0, 0.0, 1.0, 4.0]}
+        hyperbola = {"points": [0, 0, 0, 0, 0, 1, 1, 0, 0], "curves": [8, 0, 3], "reals": [1, 2]}
         cases = [
             (line(), EDGE, OPTIONS, 30, 41, 0),
             (line(), edge(sense=0, start=2, end=0), OPTIONS, 41, 30, 0),
@@ -199,6 +209,8 @@ class Checking(unittest.TestCase):
             (cs.Tables(), EDGE, OPTIONS, 80, 80, 6),
             (line(), EDGE, OPTIONS, 80, 7, 7),
             (line(), EDGE, OPTIONS, 8, 8, 8),
+            (line(**hyperbola), edge(hi=1.5), OPTIONS, 400, 400, 0),
+            (line(**hyperbola), edge(lo=math.nan), OPTIONS, 8, 8, 11),
         ]
         for tables, asked, finely, m, n, number in cases:
             answers = []

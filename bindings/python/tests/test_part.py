@@ -39,15 +39,16 @@ class Building(unittest.TestCase):
         polyline = built.polyline(corners)
         trim = built.trimmed(ellipse, Angle.ZERO, Angle.radians(1.5))
         composite = built.composite([Segment(line, -1, 1), Segment(trim, Angle.ZERO, Angle.radians(1)).reversed()])
-        rows = (line, circle, ellipse, parabola, polyline, trim, composite)
-        self.assertEqual([row.number for row in rows], list(range(7)))
-        self.assertEqual([row.parameter for row in rows], [float, Angle, Angle, float, float, Angle, float])
+        hyperbola = built.hyperbola(O, Z, X, (6, 7))
+        rows = (line, circle, ellipse, parabola, polyline, trim, composite, hyperbola)
+        self.assertEqual([row.number for row in rows], list(range(8)))
+        self.assertEqual([row.parameter for row in rows], [float, Angle, Angle, float, float, Angle, float, float])
         self.assertEqual((corners.at(0).number, corners.at(2).number, corners.count), (13, 15, 3))
 
         tables = built.tables()
-        runs = [(2, 2), (4, 3), (7, 3), (10, 3), (13, 3), (2, 1), (0, 2)]
+        runs = [(2, 2), (4, 3), (7, 3), (10, 3), (13, 3), (2, 1), (0, 2), (16, 3)]
         self.assertEqual(tables.curves.tolist(), [x for kind, run in zip(Kind, runs) for x in (kind, *run)])
-        self.assertEqual(tables.reals.tolist(), [0, 0, 3, 0, 4, 2, 0.5, 0, 0, 0, 0, 1.5, 0, 0])
+        self.assertEqual(tables.reals.tolist(), [0, 0, 3, 0, 4, 2, 0.5, 0, 0, 0, 0, 1.5, 0, 0, 6, 7])
         self.assertEqual((tables.parts.tolist(), tables.ranges.tolist()), ([0, 1, 5, 0], [-1, 1, 0, 1]))
         self.assertEqual(tables.points.tolist()[:12], [-1, -1, -1, 2, 2, 2, 5, 5, 5, 0, 2, 0])
         self.assertIsInstance(built.check(), cs.Checked)
@@ -82,14 +83,18 @@ class Building(unittest.TestCase):
                 lambda: built.circle(O, none, X, 1),
                 lambda: built.circle(O, Z, none, 1),
                 lambda: built.parabola(O, Z, none, 1),
+                lambda: built.hyperbola(O, none, X, (2, 1)),
             ):
                 self.assertRaises(cs.NoDirection, add)
         for along in (Z, (0, 0, -3), (1e-12, 0, 1)):
             self.assertRaises(cs.Parallel, built.ellipse, O, Z, along, (2, 1))
+            self.assertRaises(cs.Parallel, built.hyperbola, O, Z, along, (2, 1))
         for none in (0, -1, math.nan, -0.0):
             self.assertRaises(cs.NoSize, built.circle, O, Z, X, none)
             self.assertRaises(cs.NoSize, built.ellipse, O, Z, X, (1, none))
             self.assertRaises(cs.NoSize, built.parabola, O, Z, X, none)
+            self.assertRaises(cs.NoSize, built.hyperbola, O, Z, X, (none, 1))
+            self.assertRaises(cs.NoSize, built.hyperbola, O, Z, X, (1, none))
         # Nothing was added.
         self.assertEqual(repr(built.tables()), "<Tables of 2 points, 0 curve rows, 0 segments>")
         for error in (cs.NoDirection, cs.Parallel, cs.NoSize):
@@ -139,6 +144,7 @@ class Ranges(unittest.TestCase):
         self.part = part()
         self.round = self.part.circle(O, Z, X, 1), self.part.ellipse(O, Z, X, (2, 1))
         self.straight = self.part.line(O, X), self.part.parabola(O, Z, X, 1), self.part.polyline(self.part.points([O, X]))
+        self.straight += (self.part.hyperbola(O, Z, X, (2, 1)),)
         self.vertex = self.part.point(X)
 
     def test_a_bare_number_is_no_angle(self):
@@ -197,6 +203,8 @@ class Ranges(unittest.TestCase):
             self.assertRaises(TypeError, self.part.parabola, O, Z, X, wrong)
             self.assertRaises((TypeError, ValueError), self.part.ellipse, O, Z, X, wrong)
             self.assertRaises(TypeError, self.part.ellipse, O, Z, X, (1, wrong))
+            self.assertRaises((TypeError, ValueError), self.part.hyperbola, O, Z, X, wrong)
+            self.assertRaises(TypeError, self.part.hyperbola, O, Z, X, (wrong, 1))
         self.assertEqual(bytes(self.part.tables().points), before)
 
     def test_numbers_of_rows_and_points_have_32_bits(self):
@@ -237,6 +245,24 @@ class Drawing(unittest.TestCase):
         self.assertEqual((owned, owned.length()), (lent, lent.length()))
         # Points of the parabola: x is y * y / 8.
         self.assertTrue(all(abs(p.x - p.y * p.y / 8) < 1e-12 for p in owned))
+
+    def test_a_hyperbola_is_drawn_within_a_hundred_of_zero(self):
+        built = part()
+        hyperbola, u = built.hyperbola(O, Z, X, (3, 4)), math.log(8)
+        start, end = built.point((3, 0, 0)), built.point((3 * math.cosh(u), 4 * math.sinh(u), 0))
+        edge, trimmed = (built.edge(row, start, end, 0, u) for row in (hyperbola, built.trimmed(hyperbola, 0, u)))
+        checked = built.check()
+        chain = checked.draw(edge, FINE)
+        self.assertIs(chain.way, Way.AS_DRAWN)
+        self.assertTrue(len(chain) > 4 and all(abs((p.x / 3) ** 2 - (p.y / 4) ** 2 - 1) < 1e-12 for p in chain))
+        self.assertEqual(checked.draw(trimmed, FINE), chain)
+        # Without a range a hyperbola is asked at -1e6, and a trim of one over its own range.
+        for lo, hi in ((math.nan, 2), (0, math.inf), (1, 1), (2, 0), (0, 100.1), (-101, 0)):
+            self.assertRaises(cs.TooFar, checked.draw, replace(edge, lo=lo, hi=hi), FINE)
+        self.assertEqual(checked.draw(replace(trimmed, lo=math.nan), FINE), chain)
+        # And so is one that leaves the box.
+        built.set_box(O, (3, 1, 0))
+        self.assertRaises(cs.TooFar, built.check().draw, edge, FINE)
 
     def test_composites_and_trims_run_on(self):
         built = part()

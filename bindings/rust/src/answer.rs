@@ -4,7 +4,8 @@ use std::error::Error;
 use std::fmt;
 
 numbered! {
-    /// Why an edge was turned away. 1 to 7 leave both buffers as they were, 8 and 9 leave them all +0.0.
+    /// Why an edge was turned away. 1 to 7 leave both buffers as they were, 8, 9 and 11 leave them all +0.0. 10 is a
+    /// sheet's, and no drawing answers it.
     ///
     /// ```
     /// use cornsunset::Refusal;
@@ -20,7 +21,7 @@ numbered! {
     /// fn is_of_tables(refusal: Refusal) -> bool {
     ///     match refusal {
     ///         Oversize | Unbounded | IllFormed | Unordered | TooDeep => true,
-    ///         Missing | ShortBuffer | NoRoom | Endless => false,
+    ///         Missing | ShortBuffer | NoRoom | Endless | TooFar => false,
     ///     }
     /// }
     /// ```
@@ -46,6 +47,8 @@ numbered! {
         NoRoom = 8,
         /// Thinning would split a span without end, since no point of it is at a distance above zero from its chord.
         Endless = 9,
+        /// A hyperbola would be asked for a parameter beyond 100 in magnitude.
+        TooFar = 11,
     }
 }
 
@@ -56,7 +59,7 @@ impl Refusal {
             return Ok(());
         }
         Err(Refusal::from_number(number)
-            .unwrap_or_else(|| unreachable!("refusals are proved to be 1 to 9, not {number}")))
+            .unwrap_or_else(|| unreachable!("refusals are proved to be 1 to 9 or 11, not {number}")))
     }
 }
 
@@ -84,6 +87,7 @@ impl fmt::Display for Refusal {
                 "thinning would split a span without end, since no point of it is at a distance above zero from its \
                  chord"
             }
+            Refusal::TooFar => "a hyperbola would be asked for a parameter beyond 100 in magnitude",
         })
     }
 }

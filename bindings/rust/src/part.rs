@@ -156,6 +156,35 @@ impl Part {
         self.framed(Kind::Parabola, origin, [axis, ref_dir], [sized(focal)?, 0.0])
     }
 
+    /// Adds the branch of a hyperbola that opens along ref_dir. At a parameter u lies origin + first cosh u along ref_dir +
+    /// second sinh u beside it. A range is within -100 to 100: an edge that would ask for another parameter, since its range
+    /// is lost or it leaves the box, is refused with [`Refusal::TooFar`].
+    ///
+    /// ```
+    /// # use cornsunset::{Edge, Options, Part, Refusal};
+    /// // A cone of half angle 45 degrees, cut 3 from its axis: 3 cosh u high, 3 sinh u to the side.
+    /// let mut part = Part::new([-4.0, 3.0, 0.0], [4.0, 5.0, 0.0]);
+    /// let cut = part.hyperbola([0.0; 3], [0.0, 0.0, -1.0], [0.0, 1.0, 0.0], [3.0, 3.0])?;
+    /// let (start, end) = (part.point([-4.0, 5.0, 0.0]), part.point([4.0, 5.0, 0.0]));
+    /// let side = 3.0f64.ln(); // 3 cosh u is 5, and 3 sinh u is 4
+    /// let edge = part.edge(cut, start, end, -side..side);
+    /// # let part = part.check()?;
+    /// let chain = part.draw(&edge, &Options { scale: 8.2, ..Options::default() })?;
+    /// # assert!(chain.iter().all(|p| (p.y() * p.y() - p.x() * p.x() - 9.0).abs() < 1e-12));
+    /// let lost = Edge { lo: f64::NAN, ..edge };
+    /// assert_eq!(part.draw(&lost, &Options::default()), Err(Refusal::TooFar));
+    /// # Ok::<(), Box<dyn std::error::Error>>(())
+    /// ```
+    pub fn hyperbola(
+        &mut self,
+        origin: [f64; 3],
+        axis: [f64; 3],
+        ref_dir: [f64; 3],
+        semi_axes: [f64; 2],
+    ) -> Result<Row<f64>, PartError> {
+        self.framed(Kind::Hyperbola, origin, [axis, ref_dir], [sized(semi_axes[0])?, sized(semi_axes[1])?])
+    }
+
     /// Adds the polyline through a run of points. A parameter on it is a point's index, from 0. Drawn as one edge it can miss its
     /// curve, with no sign (docs/DIFFERENCES.md): draw it as an edge a leg.
     ///

@@ -28,6 +28,8 @@ numbered! {
         Trimmed = 6,
         /// A run of segments. The parameter is the segment's index.
         Composite = 7,
+        /// Points: origin, axis, ref_dir; p and q are the semi-axes. The parameter is a plain number from -100 to 100.
+        Hyperbola = 8,
     }
 }
 
@@ -66,7 +68,8 @@ pub struct Tables<'a> {
 /// on a polyline, the segment's index on a composite, the base's parameter on a trim.
 ///
 /// A range has to rise. One that does not, or is not finite, counts as lost: then the curve's whole range is drawn, a full
-/// turn on a circle, and on a line the chord of the vertices. The chain runs from start to end whichever way the range does.
+/// turn on a circle, and on a line the chord of the vertices; a hyperbola is refused with [`Refusal::TooFar`], and so is one that
+/// leaves the box. The chain runs from start to end whichever way the range does.
 ///
 /// ```
 /// # use cornsunset::{Angle, Edge, Options, Part};

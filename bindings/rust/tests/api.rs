@@ -82,6 +82,15 @@ fn each_refusal_has_its_number_and_leaves_the_buffers() {
     assert_eq!(refused(&LINE, &EDGE, &o, (80, 0)), 7);
     assert_eq!(refused(&LINE, &EDGE, &o, (8, 8)), 8);
     assert_eq!(refused(&LINE, &EDGE, &o, (80, 19)), 8);
+    // A hyperbola with semi-axes 1 and 2 in the plane, up to 100 and beyond.
+    let points = [0.0, 0.0, 0.0, 0.0, 0.0, 1.0, 1.0, 0.0, 0.0];
+    let hyperbola = Tables { points: &points, curves: &[8, 0, 3], reals: &[1.0, 2.0], ..LINE };
+    let near = Edge { hi: 100.0, high: 0, ..EDGE };
+    assert_eq!(check(&hyperbola, &near, &o), Ok(()));
+    assert_eq!(refused(&hyperbola, &Edge { hi: 100.00000000000001, ..near }, &o, (80, 80)), 11);
+    assert_eq!(refused(&hyperbola, &Edge { lo: f64::NAN, ..near }, &o, (8, 8)), 11);
+    assert_eq!(refused(&Tables { curves: &[8, 0, 2], ..hyperbola }, &near, &o, (80, 80)), 3);
+    assert_eq!(refused(&Tables { curves: &[9, 0, 3], ..hyperbola }, &near, &o, (80, 80)), 3);
 }
 
 #[test]
@@ -119,7 +128,9 @@ fn tables_at_their_size_are_accepted() {
 fn over_checked_tables_an_edge_is_drawn_as_by_itself() {
     let trimmed = Tables { curves: &[1, 0, 2, 6, 0, 1], reals: &[0.0, 0.0, 1.0, 4.0], ..LINE };
     let chord = Edge { lo: f64::NAN, ..EDGE };
-    let cases: [(Tables, Edge, Options, usize, usize, u32); 12] = [
+    let frame = [0.0, 0.0, 0.0, 0.0, 0.0, 1.0, 1.0, 0.0, 0.0];
+    let hyperbola = Tables { points: &frame, curves: &[8, 0, 3], reals: &[1.0, 2.0], ..LINE };
+    let cases: [(Tables, Edge, Options, usize, usize, u32); 14] = [
         (LINE, EDGE, options(), 30, 41, 0),
         (LINE, Edge { sense: 0, start: 2, end: 0, ..EDGE }, options(), 41, 30, 0),
         (trimmed, Edge { curve: 1, lo: 1.0, hi: 4.0, ..EDGE }, options(), 80, 80, 0),
@@ -132,6 +143,8 @@ fn over_checked_tables_an_edge_is_drawn_as_by_itself() {
         (Tables::default(), EDGE, options(), 80, 80, 6),
         (LINE, EDGE, options(), 80, 7, 7),
         (LINE, EDGE, options(), 8, 8, 8),
+        (hyperbola, Edge { hi: 1.5, ..EDGE }, options(), 400, 400, 0),
+        (hyperbola, chord, options(), 8, 8, 11),
     ];
     for (tables, edge, options, m, n, number) in cases {
         let (mut first, mut second) = (vec![MARK; m], vec![MARK; n]);
@@ -259,7 +272,8 @@ fn are_in_the_header<T: Debug + Copy>(prefix: &str, all: &[T], number: impl Fn(T
         }
         wanted += &format!(" = {}", number(*member));
         assert!(header().any(|line| line == wanted), "{wanted}");
-        assert_eq!(number(*member), i as u32 + 1);
+        // 10 is a sheet's, and no drawing answers it.
+        assert_eq!(number(*member), i as u32 + if i < 9 { 1 } else { 2 });
     }
 }
 
@@ -268,8 +282,9 @@ fn kinds_refusals_and_ways_have_the_numbers_of_the_header() {
     are_in_the_header("CS_KIND", Kind::ALL, Kind::number);
     are_in_the_header("CS", Refusal::ALL, Refusal::number);
     are_in_the_header("CS", Way::ALL, Way::number);
-    assert_eq!((Kind::ALL.len(), Refusal::ALL.len(), Way::ALL.len()), (7, 9, 5));
-    assert_eq!(Refusal::from_number(9), Some(Refusal::Endless));
+    assert_eq!((Kind::ALL.len(), Refusal::ALL.len(), Way::ALL.len()), (8, 10, 5));
+    assert_eq!((Refusal::from_number(9), Refusal::from_number(10)), (Some(Refusal::Endless), None));
+    assert_eq!((Refusal::from_number(11), Kind::from_number(8)), (Some(Refusal::TooFar), Some(Kind::Hyperbola)));
     assert_eq!((Refusal::from_number(0), Way::from_number(6), Kind::from_number(0)), (None, None, None));
 }
 

@@ -39,16 +39,17 @@ fn rows_of_each_kind_stand_in_the_tables() {
     let trim = part.trimmed(ellipse, Angle::ZERO..Angle::radians(1.5));
     let segments = [Segment::new(line, -1.0..1.0), Segment::new(trim, Angle::ZERO..Angle::radians(1.0)).reversed()];
     let composite = part.composite(&segments);
+    let hyperbola = part.hyperbola(O, Z, X, [6.0, 7.0]).unwrap();
     let numbers = [line.number(), circle.number(), ellipse.number(), parabola.number(), polyline.number()];
-    assert_eq!((numbers, trim.number(), composite.number()), ([0, 1, 2, 3, 4], 5, 6));
+    assert_eq!((numbers, trim.number(), composite.number(), hyperbola.number()), ([0, 1, 2, 3, 4], 5, 6, 7));
     assert_eq!((corners.at(0).number(), corners.at(2).number(), corners.count()), (13, 15, 3));
 
     let tables = part.tables();
-    let rows = [[2, 2], [4, 3], [7, 3], [10, 3], [13, 3], [2, 1], [0, 2]];
+    let rows = [[2, 2], [4, 3], [7, 3], [10, 3], [13, 3], [2, 1], [0, 2], [16, 3]];
     let kinds = Kind::ALL.iter().map(|kind| kind.number());
     let curves: Vec<u32> = kinds.zip(rows).flat_map(|(kind, [first, count])| [kind, first, count]).collect();
     assert_eq!(tables.curves, curves);
-    assert_eq!(tables.reals, [0.0, 0.0, 3.0, 0.0, 4.0, 2.0, 0.5, 0.0, 0.0, 0.0, 0.0, 1.5, 0.0, 0.0]);
+    assert_eq!(tables.reals, [0.0, 0.0, 3.0, 0.0, 4.0, 2.0, 0.5, 0.0, 0.0, 0.0, 0.0, 1.5, 0.0, 0.0, 6.0, 7.0]);
     assert_eq!((tables.parts, tables.ranges), (&[0, 1, 5, 0][..], &[-1.0, 1.0, 0.0, 1.0][..]));
     assert_eq!(tables.points[..12], [-1.0, -1.0, -1.0, 2.0, 2.0, 2.0, 5.0, 5.0, 5.0, 0.0, 2.0, 0.0]);
     assert!(part.check().is_ok());
@@ -90,14 +91,18 @@ fn directions_and_sizes_that_say_nothing_are_errors() {
         assert_eq!(part.circle(O, none, X, 1.0), Err(PartError::NoDirection));
         assert_eq!(part.circle(O, Z, none, 1.0), Err(PartError::NoDirection));
         assert_eq!(part.parabola(O, Z, none, 1.0), Err(PartError::NoDirection));
+        assert_eq!(part.hyperbola(O, none, X, [2.0, 1.0]), Err(PartError::NoDirection));
     }
     for along in [Z, [0.0, 0.0, -3.0], [1e-12, 0.0, 1.0]] {
         assert_eq!(part.ellipse(O, Z, along, [2.0, 1.0]), Err(PartError::Parallel));
+        assert_eq!(part.hyperbola(O, Z, along, [2.0, 1.0]), Err(PartError::Parallel));
     }
     for none in [0.0, -1.0, f64::NAN] {
         assert_eq!(part.circle(O, Z, X, none), Err(PartError::NoSize));
         assert_eq!(part.ellipse(O, Z, X, [1.0, none]), Err(PartError::NoSize));
         assert_eq!(part.parabola(O, Z, X, none), Err(PartError::NoSize));
+        assert_eq!(part.hyperbola(O, Z, X, [none, 1.0]), Err(PartError::NoSize));
+        assert_eq!(part.hyperbola(O, Z, X, [1.0, none]), Err(PartError::NoSize));
     }
     // Nothing was added.
     assert_eq!((part.tables().points.len(), part.tables().curves.len()), (6, 0));
@@ -155,6 +160,33 @@ fn an_owned_chain_is_what_is_drawn_into_buffers() {
     assert_eq!(owned, lent.to_owned_chain());
     // Points of the parabola: x is y² / 8.
     assert!(owned.iter().all(|p| (p.x() - p.y() * p.y() / 8.0).abs() < 1e-12));
+}
+
+#[test]
+fn a_hyperbola_is_drawn_within_a_hundred_of_zero() {
+    let mut part = part();
+    let hyperbola = part.hyperbola(O, Z, X, [3.0, 4.0]).unwrap();
+    let end = 8.0f64.ln();
+    let (start, end) = (part.point([3.0, 0.0, 0.0]), part.point([3.0 * end.cosh(), 4.0 * end.sinh(), 0.0]));
+    let edge = part.edge(hyperbola, start, end, 0.0..8.0f64.ln());
+    let trim = part.trimmed(hyperbola, 0.0..8.0f64.ln());
+    let trimmed = part.edge(trim, start, end, 0.0..8.0f64.ln());
+    let part = part.check().unwrap();
+    let chain = part.draw(&edge, &options()).unwrap();
+    assert_eq!(chain.way(), Way::AsDrawn);
+    assert!(
+        chain.len() > 4 && chain.iter().all(|p| ((p.x() / 3.0).powi(2) - (p.y() / 4.0).powi(2) - 1.0).abs() < 1e-12)
+    );
+    assert_eq!(part.draw(&trimmed, &options()), Ok(chain.clone()));
+    // Without a range a hyperbola is asked at -1e6, and a trim of one over its own range.
+    for (lo, hi) in [(f64::NAN, 2.0), (0.0, f64::INFINITY), (1.0, 1.0), (2.0, 0.0), (0.0, 100.1), (-101.0, 0.0)] {
+        assert_eq!(part.draw(&Edge { lo, hi, ..edge }, &options()), Err(Refusal::TooFar));
+    }
+    assert_eq!(part.draw(&Edge { lo: f64::NAN, ..trimmed }, &options()), Ok(chain));
+    // And so is one that leaves the box.
+    let mut small = part.into_part();
+    small.set_box([0.0; 3], [3.0, 1.0, 0.0]);
+    assert_eq!(small.check().unwrap().draw(&edge, &options()), Err(Refusal::TooFar));
 }
 
 #[test]

@@ -10,9 +10,9 @@ use borrow.Author.Tests.{eqb-true, ne-eqb}
 use Rattle.math.specs.declared.Vec3.{Vec3}
 use Rattle.math.specs.Math.{interval}
 use Rattle.brep.specs.declared.Curve.{Curve}
-use Rattle.brep.specs.declared.Curve.the-variants.{Line, Circle, Ellipse, Parabola, Polyline, Trimmed, Composite}
+use Rattle.brep.specs.declared.Curve.the-variants.{Line, Circle, Ellipse, Parabola, Polyline, Trimmed, Composite, Hyperbola}
 use Rattle.brep.specs.Rows.{Tables, pointOf, frameOf, kindOf, curveOf}
-use Rattle.brep.specs.Tree.{Analytic, CurveTree, analytic, line, circle, ellipse, parabola, polyline, trimmed, composite, run, segments, rowIn, grown, below, tree}
+use Rattle.brep.specs.Tree.{Analytic, CurveTree, analytic, line, circle, ellipse, parabola, hyperbola, polyline, trimmed, composite, run, segments, rowIn, grown, below, tree}
 use Rattle.brep.proofs.Laws.{at-row}
 
 -- a row's five numbers
@@ -31,18 +31,18 @@ rowP T row = getD (T .reals) (row * 2) nan
 abbrev pub rowQ : Tables → ℕ → Float
 rowQ T row = getD (T .reals) (row * 2 + 1) nan
 
--- none of the seven numbers, as a match's last arm has it
+-- none of the eight numbers, as a match's last arm has it
 abbrev pub Unknown : ℕ → Type 0
 Unknown k =
-    ((((((Unit {0} × (k ≡ 1 → ⊥)) × (k ≡ 2 → ⊥)) × (k ≡ 3 → ⊥)) × (k ≡ 4 → ⊥)) × (k ≡ 5 → ⊥)) × (k ≡ 6 → ⊥)) × (k ≡ 7 → ⊥)
+    (((((((Unit {0} × (k ≡ 1 → ⊥)) × (k ≡ 2 → ⊥)) × (k ≡ 3 → ⊥)) × (k ≡ 4 → ⊥)) × (k ≡ 5 → ⊥)) × (k ≡ 6 → ⊥)) × (k ≡ 7 → ⊥)) × (k ≡ 8 → ⊥)
 
 -- none of them, or a trim's
 abbrev pub UnknownOrTrim : ℕ → Type 0
-UnknownOrTrim k = (((((Unit {0} × (k ≡ 1 → ⊥)) × (k ≡ 2 → ⊥)) × (k ≡ 3 → ⊥)) × (k ≡ 4 → ⊥)) × (k ≡ 5 → ⊥)) × (k ≡ 7 → ⊥)
+UnknownOrTrim k = ((((((Unit {0} × (k ≡ 1 → ⊥)) × (k ≡ 2 → ⊥)) × (k ≡ 3 → ⊥)) × (k ≡ 4 → ⊥)) × (k ≡ 5 → ⊥)) × (k ≡ 7 → ⊥)) × (k ≡ 8 → ⊥)
 
 -- one that is no trim's is none of them
 pub not-trim-unknown : {k : ℕ} → UnknownOrTrim k → (k ≡ 6 → ⊥) → Unknown k
-not-trim-unknown n m = ((n .0, m), n .1)
+not-trim-unknown n m = (((n .0 .0, m), n .0 .1), n .1)
 
 -- THE LAW OF KINDS: what a row is, by its kind's number
 module _ (T : Tables) (row : ℕ) where
@@ -74,12 +74,16 @@ module _ (T : Tables) (row : ℕ) where
   unfolding curveOf kindOf
   row-composite k = simp k
 
+  pub row-hyperbola : rowKind T row ≡ 8 → Hyperbola (frameOf (T .points) (rowFirst T row)) (rowP T row) (rowQ T row) ≡ rowIn T row
+  unfolding curveOf kindOf
+  row-hyperbola k = simp k
+
   -- any other number
   pub row-unknown : Unknown (rowKind T row) → Polyline (rowFirst T row) 0 ≡ rowIn T row
   unfolding curveOf kindOf
   row-unknown n =
       let k = rowKind T row in
-      simp (ne-eqb k 1 (n .0 .0 .0 .0 .0 .0 .1), ne-eqb k 2 (n .0 .0 .0 .0 .0 .1), ne-eqb k 3 (n .0 .0 .0 .0 .1), ne-eqb k 4 (n .0 .0 .0 .1), ne-eqb k 5 (n .0 .0 .1), ne-eqb k 6 (n .0 .1), ne-eqb k 7 (n .1))
+      simp (ne-eqb k 1 (n .0 .0 .0 .0 .0 .0 .0 .1), ne-eqb k 2 (n .0 .0 .0 .0 .0 .0 .1), ne-eqb k 3 (n .0 .0 .0 .0 .0 .1), ne-eqb k 4 (n .0 .0 .0 .0 .1), ne-eqb k 5 (n .0 .0 .0 .1), ne-eqb k 6 (n .0 .0 .1), ne-eqb k 7 (n .0 .1), ne-eqb k 8 (n .1))
 
 -- a curve's number among the kinds
 abbrev pub kindNumber : Curve → ℕ
@@ -90,6 +94,7 @@ kindNumber (Parabola frame focal) = 4
 kindNumber (Polyline first count) = 5
 kindNumber (Trimmed base range) = 6
 kindNumber (Composite first count) = 7
+kindNumber (Hyperbola frame major minor) = 8
 
 module _ (T : Tables) (row : ℕ) where
   -- one test of a row's number
@@ -112,7 +117,8 @@ module _ (T : Tables) (row : ℕ) where
       (test Q 4 (λ k h. k)
       (test Q 5 (λ k h. k)
       (test Q 6 (λ k h. k)
-      (test Q 7 (λ k h. k) (λ h. absurd (h refl)))))))))
+      (test Q 7 (λ k h. k)
+      (test Q 8 (λ k h. k) (λ h. absurd (h refl))))))))))
 
   -- a row that is no trim and no composite: what is so of every analytic curve and of every polyline is so of it, whatever f gives
   pub row-leaf : (f : ℕ → CurveTree) (P : CurveTree → Type 0) → ((c : Analytic) → P (analytic c)) → ((ps : List Vec3) → P (polyline ps))
@@ -126,7 +132,8 @@ module _ (T : Tables) (row : ℕ) where
       (test Q 4 (λ k. a _)
       (test Q 5 (λ k. p _)
       (test Q 6 (λ k. absurd (m k))
-      (test Q 7 (λ k. absurd (n k)) (p _)))))))
+      (test Q 7 (λ k. absurd (n k))
+      (test Q 8 (λ k. a _) (p _))))))))
 
 -- how an evaluator F uses it: at a row whose numbers are kind, first, count, p and q
 module _ {A : Type 0} (F : CurveTree → A) (T : Tables) (row : ℕ) {kind : ℕ} (e : kind ≡ rowKind T row) where
@@ -157,6 +164,10 @@ module _ {A : Type 0} (F : CurveTree → A) (T : Tables) (row : ℕ) {kind : ℕ
   pub at-composite : kind ≡ 7 → {first count : ℕ} → first ≡ rowFirst T row → count ≡ rowCount T row → F (composite (segments T (below T row) first count)) ≡ F (tree T row)
   unfolding grown
   at-composite k f g = rw (f, g) (at-row F T row refl (row-composite T row (sym e ∙ k)))
+
+  pub at-hyperbola : kind ≡ 8 → {first : ℕ} {p q : Float} → first ≡ rowFirst T row → p ≡ rowP T row → q ≡ rowQ T row → F (analytic (hyperbola (frameOf (T .points) first) p q)) ≡ F (tree T row)
+  unfolding grown
+  at-hyperbola k f g h = rw (f, g, h) (at-row F T row refl (row-hyperbola T row (sym e ∙ k)))
 
   pub at-unknown : Unknown kind → F (polyline []) ≡ F (tree T row)
   unfolding grown run

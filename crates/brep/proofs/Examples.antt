@@ -10,13 +10,13 @@ use Rattle.math.specs.declared.Vec3.{Vec3}
 use Rattle.math.specs.declared.Frame.{Frame}
 use Rattle.math.specs.Math.{vec, interval}
 use Rattle.brep.specs.Rows.{Tables, tables, pointOf, frameOf, segmentOf, kindOf, curveOf}
-use Rattle.brep.specs.Tree.{CurveTree, analytic, line, circle, ellipse, parabola, polyline, trimmed, composite, none, segment, run, segments, grown, below, tree}
+use Rattle.brep.specs.Tree.{CurveTree, analytic, line, circle, ellipse, parabola, hyperbola, polyline, trimmed, composite, none, segment, run, segments, grown, below, tree}
 
 -- a small whole number as a float
 abbrev f : ℕ → Float
 f n = fin false n (pos 0)
 
--- three points, eleven rows, three segments
+-- three points, twelve rows, three segments
 drawing : Tables
 drawing =
     tables (f 1 ∷ f 2 ∷ f 3 ∷ f 4 ∷ f 5 ∷ f 6 ∷ f 7 ∷ f 8 ∷ f 9 ∷ [])
@@ -30,6 +30,7 @@ drawing =
     ∷ 5 ∷ 2 ∷ 2
     ∷ 6 ∷ 8 ∷ 1
     ∷ 7 ∷ 1 ∷ 3
+    ∷ 9 ∷ 0 ∷ 3
     ∷ 8 ∷ 0 ∷ 3 ∷ [])
     (f 0 ∷ f 0
     ∷ f 10 ∷ f 0
@@ -41,7 +42,8 @@ drawing =
     ∷ f 0 ∷ f 0
     ∷ f 16 ∷ f 17
     ∷ f 0 ∷ f 0
-    ∷ f 0 ∷ f 0 ∷ [])
+    ∷ f 0 ∷ f 0
+    ∷ f 18 ∷ f 19 ∷ [])
     (5 ∷ 1 ∷ 1 ∷ 0 ∷ 9 ∷ 1 ∷ [])
     (f 20 ∷ f 21 ∷ f 22 ∷ f 23 ∷ f 24 ∷ f 25 ∷ [])
 
@@ -81,14 +83,16 @@ trees =
     (segment (analytic (circle placed (f 10))) (interval (f 22) (f 23)) false
     (segment (polyline []) (interval (f 24) (f 25)) true
     (segment (analytic (line p₀ p₁)) (interval nan nan) false none)))
-    -- an unknown kind, and a row past the end
+    -- an unknown kind
     ∷ polyline []
+    ∷ analytic (hyperbola placed (f 18) (f 19))
+    -- a row past the end
     ∷ polyline []
     ∷ []
 
 abbrev read : ℕ → CurveTree
 read = tree drawing
 
-reading : read 0 ∷ read 1 ∷ read 2 ∷ read 3 ∷ read 4 ∷ read 5 ∷ read 6 ∷ read 7 ∷ read 8 ∷ read 9 ∷ read 10 ∷ read 11 ∷ [] ≡ trees
+reading : read 0 ∷ read 1 ∷ read 2 ∷ read 3 ∷ read 4 ∷ read 5 ∷ read 6 ∷ read 7 ∷ read 8 ∷ read 9 ∷ read 10 ∷ read 11 ∷ read 12 ∷ [] ≡ trees
 unfolding drawing trees tree below grown segments run curveOf kindOf frameOf pointOf segmentOf
 reading = refl

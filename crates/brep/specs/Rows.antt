@@ -12,7 +12,7 @@ use Rattle.math.specs.declared.Frame.{Frame}
 use Rattle.math.specs.Math.{vec, interval}
 use Rattle.brep.specs.declared.Segment.{Segment}
 use Rattle.brep.specs.declared.Curve.{Curve}
-use Rattle.brep.specs.declared.Curve.the-variants.{Line, Circle, Ellipse, Parabola, Polyline, Trimmed, Composite}
+use Rattle.brep.specs.declared.Curve.the-variants.{Line, Circle, Ellipse, Parabola, Polyline, Trimmed, Composite, Hyperbola}
 
 -- the tables of a drawing: points (x y z), curve rows (kind first count, and p q), segments (curve sense, and lo hi)
 pub record Tables : Type 0 where
@@ -64,11 +64,11 @@ mostRows = 4096
 abbrev pub mostSegments : ℕ
 mostSegments = 4096
 
--- the kinds are 1 to 7
+-- the kinds are 1 to 8
 abbrev pub lastKind : ℕ
-lastKind = 7
+lastKind = 8
 
--- a row's numbers as one of the seven kinds; an unknown kind is the empty polyline
+-- a row's numbers as one of the eight kinds; an unknown kind is the empty polyline
 unfoldable pub kindOf : List Float → ℕ → ℕ → ℕ → Float → Float → Curve
 kindOf points kind first count p q =
     cond (eqb kind 1) (Line (pointOf points first) (pointOf points (first + 1)))
@@ -78,7 +78,8 @@ kindOf points kind first count p q =
     (cond (eqb kind 5) (Polyline first count)
     (cond (eqb kind 6) (Trimmed first (interval p q))
     (cond (eqb kind 7) (Composite first count)
-    (Polyline first 0)))))))
+    (cond (eqb kind 8) (Hyperbola (frameOf points first) p q)
+    (Polyline first 0))))))))
 
 -- curve row i
 unfoldable pub curveOf : List Float → List ℕ → List Float → ℕ → Curve

@@ -9,7 +9,7 @@ use Rattle.math.specs.declared.Frame.{Frame}
 use Rattle.math.specs.declared.Interval.{Interval}
 use Rattle.brep.specs.declared.Segment.{Segment}
 use Rattle.brep.specs.declared.Curve.{Curve}
-use Rattle.brep.specs.declared.Curve.the-variants.{Line, Circle, Ellipse, Parabola, Polyline, Trimmed, Composite}
+use Rattle.brep.specs.declared.Curve.the-variants.{Line, Circle, Ellipse, Parabola, Polyline, Trimmed, Composite, Hyperbola}
 use Rattle.brep.specs.Rows.{Tables, pointOf, segmentOf, curveOf}
 
 -- the analytic curves of brep.rs' Curve that are kept
@@ -22,6 +22,8 @@ pub data Analytic : Type 0 where
   ellipse : Frame → Float → Float → Analytic
   -- frame, focal_dist
   parabola : Frame → Float → Analytic
+  -- frame, semi_major, semi_minor
+  hyperbola : Frame → Float → Float → Analytic
 
 -- Curve and Vec<CompositeSegment> of brep.rs, the kinds that are kept; the analytic ones in one case, for what is the same for all of them
 mutual
@@ -67,6 +69,7 @@ grown T f (Parabola frame focal) = analytic (parabola frame focal)
 grown T f (Polyline first count) = polyline (run (T .points) first count)
 grown T f (Trimmed base range) = trimmed (f base) range
 grown T f (Composite first count) = composite (segments T f first count)
+grown T f (Hyperbola frame major minor) = analytic (hyperbola frame major minor)
 
 -- the trees of the rows below n; any other row is the empty polyline
 unfoldable pub below : Tables → ℕ → ℕ → CurveTree

@@ -1,4 +1,4 @@
-// The rows of the tables: a curve row read as one of the seven kinds, a segment, a point, and the record of an edge.
+// The rows of the tables: a curve row read as one of the eight kinds, a segment, a point, and the record of an edge.
 // Readers are total: past a table's end a float is NaN and a whole number 0.
 use math::Frame;
 use math::Interval;
@@ -10,7 +10,7 @@ ghost use lib.Ieee.{nan};
 ghost use Rattle.brep.specs.Rows.{pointOf, frameOf, segmentOf, kindOf, curveOf};
 
 // The kinds of curve rows are 1 to this.
-pub const LAST_KIND: u32 = 7;
+pub const LAST_KIND: u32 = 8;
 
 // The largest tables: so many points, curve rows and segments.
 pub const MOST_POINTS: usize = 65536;
@@ -50,6 +50,11 @@ pub enum Curve {
     Composite {
         first: u32,
         count: u32,
+    },
+    Hyperbola {
+        frame: Frame,
+        semi_major: f64,
+        semi_minor: f64,
     },
 }
 
@@ -176,6 +181,11 @@ fn kind_of(points: &[f64], kind: u32, first: u32, count: u32, p: f64, q: f64) ->
             range: Interval { lo: p, hi: q },
         },
         7 => Curve::Composite { first, count },
+        8 => Curve::Hyperbola {
+            frame: frame_at(points, first),
+            semi_major: p,
+            semi_minor: q,
+        },
         _ => Curve::Polyline { first, count: 0 },
     }
 }

@@ -38,24 +38,25 @@ uneven T = not (eqb (length (T .reals) / 2) (curveCount T)) || not (eqb (length 
 abbrev pub ragged : Tables → Bool
 ragged T = broken T || uneven T
 
--- none of the seven kinds
+-- none of the eight kinds
 unfoldable pub unknownKind : ℕ → Bool
 unknownKind kind = ltb kind 1 || ltb lastKind kind
 
--- a line has 2 points, a circle, ellipse or parabola 3, a trim 1 base
+-- a line has 2 points, a circle, ellipse, parabola or hyperbola 3, a trim 1 base
 unfoldable pub wrongCount : ℕ → ℕ → Bool
 wrongCount kind count =
     cond (eqb kind 1) (not (eqb count 2))
     (cond (leb kind 4) (not (eqb count 3))
-    (cond (eqb kind 6) (not (eqb count 1)) false))
+    (cond (eqb kind 6) (not (eqb count 1))
+    (cond (eqb kind 8) (not (eqb count 3)) false)))
 
 -- lines, polylines and composites have no p
 unfoldable pub spareP : ℕ → Bool
 spareP kind = eqb kind 1 || (eqb kind 5 || eqb kind 7)
 
--- all but ellipses and trims have no q
+-- all but ellipses, trims and hyperbolas have no q
 unfoldable pub spareQ : ℕ → Bool
-spareQ kind = not (eqb kind 3 || eqb kind 6)
+spareQ kind = not (eqb kind 3 || (eqb kind 6 || eqb kind 8))
 
 -- not zero, of either sign
 abbrev pub notZero : Float → Bool

@@ -44,6 +44,8 @@ fn wrong_count(kind: u32, count: u32) -> bool
         count != 3
     } else if kind == 6 {
         count != 1
+    } else if kind == 8 {
+        count != 3
     } else {
         false
     }
@@ -58,7 +60,7 @@ fn spare_p(kind: u32) -> bool
 fn spare_q(kind: u32) -> bool
     ensures { λ r. ⌜ r ≡ spareQ kind ⌝ }
 {
-    !either(kind == 3, kind == 6)
+    !either(kind == 3, either(kind == 6, kind == 8))
 }
 
 // A p or q that the kind does not use, and that is not zero.

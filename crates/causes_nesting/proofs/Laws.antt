@@ -42,7 +42,8 @@ module _ (T : Tables) (row : ℕ) where
       (either-way Plain (eqb kind 2) _ _ (refl, refl)
       (either-way Plain (eqb kind 3) _ _ (refl, refl)
       (either-way Plain (eqb kind 4) _ _ (refl, refl)
-      (either-way Plain (eqb kind 5) _ _ (refl, refl) (rw (e, g) (refl, refl))))))
+      (either-way Plain (eqb kind 5) _ _ (refl, refl)
+      (rw (e, g) (either-way Plain (eqb kind 8) _ _ (refl, refl) (refl, refl)))))))
 
   other-row : eqb (rowKind T row) 6 ≡ false → eqb (rowKind T row) 7 ≡ false → Plain (rowIn T row)
   unfolding curveOf

@@ -3,7 +3,7 @@ use mathlib.Core.Bool.{Bool, false}
 use Prim.Native.Nat.{ℕ, suc, _+_, max}
 use lib.Dec.{ltb, leb}
 use Rattle.brep.specs.declared.Curve.{Curve}
-use Rattle.brep.specs.declared.Curve.the-variants.{Line, Circle, Ellipse, Parabola, Polyline, Trimmed, Composite}
+use Rattle.brep.specs.declared.Curve.the-variants.{Line, Circle, Ellipse, Parabola, Polyline, Trimmed, Composite, Hyperbola}
 use Rattle.brep.specs.Rows.{Tables}
 use Rattle.brep.specs.Tree.{CurveTree, analytic, polyline, trimmed, composite, Segments, none, segment, segmentIn, rowIn, tree}
 use Rattle.causes_bounds.specs.Some.{someBelow}
@@ -22,6 +22,7 @@ notLower T row (Parabola frame focal) = false
 notLower T row (Polyline first count) = false
 notLower T row (Trimmed base range) = leb row base
 notLower T row (Composite first count) = someBelow count (highSegment T row first)
+notLower T row (Hyperbola frame major minor) = false
 
 -- what curve row number row refers to is not all in lower rows
 unfoldable pub unorderedRow : Tables → ℕ → Bool

@@ -45,7 +45,7 @@ fits-room first second n h = (omega arith, omega arith)
 -- what a caller may rely on, of an answer's numbers
 relied : (first second : ℕ) (d : Result Got) → Answerable first second d → let c = codesOf (answerOf d) in Numbered first second (c .refusal) (c .way) (c .count)
 unfolding answerOf codesOf
-relied first second (refused n) h = inl (h .0, h .1, refl, refl)
+relied first second (refused n) h = inl (h .0, h .1, h .2, refl, refl)
 relied first second (got g) h = let m = way-numbers (g .way) in let k = fits-room first second (length (g .chain)) h in inr (refl, m .0, m .1, k .0, k .1)
 
 -- the numbers of an answer that the definition gives

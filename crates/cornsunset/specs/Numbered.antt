@@ -15,10 +15,10 @@ use Rattle.draw.specs.Over.{drawnOver, Over}
 use Rattle.edge_record.specs.Chain.{width}
 use Rattle.ffi_numbers.specs.Numbers.{codesOf}
 
--- what a caller may rely on: a number from 1 to 9 with no way and no points, or 0, a way from 1 to 5 and points that fit either buffer
+-- what a caller may rely on: a number from 1 to 9, or 11, with no way and no points, or 0, a way from 1 to 5 and points that fit either buffer
 abbrev pub Numbered : ℕ → ℕ → ℕ → ℕ → ℕ → Type 0
 Numbered first second refusal way count =
-    ((1 ≤ refusal) × (refusal ≤ 9) × (way ≡ 0) × (count ≡ 0))
+    ((1 ≤ refusal) × (refusal ≤ 11) × (refusal ≡ 10 → ⊥) × (way ≡ 0) × (count ≡ 0))
     ⊎ ((refusal ≡ 0) × (1 ≤ way) × (way ≤ 5) × (width * count ≤ first) × (width * count ≤ second))
 
 -- the three numbers of an answer D, into buffers of so many floats

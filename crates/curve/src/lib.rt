@@ -1,7 +1,7 @@
 // Ranges, closure, period and sampling on rows, of eval/curve.rs. Each contract is the definition at the row's curve.
 // A row's kind is read by its number, as brep::kind_of has them, and of its other numbers only those that are used: 1 line, 2 circle,
-// 3 ellipse, 4 parabola, 5 polyline, 6 trim, 7 composite; any other is the empty polyline. A match has an arm for each kind, as the Rust's,
-// and `_` is for numbers that are none; after `under_trims` also for a trim whose base is not lower.
+// 3 ellipse, 4 parabola, 5 polyline, 6 trim, 7 composite, 8 hyperbola; any other is the empty polyline. A match has an arm for each kind, as
+// the Rust's, and `_` is for numbers that are none; after `under_trims` also for a trim whose base is not lower.
 use curve_parameter::closes_at;
 use curve_parameter::last_of;
 use math::Interval;
@@ -69,6 +69,7 @@ pub fn natural_range(
             lo: 0.0,
             hi: brep::int_at(curves, at + 2) as f64,
         },
+        8 => Interval { lo: -1e6, hi: 1e6 },
         _ => Interval { lo: 0.0, hi: 0.0 },
     }
 }
@@ -104,6 +105,7 @@ pub fn is_closed(
             false
         }
         7 => false,
+        8 => false,
         _ => false,
     }
 }
@@ -157,6 +159,7 @@ pub fn period(
             polyline_period(points, first, brep::int_at(curves, at + 2))
         }
         7 => Repeats::Never,
+        8 => Repeats::Never,
         _ => Repeats::Never,
     }
 }
@@ -181,6 +184,7 @@ pub fn is_sampled(
         4 => false,
         5 => true,
         7 => false,
+        8 => false,
         _ => true,
     }
 }

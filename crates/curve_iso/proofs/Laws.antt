@@ -12,9 +12,9 @@ use borrow.Author.Tests.{ne-eqb}
 use Rattle.math.specs.declared.Interval.{Interval}
 use Rattle.math.specs.Math.{vAdd, vSub, vScale, vLerp, vCross, yDir, at}
 use Rattle.brep.specs.Tree.{CurveTree, Segments, none, segment}
-use Rattle.curve.specs.Eval.{pointAt, segmentPoint, naturalRange, ellipsePoint, parabolaPoint, polylineParameter, polylinePoint, clampedTo, ownParameter}
-use Rattle.curve_iso.specs.Iso.{value, exact, rounded, roundedVector, isoLine, rustLine, isoCircle, rustCircle, isoEllipse, rustEllipse, isoParabola, rustParabola, isoPolyline, isoPolylineFromOne, rustPolyline, isoSegment, rustSegment, crossPart}
-use Rattle.curve_iso.specs.Claims.{NumbersFollow, PlacementFollows, LineFollows, CircleFollows, EllipseFollows, ParabolaFollows, PolylineFollows, segmentsFrom, CompositeFollows, TrimFollows}
+use Rattle.curve.specs.Eval.{pointAt, segmentPoint, naturalRange, axesPoint, parabolaPoint, polylineParameter, polylinePoint, clampedTo, ownParameter}
+use Rattle.curve_iso.specs.Iso.{value, exact, rounded, roundedVector, isoLine, rustLine, isoCircle, rustCircle, isoEllipse, rustEllipse, isoParabola, rustParabola, isoHyperbola, rustHyperbola, isoPolyline, isoPolylineFromOne, rustPolyline, isoSegment, rustSegment, crossPart}
+use Rattle.curve_iso.specs.Claims.{NumbersFollow, PlacementFollows, LineFollows, CircleFollows, EllipseFollows, ParabolaFollows, HyperbolaFollows, PolylineFollows, segmentsFrom, CompositeFollows, TrimFollows}
 use Rattle.curve_iso.proofs.Taken.{kept, open-kept, holds, clamped-lies}
 use Rattle.curve_iso.proofs.Wrapped.{wrapped, ended}
 
@@ -93,14 +93,14 @@ unfolding exact rustLine isoLine pointAt vAdd vScale roundedVector rounded
 line-follows = record { exact = λ K C v u. rw (mul-comm K (exact K v)); rounded = λ o d t. refl }
 
 pub circle-follows {ℓ} : CircleFollows {ℓ}
-unfolding exact rustCircle isoCircle pointAt ellipsePoint vAdd vScale roundedVector rounded
+unfolding exact rustCircle isoCircle pointAt axesPoint vAdd vScale roundedVector rounded
 circle-follows = record {
   exact = λ K C R x y cosu sinu. simp (mul-add K, add-assoc K, mul-comm K, mul-left-comm K);
   rounded = λ f r t. refl;
 }
 
 pub ellipse-follows {ℓ} : EllipseFollows {ℓ}
-unfolding exact rustEllipse isoEllipse pointAt ellipsePoint vAdd vScale roundedVector rounded
+unfolding exact rustEllipse isoEllipse pointAt axesPoint vAdd vScale roundedVector rounded
 ellipse-follows = record {
   exact = λ K C R1 R2 x y cosu sinu. rw (mul-comm K (exact K x), mul-comm K (exact K y));
   rounded = λ f a b t. refl;
@@ -111,6 +111,13 @@ unfolding exact rustParabola isoParabola pointAt parabolaPoint vAdd vScale round
 parabola-follows = record {
   exact = λ K C F x y u. simp (mul-add K, add-assoc K, mul-assoc K, mul-comm K, mul-left-comm K);
   rounded = λ f d t. refl;
+}
+
+pub hyperbola-follows {ℓ} : HyperbolaFollows {ℓ}
+unfolding exact rustHyperbola isoHyperbola pointAt axesPoint vAdd vScale roundedVector rounded
+hyperbola-follows = record {
+  exact = λ K C R1 R2 x y coshu sinhu. rw (mul-comm K (exact K x), mul-comm K (exact K y));
+  rounded = λ f a b t. refl;
 }
 
 pub polyline-follows {ℓ} : PolylineFollows {ℓ}

@@ -1,126 +1,22 @@
--- Which segment of a run is taken: the one that holds the parameter. Assumes nothing.
-use mathlib.Core.Path.{_≡_, refl, sym, ap, _∙_, subst}
-use mathlib.Core.Bool.{Bool, true, false, not, cond}
+-- Which segment of a run is taken, the one that holds the parameter, in the words of specs/Claims.antt. Assumes nothing.
+use mathlib.Core.Path.{_≡_}
+use mathlib.Core.Bool.{false}
 use mathlib.Core.List.{List}
-use Prim.Native.Nat.{ℕ, _+_, _-_, _*_, _/_, _%_, _^_, _≤_, _<_, min}
-use native.Mathlib.Nat.{le-of-lt, le-trans, le-of-mul-le-mul-right, mul-le-mul-right, zero-mul, zero-mod, add-mul, le-mul-of-pos-right, div-add-mod', div-mul-le-self, div-lt-iff-lt-mul, div-eq-of-lt-le, div-eq-of-eq-mul-left, min-eq-left, min-eq-right}
-use native.Mathlib.Omega.{arith}
-use lib.Dec.{T, leb, leb→le, nleb→lt, eqb}
+use Prim.Native.Nat.{ℕ, _-_, _^_, _≤_, _<_}
+use lib.Dec.{T}
 use lib.ListN.{length}
-use lib.Ieee.{Float, nan, inf, fin, binary64, up, down, lt, le, isNan, ofBits, ofInt, toUnsigned}
-use lib.Ieee.Bits.{is-true}
-use lib.Ieee.Fits.{down-pos}
-use lib.Ieee.Scale.{finite}
-use lib.Ieee.Positive.{den, den-pos}
-use borrow.Author.Tests.{eqb-true}
-use Rattle.arith_order.proofs.Signed.{plus, neg', le→, le←, no-sign, ring}
-use Rattle.arith_order.proofs.Laws.{number, number-right, le-refl, lt→nle, nlt→le, refuted, between, whole, whole-le}
+use lib.Ieee.{Float, nan, inf, fin, lt, isNan}
+use Rattle.arith_order.proofs.Laws.{number, lt→nle, refuted}
 use Rattle.arith.specs.Notation.{count, plusZero}
-use Rattle.arith.specs.Floor.{floorOf}
-use Rattle.arith.proofs.Cmp.{never, holds as holds-true, finite-number}
-use Rattle.arith.proofs.Floors.{picked, kept as whole-kept}
+use Rattle.arith.proofs.Cmp.{never, holds as holds-true}
 use Rattle.math.specs.declared.Vec3.{Vec3}
 use Rattle.curve.specs.Eval.{closes, polylineParameter, indexIn, clampedTo}
+use Rattle.curve_parameter.proofs.Taken.{taken, clamped-on}
+pub use Rattle.curve_parameter.proofs.Taken.{at-most, at-least, Is, floor-is, zero-finite, no-sign-of}
 use Rattle.curve_iso.specs.Claims.{LiesOn, Holds}
 
--- ---- a float against a whole number that a float holds
-module _ (k : ℕ) (K : k ≤ 2 ^ 53) (u : Float) (f : T (finite u)) where
-  from-it : k * den u + neg' u ≤ plus u → le (count k) u ≡ true
-  from-it h =
-      let w = whole binary64 k K in
-      let x = count k in
-      let g = simp ring at (mul-le-mul-right (den x) h) in
-      is-true (le x u) (le← x u (w .0) f (rw (w .1, w .2) (simp ring (omega (arith, g, zero-mul (den u))))))
-
-  up-to-it : plus u ≤ k * den u + neg' u → le u (count k) ≡ true
-  up-to-it h =
-      let w = whole binary64 k K in
-      let x = count k in
-      let g = simp ring at (mul-le-mul-right (den x) h) in
-      is-true (le u x) (le← u x f (w .0) (rw (w .1, w .2) (simp ring (omega (arith, g, zero-mul (den u))))))
-
-  pub at-most : le u (count k) ≡ true → plus u ≤ k * den u + neg' u
-  at-most h =
-      let w = whole binary64 k K in
-      let x = count k in
-      let g = rw (w .1, w .2) at (le→ u x f (w .0) (holds-true h)) in
-      le-of-mul-le-mul-right {k = den x} (simp ring (omega (arith, simp ring at g, zero-mul (den u)))) (den-pos x)
-
-  pub at-least : le (count k) u ≡ true → k * den u + neg' u ≤ plus u
-  at-least h =
-      let w = whole binary64 k K in
-      let x = count k in
-      let g = rw (w .1, w .2) at (le→ x u (w .0) f (holds-true h)) in
-      le-of-mul-le-mul-right {k = den x} (simp ring (omega (arith, simp ring at g, zero-mul (den u)))) (den-pos x)
-
--- ---- the floor of a q from k to below k + 1 is k
-abbrev pub Is : Float → ℕ → Type 0
-Is x k = T (finite x) × (plus x ≡ k * den x) × (neg' x ≡ 0)
-
-pub floor-is : (q : Float) (k : ℕ) → k ≤ 2 ^ 53 → T (finite q) → neg' q ≡ 0 → k * den q ≤ plus q → plus q < k * den q + den q → Is (floorOf q) k
-floor-is nan k K f z l h = absurd f
-floor-is (inf s) k K f z l h = absurd f
-floor-is (fin true m e) k K f z l h = subst (λ (x : Float). Is x k) (whole-kept true m e (rw (z, zero-mod (down e)))) (tt, omega arith, z)
-floor-is (fin false m e) k K f z l h = go (eqb (m * up e % down e) 0) refl
-  where
-    quotient : m * up e / down e ≡ k
-    quotient = div-eq-of-lt-le (down e) l (omega (arith, add-mul k 1 (down e)))
-
-    go : (o : Bool) → eqb (m * up e % down e) 0 ≡ o → Is (floorOf (fin false m e)) k
-    go true w =
-        let r = ap (λ (x : ℕ). x * down e) quotient in
-        subst (λ (x : Float). Is x k) (whole-kept false m e w) (tt, omega (arith, r, div-add-mod' (m * up e) (down e), eqb-true (m * up e % down e) 0 w), refl)
-    go false w = subst (λ (x : Float). Is x k) (sym (picked false m e w ∙ ap count quotient)) (whole binary64 k K)
-
--- so the cast of a whole number gives it
-cut : (x : Float) (k : ℕ) → k ≤ 2 ^ 53 → Is x k → toUnsigned 64 x ≡ k
-unfolding toUnsigned
-cut nan k K i = absurd (i .0)
-cut (inf s) k K i = absurd (i .0)
-cut (fin true m e) k K i = omega (arith, i .1, le-mul-of-pos-right k (down-pos e))
-cut (fin false m e) k K i = omega (arith, div-eq-of-eq-mul-left (down-pos e) (i .1))
-
--- ---- the segment taken
-pub zero-finite : T (finite plusZero)
-unfolding ofBits
-zero-finite = tt
-
-pub no-sign-of : (u : Float) → T (finite u) → le plusZero u ≡ true → neg' u ≡ 0
-unfolding ofBits
-no-sign-of u f h = no-sign u f (holds-true h)
-
-module _ (n : ℕ) (u : Float) (p : 0 < n) (b : n ≤ 2 ^ 53) (l : LiesOn n u) where
-  is-finite : T (finite u)
-  is-finite = between plusZero u (count n) zero-finite (whole binary64 n b .0) (holds-true (l .low)) (holds-true (l .high))
-
-  hold-at : (i : ℕ) → i < n → i * den u ≤ plus u → plus u ≤ (i + 1) * den u → Holds n i u
-  hold-at i h low high =
-      let z = no-sign-of u is-finite (l .low) in
-      record { inside = h; low = from-it i (omega arith) u is-finite (omega arith); high = up-to-it (i + 1) (omega arith) u is-finite (omega arith) }
-
-  pub holds : Holds n (indexIn (n - 1) u) u
-  holds =
-      let z = no-sign-of u is-finite (l .low) in
-      let q = plus u / den u in
-      let d = den-pos u in
-      let top : plus u ≤ n * den u = omega (arith, at-most n b u is-finite (l .high)) in
-      let most : q < n + 1 = div-lt-iff-lt-mul d .1 (omega (arith, add-mul n 1 (den u))) in
-      let next : plus u < (q + 1) * den u = div-lt-iff-lt-mul d .0 (omega arith) in
-      let i = floor-is u q (omega arith) is-finite z (div-mul-le-self (plus u) (den u)) (omega (arith, next, add-mul q 1 (den u))) in
-      subst (λ (k : ℕ). Holds n (min k (n - 1)) u) (sym (cut (floorOf u) q (omega arith) i)) (go (leb q (n - 1)) (leb→le q (n - 1)) (nleb→lt q (n - 1)) top)
-    where
-      go : (o : Bool) → (T o → plus u / den u ≤ n - 1) → (T (not o) → n - 1 < plus u / den u) → plus u ≤ n * den u → Holds n (min (plus u / den u) (n - 1)) u
-      go true h k top =
-          let q = plus u / den u in
-          let s = h tt in
-          subst (λ (j : ℕ). Holds n j u) (sym (min-eq-left s))
-          (hold-at q (omega arith) (div-mul-le-self (plus u) (den u)) (le-of-lt (div-lt-iff-lt-mul (den-pos u) .0 (omega arith))))
-      go false h k top =
-          let q = plus u / den u in
-          let s = k tt in
-          let e : n - 1 + 1 ≡ n = omega arith in
-          subst (λ (j : ℕ). Holds n j u) (sym (min-eq-right (le-of-lt s)))
-          (hold-at (n - 1) (omega arith) (le-trans (mul-le-mul-right (den u) (le-of-lt s)) (div-mul-le-self (plus u) (den u))) (rw e top))
+pub holds : (n : ℕ) (u : Float) → 0 < n → n ≤ 2 ^ 53 → LiesOn n u → Holds n (indexIn (n - 1) u) u
+holds n u p b l = let h = taken n u p b (l .low, l .high) in record { inside = h .0; low = h .1; high = h .2 }
 
 -- ---- the parameter on the run
 is-number : (t : Float) → isNan t ≡ false → T (number t)
@@ -137,20 +33,8 @@ module _ (n : ℕ) (t : Float) where
         refuted (lt (count n) t) (λ (h : T (lt (count n) t)). lt→nle (count n) t h (holds-true (l .high))),
       )
 
-  count-number : T (number (count n))
-  count-number = number-right (count 0) (count n) (whole-le binary64 0 n (omega arith))
-
-  zero-low : le plusZero (count n) ≡ true
-  unfolding ofBits ofInt
-  zero-low = is-true (le plusZero (count n)) (whole-le binary64 0 n (omega arith))
-
   pub clamped-lies : isNan t ≡ false → LiesOn n (clampedTo n t)
-  clamped-lies h = go (lt t plusZero) (nlt→le t plusZero (is-number t h) (finite-number plusZero zero-finite)) (lt (count n) t) (nlt→le (count n) t count-number (is-number t h))
-    where
-      go : (o : Bool) → (T (not o) → T (le plusZero t)) → (p : Bool) → (T (not p) → T (le t (count n))) → LiesOn n (cond o plusZero (cond p (count n) t))
-      go true g p k = record { low = is-true (le plusZero plusZero) (le-refl plusZero (finite-number plusZero zero-finite)); high = zero-low }
-      go false g true k = record { low = zero-low; high = is-true (le (count n) (count n)) (le-refl (count n) count-number) }
-      go false g false k = record { low = is-true (le plusZero t) (g tt); high = is-true (le t (count n)) (k tt) }
+  clamped-lies h = let l = clamped-on n t (is-number t h) in record { low = l .0; high = l .1 }
 
 -- an open polyline of n + 1 points clamps as a run of n segments does
 pub open-kept : (ps : List Vec3) (t : Float) → closes ps ≡ false → LiesOn (length ps - 1) t → polylineParameter ps t ≡ t

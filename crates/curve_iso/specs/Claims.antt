@@ -1,6 +1,6 @@
 -- ISO 10303-42 and point_at: what is claimed of each kind of curve. Each record is proved in proofs/Laws.antt, as `line-follows` is. Definitions only.
 -- `exact`: in every commutative ring the Rust's order means what the standard's formula does.
--- `rounded`: point_at is the Rust's order, each operation rounded once. x is ref_dir, y the computed axis × ref_dir, cos u and sin u the fixed steps for them.
+-- `rounded`: point_at is the Rust's order, each operation rounded once. x is ref_dir, y the computed axis × ref_dir, cos u, sin u, cosh u and sinh u the fixed steps for them.
 -- By the standard a composite and a trim have another parameter than here: docs/DIFFERENCES.md.
 use mathlib.Core.Path.{_≡_}
 use mathlib.Core.Bool.{Bool, true, false}
@@ -12,13 +12,14 @@ use lib.Dec.{T}
 use lib.Ieee.{Float, binary64, fits, lt, le, eq, isNan}
 use Rattle.arith.specs.Notation.{count, plusZero}
 use Rattle.arith_trig.specs.Trig.{sinOf, cosOf}
+use Rattle.arith_exp.specs.Exp.{coshOf, sinhOf}
 use Rattle.math.specs.declared.Vec3.{Vec3}
 use Rattle.math.specs.declared.Frame.{Frame}
 use Rattle.math.specs.declared.Interval.{Interval}
 use Rattle.math.specs.Math.{vZero, yDir, vec}
-use Rattle.brep.specs.Tree.{CurveTree, analytic, line, circle, ellipse, parabola, polyline, trimmed, composite, Segments, none, segment}
+use Rattle.brep.specs.Tree.{CurveTree, analytic, line, circle, ellipse, parabola, hyperbola, polyline, trimmed, composite, Segments, none, segment}
 use Rattle.curve.specs.Eval.{pointAt, naturalRange, closes, polylineParameter, indexIn, runLength, clampedTo, segmentIndex, segmentLocal}
-use Rattle.curve_iso.specs.Iso.{Expr, value, one, two, exact, rounded, roundedVector, isoLine, rustLine, isoCircle, rustCircle, isoEllipse, rustEllipse, isoParabola, rustParabola, isoPolyline, isoPolylineFromOne, rustPolyline, isoSegment, rustSegment, crossPart, _+_ as _plus_}
+use Rattle.curve_iso.specs.Iso.{Expr, value, one, two, exact, rounded, roundedVector, isoLine, rustLine, isoCircle, rustCircle, isoEllipse, rustEllipse, isoParabola, rustParabola, isoHyperbola, rustHyperbola, isoPolyline, isoPolylineFromOne, rustPolyline, isoSegment, rustSegment, crossPart, _+_ as _plus_}
 
 -- a and b mean the same in a commutative ring
 abbrev pub Same {ℓ} : {A : Type ℓ} → CommRing A → Expr A → Expr A → Type ℓ
@@ -61,6 +62,12 @@ pub record ParabolaFollows {ℓ} : Type (ℓ + 1) where
   pub exact : {A : Type ℓ} (K : CommRing A) (C F x y u : Expr A) → Same K (rustParabola C F x y u) (isoParabola C F x y u)
   pub rounded : (f : Frame) (d t : Float) → pointAt (analytic (parabola f d)) t ≡
       roundedVector (λ part. rustParabola (part (f .origin)) (value d) (part (f .«ref_dir»)) (part (yDir f)) (value t))
+
+-- the hyperbola of placement f and semi-axes a and b
+pub record HyperbolaFollows {ℓ} : Type (ℓ + 1) where
+  pub exact : {A : Type ℓ} (K : CommRing A) (C R1 R2 x y coshu sinhu : Expr A) → Same K (rustHyperbola C R1 R2 x y coshu sinhu) (isoHyperbola C R1 R2 x y coshu sinhu)
+  pub rounded : (f : Frame) (a b t : Float) → pointAt (analytic (hyperbola f a b)) t ≡
+      roundedVector (λ part. rustHyperbola (part (f .origin)) (value a) (value b) (part (f .«ref_dir»)) (part (yDir f)) (value (coshOf t)) (value (sinhOf t)))
 
 -- u lies on a run of n segments: from 0 to n
 pub record LiesOn (n : ℕ) (u : Float) : Type 0 where

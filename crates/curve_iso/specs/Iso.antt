@@ -42,7 +42,7 @@ unfoldable pub roundedVector : ((Vec3 → Expr Float) → Expr Float) → Vec3
 roundedVector e =
     vec (rounded (e (λ v. value (v .x)))) (rounded (e (λ v. value (v .y)))) (rounded (e (λ v. value (v .z))))
 
--- x and y are the placement's first two directions, given to both sides; cosu and sinu are cos u and sin u
+-- x and y are the placement's first two directions, given to both sides; cosu and sinu are cos u and sin u, coshu and sinhu cosh u and sinh u
 module _ {ℓ} {A : Type ℓ} where
   -- line: C + u V
   unfoldable pub isoLine : (C «V» u : Expr A) → Expr A
@@ -75,6 +75,14 @@ module _ {ℓ} {A : Type ℓ} where
   -- frame.origin + frame.ref_dir * (*focal_dist * t * t) + frame.y_dir() * (2.0 * *focal_dist * t)
   unfoldable pub rustParabola : (C F x y u : Expr A) → Expr A
   rustParabola C F x y u = C + x · (F · u · u) + y · (two · F · u)
+
+  -- hyperbola: C + (R1 cosh u) x + (R2 sinh u) y
+  unfoldable pub isoHyperbola : (C R1 R2 x y coshu sinhu : Expr A) → Expr A
+  isoHyperbola C R1 R2 x y coshu sinhu = C + (R1 · coshu) · x + (R2 · sinhu) · y
+
+  -- frame.origin + frame.ref_dir * (*semi_major * t.cosh()) + frame.y_dir() * (*semi_minor * t.sinh())
+  unfoldable pub rustHyperbola : (C R1 R2 x y coshu sinhu : Expr A) → Expr A
+  rustHyperbola C R1 R2 x y coshu sinhu = C + x · (R1 · coshu) + y · (R2 · sinhu)
 
   -- polyline, from point P of number i to the next: P + (u - i) (next - P)
   unfoldable pub isoPolyline : (P next i u : Expr A) → Expr A

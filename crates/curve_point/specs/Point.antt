@@ -7,9 +7,10 @@ use lib.Dec.{eqb}
 use lib.Ieee.{Float}
 use Rattle.arith.specs.Notation.{_⊖_, _⊗_, count, two}
 use Rattle.arith_trig.specs.Trig.{sinOf, cosOf}
+use Rattle.arith_exp.specs.Exp.{coshOf, sinhOf}
 use Rattle.math.specs.declared.Vec3.{Vec3}
 use Rattle.math.specs.Math.{vZero, vAdd, vScale, vLerp, yDir}
-use Rattle.brep.specs.Tree.{CurveTree, analytic, line, circle, ellipse, parabola, polyline, trimmed, composite, Segments, none, segment}
+use Rattle.brep.specs.Tree.{CurveTree, analytic, line, circle, ellipse, parabola, hyperbola, polyline, trimmed, composite, Segments, none, segment}
 use Rattle.curve_parameter.specs.Run.{runLength, indexIn, polylineParameter, segmentIndex, segmentLocal, ownParameter}
 
 -- from point i towards the next, by what t has above i
@@ -24,9 +25,10 @@ polylinePoint ps t =
     (cond (eqb (length ps) 1) (getD ps 0 vZero)
     (alongFrom ps (indexIn (length ps - 2) u) u))
 
--- an ellipse's point, of the cosine c and the sine s of its angle: O + x (a c) + y (b s); a circle's, Frame::polar, is that of equal axes
-unfoldable pub ellipsePoint : Vec3 → Vec3 → Vec3 → Float → Float → Float → Float → Vec3
-ellipsePoint origin x y a b c s = vAdd (vAdd origin (vScale x (a ⊗ c))) (vScale y (b ⊗ s))
+-- a point by its parts along two axes, O + x (a c) + y (b s): an ellipse's, of the cosine c and the sine s of its angle; a circle's, Frame::polar,
+-- with equal semi-axes; a hyperbola's, of the hyperbolic cosine and sine
+unfoldable pub axesPoint : Vec3 → Vec3 → Vec3 → Float → Float → Float → Float → Vec3
+axesPoint origin x y a b c s = vAdd (vAdd origin (vScale x (a ⊗ c))) (vScale y (b ⊗ s))
 
 -- a parabola's point: O + x (F t t) + y (2 F t)
 unfoldable pub parabolaPoint : Vec3 → Vec3 → Vec3 → Float → Float → Vec3
@@ -36,9 +38,10 @@ parabolaPoint origin x y d t = vAdd (vAdd origin (vScale x (d ⊗ t ⊗ t))) (vS
 unfoldable mutual
   pub pointAt : CurveTree → Float → Vec3
   pointAt (analytic (line o d)) t = vAdd o (vScale d t)
-  pointAt (analytic (circle f r)) t = ellipsePoint (f .origin) (f .«ref_dir») (yDir f) r r (cosOf t) (sinOf t)
-  pointAt (analytic (ellipse f a b)) t = ellipsePoint (f .origin) (f .«ref_dir») (yDir f) a b (cosOf t) (sinOf t)
+  pointAt (analytic (circle f r)) t = axesPoint (f .origin) (f .«ref_dir») (yDir f) r r (cosOf t) (sinOf t)
+  pointAt (analytic (ellipse f a b)) t = axesPoint (f .origin) (f .«ref_dir») (yDir f) a b (cosOf t) (sinOf t)
   pointAt (analytic (parabola f d)) t = parabolaPoint (f .origin) (f .«ref_dir») (yDir f) d t
+  pointAt (analytic (hyperbola f a b)) t = axesPoint (f .origin) (f .«ref_dir») (yDir f) a b (coshOf t) (sinhOf t)
   pointAt (polyline ps) t = polylinePoint ps t
   pointAt (trimmed base range) t = pointAt base t
   pointAt (composite ss) t = segmentPoint ss (segmentIndex (runLength ss) t) (segmentLocal (runLength ss) t)

@@ -11,7 +11,7 @@ ghost use Rattle.brep.specs.Rows.{given};
 ghost use Rattle.brep.specs.Own.RunOf.{runOf};
 ghost use Rattle.brep.specs.Tree.{tree, run};
 ghost use Rattle.curve_point.specs.Own.Turn.{sinCosFor};
-ghost use Rattle.curve_point.specs.Point.{polylinePoint, ellipsePoint, parabolaPoint, pointAt};
+ghost use Rattle.curve_point.specs.Point.{polylinePoint, axesPoint, parabolaPoint, pointAt};
 
 // A polyline's point, of its run of points.
 fn polyline_point(points: &[f64], first: u32, count: u32, t: f64) -> Vec3
@@ -30,9 +30,9 @@ fn polyline_point(points: &[f64], first: u32, count: u32, t: f64) -> Vec3
     a.lerp(b, u - i as f64)
 }
 
-// An ellipse's point, of a sine and a cosine that are at hand.
+// An ellipse's point, of a sine and a cosine that are at hand; a hyperbola's is the same of sinh and cosh.
 fn around(frame: Frame, semi_major: f64, semi_minor: f64, sc: SinCos) -> Vec3
-    ensures { λ r. ⌜ r ≡ ellipsePoint (frame .origin) (frame .«ref_dir») (yDir frame) «semi_major» «semi_minor» (sc .cos) (sc .sin) ⌝ }
+    ensures { λ r. ⌜ r ≡ axesPoint (frame .origin) (frame .«ref_dir») (yDir frame) «semi_major» «semi_minor» (sc .cos) (sc .sin) ⌝ }
 {
     let x = frame.ref_dir.scale(semi_major * sc.cos);
     let y = frame.y_dir().scale(semi_minor * sc.sin);
@@ -47,13 +47,20 @@ fn parabola_point(frame: Frame, focal_dist: f64, t: f64) -> Vec3
     frame.origin.add(x).add(y)
 }
 
-// The sine and cosine that a row's point is made of; a row that is neither a circle nor an ellipse needs none.
+// The sine and cosine that a row's point is made of, a hyperbola's sinh and cosh; any other row needs none.
 fn turn_at(curves: &[u32], row: u32, t: f64) -> SinCos
     ensures { λ r. ⌜ r ≡ sinCosFor (getD (now (curves .entry)) (row * 3) 0) t ⌝ }
 {
     match brep::int_at(curves, row as usize * 3) {
         2 => arith_trig::sin_cos(t),
         3 => arith_trig::sin_cos(t),
+        8 => {
+            let h = arith_exp::cosh_sinh(t);
+            SinCos {
+                sin: h.sinh,
+                cos: h.cosh,
+            }
+        }
         _ => SinCos { sin: 0.0, cos: 0.0 },
     }
 }
@@ -89,6 +96,11 @@ pub fn point_at(
         Curve::Composite { first, count } => {
             composite_at(points, curves, reals, parts, ranges, r, first, count, t)
         }
+        Curve::Hyperbola {
+            frame,
+            semi_major,
+            semi_minor,
+        } => around(frame, semi_major, semi_minor, sc),
     }
 }
 

@@ -11,16 +11,16 @@ use Rattle.math.specs.Math.{vZero}
 use Rattle.brep.specs.declared.Curve.{Curve}
 use Rattle.brep.specs.declared.Curve.the-variants as rows
 use Rattle.brep.specs.Rows.{Tables, pointOf}
-use Rattle.brep.specs.Tree.{CurveTree, analytic, line, circle, ellipse, parabola, polyline, trimmed, composite, rowIn, grown, tree}
+use Rattle.brep.specs.Tree.{CurveTree, analytic, line, circle, ellipse, parabola, hyperbola, polyline, trimmed, composite, rowIn, grown, tree}
 use Rattle.brep.proofs.Laws.{at-row}
-use Rattle.brep.proofs.ByKind.{rowKind, rowFirst, number, at-line, at-circle, at-ellipse, at-parabola}
+use Rattle.brep.proofs.ByKind.{rowKind, rowFirst, number, at-line, at-circle, at-ellipse, at-parabola, at-hyperbola}
 use Rattle.curve_parameter.specs.Own.Under.{under}
 use Rattle.curve_parameter.specs.Run.{closes}
 use Rattle.curve_parameter.proofs.Under.{under-same, under-rest, empty-trim}
 use Rattle.curve_point.specs.Point as curves
 use Rattle.curve_tangent.specs.Derivative as derivatives
 use Rattle.curve_prepared.specs.declared.Prepared.{Prepared}
-use Rattle.curve_prepared.specs.declared.Prepared.the-variants.{Line, Round, Parabola, Other}
+use Rattle.curve_prepared.specs.declared.Prepared.the-variants.{Line, Round, Parabola, Hyperbola, Other}
 use Rattle.curve_prepared.specs.Own.Prepared.{preparedOf, lineOnly, isPlain, plainPoint, preparedPoint, preparedDerivative}
 
 -- of a curve c that has the points of b, which is c with trims taken off
@@ -30,6 +30,7 @@ points-of (analytic (line o d)) c t e = refl
 points-of (analytic (circle f r)) c t e = refl
 points-of (analytic (ellipse f a b)) c t e = refl
 points-of (analytic (parabola f d)) c t e = refl
+points-of (analytic (hyperbola f a b)) c t e = refl
 points-of (polyline ps) c t e = e
 points-of (trimmed base range) c t e = points-of base c t e
 points-of (composite ss) c t e = e
@@ -44,6 +45,7 @@ derivatives-of (analytic (line o d)) c t e = refl
 derivatives-of (analytic (circle f r)) c t e = refl
 derivatives-of (analytic (ellipse f a b)) c t e = refl
 derivatives-of (analytic (parabola f d)) c t e = refl
+derivatives-of (analytic (hyperbola f a b)) c t e = refl
 derivatives-of (polyline ps) c t e = e
 derivatives-of (trimmed base range) c t e = derivatives-of base c t e
 derivatives-of (composite ss) c t e = e
@@ -68,6 +70,7 @@ unfolding isPlain plainPoint preparedPoint
 plain-is (Line o d) c t h = refl
 plain-is (Round o x y a b) c t h = refl
 plain-is (Parabola o x y d) c t h = refl
+plain-is (Hyperbola o x y a b) c t h = refl
 plain-is (Other closed) c t h = absurd (false≢true h)
 
 pub plain-point : (c : CurveTree) (t : Float) {prepared : Prepared} → preparedOf c ≡ prepared → isPlain prepared ≡ true → {p : Vec3} → p ≡ plainPoint prepared t → p ≡ curves.pointAt c t
@@ -99,7 +102,8 @@ module _ (T : Tables) (row : ℕ) {r kind : ℕ} (u : r ≡ under (T .curves) ro
       let two : kind ≡ 2 → ⊥ = λ e. not-plain (at-circle preparedOf T r k e refl refl) refl in
       let three : kind ≡ 3 → ⊥ = λ e. not-plain (at-ellipse preparedOf T r k e refl refl refl) refl in
       let four : kind ≡ 4 → ⊥ = λ e. not-plain (at-parabola preparedOf T r k e refl refl) refl in
-      under-rest (λ (c : CurveTree). derivatives.derivativeAt c t) (λ b i. refl) T row u k ((((((tt, one), two), three), four), n .0 .1), n .1)
+      let eight : kind ≡ 8 → ⊥ = λ e. not-plain (at-hyperbola preparedOf T r k e refl refl refl) refl in
+      under-rest (λ (c : CurveTree). derivatives.derivativeAt c t) (λ b i. refl) T row u k (((((((tt, one), two), three), four), n .0 .1), n .1), eight)
 
 -- ---- a line under trims: the row that the trims of a row lead down to, by its kind's number
 abbrev lineOf : CurveTree → Prepared
@@ -126,6 +130,7 @@ module _ (T : Tables) (row : ℕ) {r kind : ℕ} (u : r ≡ under (T .curves) ro
       go (rows.Polyline first count) e = at-row lineOf T r refl (sym e) ∙ same
       go (rows.Trimmed base range) e = empty-trim lineOf (λ b i. refl) T row u k (k ∙ number T r e (λ q. omega arith))
       go (rows.Composite first count) e = at-row lineOf T r refl (sym e) ∙ same
+      go (rows.Hyperbola f a b) e = at-row lineOf T r refl (sym e) ∙ same
 
 -- an F that looks through trims is of a curve that was prepared as a line what it is of that line
 pub through-line : {A : Type 0} (F : CurveTree → A) → ((b : CurveTree) (i : Interval) → F (trimmed b i) ≡ F b) → (c : CurveTree) {o d : Vec3} → preparedOf c ≡ Line o d → F c ≡ F (analytic (line o d))
@@ -134,6 +139,7 @@ through-line F h (analytic (line p q)) e = cc
 through-line F h (analytic (circle f r)) e = let z : _≡_ {A = ℕ} 0 1 = cc in absurd (omega arith)
 through-line F h (analytic (ellipse f a b)) e = let z : _≡_ {A = ℕ} 0 1 = cc in absurd (omega arith)
 through-line F h (analytic (parabola f a)) e = let z : _≡_ {A = ℕ} 0 1 = cc in absurd (omega arith)
+through-line F h (analytic (hyperbola f a b)) e = let z : _≡_ {A = ℕ} 0 1 = cc in absurd (omega arith)
 through-line F h (polyline ps) e = let z : _≡_ {A = ℕ} 0 1 = cc in absurd (omega arith)
 through-line F h (trimmed base range) e = h base range ∙ through-line F h base e
 through-line F h (composite ss) e = let z : _≡_ {A = ℕ} 0 1 = cc in absurd (omega arith)
@@ -144,4 +150,5 @@ unfolding lineOnly
 told-line (Line p q) e = e
 told-line (Round p x y a b) e = let z : _≡_ {A = ℕ} 0 1 = cc in absurd (omega arith)
 told-line (Parabola p x y a) e = let z : _≡_ {A = ℕ} 0 1 = cc in absurd (omega arith)
+told-line (Hyperbola p x y a b) e = let z : _≡_ {A = ℕ} 0 1 = cc in absurd (omega arith)
 told-line (Other closed) e = let z : _≡_ {A = ℕ} 0 1 = cc in absurd (omega arith)

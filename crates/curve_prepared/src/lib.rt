@@ -6,14 +6,15 @@ ghost use mathlib.Core.List.{List};
 ghost use Prim.Native.Nat.{ℕ, _+_};
 ghost use lib.Ieee.{Float};
 ghost use Rattle.arith_trig.specs.Trig.{sinOf, cosOf};
+ghost use Rattle.arith_exp.specs.Exp.{coshOf, sinhOf};
 ghost use Rattle.brep.specs.Rows.{tables, lent, given, pointOf};
 ghost use Rattle.brep.specs.Own.RunOf.{runOf};
 ghost use Rattle.brep.specs.Tree.{tree, run};
 ghost use Rattle.curve_parameter.specs.Run.{closes, polylineParameter};
-ghost use Rattle.curve_point.specs.Point.{polylinePoint, ellipsePoint, parabolaPoint, pointAt};
+ghost use Rattle.curve_point.specs.Point.{polylinePoint, axesPoint, parabolaPoint, pointAt};
 ghost use Rattle.curve_tangent.specs.Derivative.{polylineDerivative, derivativeAt};
 ghost use Rattle.curve_prepared.specs.declared.Prepared.the-variants.{Line, Other};
-ghost use Rattle.curve_prepared.specs.Own.Prepared.{roundOf, parabolaOf, preparedOf, lineOnly, plainPoint, preparedPoint, preparedDerivative};
+ghost use Rattle.curve_prepared.specs.Own.Prepared.{roundOf, parabolaOf, hyperbolaOf, preparedOf, lineOnly, plainPoint, preparedPoint, preparedDerivative};
 
 // Axes are as they are: nothing is normalised. A circle is round with equal axes.
 pub enum Prepared {
@@ -33,6 +34,13 @@ pub enum Prepared {
         x: Vec3,
         y: Vec3,
         focal_dist: f64,
+    },
+    Hyperbola {
+        origin: Vec3,
+        x: Vec3,
+        y: Vec3,
+        major: f64,
+        minor: f64,
     },
     // A polyline or a composite, whose row is looked up at each point. Whether a polyline is closed is worked out once.
     Other {
@@ -66,6 +74,21 @@ fn parabola_of(frame: Frame, focal_dist: f64) -> Prepared
         x,
         y,
         focal_dist,
+    }
+}
+
+fn hyperbola_of(frame: Frame, major: f64, minor: f64) -> Prepared
+    ensures { λ r. ⌜ r ≡ hyperbolaOf frame major minor ⌝ }
+{
+    let origin = frame.origin;
+    let x = frame.ref_dir;
+    let y = frame.y_dir();
+    Prepared::Hyperbola {
+        origin,
+        x,
+        y,
+        major,
+        minor,
     }
 }
 
@@ -127,12 +150,17 @@ pub fn prepare(
             Prepared::Other { closed }
         }
         7 => Prepared::Other { closed: false },
+        8 => {
+            let p = brep::float_at(reals, r as usize * 2);
+            let q = brep::float_at(reals, r as usize * 2 + 1);
+            hyperbola_of(brep::frame_at(points, first), p, q)
+        }
         _ => Prepared::Other { closed: false },
     }
 }
 
 fn round_point(origin: Vec3, x: Vec3, y: Vec3, major: f64, minor: f64, t: f64) -> Vec3
-    ensures { λ r. ⌜ r ≡ ellipsePoint origin x y major minor (cosOf t) (sinOf t) ⌝ }
+    ensures { λ r. ⌜ r ≡ axesPoint origin x y major minor (cosOf t) (sinOf t) ⌝ }
 {
     let sc = arith_trig::sin_cos(t);
     origin
@@ -146,6 +174,15 @@ fn parabola_point(origin: Vec3, x: Vec3, y: Vec3, focal_dist: f64, t: f64) -> Ve
     origin
         .add(x.scale(focal_dist * t * t))
         .add(y.scale(2.0 * focal_dist * t))
+}
+
+fn hyperbola_point(origin: Vec3, x: Vec3, y: Vec3, major: f64, minor: f64, t: f64) -> Vec3
+    ensures { λ r. ⌜ r ≡ axesPoint origin x y major minor (coshOf t) (sinhOf t) ⌝ }
+{
+    let h = arith_exp::cosh_sinh(t);
+    origin
+        .add(x.scale(major * h.cosh))
+        .add(y.scale(minor * h.sinh))
 }
 
 // A polyline's own parameter: a closed one wraps t, an open one clamps it.
@@ -239,6 +276,13 @@ pub fn plain_point(prepared: Prepared, t: f64) -> Vec3
             y,
             focal_dist,
         } => parabola_point(origin, x, y, focal_dist, t),
+        Prepared::Hyperbola {
+            origin,
+            x,
+            y,
+            major,
+            minor,
+        } => hyperbola_point(origin, x, y, major, minor, t),
         Prepared::Other { closed: _ } => Vec3::ZERO,
     }
 }
@@ -361,6 +405,13 @@ pub fn derivative_of(
             y,
             focal_dist,
         } => curve_tangent::parabola_derivative(x, y, focal_dist, t),
+        Prepared::Hyperbola {
+            origin: _,
+            x,
+            y,
+            major,
+            minor,
+        } => curve_tangent::hyperbola_derivative(x, y, major, minor, t),
         Prepared::Other { closed } => {
             other_derivative(points, curves, reals, parts, ranges, row, closed, t)
         }

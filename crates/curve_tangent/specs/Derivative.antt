@@ -7,11 +7,12 @@ use lib.Dec.{ltb}
 use lib.Ieee.{Float, neg}
 use Rattle.arith.specs.Notation.{_⊗_, one, two}
 use Rattle.arith_trig.specs.Trig.{sinOf, cosOf}
+use Rattle.arith_exp.specs.Exp.{coshOf, sinhOf}
 use Rattle.math.specs.declared.Vec3.{Vec3}
 use Rattle.math.specs.declared.Direction.{Direction}
 use Rattle.math.specs.declared.Interval.{Interval}
 use Rattle.math.specs.Math.{vZero, vAdd, vSub, vScale, yDir, tryNormalized, spanOf}
-use Rattle.brep.specs.Tree.{CurveTree, analytic, line, circle, ellipse, parabola, polyline, trimmed, composite, Segments, none, segment}
+use Rattle.brep.specs.Tree.{CurveTree, analytic, line, circle, ellipse, parabola, hyperbola, polyline, trimmed, composite, Segments, none, segment}
 use Rattle.curve_parameter.specs.Run.{runLength, indexIn, polylineParameter, segmentIndex, segmentLocal, ownParameter}
 
 -- polyline_derivative: the segment's own vector
@@ -33,6 +34,10 @@ ellipseDerivative x y a b c s = vAdd (vScale x (neg a ⊗ s)) (vScale y (b ⊗ c
 unfoldable pub parabolaDerivative : Vec3 → Vec3 → Float → Float → Vec3
 parabolaDerivative x y d t = vAdd (vScale x (two ⊗ d ⊗ t)) (vScale y (two ⊗ d))
 
+-- a hyperbola's derivative, of its hyperbolic cosine c and sine s: x (a s) + y (b c)
+unfoldable pub hyperbolaDerivative : Vec3 → Vec3 → Float → Float → Float → Float → Vec3
+hyperbolaDerivative x y a b c s = vAdd (vScale x (a ⊗ s)) (vScale y (b ⊗ c))
+
 -- Curve::derivative_at
 unfoldable mutual
   pub derivativeAt : CurveTree → Float → Vec3
@@ -40,6 +45,7 @@ unfoldable mutual
   derivativeAt (analytic (circle f r)) t = ellipseDerivative (f .«ref_dir») (yDir f) r r (cosOf t) (sinOf t)
   derivativeAt (analytic (ellipse f a b)) t = ellipseDerivative (f .«ref_dir») (yDir f) a b (cosOf t) (sinOf t)
   derivativeAt (analytic (parabola f d)) t = parabolaDerivative (f .«ref_dir») (yDir f) d t
+  derivativeAt (analytic (hyperbola f a b)) t = hyperbolaDerivative (f .«ref_dir») (yDir f) a b (coshOf t) (sinhOf t)
   derivativeAt (polyline ps) t = polylineDerivative ps t
   derivativeAt (trimmed base range) t = derivativeAt base t
   derivativeAt (composite ss) t = segmentDerivative ss (segmentIndex (runLength ss) t) (segmentLocal (runLength ss) t)

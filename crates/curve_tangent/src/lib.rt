@@ -5,10 +5,11 @@ use math::Interval;
 use math::Vec3;
 ghost use mathlib.Core.Path.{_≡_};
 ghost use Rattle.arith_trig.specs.Trig.{sinOf, cosOf};
+ghost use Rattle.arith_exp.specs.Exp.{coshOf, sinhOf};
 ghost use Rattle.brep.specs.Rows.{given};
 ghost use Rattle.brep.specs.Own.RunOf.{runOf};
 ghost use Rattle.brep.specs.Tree.{tree, run};
-ghost use Rattle.curve_tangent.specs.Derivative.{polylineDerivative, signedSpan, ellipseDerivative, parabolaDerivative, derivativeAt, tangentAt};
+ghost use Rattle.curve_tangent.specs.Derivative.{polylineDerivative, signedSpan, ellipseDerivative, parabolaDerivative, hyperbolaDerivative, derivativeAt, tangentAt};
 
 fn polyline_derivative(points: &[f64], first: u32, count: u32, t: f64) -> Vec3
     ensures { λ r. ⌜ r ≡ polylineDerivative (run (now (points .entry)) first count) t ⌝ }
@@ -50,6 +51,15 @@ pub fn parabola_derivative(x: Vec3, y: Vec3, focal_dist: f64, t: f64) -> Vec3
     x.scale(2.0 * focal_dist * t).add(y.scale(2.0 * focal_dist))
 }
 
+// A hyperbola's derivative, of its frame's two axes.
+pub fn hyperbola_derivative(x: Vec3, y: Vec3, semi_major: f64, semi_minor: f64, t: f64) -> Vec3
+    ensures { λ r. ⌜ r ≡ hyperbolaDerivative x y «semi_major» «semi_minor» (coshOf t) (sinhOf t) ⌝ }
+{
+    let h = arith_exp::cosh_sinh(t);
+    x.scale(semi_major * h.sinh)
+        .add(y.scale(semi_minor * h.cosh))
+}
+
 // Curve::derivative_at: the derivative at t of the curve of a row.
 pub fn derivative_at(
     points: &[f64],
@@ -86,6 +96,11 @@ pub fn derivative_at(
         Curve::Composite { first, count } => {
             composite_derivative(points, curves, reals, parts, ranges, r, first, count, t)
         }
+        Curve::Hyperbola {
+            frame,
+            semi_major,
+            semi_minor,
+        } => hyperbola_derivative(frame.ref_dir, frame.y_dir(), semi_major, semi_minor, t),
     }
 }
 

@@ -1,6 +1,5 @@
 -- The ways through drawing: the answer and both buffers, by what discretise and repair_runaway left. Assumes nothing but what its statements say.
 use mathlib.Core.Path.{_≡_, refl, sym, ap, subst, _∙_}
-use mathlib.Core.Logic.{_⊎_, inl, inr}
 use mathlib.Core.Bool.{Bool, true, false, cond, _||_, false≢true}
 use mathlib.Core.List.{List, []}
 use Prim.Native.Nat.{ℕ, _*_, _-_, _<_, _≤_}
@@ -26,8 +25,11 @@ use Rattle.causes.specs.Causes.{verdict}
 use Rattle.causes.proofs.Checked.{verdict-numbers}
 use Rattle.curve_prepared.specs.declared.Prepared.the-variants.{Line}
 use Rattle.curve_prepared.specs.Own.Prepared.{preparedOf}
+use Rattle.curve_prepared.proofs.Laws.{through-line}
+use Rattle.curve_asks.specs.Asks.{asksFar}
 use Rattle.edge_params.specs.Params.{evenly}
-use Rattle.edge_params.specs.Work.{within}
+use Rattle.edge_params.specs.Work.{someFar, within}
+use Rattle.edge_params.proofs.Asks.{someFar-never, within-asking}
 use Rattle.edge_params.proofs.Work.{within-then}
 use Rattle.edge_range.specs.declared.Usable.{Usable}
 use Rattle.edge_range.specs.declared.Usable.the-variants.{Range, Unusable}
@@ -46,11 +48,11 @@ use Rattle.draw_spec.specs.declared.Drawn.the-variants.{Refused, Chain}
 use Rattle.draw_spec.specs.Edge.{edgeCurve, edgeStart, edgeEnd, edgeExtent, placed, overRange, discretised}
 use Rattle.draw_spec.specs.Repair.{Got, by, stays, repaired}
 use Rattle.draw_spec.specs.Draw as draw
-use Rattle.draw_spec.specs.Draw.{firstWay, localOptions, referenced, inBuffers, roomOf, tooShort, drawn, Outcome, inFirst, afterRefusal, firstAfter, secondAfter}
+use Rattle.draw_spec.specs.Draw.{firstWay, localOptions, probes, drawnRepaired, referenced, inBuffers, roomOf, tooShort, drawn, Outcome, inFirst, afterRefusal, firstAfter, secondAfter}
 use Rattle.draw_spec.specs.Own.Binary.{AllBinary64}
-use Rattle.draw_spec.proofs.Answers.{Answers, answers-got, answers-refused}
+use Rattle.draw_spec.proofs.Answers.{Answers, late-above, answers-got, answers-refused}
 use Rattle.draw_spec.proofs.Discretised.{Chained, Room, discretised-answers}
-use Rattle.draw_spec.proofs.Repaired.{referenced-answers}
+use Rattle.draw_spec.proofs.Repaired.{drawn-repaired-answers, referenced-answers}
 use Rattle.draw_spec.proofs.Sound.{Binary}
 use Rattle.draw_spec.proofs.Accepted.{given, by-tables, refused-so}
 use Rattle.draw_spec.proofs.ReadBack.{outcome}
@@ -73,9 +75,8 @@ unfolding roomOf
 room-least first second n h = omega arith
 
 -- ---- what a refusal of drawing leaves
-late : (n : ℕ) (entry : List Float) → (n ≡ 8) ⊎ (n ≡ 9) → afterRefusal n entry ≡ filled (length entry) []
-late n entry (inl e) = ap (λ (b : Bool). cond b entry (filled (length entry) [])) (lt-leb n 7 (omega arith))
-late n entry (inr e) = ap (λ (b : Bool). cond b entry (filled (length entry) [])) (lt-leb n 7 (omega arith))
+late : (n : ℕ) (entry : List Float) → 7 < n → afterRefusal n entry ≡ filled (length entry) []
+late n entry h = ap (λ (b : Bool). cond b entry (filled (length entry) [])) (lt-leb n 7 h)
 
 flat-none : flat [] ≡ []
 unfolding flat
@@ -87,21 +88,21 @@ first-in-first (Range range) = refl
 first-in-first Unusable = refl
 
 -- a buffer of the same length is left alike
-same-first : (g : Result Got) (a b : List Float) → ((n : ℕ) → g ≡ refused n → (n ≡ 8) ⊎ (n ≡ 9)) → length a ≡ length b → firstAfter a g ≡ firstAfter b g
+same-first : (g : Result Got) (a b : List Float) → ((n : ℕ) → g ≡ refused n → 7 < n) → length a ≡ length b → firstAfter a g ≡ firstAfter b g
 unfolding firstAfter
 same-first (refused n) a b h e = late n a (h n refl) ∙ ap (λ (m : ℕ). filled m []) e ∙ sym (late n b (h n refl))
 same-first (got g) a b h e = ap (λ (m : ℕ). filled m (cond (inFirst (g .way)) (flat (g .chain)) [])) e
 
-same-second : (g : Result Got) (a b : List Float) → ((n : ℕ) → g ≡ refused n → (n ≡ 8) ⊎ (n ≡ 9)) → length a ≡ length b → secondAfter a g ≡ secondAfter b g
+same-second : (g : Result Got) (a b : List Float) → ((n : ℕ) → g ≡ refused n → 7 < n) → length a ≡ length b → secondAfter a g ≡ secondAfter b g
 unfolding secondAfter
 same-second (refused n) a b h e = late n a (h n refl) ∙ ap (λ (m : ℕ). filled m []) e ∙ sym (late n b (h n refl))
 same-second (got g) a b h e = ap (λ (m : ℕ). filled m (cond (inFirst (g .way)) [] (flat (g .chain)))) e
 
-refused-left : (n : ℕ) (first second : List Float) → (n ≡ 8) ⊎ (n ≡ 9) → DrawnInto (refused n) first second (Refused n) (filled (length first) []) (filled (length second) [])
+refused-left : (n : ℕ) (first second : List Float) → 7 < n → DrawnInto (refused n) first second (Refused n) (filled (length first) []) (filled (length second) [])
 unfolding draw.answerOf firstAfter secondAfter
 refused-left n first second h = record { answered = refl; firstHolds = sym (late n first h); secondHolds = sym (late n second h) }
 
--- ---- drawing in the room answers 8, 9 or a chain that fits it, whatever the tables hold
+-- ---- drawing in the room answers 8, 9, 11 or a chain that fits it, whatever the tables hold
 pub room-answers : (t : Tables) (e : Edge) (r : Resolved) (first second : ℕ) → shortest ≤ first → shortest ≤ second
     → Answers (roomOf first second) (λ (g : Got). Chained ⊥ t e (mergeFloor (e .tolerance) (r .sag)) (roomOf first second) (g .chain)) (referenced t e r)
 room-answers t e r first second p q = referenced-answers ⊥ t e (λ x. absurd x) (λ x. absurd x) (roomOf first second) (room-fine first second p q) r
@@ -112,14 +113,15 @@ module _ (t : Tables) (e : Edge) (r : Resolved) (first second : List Float) (p :
   chain = within (roomOf (length first) (length second)) (discretised t e r)
 
   abbrev whole : Result Got
-  whole = within (roomOf (length first) (length second)) (referenced t e r)
+  whole = within (roomOf (length first) (length second)) (drawnRepaired t e r)
 
   abbrev way : Way
   way = firstWay (usableRange (edgeCurve t e) (e .range))
 
-  chain-late : (n : ℕ) → chain ≡ refused n → (n ≡ 8) ⊎ (n ≡ 9)
-  chain-late n = answers-refused n
-      (discretised-answers ⊥ t e (λ x. absurd x) (λ x. absurd x) (roomOf (length first) (length second)) (room-fine (length first) (length second) p q) r)
+  chain-late : (n : ℕ) → chain ≡ refused n → 7 < n
+  chain-late n h =
+      late-above
+      (answers-refused n (discretised-answers ⊥ t e (λ x. absurd x) (λ x. absurd x) (roomOf (length first) (length second)) (room-fine (length first) (length second) p q) r) h)
 
   chain-fits : (l : List Sample) → chain ≡ got l → width * length l ≤ length first
   chain-fits l h = room-least (length first) (length second) (length l)
@@ -127,12 +129,13 @@ module _ (t : Tables) (e : Edge) (r : Resolved) (first second : List Float) (p :
       (discretised-answers ⊥ t e (λ x. absurd x) (λ x. absurd x) (roomOf (length first) (length second)) (room-fine (length first) (length second) p q) r)
       h .fits)
 
-  whole-late : (n : ℕ) → whole ≡ refused n → (n ≡ 8) ⊎ (n ≡ 9)
-  whole-late n = answers-refused n (room-answers t e r (length first) (length second) p q)
+  whole-late : (n : ℕ) → whole ≡ refused n → 7 < n
+  whole-late n h =
+      late-above
+      (answers-refused n (drawn-repaired-answers ⊥ t e (λ x. absurd x) (λ x. absurd x) (roomOf (length first) (length second)) (room-fine (length first) (length second) p q) r) h)
 
   -- what follows the chain, by what discretise answered
   whole-by : (c : Result (List Sample)) → chain ≡ c → whole ≡ bind c (λ l. within (roomOf (length first) (length second)) (repaired t e r (by way l)))
-  unfolding referenced
   whole-by c h =
       within-then (roomOf (length first) (length second)) (discretised t e r) (λ l. repaired t e r (by way l))
       ∙ ap (λ (x : Result (List Sample)). bind x (λ l. within (roomOf (length first) (length second)) (repaired t e r (by way l)))) h
@@ -244,15 +247,34 @@ pub early : (n : ℕ) (first second : List Float) (d : Result Got) → n ≤ 7 �
 unfolding draw.answerOf firstAfter secondAfter
 early n first second d h q = record { answered = rw q; firstHolds = rw (q, le-leb n 7 h); secondHolds = rw (q, le-leb n 7 h) }
 
+-- whether the extent's probes of a usable range that was worked out ask for a parameter that is too far
+pub probed : (t : Tables) (e : Edge) {u : Usable} {w : Bool} (v : Bool) → u ≡ usableRange (edgeCurve t e) (e .range) → w ≡ someFar (asksFar (edgeCurve t e)) (probes u) → w ≡ v
+    → someFar (asksFar (edgeCurve t e)) (probes (usableRange (edgeCurve t e) (e .range))) ≡ v
+probed t e v own is h = ap (λ (x : Usable). someFar (asksFar (edgeCurve t e)) (probes x)) (sym own) ∙ sym is ∙ h
+
 module _ (t : Tables) (e : Edge) (o : Options) (first second : List Float) where
   -- draw_unchecked
   pub too-short : tooShort (length first) (length second) ≡ true → DrawnInto (inBuffers t e o (length first) (length second)) first second (Refused 7) first second
   too-short h = early 7 first second _ (omega arith) (rw h)
 
-  pub in-buffers : tooShort (length first) (length second) ≡ false → (r : Resolved) → r ≡ localOptions t e o
-      → (answer : Drawn) (f s : List Float) → DrawnInto (within (roomOf (length first) (length second)) (referenced t e r)) first second answer f s
+  -- by whether the extent's probes ask for a parameter that is too far
+  module _ (v : Bool) (h : tooShort (length first) (length second) ≡ false) (far : someFar (asksFar (edgeCurve t e)) (probes (usableRange (edgeCurve t e) (e .range))) ≡ v) where
+    in-room : inBuffers t e o (length first) (length second)
+        ≡ elim v [ true ↦ refused 11 | false ↦ within (roomOf (length first) (length second)) (drawnRepaired t e (localOptions t e o)) ]
+    unfolding referenced
+    in-room =
+        ap (λ (b : Bool). cond b (refused 7) (within (roomOf (length first) (length second)) (referenced t e (localOptions t e o)))) h
+        ∙ within-asking (asksFar (edgeCurve t e)) (probes (usableRange (edgeCurve t e) (e .range))) (drawnRepaired t e (localOptions t e o)) (roomOf (length first) (length second))
+        ∙ ap (λ (b : Bool). elim b [ true ↦ refused 11 | false ↦ within (roomOf (length first) (length second)) (drawnRepaired t e (localOptions t e o)) ]) far
+
+  pub in-buffers : tooShort (length first) (length second) ≡ false → someFar (asksFar (edgeCurve t e)) (probes (usableRange (edgeCurve t e) (e .range))) ≡ false → (r : Resolved) → r ≡ localOptions t e o
+      → (answer : Drawn) (f s : List Float) → DrawnInto (within (roomOf (length first) (length second)) (drawnRepaired t e r)) first second answer f s
       → DrawnInto (inBuffers t e o (length first) (length second)) first second answer f s
-  in-buffers h r is answer f s d = rw (h, ← is) d
+  in-buffers h far r is answer f s d = rw (in-room false h far, ← is) d
+
+  pub probed-far : tooShort (length first) (length second) ≡ false → someFar (asksFar (edgeCurve t e)) (probes (usableRange (edgeCurve t e) (e .range))) ≡ true
+      → {f s : List Float} → f ≡ filled (length first) [] → s ≡ filled (length second) [] → DrawnInto (inBuffers t e o (length first) (length second)) first second (Refused 11) f s
+  probed-far h far a b = rw (in-room true h far, a, b) (refused-left 11 first second (omega arith))
 
   -- draw
   pub by-verdict : (n : ℕ) → verdict t e o ≡ verdicts.Refused n → DrawnInto (drawn t e o (length first) (length second)) first second (Refused n) first second
@@ -279,6 +301,11 @@ second-short a b h = ap (λ (x : Bool). ltb a shortest || x) (lt-ltb b shortest 
 pub neither-short : (a b : ℕ) → shortest ≤ a → shortest ≤ b → tooShort a b ≡ false
 neither-short a b g h = ap (λ (x : Bool). x || ltb b shortest) (le-ltb a shortest g) ∙ le-ltb b shortest h
 
+-- ---- the depth that `resolve` leaves, which no extent changes
+pub depth-above : (t : Tables) (e : Edge) (o : Options) {r : Resolved} → r ≡ localOptions t e o → 0 < r .depth
+unfolding localOptions forExtent resolve
+depth-above t e o {r} h = let d : r .depth ≡ localOptions t e o .depth = ap (λ (x : Resolved). x .depth) h in omega arith
+
 -- ---- draw_straight, by the way out
 pub not-straight : (D : Result Got) (first second : List Float) {f s : List Float} → f ≡ first → s ≡ second → StraightInto D first second false f s
 not-straight D first second h k = record { chain = λ z. absurd (false≢true z); keptFirst = λ z. h; keptSecond = λ z. k }
@@ -286,6 +313,11 @@ not-straight D first second h k = record { chain = λ z. absurd (false≢true z)
 module _ (t : Tables) (e : Edge) (o : Options) (first second : List Float) (p : shortest ≤ length first) (q : shortest ≤ length second) (range : Interval)
     (u : usableRange (edgeCurve t e) (e .range) ≡ Range range) {origin direction : Vec3} (line : preparedOf (edgeCurve t e) ≡ Line origin direction)
     {start end : Vec3} (at-start : start ≡ edgeStart t e) (at-end : end ≡ edgeEnd t e) where
+  -- a line asks no hyperbola for anything
+  line-near : (x : Float) → asksFar (edgeCurve t e) x ≡ false
+  unfolding asksFar
+  line-near x = through-line (λ c. asksFar c x) (λ b i. refl) (edgeCurve t e) line
+
   -- the vertices' chord stays with any parameters, and so with its own
   own-stays : (r : Resolved) → ((x y : Float) → stays (ofPoints (t .points)) e r (chordBetween start end x y) ≡ true) → stays t e r (placed t e (evenly range 1)) ≡ true
   own-stays r k =
@@ -300,7 +332,7 @@ module _ (t : Tables) (e : Edge) (o : Options) (first second : List Float) (p : 
       let r = forExtent (resolve o) (edgeExtent t e) in
       record {
         chain = λ z.
-            in-buffers t e o first second (neither-short (length first) (length second) p q) r refl _ f s
+            in-buffers t e o first second (neither-short (length first) (length second) p q) (someFar-never (asksFar (edgeCurve t e)) line-near _) r refl _ f s
             (straight-drawn t e r first second p q range u d h (own-stays r (k r (sag-above o (edgeExtent t e)))) c);
         keptFirst = λ z. absurd (false≢true (sym z));
         keptSecond = λ z. absurd (false≢true (sym z));
@@ -308,8 +340,8 @@ module _ (t : Tables) (e : Edge) (o : Options) (first second : List Float) (p : 
 
 -- the buffers as they were, and drawing went on from there
 pub drawn-from : (t : Tables) (e : Edge) (r : Resolved) {first second f s : List Float} → f ≡ first → s ≡ second → {answer : Drawn} {f' s' : List Float}
-    → DrawnInto (within (roomOf (length f) (length s)) (referenced t e r)) f s answer f' s'
-    → DrawnInto (within (roomOf (length first) (length second)) (referenced t e r)) first second answer f' s'
+    → DrawnInto (within (roomOf (length f) (length s)) (drawnRepaired t e r)) f s answer f' s'
+    → DrawnInto (within (roomOf (length first) (length second)) (drawnRepaired t e r)) first second answer f' s'
 drawn-from t e r {first} {second} {f} {s} h k {answer} {f'} {s'} d =
-    subst (λ (x : List Float). DrawnInto (within (roomOf (length x) (length second)) (referenced t e r)) x second answer f' s') h
-    (subst (λ (y : List Float). DrawnInto (within (roomOf (length f) (length y)) (referenced t e r)) f y answer f' s') k d)
+    subst (λ (x : List Float). DrawnInto (within (roomOf (length x) (length second)) (drawnRepaired t e r)) x second answer f' s') h
+    (subst (λ (y : List Float). DrawnInto (within (roomOf (length f) (length y)) (drawnRepaired t e r)) f y answer f' s') k d)

@@ -69,14 +69,14 @@ module _ (t : Tables) (e : Edge) (o : Options) (first second : ℕ) where
           either true = refl
           either false = sym (given t e o first second verdicts.Accepted (tooShort first second) (verdict-edge t e o h ∙ q) refl)
 
--- ---- every answer is a refusal from 1 to 9, or a chain that fits both buffers
+-- ---- every answer is a refusal from 1 to 9, or 11, or a chain that fits both buffers
 abbrev pub Answerable : ℕ → ℕ → Result Got → Type 0
-Answerable first second (refused n) = (1 ≤ n) × (n ≤ 9)
+Answerable first second (refused n) = (1 ≤ n) × (n ≤ 11) × (n ≡ 10 → ⊥)
 Answerable first second (got g) = length (g .chain) ≤ roomOf first second
 
 module _ (t : Tables) (e : Edge) (o : Options) (first second : ℕ) where
   buffers-answerable : (b : Bool) → tooShort first second ≡ b → Answerable first second (cond b (refused 7) (inRoom t e o first second))
-  buffers-answerable true h = (omega arith, omega arith)
+  buffers-answerable true h = (omega arith, omega arith, λ z. omega arith)
   buffers-answerable false h =
       let k = neither (ltb first shortest) (ltb second shortest) h in
       of (room-answers t e (localOptions t e o) first second (ltb-false first shortest (k .0)) (ltb-false second shortest (k .1)))
@@ -85,8 +85,9 @@ module _ (t : Tables) (e : Edge) (o : Options) (first second : ℕ) where
           → Answered (λ (g : Got). Chained ⊥ t e (mergeFloor (e .tolerance) (localOptions t e o .sag)) (roomOf first second) (g .chain)) b x
           → Answerable first second (cond b (refused 8) x)
       of (answers.answer c) = c .fits
-      of answers.eight = (omega arith, omega arith)
-      of answers.nine = (omega arith, omega arith)
+      of answers.eight = (omega arith, omega arith, λ z. omega arith)
+      of answers.nine = (omega arith, omega arith, λ z. omega arith)
+      of answers.eleven = (omega arith, omega arith, λ z. omega arith)
 
   pub drawn-answerable : Answerable first second (drawn t e o first second)
   drawn-answerable = go (drawn t e o first second) refl
@@ -106,9 +107,9 @@ module _ (t : Tables) (e : Edge) (o : Options) (first second : ℕ) where
       go z v k a b c = subst (Answerable first second) (sym (over-is t e o first second z v k a b c)) (each z v k b)
         where
           each : (z : Bool) (v : Verdict) (k : Bool) → edgeVerdict t e o ≡ v → Answerable first second (overBy t e o first second z v k)
-          each true v k b = (omega arith, omega arith)
-          each false (verdicts.Refused n) k b = let m = edge-numbers t e o n b in (omega arith, omega arith)
-          each false verdicts.Accepted true b = (omega arith, omega arith)
+          each true v k b = (omega arith, omega arith, λ x. omega arith)
+          each false (verdicts.Refused n) k b = let m = edge-numbers t e o n b in (omega arith, omega arith, λ x. omega arith)
+          each false verdicts.Accepted true b = (omega arith, omega arith, λ x. omega arith)
           each false verdicts.Accepted false b = bounded-answerable (nests (tree t (e .curve)))
 
 -- ---- a curve with no knots has no segments, so that nothing nests

@@ -12,7 +12,7 @@ use options::Options;
 use options::Resolved;
 ghost use mathlib.Core.Path.{_≡_};
 ghost use mathlib.Core.List.{List};
-ghost use Prim.Native.Nat.{ℕ, _≤_};
+ghost use Prim.Native.Nat.{ℕ, _<_, _≤_};
 ghost use lib.ListN.{length};
 ghost use lib.Dec.{T};
 ghost use lib.Ieee.{Float, binary64, fits};
@@ -23,7 +23,7 @@ ghost use Rattle.knots.specs.Knots.{curveKnots};
 ghost use Rattle.edge_params.specs.Work.{within};
 ghost use Rattle.edge_record.specs.Chain.{shortest};
 ghost use Rattle.edge_range.specs.Usable.{usableRange};
-ghost use Rattle.draw_spec.specs.Draw.{firstWay, localOptions, referenced, inBuffers, roomOf, Outcome};
+ghost use Rattle.draw_spec.specs.Draw.{firstWay, localOptions, drawnRepaired, inBuffers, roomOf, Outcome};
 ghost use Rattle.draw_spec.specs.Own.Binary.{AllBinary64};
 ghost use Rattle.edge_repair.specs.Own.Redrawn.{DrawnInto};
 ghost use Rattle.draw.specs.Own.Straight.{StraightInto};
@@ -75,8 +75,7 @@ fn local_options(
         let extent = edge_extent::extent_usable(points, curves, reals, parts, ranges, edge, usable);
         return r.for_extent(extent);
     }
-    // No extent changes these, so that none is worked out. (A curve whose evaluation can be refused will have to be probed all
-    // the same: its probes can refuse.)
+    // No extent changes these, so that none is worked out. (What its probes may not ask for has been looked at before.)
     r
 }
 
@@ -130,8 +129,8 @@ fn drawn_in(
     second: &mut [f64],
 ) -> Drawn
     requires { ⌜ (shortest ≤ length (now first)) × (shortest ≤ length (now second)) × (length (curveKnots (tree (lent points curves reals parts ranges) (edge .curve))) ≤ mostKnots)
-        × (usable ≡ usableRange (tree (lent points curves reals parts ranges) (edge .curve)) (edge .range)) ⌝ }
-    ensures { λ w. ⌜ DrawnInto (within (roomOf (length (now (first .entry))) (length (now (second .entry)))) (referenced (given points curves reals parts ranges) edge r)) (now (first .entry)) (now (second .entry)) w (now (first .exit)) (now (second .exit)) ⌝ }
+        × (0 < r .depth) × (usable ≡ usableRange (tree (lent points curves reals parts ranges) (edge .curve)) (edge .range)) ⌝ }
+    ensures { λ w. ⌜ DrawnInto (within (roomOf (length (now (first .entry))) (length (now (second .entry)))) (drawnRepaired (given points curves reals parts ranges) edge r)) (now (first .entry)) (now (second .entry)) w (now (first .exit)) (now (second .exit)) ⌝ }
 {
     let counted = edge_discretise::discretise_usable(
         points,
@@ -195,6 +194,11 @@ fn draw_unchecked(
     );
     if draw_straight(points, curves, edge, usable, options, first, second) {
         return Drawn::Chain(Way::AsDrawn, 2);
+    }
+    if edge_asks::probes_far(curves, parts, ranges, edge.curve, usable) {
+        base_lists::clear_from(first, 0);
+        base_lists::clear_from(second, 0);
+        return Drawn::Refused(11);
     }
     let r = local_options(points, curves, reals, parts, ranges, edge, usable, options);
     drawn_in(

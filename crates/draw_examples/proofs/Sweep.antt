@@ -11,11 +11,12 @@ use Rattle.math.specs.Math.{distance, at, spanOf, vAdd, vSub, vScale, vDot, vLe
 use Rattle.brep.specs.Rows.{pointOf, kindOf, curveOf}
 use Rattle.brep.specs.Tree.{CurveTree, tree, below, grown}
 use Rattle.curve.specs.Eval.{pointAt, naturalRange}
+use Rattle.curve_asks.specs.Asks.{asksFar}
 use Rattle.options.specs.declared.Resolved.{Resolved}
 use Rattle.edge_params.specs.Work.{Work, done}
 use Rattle.draw_spec.specs.Edge.{edgeCurve, edgeStart, edgeEnd}
-use Rattle.draw_spec.specs.Repair.{Got, nearestOf, sweepAt, orderedInterval, byShortArc, runaway}
-use lib.Ieee.Scale.{finite}
+use Rattle.draw_spec.specs.Repair.{Got, nearestOf, sweepAt, orderedInterval, isSwept, shortArcTried, byShortArc, runaway}
+use Rattle.draw_spec.proofs.Listed.{short-arc-never}
 use Rattle.arith_root.specs.Root.{rootOf, rootUnits, nearRoot, isqrt}
 use Rattle.draw_examples.specs.Examples.{boxed, escaping}
 
@@ -79,18 +80,21 @@ no-length : (a b : Float) → a ≡ plusZero → b ≡ plusZero → lt plusZero 
 unfolding spanOf sub lt le eq neg ofBits
 no-length a b e f = ap (λ (x : Float). lt plusZero (spanOf (orderedInterval x b))) e ∙ ap (λ (x : Float). lt plusZero (spanOf (orderedInterval plusZero x))) f
 
-neither : (a b c : Bool) → c ≡ false → a && (b && c) ≡ false
-neither true true c e = e
-neither true false c e = refl
-neither false b c e = refl
+not-both : (a b : Bool) → b ≡ false → a && b ≡ false
+not-both true b e = e
+not-both false b e = refl
 
 chosen : (b : Bool) (arc : Work Got) → b ≡ false → elim b [ true ↦ arc | false ↦ done (runaway boxed escaping) ] ≡ done (runaway boxed escaping)
 chosen b arc e = ap (λ (t : Bool). elim t [ true ↦ arc | false ↦ done (runaway boxed escaping) ]) e
 
+-- a line asks no hyperbola for anything
+never-far : (t : Float) → asksFar (edgeCurve boxed escaping) t ≡ false
+unfolding asksFar tree below grown curveOf kindOf
+never-far t = refl
+
 -- and the chord is left, whatever the options are
 pub runs-away : (r : Resolved) → byShortArc boxed escaping r ≡ done (runaway boxed escaping)
-unfolding byShortArc
+unfolding shortArcTried
 runs-away r =
-    chosen _ _
-    (neither (finite (spanOf (naturalRange (edgeCurve boxed escaping)))) (lt plusZero (spanOf (naturalRange (edgeCurve boxed escaping)))) _
-    (no-length _ _ from-start from-end))
+    short-arc-never boxed escaping r never-far
+    ∙ chosen _ _ (not-both (isSwept (naturalRange (edgeCurve boxed escaping))) _ (no-length _ _ from-start from-end))

@@ -29,7 +29,7 @@ module _ (t : Tables) (e : Edge) (o : Options) (first second : ℕ) where
     -- 1 to 6
     by-tables : verdict t e o ≡ Refused n → Refuses n
     by-buffers : verdict t e o ≡ Accepted → tooShort first second ≡ true → n ≡ 7 → Refuses n
-    -- 8 or 9
+    -- 8, 9 or 11
     by-drawing : verdict t e o ≡ Accepted → tooShort first second ≡ false → inRoom ≡ refused n → Refuses n
 
   -- by the verdict, and whether a buffer is too short

@@ -1,5 +1,5 @@
 -- The five clauses of every chain that `discretise` gives, of a range that can be sampled. Assumes nothing.
-use mathlib.Core.Path.{_≡_, refl, sym, ap, subst, _∙_}
+use mathlib.Core.Path.{_≡_, refl, ap, subst, _∙_}
 use mathlib.Core.Bool.{Bool, true, false}
 use mathlib.Core.List.{List, [], _∷_}
 use Prim.Native.Nat.{ℕ, _^_, _-_, _+_, _≤_}
@@ -21,11 +21,8 @@ use Rattle.options.specs.declared.Resolved.{Resolved}
 use Rattle.knots.specs.Knots.{curveKnots, curveBreaks, deviation}
 use Rattle.edge_params.proofs.Runs.{good-number}
 use Rattle.edge_params.proofs.Steady.{Steady, steady-sub, steady-one-way, two-one-way, two-steady}
-use Rattle.edge_params.specs.Work.{ends, done}
-use Rattle.edge_params.specs.Params.{Sampler}
-use Rattle.edge_params.specs.Own.InRoom.{sampleParamsIn}
-use Rattle.edge_params.proofs.Work.{sample-params-in}
-use Rattle.edge_params.proofs.Lists.{sampled-length, sampled-never}
+use Rattle.curve_asks.specs.Asks.{asksFar}
+use Rattle.edge_params.specs.Work.{ends, done, asking}
 use Rattle.edge_params.proofs.Sampled.{sampled-steady, thin-sampleable}
 use Rattle.edge_record.specs.declared.Sample.{Sample}
 use Rattle.edge_record.specs.Chain.{lastOf}
@@ -37,17 +34,25 @@ use Rattle.edge_range.specs.declared.Usable.{Usable}
 use Rattle.edge_range.specs.declared.Usable.the-variants.{Range, Unusable}
 use Rattle.edge_range.specs.Usable.{usableRange}
 use Rattle.edge_sample.specs.Sample.{sampler, sampled}
-use Rattle.draw_spec.specs.Edge.{edgeCurve, thinnedIf, chordOf, atLeastTwo, placed, finished, overRange, discretised}
+use Rattle.edge_sample.specs.Own.Answered.{sampledIn}
+use Rattle.edge_sample.proofs.Laws.{sampled-room, sampled-kept, sampled-refused}
+use Rattle.draw_spec.specs.Edge.{edgeCurve, thinnedIf, chordOf, atLeastTwo, placed, finished, listed, overRange, discretised}
 use Rattle.draw_spec.specs.Draw.{Sound}
 use Rattle.draw_spec.proofs.Tame.{Tame}
 use Rattle.draw_spec.proofs.Ranges.{Ends, Goods, usable-goods}
 use Rattle.draw_spec.proofs.Placed.{Own, Placed, placed-holds, placed-length}
-use Rattle.draw_spec.proofs.Answers.{Answered, Answers, answer, nine, answers-ends, answers-then, answers-always}
+use Rattle.draw_spec.proofs.Answers.{Answered, Answers, answer, nine, answers-ends, answers-then, answers-asking, answers-eleven}
 
 -- a chain that fits the room, and of which the five clauses hold, given H
 pub record Chained (H : Type 0) (t : Tables) (e : Edge) (floor : Float) (room : ℕ) (l : List Sample) : Type 0 where
   pub sound : H → Sound t e floor l
   pub fits : length l ≤ room
+
+-- parameters of a chain: two or more, no more than the room has, and in one order, given H
+record Parameters (H : Type 0) (room : ℕ) (l : List Float) : Type 0 where
+  pub two : 2 ≤ length l
+  pub fits : length l ≤ room
+  pub steady : H → Steady l
 
 -- how many records there is room for
 pub record Room (room : ℕ) : Type 0 where
@@ -120,13 +125,12 @@ module _ (t : Tables) (e : Edge) (r : Resolved) where
   abbrev edgeFloor : Float
   edgeFloor = mergeFloor (e .tolerance) (r .sag)
 
-  finished-answers : (H : Type 0) (room : ℕ) (params : List Float) → 2 ≤ length params → length params ≤ room → (H → Steady params)
-      → Answers room (Chained H t e edgeFloor room) (ends (finished t e r params))
+  finished-answers : (H : Type 0) (room : ℕ) (params : List Float) → Parameters H room params → Answers room (Chained H t e edgeFloor room) (ends (finished t e r params))
   unfolding finished
-  finished-answers H room params h n s = answers-ends room (go (thinnedIf (isSampled (edgeCurve t e)) r (placed t e params)) refl)
+  finished-answers H room params p = answers-ends room (go (thinnedIf (isSampled (edgeCurve t e)) r (placed t e params)) refl)
     where
       long : 2 ≤ length (placed t e params)
-      long = omega (arith, placed-length t e params)
+      long = omega (arith, placed-length t e params, p .two)
 
       go : (x : Result (List Sample)) → thinnedIf (isSampled (edgeCurve t e)) r (placed t e params) ≡ x
           → Answered (Chained H t e edgeFloor room) false (each (merged edgeFloor) x)
@@ -134,8 +138,8 @@ module _ (t : Tables) (e : Edge) (r : Resolved) where
           let l = placed t e params in
           let u = thinned-shorter r l long (isSampled (edgeCurve t e)) k q in
           answer (record {
-            sound = λ x. merged-sound t e l (placed-holds t e params h (s x)) edgeFloor k u;
-            fits = omega (arith, merged-length r l long edgeFloor k u, placed-length t e params);
+            sound = λ x. merged-sound t e l (placed-holds t e params (p .two) (p .steady x)) edgeFloor k u;
+            fits = omega (arith, merged-length r l long edgeFloor k u, placed-length t e params, p .fits);
           })
       go (refused k) q = let z = thinned-refused r (placed t e params) long (isSampled (edgeCurve t e)) k q in rw z nine
 
@@ -165,27 +169,27 @@ module _ (range : Interval) where
 
 -- ---- discretise
 module _ (H : Type 0) (t : Tables) (e : Edge) (tame : H → Tame (edgeCurve t e)) (own : H → Ends (e .range)) (room : ℕ) (fine : Room room) (r : Resolved) where
-  sampled-answers : (range : Interval) → (H → Goods range) → Answers room (Chained H t e (edgeFloor t e r) room) (overRange t e r range)
-  unfolding sampled sampler curveBreaks
-  sampled-answers range g =
-      answers-then room (sampled c range r) (λ params. ends (finished t e r (atLeastTwo range params)))
-      (answers-always room (sampled c range r) (λ n. sampled-never n s range) (λ l q. sym (sample-params-in room s range) ∙ q)) finish
-    where
-      c : CurveTree
-      c = edgeCurve t e
+  -- the parameters of the curve over a range: whatever was asked for before, they are what `sampledIn` gives
+  module _ (range : Interval) (g : H → Goods range) where
+    abbrev c : CurveTree
+    c = edgeCurve t e
 
-      s : Sampler
-      s = sampler c range r
+    list-steady : (l : List Float) → sampledIn room c range r ≡ got l → H → Steady l
+    unfolding sampledIn sampler curveBreaks
+    list-steady l q x =
+        sampled-steady (sampler c range r) range
+        (thin-sampleable (sampler c range r) range (curveKnots c) (r .sag) (deviation (pointAt c)) refl (tame x .knots) (g x .low) (g x .high))
+        room (fine .most) l q
 
-      finish : (l : List Float) → sampleParamsIn room s range ≡ got l → Answers room (Chained H t e (edgeFloor t e r) room) (ends (finished t e r (atLeastTwo range l)))
-      finish l q =
-          finished-answers t e r H room (atLeastTwo range l) (at-least-two range l)
-          (at-most range room (fine .least) l (sampled-length room s range l q))
-          (λ x.
-          still-steady range (g x) l
-          (sampled-steady s range
-          (thin-sampleable s range (curveKnots c) (r .sag) (deviation (pointAt c)) refl (tame x .knots) (g x .low) (g x .high))
-          room (fine .most) l q))
+    listed-answers : Answers room (Parameters H room) (listed c range r)
+    listed-answers =
+        answers-then room (sampled c range r) (λ l. asking (asksFar c) (atLeastTwo range l) (done (atLeastTwo range l)))
+        (answers-eleven {P = λ l. sampledIn room c range r ≡ got l} room (sampled c range r) (sampled-refused c range r) (sampled-kept room c range r))
+        (λ l q. answers-asking room (asksFar c) (atLeastTwo range l) (done (atLeastTwo range l)) (answers-ends room (answer (record {
+          two = at-least-two range l;
+          fits = at-most range room (fine .least) l (sampled-room room c range r l q);
+          steady = λ x. still-steady range (g x) l (list-steady l q x);
+        }))))
 
   pub discretised-answers : Answers room (Chained H t e (mergeFloor (e .tolerance) (r .sag)) room) (discretised t e r)
   unfolding discretised
@@ -197,4 +201,7 @@ module _ (H : Type 0) (t : Tables) (e : Edge) (tame : H → Tame (edgeCurve t e)
             | Range range ↦ overRange t e r range
           ])
       go Unusable q = answers-ends room (answer (chord-chained H t e (mergeFloor (e .tolerance) (r .sag)) room (fine .least) (e .range .lo) (e .range .hi)))
-      go (Range range) q = sampled-answers range (λ x. usable-goods (edgeCurve t e) (tame x) range (e .range) (own x) q)
+      go (Range range) q =
+          answers-then room (listed (edgeCurve t e) range r) (λ params. ends (finished t e r params))
+          (listed-answers range (λ x. usable-goods (edgeCurve t e) (tame x) range (e .range) (own x) q))
+          (finished-answers t e r H room)

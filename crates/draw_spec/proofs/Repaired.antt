@@ -13,8 +13,9 @@ use Rattle.brep.specs.declared.Edge.{Edge}
 use Rattle.brep.specs.Rows.{Tables}
 use Rattle.curve.specs.declared.Repeats.{Repeats}
 use Rattle.curve.specs.declared.Repeats.the-variants.{Every, Never}
-use Rattle.curve.specs.Eval.{period}
+use Rattle.curve.specs.Eval.{naturalRange, period}
 use Rattle.options.specs.declared.Resolved.{Resolved}
+use Rattle.curve_asks.specs.Asks.{asksFar}
 use Rattle.edge_params.specs.Work.{Work, done, andThen}
 use Rattle.edge_params.proofs.Ends.{Size}
 use Rattle.edge_record.specs.declared.Sample.{Sample}
@@ -22,11 +23,11 @@ use Rattle.edge_merge.specs.Merge.{mergeFloor}
 use Rattle.edge_range.specs.Usable.{usableRange}
 use Rattle.draw_spec.specs.declared.Way.the-variants.{Complement, ShortArc}
 use Rattle.draw_spec.specs.Edge.{edgeCurve, edgeStart, edgeEnd, discretised}
-use Rattle.draw_spec.specs.Repair.{Got, by, withRange, reference, escapes, runaway, serves, arcOrChord, shortRange, hasShortArc, byShortArc, complementOrShort, complementRange, byComplement, byPeriod, stays, repaired}
-use Rattle.draw_spec.specs.Draw.{firstWay, referenced}
+use Rattle.draw_spec.specs.Repair.{Got, by, withRange, reference, escapes, runaway, serves, arcOrChord, shortRange, sweep, hasShortArc, shortArcTried, byShortArc, complementOrShort, complementRange, byComplement, byPeriod, stays, repaired}
+use Rattle.draw_spec.specs.Draw.{firstWay, probes, drawnRepaired, referenced}
 use Rattle.draw_spec.proofs.Tame.{Tame}
 use Rattle.draw_spec.proofs.Ranges.{Ends, goods-ends, complement-ends, short-goods}
-use Rattle.draw_spec.proofs.Answers.{Answers, answer, answers-ends, answers-then}
+use Rattle.draw_spec.proofs.Answers.{Answers, answer, answers-ends, answers-then, answers-asking}
 use Rattle.draw_spec.proofs.Discretised.{Chained, Room, chord-chained, discretised-answers}
 
 -- an edge's own range: a lo that is finite is small enough to have a period added to it
@@ -63,9 +64,9 @@ module _ (H : Type 0) (t : Tables) (e : Edge) (tame : H → Tame (edgeCurve t e)
       go true = answers-ends room (answer c)
       go false = runaway-fine
 
-  short-answers : Answers room Fine (byShortArc t e r)
-  unfolding byShortArc
-  short-answers = go (hasShortArc t e)
+  tried-answers : Answers room Fine (shortArcTried t e r)
+  unfolding shortArcTried
+  tried-answers = go (hasShortArc t e)
     where
       go : (b : Bool) → Answers room Fine (elim b [
         | true ↦ andThen (discretised t (withRange e (shortRange t e)) r) (λ arc. done (arcOrChord t e r arc))
@@ -76,6 +77,9 @@ module _ (H : Type 0) (t : Tables) (e : Edge) (tame : H → Tame (edgeCurve t e)
           (λ x. goods-ends (short-goods (edgeCurve t e) (tame x) (edgeStart t e) (edgeEnd t e)))
           (λ arc. done (arcOrChord t e r arc)) arc-fine
       go false = runaway-fine
+
+  short-answers : Answers room Fine (byShortArc t e r)
+  short-answers = answers-asking room (asksFar (edgeCurve t e)) (sweep (naturalRange (edgeCurve t e))) (shortArcTried t e r) tried-answers
 
   complement-answers : (p : Float) → (H → Size 40 p) → Answers room Fine (byComplement t e r p)
   unfolding byComplement
@@ -110,10 +114,15 @@ module _ (H : Type 0) (t : Tables) (e : Edge) (tame : H → Tame (edgeCurve t e)
       go true = answers-ends room (answer c)
       go false = period-answers (period (edgeCurve t e)) refl
 
+  -- discretise, then repair_runaway
+  pub drawn-repaired-answers : Answers room (λ (g : Got). Chained H t e (mergeFloor (e .tolerance) (r .sag)) room (g .chain)) (drawnRepaired t e r)
+  drawn-repaired-answers =
+      let way = firstWay (usableRange (edgeCurve t e) (e .range)) in
+      answers-then room (discretised t e r) (λ chain. repaired t e r (by way chain)) (discretised-answers H t e tame (λ x. own x .ends) room fine r)
+      (λ l c. repaired-answers (by way l) c)
+
   -- whichever way
   pub referenced-answers : Answers room (λ (g : Got). Chained H t e (mergeFloor (e .tolerance) (r .sag)) room (g .chain)) (referenced t e r)
   unfolding referenced
   referenced-answers =
-      let way = firstWay (usableRange (edgeCurve t e) (e .range)) in
-      answers-then room (discretised t e r) (λ chain. repaired t e r (by way chain)) (discretised-answers H t e tame (λ x. own x .ends) room fine r)
-      (λ l c. repaired-answers (by way l) c)
+      answers-asking room (asksFar (edgeCurve t e)) (probes (usableRange (edgeCurve t e) (e .range))) (drawnRepaired t e r) drawn-repaired-answers

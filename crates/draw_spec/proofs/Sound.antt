@@ -1,7 +1,6 @@
 -- The five clauses of every chain that drawing answers with. Assumes nothing but what its statements say.
 use mathlib.Core.Path.{_≡_}
-use mathlib.Core.Logic.{_⊎_, inl, inr}
-use mathlib.Core.Bool.{true, false}
+use mathlib.Core.Bool.{false}
 use Prim.Native.Nat.{ℕ, _≤_}
 use native.Mathlib.Omega.{arith}
 use lib.Dec.{T, ltb}
@@ -25,7 +24,7 @@ use Rattle.draw_spec.specs.Draw.{localOptions, referenced, roomOf, tooSh
 use Rattle.draw_spec.specs.Own.Binary.{AllBinary64}
 use Rattle.draw_spec.proofs.Tame.{bounded-size, tree-tame}
 use Rattle.draw_spec.proofs.Accepted.{Refuses, by-tables, by-buffers, by-drawing, accepts, refuses}
-use Rattle.draw_spec.proofs.Answers.{Answers, answers-got, answers-cause, answers-refused}
+use Rattle.draw_spec.proofs.Answers.{Answers, late-above, late-number, Cause, answers-got, answers-cause, answers-refused}
 use Rattle.draw_spec.proofs.Discretised.{Chained, Room}
 use Rattle.draw_spec.proofs.Repaired.{OwnRange, referenced-answers}
 
@@ -78,19 +77,20 @@ module _ (t : Tables) (e : Edge) (o : Options) (first second : ℕ) where
   drawn-fits g q = chained g q .fits
 
   -- ---- the numbers of refusals
-  -- once none of 1 to 7 applies, 8 is for a list that is longer than the room, and 9 for a reference that never ends
+  -- once none of 1 to 7 applies, 8 is for a list that is longer than the room, 9 for a reference that never ends, and 11 for one that would ask
+  -- a hyperbola for a parameter that is too far
   pub drawn-late : (n : ℕ) → within (roomOf first second) (referenced t e (localOptions t e o)) ≡ refused n → verdict t e o ≡ Accepted → tooShort first second ≡ false
-      → ((n ≡ 8) × (overflows (roomOf first second) (referenced t e (localOptions t e o) .acts) ≡ true)) ⊎ ((n ≡ 9) × (referenced t e (localOptions t e o) .end ≡ refused 9))
+      → Cause (overflows (roomOf first second) (referenced t e (localOptions t e o) .acts)) (referenced t e (localOptions t e o) .end) n
   drawn-late n q a h = answers-cause n (drawn-answers a h) q
 
-  pub drawn-numbers : (n : ℕ) → drawn t e o first second ≡ refused n → (1 ≤ n) × (n ≤ 9)
+  -- every refusal is from 1 to 9, or 11
+  pub drawn-numbers : (n : ℕ) → drawn t e o first second ≡ refused n → (1 ≤ n) × (n ≤ 11) × (n ≡ 10 → ⊥)
   drawn-numbers n q = go (refuses t e o first second n q)
     where
-      late : (n ≡ 8) ⊎ (n ≡ 9) → (1 ≤ n) × (n ≤ 9)
-      late (inl z) = (omega arith, omega arith)
-      late (inr z) = (omega arith, omega arith)
-
-      go : Refuses t e o first second n → (1 ≤ n) × (n ≤ 9)
-      go (by-tables a) = let k = verdict-numbers t e o n a in (omega arith, omega arith)
-      go (by-buffers a b z) = (omega arith, omega arith)
-      go (by-drawing a b r) = late (answers-refused n (drawn-answers a b) r)
+      go : Refuses t e o first second n → (1 ≤ n) × (n ≤ 11) × (n ≡ 10 → ⊥)
+      go (by-tables a) = let k = verdict-numbers t e o n a in (omega arith, omega arith, λ t. omega arith)
+      go (by-buffers a b z) = (omega arith, omega arith, λ t. omega arith)
+      go (by-drawing a b r) =
+          let l = answers-refused n (drawn-answers a b) r in
+          let k = late-number l in
+          (omega (arith, late-above l), k .0, k .1)

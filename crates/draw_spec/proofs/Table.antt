@@ -15,11 +15,12 @@ use Rattle.causes.specs.declared.Verdict.the-variants.{Accepted, Refused}
 use Rattle.causes.specs.Causes.{oversize, unordered, tooDeep, missing, verdict}
 use Rattle.causes.proofs.Checked.{causes-of, verdict-numbers}
 use Rattle.edge_params.specs.Work.{Work, overflows}
-use Rattle.edge_params.proofs.Work.{within-got}
+use Rattle.edge_params.proofs.Work.{within-got, within-refused}
 use Rattle.draw_spec.specs.Repair.{Got}
-use Rattle.draw_spec.specs.Draw.{localOptions, referenced, roomOf, tooShort, drawn, Applies, one, two, three, four, five, six, seven, eight, nine, Lowest}
+use Rattle.draw_spec.specs.Draw.{localOptions, referenced, roomOf, tooShort, drawn, Applies, one, two, three, four, five, six, seven, eight, nine, eleven, Lowest}
 use Rattle.draw_spec.proofs.Accepted.{Accepts, accepts, Refuses, by-tables, by-buffers, by-drawing, refuses, given}
-use Rattle.draw_spec.proofs.Sound.{drawn-late, drawn-numbers}
+use Rattle.draw_spec.proofs.Answers.{Cause, longer, endless, tooFar}
+use Rattle.draw_spec.proofs.Sound.{drawn-late}
 
 -- ---- a verdict of at most k
 record AtMost (k : ℕ) (v : Verdict) : Type 0 where
@@ -94,6 +95,18 @@ module _ (t : Tables) (e : Edge) (o : Options) (first second : ℕ) where
       go (by-buffers x y z) = omega (arith, z)
       go (by-drawing x y z) = let w : _≡_ {A = Result Got} (refused 8) (refused n) = sym (ap (λ (b : Bool). cond b (refused 8) (work .end)) h) ∙ z in let k : 8 ≡ n = cc in omega arith
 
+  end-by : (k : ℕ) → 8 ≤ k → work .end ≡ refused k → (n : ℕ) → drawn t e o first second ≡ refused n → n ≤ k
+  end-by k h w n q = go (refuses t e o first second n q)
+    where
+      own : ((n ≡ 8) × (overflows (roomOf first second) (work .acts) ≡ true)) ⊎ (work .end ≡ refused n) → n ≤ k
+      own (inl z) = omega (arith, z .0)
+      own (inr x) = let z : k ≡ n = cc in omega arith
+
+      go : Refuses t e o first second n → n ≤ k
+      go (by-tables x) = omega (arith, verdict-numbers t e o n x)
+      go (by-buffers x y z) = omega (arith, z)
+      go (by-drawing x y z) = own (within-refused (roomOf first second) work n z)
+
   no-later : (m : ℕ) → Applies t e o first second m → (n : ℕ) → drawn t e o first second ≡ refused n → n ≤ m
   unfolding verdict
   no-later m (one h) = refused-by 1 (omega arith) (hit a 1 v2 h)
@@ -108,7 +121,8 @@ module _ (t : Tables) (e : Edge) (o : Options) (first second : ℕ) where
       (pass a 1 6 v2 (omega arith) (pass b 2 6 v3 (omega arith) (pass c 3 6 v4 (omega arith) (pass d 4 6 v5 (omega arith) (pass f 5 6 v6 (omega arith) (hit g 6 Accepted h))))))
   no-later m (seven h) = short-by h
   no-later m (eight h) = room-by h
-  no-later m (nine h) = λ n q. drawn-numbers t e o first second n q .1
+  no-later m (nine h) = end-by 9 (omega arith) h
+  no-later m (eleven h) = end-by 11 (omega arith) h
 
   -- ---- a refusal is that of a cause that applies
   step : (x : Bool) (k n : ℕ) (v : Verdict) → (x ≡ true → Applies t e o first second k) → (v ≡ Refused n → Applies t e o first second n)
@@ -127,9 +141,10 @@ module _ (t : Tables) (e : Edge) (o : Options) (first second : ℕ) where
   applying n (by-buffers x y z) = subst (Applies t e o first second) (sym z) (seven y)
   applying n (by-drawing x y q) = go (drawn-late t e o first second n q x y)
     where
-      go : ((n ≡ 8) × (overflows (roomOf first second) (work .acts) ≡ true)) ⊎ ((n ≡ 9) × (work .end ≡ refused 9)) → Applies t e o first second n
-      go (inl z) = subst (Applies t e o first second) (sym (z .0)) (eight (z .1))
-      go (inr z) = subst (Applies t e o first second) (sym (z .0)) (nine (z .1))
+      go : Cause (overflows (roomOf first second) (work .acts)) (work .end) n → Applies t e o first second n
+      go (longer z h) = subst (Applies t e o first second) (sym z) (eight h)
+      go (endless z h) = subst (Applies t e o first second) (sym z) (nine h)
+      go (tooFar z h) = subst (Applies t e o first second) (sym z) (eleven h)
 
   -- an edge is refused with the lowest cause that applies
   pub lowest : (n : ℕ) → drawn t e o first second ≡ refused n → Lowest t e o first second n
@@ -161,3 +176,4 @@ module _ (t : Tables) (e : Edge) (o : Options) (first second : ℕ) where
       go m (seven h) = differ h (s .long)
       go m (eight h) = differ h (own .0)
       go m (nine h) = let y = own .1 in let z : _≡_ {A = ℕ} 0 1 = cc in omega arith
+      go m (eleven h) = let y = own .1 in let z : _≡_ {A = ℕ} 0 1 = cc in omega arith

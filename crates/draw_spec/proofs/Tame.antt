@@ -21,7 +21,7 @@ use Rattle.math.specs.declared.Interval.{Interval}
 use Rattle.math.specs.Math.{interval, spanOf}
 use Rattle.base_lists.specs.All.{All, none, more}
 use Rattle.brep.specs.declared.Curve.{Curve}
-use Rattle.brep.specs.declared.Curve.the-variants.{Line, Circle, Ellipse, Parabola, Polyline, Trimmed, Composite}
+use Rattle.brep.specs.declared.Curve.the-variants.{Line, Circle, Ellipse, Parabola, Polyline, Trimmed, Composite, Hyperbola}
 use Rattle.brep.specs.declared.Edge.{Edge}
 use Rattle.brep.specs.Rows.{Tables, segmentOf, mostPoints, kindOf, curveOf}
 use Rattle.brep.specs.Tree.{CurveTree, polyline, run, segments, rowIn, grown, below, tree}
@@ -106,6 +106,7 @@ line-reach : Reach (interval (neg trillion) trillion)
 unfolding le neg ofBits fits
 line-reach = record { low = (tt, tt); low-fits = tt; high = (tt, tt); high-fits = tt }
 
+-- a hyperbola's too
 parabola-reach : Reach (interval (neg million) million)
 unfolding le neg ofBits fits
 parabola-reach = record { low = (tt, tt); low-fits = tt; high = (tt, tt); high-fits = tt }
@@ -150,6 +151,7 @@ data Row : Curve → Type 0 where
   a-polyline : {first n : ℕ} → n ≤ mostPoints → Row (Polyline first n)
   a-trim : {base : ℕ} {range : Interval} → Reach range → Row (Trimmed base range)
   a-composite : {first n : ℕ} → n ≤ mostPoints → Row (Composite first n)
+  a-hyperbola : {f : Frame} {a b : Float} → Row (Hyperbola f a b)
 
 pick : (b : Bool) {x y : Curve} → Row x → Row y → Row (cond b x y)
 pick true u v = u
@@ -186,7 +188,8 @@ module _ (t : Tables) (e : Edge) (o : Options) (h : Checked t e o) (reals : AllB
         high = real-size (i * 2 + 1) (omega arith);
         high-fits = reals (i * 2 + 1);
       }))
-      (pick (eqb kind 7) (a-composite n) (a-polyline (omega arith))))))))
+      (pick (eqb kind 7) (a-composite n)
+      (pick (eqb kind 8) a-hyperbola (a-polyline (omega arith)))))))))
 
   knots-fit : (f : ℕ → CurveTree) (first n : ℕ) → All (λ k. T (fits binary64 k)) (segmentKnots (segments t f first n))
   unfolding segmentKnots segments segmentOf
@@ -206,6 +209,7 @@ module _ (t : Tables) (e : Edge) (o : Options) (h : Checked t e o) (reals : AllB
         let b = g base range refl in record { own = r; every = b .every; knots = b .knots }
     grown-tame k (a-composite {first = first} {n = n} r) g =
         record { own = rw (count-segments t f first n) (count-reach n r); every = no-period; knots = knots-fit f first n }
+    grown-tame k a-hyperbola g = record { own = parabola-reach; every = no-period; knots = none }
 
   rows-tame : (n i : ℕ) → i < n → i < curveCount t → Tame (tree t i)
   unfolding tree

@@ -20,7 +20,9 @@ use Rattle.causes.specs.declared.Verdict.the-variants as verdicts
 use Rattle.causes_bounds.specs.Bounds.{unbounded}
 use Rattle.causes_form.specs.Forms.{illFormed}
 use Rattle.causes.specs.Causes.{oversize, unordered, tooDeep, missing, verdict}
-use Rattle.edge_params.specs.Work.{Work, andThen, overflows, within}
+use Rattle.curve_asks.specs.Asks.{asksFar}
+use Rattle.edge_params.specs.Work.{Work, andThen, asking, overflows, within}
+use Rattle.edge_params.specs.Params.{evenly}
 use Rattle.edge_params.specs.OneWay.{OneWay}
 use Rattle.edge_record.specs.declared.Sample.{Sample}
 use Rattle.edge_record.specs.Chain.{width, shortest, most, flat, samples, samplePoint, innerSamples}
@@ -45,10 +47,19 @@ unfoldable pub firstWay : Usable → Way
 firstWay (Range range) = AsDrawn
 firstWay Unusable = Chord
 
--- discretise, then repair_runaway: the reference, which has no room
-unfoldable pub referenced : Tables → Edge → Resolved → Work Got
-referenced T e r =
+-- the parameters at which edge_extent asks for the curve's points, whether or not the options use the extent
+unfoldable pub probes : Usable → List Float
+probes (Range range) = evenly range 8
+probes Unusable = []
+
+-- discretise, then repair_runaway
+abbrev pub drawnRepaired : Tables → Edge → Resolved → Work Got
+drawnRepaired T e r =
     andThen (discretised T e r) (λ chain. repaired T e r (by (firstWay (usableRange (edgeCurve T e) (e .range))) chain))
+
+-- edge_extent's probes, discretise, repair_runaway: the reference, which has no room
+unfoldable pub referenced : Tables → Edge → Resolved → Work Got
+referenced T e r = asking (asksFar (edgeCurve T e)) (probes (usableRange (edgeCurve T e) (e .range))) (drawnRepaired T e r)
 
 -- ---- the entry point
 -- room R, of buffers of so many floats: the smallest of 16,384 and the number of whole records in either
@@ -67,7 +78,7 @@ programFloats = width * programPoints
 abbrev pub tooShort : ℕ → ℕ → Bool
 tooShort first second = ltb first shortest || ltb second shortest
 
--- drawing into two buffers of so many floats: 7 where one is too short; else the reference in the room: 8, 9, or the chain and its way
+-- drawing into two buffers of so many floats: 7 where one is too short; else the reference in the room: 8, 9, 11, or the chain and its way
 abbrev pub inBuffers : Tables → Edge → Options → ℕ → ℕ → Result Got
 inBuffers T e o first second =
     cond (tooShort first second) (refused 7) (within (roomOf first second) (referenced T e (localOptions T e o)))
@@ -104,7 +115,7 @@ abbrev pub chainFloats : Drawn → ℕ
 chainFloats (Refused n) = 0
 chainFloats (Chain way n) = width * n
 
--- 1 to 7 leave a buffer as before, 8 and 9 leave it all +0.0
+-- 1 to 7 leave a buffer as before, 8, 9 and 11 leave it all +0.0
 abbrev pub afterRefusal : ℕ → List Float → List Float
 afterRefusal n entry = cond (leb n 7) entry (filled (length entry) [])
 
@@ -158,8 +169,11 @@ pub data Applies (T : Tables) (e : Edge) (o : Options) (first second : ℕ) : �
   eight : overflows (roomOf first second) (referenced T e (localOptions T e o) .acts) ≡ true → Applies T e o first second 8
   -- the reference never ends: `thin` reaches a span that it splits for ever
   nine : referenced T e (localOptions T e o) .end ≡ refused 9 → Applies T e o first second 9
+  -- the reference would ask a hyperbola for a parameter beyond 100 in magnitude
+  eleven : referenced T e (localOptions T e o) .end ≡ refused 11 → Applies T e o first second 11
 
--- cause n applies, and no lower one. (8 and 9 need no order of their own: whatever the reference does comes before the span at which it never ends.)
+-- cause n applies, and no lower one. (8, 9 and 11 need no order of their own: whatever is recorded of the reference's work comes before the span at
+-- which it never ends, and before the parameter that it may not ask for.)
 pub record Lowest (T : Tables) (e : Edge) (o : Options) (first second n : ℕ) : Type 0 where
   pub applies : Applies T e o first second n
   pub lowest : (m : ℕ) → m < n → Applies T e o first second m → ⊥

@@ -21,7 +21,8 @@ use Rattle.edge_record.specs.declared.Sample.{Sample}
 use Rattle.edge_record.specs.Chain.{lastOf}
 use Rattle.edge_merge.specs.Merge.{mergeFloor, merged}
 use Rattle.edge_thin.specs.Thin.{thinned}
-use Rattle.edge_params.specs.Work.{Work, ends, done, andThen}
+use Rattle.curve_asks.specs.Asks.{asksFar}
+use Rattle.edge_params.specs.Work.{Work, ends, done, andThen, asking}
 use Rattle.edge_range.specs.declared.Usable.{Usable}
 use Rattle.edge_range.specs.declared.Usable.the-variants.{Range, Unusable}
 use Rattle.edge_range.specs.Usable.{usableRange}
@@ -127,9 +128,13 @@ thinnedMerged T e r l = each (merged (mergeFloor (e .tolerance) (r .sag))) (thin
 unfoldable pub finished : Tables → Edge → Resolved → List Float → Result (List Sample)
 finished T e r params = thinnedMerged T e r (placed T e params)
 
+-- the parameters over a usable range, at least two, and the curve asked for its points at them
+abbrev pub listed : CurveTree → Interval → Resolved → Work (List Float)
+listed c range r = andThen (sampled c range r) (λ params. asking (asksFar c) (atLeastTwo range params) (done (atLeastTwo range params)))
+
 -- the chain over a usable range
 abbrev pub overRange : Tables → Edge → Resolved → Interval → Work (List Sample)
-overRange T e r range = andThen (sampled (edgeCurve T e) range r) (λ params. ends (finished T e r (atLeastTwo range params)))
+overRange T e r range = andThen (listed (edgeCurve T e) range r) (λ params. ends (finished T e r params))
 
 -- discretise
 unfoldable pub discretised : Tables → Edge → Resolved → Work (List Sample)

@@ -18,7 +18,9 @@ use Rattle.curve.specs.declared.Repeats.{Repeats}
 use Rattle.curve.specs.declared.Repeats.the-variants.{Every, Never}
 use Rattle.curve.specs.Eval.{naturalRange, period, pointAt}
 use Rattle.options.specs.declared.Resolved.{Resolved}
-use Rattle.edge_params.specs.Work.{Work, done, andThen}
+use Rattle.curve_asks.specs.Asks.{asksFar}
+use Rattle.edge_params.specs.Work.{Work, done, andThen, asking}
+use Rattle.edge_params.specs.Params.{evenly}
 use Rattle.edge_record.specs.declared.Sample.{Sample}
 use Rattle.draw_spec.specs.Edge.{edgeCurve, edgeStart, edgeEnd, chordOf, discretised}
 use Rattle.draw_spec.specs.declared.Way.{Way}
@@ -94,11 +96,17 @@ runaway T e = by Runaway (chordOf T e (e .range .lo) (e .range .lo))
 abbrev pub shortRange : Tables → Edge → Interval
 shortRange T e = orderedInterval (nearest (edgeCurve T e) (edgeStart T e)) (nearest (edgeCurve T e) (edgeEnd T e))
 
+-- the curve's natural range is swept for them where it is finite and not empty
+abbrev pub isSwept : Interval → Bool
+isSwept natural = finite (spanOf natural) && lt plusZero (spanOf natural)
+
+-- the parameters that are then asked for, first to last; a second time for the second vertex
+abbrev pub sweep : Interval → List Float
+sweep natural = cond (isSwept natural) (evenly natural 512) []
+
 -- it is drawn where the curve's natural range is finite, and neither range is empty
 abbrev pub hasShortArc : Tables → Edge → Bool
-hasShortArc T e =
-    let natural = naturalRange (edgeCurve T e) in
-    finite (spanOf natural) && (lt plusZero (spanOf natural) && lt plusZero (spanOf (shortRange T e)))
+hasShortArc T e = isSwept (naturalRange (edgeCurve T e)) && lt plusZero (spanOf (shortRange T e))
 
 -- it serves where it stays inside and reaches both vertices
 abbrev pub serves : Tables → Edge → Resolved → List Sample → Bool
@@ -110,12 +118,16 @@ unfoldable pub arcOrChord : Tables → Edge → Resolved → List Sample → Got
 arcOrChord T e r arc = cond (serves T e r arc) (by ShortArc arc) (runaway T e)
 
 -- drawn and tried, else the chord
-unfoldable pub byShortArc : Tables → Edge → Resolved → Work Got
-byShortArc T e r =
+unfoldable pub shortArcTried : Tables → Edge → Resolved → Work Got
+shortArcTried T e r =
     elim (hasShortArc T e) [
       | true ↦ andThen (discretised T (withRange e (shortRange T e)) r) (λ arc. done (arcOrChord T e r arc))
       | false ↦ done (runaway T e)
     ]
+
+-- the sweep, then that
+abbrev pub byShortArc : Tables → Edge → Resolved → Work Got
+byShortArc T e r = asking (asksFar (edgeCurve T e)) (sweep (naturalRange (edgeCurve T e))) (shortArcTried T e r)
 
 -- ---- the complementary arc of a periodic curve
 -- its range: from where the edge's range ends back round to where it began

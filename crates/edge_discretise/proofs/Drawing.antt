@@ -1,4 +1,4 @@
--- The ways through `draw_sampled` and `discretise_usable`. Assumes nothing.
+-- The ways through `draw_sampled`, `draw_range` and `discretise_usable`. Assumes nothing.
 use mathlib.Core.Path.{_≡_, refl, sym, ap, _∙_}
 use mathlib.Core.Bool.{Bool, true}
 use mathlib.Core.List.{List, [], _∷_, _++_}
@@ -16,10 +16,9 @@ use Rattle.brep.specs.Rows.{Tables}
 use Rattle.brep.specs.Tree.{CurveTree}
 use Rattle.options.specs.declared.Resolved.{Resolved}
 use Rattle.edge_params.specs.declared.Listed.{Listed}
-use Rattle.edge_params.specs.declared.Listed.the-variants as listed
-use Rattle.edge_params.specs.Work.{ends, overflows, within}
+use Rattle.edge_params.specs.declared.Listed.the-variants as counts
+use Rattle.edge_params.specs.Work.{overflows, within}
 use Rattle.edge_params.specs.Own.Written.{said}
-use Rattle.edge_params.proofs.Work.{within-then}
 use Rattle.edge_record.specs.declared.Sample.{Sample}
 use Rattle.edge_record.specs.declared.Counted.{Counted}
 use Rattle.edge_record.specs.declared.Counted.the-variants.{Refused, Count}
@@ -30,14 +29,17 @@ use Rattle.edge_range.specs.declared.Usable.the-variants.{Range, Unusable}
 use Rattle.edge_range.specs.Usable.{usableRange}
 use Rattle.edge_subdivide.specs.Own.Recorded.{Room}
 use Rattle.base_lists.specs.Own.ListOf.{listOf}
-use Rattle.edge_sample.specs.Sample.{sampled}
 use Rattle.edge_sample.specs.Own.Answered.{sampledIn, SampledInto}
 use Rattle.edge_sample.specs.Own.Traced.{Traced, traced, tracedSampled}
-use Rattle.edge_sample.proofs.Laws.{sampled-two, sampled-room, sampled-in}
+use Rattle.edge_sample.proofs.Laws.{sampled-two, sampled-room}
 use Rattle.edge_sample.proofs.Ways.{reads-held}
 use Rattle.edge_closed_form.specs.Located.{located}
-use Rattle.draw_spec.specs.Edge.{edgeCurve, atLeastTwo, chordOf, placed, thinnedMerged, finished, overRange, discretised}
+use Rattle.draw_spec.specs.Edge.{edgeCurve, chordOf, placed, thinnedMerged, finished, listed, overRange, discretised}
 use Rattle.draw_spec.specs.Draw.{roomOf}
+use Rattle.draw_spec.proofs.Listed.{over-within}
+use Rattle.edge_asks.specs.declared.Told.{Told}
+use Rattle.edge_asks.specs.declared.Told.the-variants as asks
+use Rattle.edge_asks.specs.Own.Told.{toldOf}
 use Rattle.edge_place.proofs.Records.{read-back}
 use Rattle.edge_place.proofs.Laws.{placed-length}
 use Rattle.edge_discretise.specs.Own.Discretised.{ChainInto}
@@ -60,12 +62,6 @@ module _ (scratch chain : List Float) (fits : width * length scratch ≤ length 
   pub records-room : Room scratch (take (width * length scratch) chain) 0
   records-room = record { taken = omega arith; wide = records-length }
 
-two-or-more : (range : Interval) (l : List Float) → 2 ≤ length l → atLeastTwo range l ≡ l
-unfolding atLeastTwo
-two-or-more range [] h = absurd (omega arith)
-two-or-more range (t ∷ []) h = absurd (omega arith)
-two-or-more range (t ∷ u ∷ l) h = refl
-
 -- out is the buffer after sample_params, which counted n parameters
 pub record Sampling (room : ℕ) (S : Result (List Float)) (n : ℕ) (out : List Float) : Type 0 where
   pub params : List Float
@@ -76,7 +72,7 @@ pub record Sampling (room : ℕ) (S : Result (List Float)) (n : ℕ) (out : List
   pub floats : out ≡ filled room params
 
 pub sampling-some : (room : ℕ) (c : CurveTree) (range : Interval) (r : Resolved) (w : Listed) (n : ℕ) (out : List Float)
-    → SampledInto room (sampledIn room c range r) w out → w ≡ listed.Count n → Sampling room (sampledIn room c range r) n out
+    → SampledInto room (sampledIn room c range r) w out → w ≡ counts.Count n → Sampling room (sampledIn room c range r) n out
 sampling-some room c range r w n out p e = go (sampledIn room c range r) (λ l q. sampled-two room c range r l q) (λ l q. sampled-room room c range r l q) p
   where
     go : (S : Result (List Float)) → ((l : List Float) → S ≡ got l → 2 ≤ length l) → ((l : List Float) → S ≡ got l → length l ≤ room)
@@ -103,15 +99,12 @@ module _ {room : ℕ} {S : Result (List Float)} {n : ℕ} {out : List Float} (s 
       ap (λ (l : List Float). l ++ drop n out) (h ∙ ap (λ (k : ℕ). filled k []) part-length) ∙ ap (λ (l : List Float). filled n [] ++ drop n l) (s .floats)
       ∙ filled-part room n (s .params) [] (s .size) (s .fits) (omega arith)
 
--- a range drawn in a room: the parameters that fit it, finished
-module _ (T : Tables) (e : Edge) (r : Resolved) (range : Interval) (room : ℕ) where
-  over-in : within room (overRange T e r range) ≡ bind (sampledIn room (edgeCurve T e) range r) (λ params. finished T e r (atLeastTwo range params))
-  unfolding overflows
-  over-in =
-      within-then room (sampled (edgeCurve T e) range r) (λ params. ends (finished T e r (atLeastTwo range params)))
-      ∙ ap (λ (x : Result (List Float)). bind x (λ params. finished T e r (atLeastTwo range params))) (sampled-in room (edgeCurve T e) range r)
+-- a range drawn in a room, where nothing asked for is too far: the parameters that fit it, finished
+module _ (T : Tables) (e : Edge) (r : Resolved) (range : Interval) (room : ℕ) (near : within room (listed (edgeCurve T e) range r) ≡ sampledIn room (edgeCurve T e) range r) where
+  over-in : within room (overRange T e r range) ≡ bind (sampledIn room (edgeCurve T e) range r) (finished T e r)
+  over-in = over-within T e r range room ∙ ap (λ (x : Result (List Float)). bind x (finished T e r)) near
 
-  pub into-over : {n : ℕ} {w : Counted} {g : List Float} → ChainInto n (bind (sampledIn room (edgeCurve T e) range r) (λ params. finished T e r (atLeastTwo range params))) w g
+  pub into-over : {n : ℕ} {w : Counted} {g : List Float} → ChainInto n (bind (sampledIn room (edgeCurve T e) range r) (finished T e r)) w g
       → ChainInto n (within room (overRange T e r range)) w g
   into-over {n} = into-is n n _ _ refl (sym over-in)
 
@@ -126,15 +119,15 @@ module _ {room : ℕ} (T : Tables) (e : Edge) (r : Resolved) (range : Interval) 
       let k : length P ≡ n = placed-length T e (s .params) ∙ s .size in
       ap (λ (i : ℕ). samples i d) (sym k) ∙ ap (samples (length P)) (p ∙ ap (λ (l : List Float). sets chain 0 (flat (placed T e l))) (params-of s)) ∙ read-back chain P (omega arith)
 
-  over-some : thinnedMerged T e r (samples n d) ≡ within room (overRange T e r range)
-  unfolding finished
-  over-some =
-      ap (thinnedMerged T e r) reads-placed
-      ∙ ap (finished T e r) (sym (two-or-more range (s .params) (omega (arith, s .two, s .size))))
-      ∙ ap (λ (x : Result (List Float)). bind x (λ params. finished T e r (atLeastTwo range params))) (sym (s .is)) ∙ sym (over-in T e r range room)
+  -- that it was known that nothing asked for is too far
+  module _ (near : within room (listed (edgeCurve T e) range r) ≡ sampledIn room (edgeCurve T e) range r) where
+    over-some : thinnedMerged T e r (samples n d) ≡ within room (overRange T e r range)
+    unfolding finished
+    over-some =
+        ap (thinnedMerged T e r) reads-placed ∙ ap (λ (x : Result (List Float)). bind x (finished T e r)) (sym (s .is)) ∙ sym (over-in T e r range room near)
 
-  pub into-some : (w : Counted) (g : List Float) → ChainInto (length d) (thinnedMerged T e r (samples n d)) w g → ChainInto (length chain) (within room (overRange T e r range)) w g
-  into-some w g = into-is (length d) (length chain) _ _ (ap length p ∙ length-sets chain 0 (flat (placed T e (take n out)))) over-some
+    pub into-some : (w : Counted) (g : List Float) → ChainInto (length d) (thinnedMerged T e r (samples n d)) w g → ChainInto (length chain) (within room (overRange T e r range)) w g
+    into-some w g = into-is (length d) (length chain) _ _ (ap length p ∙ length-sets chain 0 (flat (placed T e (take n out)))) over-some
 
 -- what sample_params left in the part of the chain that it was lent, where it says that these are the parameters' records
 module _ {room : ℕ} (T : Tables) (e : Edge) (r : Resolved) (range : Interval) {n : ℕ} {out : List Float} (s : Sampling room (sampledIn room (edgeCurve T e) range r) n out)
@@ -146,15 +139,30 @@ module _ {room : ℕ} (T : Tables) (e : Edge) (r : Resolved) (range : Interval) 
       ∙ reads-held (edgeCurve T e) (s .params) room range r part more wide (s .is) (sym (ap (λ (t : Traced). t .known) p) ∙ h)
       ∙ ap (located (edgeCurve T e)) (sym (params-of s))
 
-pub into-none : (S : Result (List Float)) (f : List Float → Result (List Sample)) (w : Listed) (chain g : List Float) → said w ≡ each length S → w ≡ listed.Refused
+pub into-none : (S : Result (List Float)) (f : List Float → Result (List Sample)) (w : Listed) (chain g : List Float) → said w ≡ each length S → w ≡ counts.Refused
     → g ≡ filled (length chain) (take 0 chain) → ChainInto (length chain) (bind S f) (Refused 8) g
 unfolding flat
 into-none (refused n) f w chain g a e b = let q : refused 8 ≡ refused n = ap said (sym e) ∙ a in record { answered = cc; holds = b }
 into-none (got l) f w chain g a e b = let q : refused 8 ≡ got (length l) = ap said (sym e) ∙ a in let z : _≡_ {A = ℕ} 0 1 = cc in absurd (omega arith)
 
-pub none-listed : (room : ℕ) (S : Result (List Float)) (w : Listed) {out : List Float} → said w ≡ each length S → w ≡ listed.Refused → out ≡ filled room (listOf S) → out ≡ filled room []
+pub none-listed : (room : ℕ) (S : Result (List Float)) (w : Listed) {out : List Float} → said w ≡ each length S → w ≡ counts.Refused → out ≡ filled room (listOf S) → out ≡ filled room []
 none-listed room (refused n) w a e h = h
 none-listed room (got l) w a e h = let q : refused 8 ≡ got (length l) = ap said (sym e) ∙ a in let z : _≡_ {A = ℕ} 0 1 = cc in absurd (omega arith)
+
+-- ---- `draw_range`
+-- by what is told of the range: the refusal that comes first, or that nothing asked for is too far
+module _ (T : Tables) (e : Edge) (r : Resolved) (range : Interval) (room : ℕ) (w : Told)
+    (own : within room (listed (edgeCurve T e) range r) ≡ toldOf w (sampledIn room (edgeCurve T e) range r)) where
+  pub told-clear : w ≡ asks.Clear → within room (listed (edgeCurve T e) range r) ≡ sampledIn room (edgeCurve T e) range r
+  told-clear q = own ∙ ap (λ (v : Told). toldOf v (sampledIn room (edgeCurve T e) range r)) q
+
+  pub into-told : (n k : ℕ) (g : List Float) → w ≡ asks.Refused n → g ≡ filled k [] → ChainInto k (within room (overRange T e r range)) (Refused n) g
+  unfolding flat
+  into-told n k g q h =
+      let x : within room (overRange T e r range) ≡ refused n =
+      over-within T e r range room
+      ∙ ap (λ (x : Result (List Float)). bind x (finished T e r)) (own ∙ ap (λ (v : Told). toldOf v (sampledIn room (edgeCurve T e) range r)) q) in
+      into-is k k (refused n) _ refl (sym x) (record { answered = refl; holds = h })
 
 -- ---- `discretise_usable`
 -- n is the room that both buffers give, and scratch's first n floats are lent

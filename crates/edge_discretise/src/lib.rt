@@ -1,5 +1,6 @@
 // The chain of an edge: discretise of edge.rs, on rows.
 use brep::Edge;
+use edge_asks::Told;
 use edge_params::Listed;
 use edge_range::Usable;
 use edge_record::Counted;
@@ -8,7 +9,7 @@ use math::Interval;
 use options::Resolved;
 ghost use mathlib.Core.Path.{_≡_};
 ghost use mathlib.Core.List.{[]};
-ghost use Prim.Native.Nat.{_*_, _≤_, min};
+ghost use Prim.Native.Nat.{_*_, _<_, _≤_, min};
 ghost use lib.ListN.{length};
 ghost use Rattle.base_lists.specs.Room.{filled};
 ghost use Rattle.brep.specs.Rows.{lent, given};
@@ -18,9 +19,10 @@ ghost use Rattle.knots_sort.specs.Own.Sortable.{mostKnots};
 ghost use Rattle.knots.specs.Knots.{curveKnots};
 ghost use Rattle.edge_params.specs.Work.{within};
 ghost use Rattle.edge_range.specs.Usable.{usableRange};
+ghost use Rattle.edge_sample.specs.Own.Answered.{sampledIn};
 ghost use Rattle.edge_record.specs.Own.Stored.{countedOf, after};
 ghost use Rattle.edge_record.specs.Chain.{width, shortest, most, samples};
-ghost use Rattle.draw_spec.specs.Edge.{thinnedIf, thinnedMerged, overRange, discretised};
+ghost use Rattle.draw_spec.specs.Edge.{thinnedIf, thinnedMerged, listed, overRange, discretised};
 ghost use Rattle.draw_spec.specs.Draw.{roomOf};
 ghost use Rattle.edge_discretise.specs.Own.Discretised.{ChainInto, DiscretisedInto};
 
@@ -105,7 +107,8 @@ fn finish(
     }
 }
 
-// Samples a usable range into scratch, whose length is the room, finishes the chain, and leaves scratch cleared.
+// Samples a usable range, of which it is known that nothing asked for is too far, into scratch, whose length is the room; finishes the chain,
+// and leaves scratch cleared.
 fn draw_sampled(
     points: &[f64],
     curves: &[u32],
@@ -119,7 +122,8 @@ fn draw_sampled(
     scratch: &mut [f64],
 ) -> Counted
     requires { ⌜ (length (now scratch) ≤ most) × (width * length (now scratch) ≤ length (now chain))
-        × (length (curveKnots (tree (lent points curves reals parts ranges) (edge .curve))) ≤ mostKnots) ⌝ }
+        × (length (curveKnots (tree (lent points curves reals parts ranges) (edge .curve))) ≤ mostKnots)
+        × (within (length (now scratch)) (listed (tree (lent points curves reals parts ranges) (edge .curve)) range r) ≡ sampledIn (length (now scratch)) (tree (lent points curves reals parts ranges) (edge .curve)) range r) ⌝ }
     ensures { λ w. ⌜ ChainInto (length (now (chain .entry))) (within (length (now (scratch .entry))) (overRange (given points curves reals parts ranges) edge r range)) w (now (chain .exit))
         × (now (scratch .exit) ≡ filled (length (now (scratch .entry))) []) ⌝ }
 {
@@ -161,6 +165,48 @@ fn draw_sampled(
     finish(points, curves, reals, parts, ranges, edge, r, chain, n)
 }
 
+// The chain over a usable range. Whether something asked for is too far, and comes before the room is full, is told first.
+fn draw_range(
+    points: &[f64],
+    curves: &[u32],
+    reals: &[f64],
+    parts: &[u32],
+    ranges: &[f64],
+    edge: Edge,
+    range: Interval,
+    r: Resolved,
+    chain: &mut [f64],
+    scratch: &mut [f64],
+) -> Counted
+    requires { ⌜ (length (now scratch) ≤ most) × (width * length (now scratch) ≤ length (now chain))
+        × (length (curveKnots (tree (lent points curves reals parts ranges) (edge .curve))) ≤ mostKnots) × (0 < r .depth) ⌝ }
+    ensures { λ w. ⌜ ChainInto (length (now (chain .entry))) (within (length (now (scratch .entry))) (overRange (given points curves reals parts ranges) edge r range)) w (now (chain .exit))
+        × (now (scratch .exit) ≡ filled (length (now (scratch .entry))) []) ⌝ }
+{
+    let row = edge.curve;
+    let room = scratch.len();
+    let told = edge_asks::tell(points, curves, reals, parts, ranges, row, range, r, room);
+    match told {
+        Told::Refused(cause) => {
+            base_lists::clear_from(chain, 0);
+            base_lists::clear_from(scratch, 0);
+            Counted::Refused(cause)
+        }
+        Told::Clear => draw_sampled(
+            points,
+            curves,
+            reals,
+            parts,
+            ranges,
+            edge,
+            range,
+            r,
+            chain,
+            scratch,
+        ),
+    }
+}
+
 // The edge's chain over its usable range, which is known, from the start of chain, and +0.0 behind it, or everywhere where
 // it is refused; +0.0 in all of scratch.
 pub fn discretise_usable(
@@ -176,7 +222,7 @@ pub fn discretise_usable(
     scratch: &mut [f64],
 ) -> Counted
     requires { ⌜ (shortest ≤ length (now chain)) × (shortest ≤ length (now scratch)) × (length (curveKnots (tree (lent points curves reals parts ranges) (edge .curve))) ≤ mostKnots)
-        × (usable ≡ usableRange (tree (lent points curves reals parts ranges) (edge .curve)) (edge .range)) ⌝ }
+        × (0 < r .depth) × (usable ≡ usableRange (tree (lent points curves reals parts ranges) (edge .curve)) (edge .range)) ⌝ }
     ensures { λ w. ⌜ DiscretisedInto (discretised (given points curves reals parts ranges) edge r) (now (chain .entry)) (now (scratch .entry)) w (now (chain .exit)) (now (scratch .exit)) ⌝ }
 {
     let Usable::Range(range) = usable else {
@@ -186,7 +232,7 @@ pub fn discretise_usable(
     };
     let n = room(chain.len(), scratch.len());
     let part = &mut scratch[..n];
-    let drawn = draw_sampled(
+    let drawn = draw_range(
         points,
         curves,
         reals,
@@ -215,7 +261,7 @@ pub fn discretise(
     chain: &mut [f64],
     scratch: &mut [f64],
 ) -> Counted
-    requires { ⌜ (shortest ≤ length (now chain)) × (shortest ≤ length (now scratch)) × (length (curveKnots (tree (lent points curves reals parts ranges) (edge .curve))) ≤ mostKnots) ⌝ }
+    requires { ⌜ (shortest ≤ length (now chain)) × (shortest ≤ length (now scratch)) × (length (curveKnots (tree (lent points curves reals parts ranges) (edge .curve))) ≤ mostKnots) × (0 < r .depth) ⌝ }
     ensures { λ w. ⌜ DiscretisedInto (discretised (given points curves reals parts ranges) edge r) (now (chain .entry)) (now (scratch .entry)) w (now (chain .exit)) (now (scratch .exit)) ⌝ }
 {
     let usable = edge_range::usable_range(

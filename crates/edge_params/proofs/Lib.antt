@@ -1,3 +1,4 @@
+pub mod Asks
 pub mod Work
 pub mod Examples
 pub mod Steady

@@ -14,8 +14,8 @@ use Rattle.base_lists.specs.Result.{Result, refused, got, bind}
 use Rattle.math.specs.declared.Interval.{Interval}
 use Rattle.edge_params.specs.declared.Closed.{Closed}
 use Rattle.edge_params.specs.declared.Closed.the-variants.{Unknown, Segments}
-use Rattle.edge_params.specs.Params.{midpoint, subdivided, Sampler, steps, evenly, bisected, floored, refined, sampleParams}
-use Rattle.edge_params.specs.Work.{Work, done, forms, andThen}
+use Rattle.edge_params.specs.Params.{midpoint, Sampler, steps, evenly}
+use Rattle.edge_params.specs.Own.Bisected.{subdivided, bisected}
 use Rattle.edge_params.specs.Own.InRoom.{fitting, flooredIn, refinedIn, sampleParamsIn}
 
 pub steps-length : (range : Interval) (n k : ℕ) → length (steps range n k) ≡ k
@@ -109,36 +109,3 @@ module _ (P : List Float → Type 0) (room : ℕ) (s : Sampler) (range : Interva
 pub sampled-length : (room : ℕ) (s : Sampler) (range : Interval) (l : List Float) → sampleParamsIn room s range ≡ got l → length l ≤ room
 sampled-length room s range l e =
     gives-got l (sampled-gives (λ l. length l ≤ room) room s range (λ n h. omega (arith, steps-length range n (suc n))) (λ h. h)) e
-
--- ---- the reference's own sampling always ends
-module _ (n : ℕ) where
-  -- a work that does not come to refusal n
-  abbrev Never : Work (List Float) → Type 0
-  Never w = w .end ≡ refused n → ⊥
-
-  list-never : (l : List Float) → _≡_ {A = Result (List Float)} (got l) (refused n) → ⊥
-  list-never l e = let z : _≡_ {A = ℕ} 0 1 = cc in omega arith
-
-  module _ (s : Sampler) (range : Interval) where
-    floored-never : (l : List Float) → Never (floored s range l)
-    unfolding floored
-    floored-never l = go (ltb (length l - 1) (s .least))
-      where
-        go : (t : Bool) → Never (elim t [ true ↦ forms (evenly range (s .least)) | false ↦ done l ])
-        go true = list-never (evenly range (s .least))
-        go false = list-never l
-
-    pub sampled-never : sampleParams s range .end ≡ refused n → ⊥
-    unfolding sampleParams refined
-    sampled-never = go (s .closed)
-      where
-        checked : (l : List Float) (t : Bool) → Never (elim t [ true ↦ done l | false ↦ refined s range ])
-        checked l true = list-never l
-        checked l false = floored-never (bisected s range)
-
-        go : (c : Closed) → Never (elim c [
-          | Unknown ↦ refined s range
-          | Segments k ↦ andThen (forms (evenly range k)) (λ l. elim (s .meets l) [ true ↦ done l | false ↦ refined s range ])
-        ])
-        go Unknown = floored-never (bisected s range)
-        go (Segments k) = checked (evenly range k) (s .meets (evenly range k))

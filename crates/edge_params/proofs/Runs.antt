@@ -16,7 +16,8 @@ use Rattle.base_lists.specs.Own.Way.{Up, Down}
 use Rattle.base_lists.specs.All.{All, none, more}
 use Rattle.base_lists.specs.Own.Sub.{Pairwise, empty, first}
 use Rattle.base_lists.proofs.Joined.{all-join, all-one, pair-snoc, Within, within-none, within-join, within-mid, within-ends}
-use Rattle.edge_params.specs.Params.{midpoint, subdivided, Sampler, stepAt, steps, evenly, unlessHi, walked, through}
+use Rattle.edge_params.specs.Params.{midpoint, Sampler, stepAt, steps, evenly, unlessHi}
+use Rattle.edge_params.specs.Own.Bisected.{subdivided, walked, through}
 
 -- a float that sampling can halve: of the format, and at most 2 ^ 60
 pub record Good (x : Float) : Type 0 where

@@ -20,7 +20,8 @@ use Rattle.knots_inside.specs.Breaks.{insideOf}
 use Rattle.knots_inside.proofs.Kept.{inside-all}
 use Rattle.knots_inside.proofs.Between.{Between, inside-between}
 use Rattle.knots_inside.specs.Thinned.{nextOf, thinnedFrom, thinBreaks}
-use Rattle.edge_params.specs.Params.{Sampler, evenly, breaksAlong, through, bisected}
+use Rattle.edge_params.specs.Params.{Sampler, evenly, breaksAlong}
+use Rattle.edge_params.specs.Own.Bisected.{through, bisected}
 use Rattle.edge_params.specs.Own.InRoom.{sampleParamsIn}
 use Rattle.edge_params.proofs.Steady.{Steady, rising, falling}
 use Rattle.edge_params.proofs.Runs.{Good, good-number, good-between, up, down, evenly-pairs, through-pairs}

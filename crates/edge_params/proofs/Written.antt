@@ -51,6 +51,13 @@ pub fitting-over : (room : ℕ) (l : List Float) → room < length l → fitting
 unfolding fitting
 fitting-over room l h = rw (lt-leb (length l) room h, fitting)
 
+pub fitting-got : (room : ℕ) (k l : List Float) → fitting room k ≡ got l → (k ≡ l) × (length k ≤ room)
+fitting-got room k l q = go (leb (length k) room) refl
+  where
+    go : (b : Bool) → leb (length k) room ≡ b → (k ≡ l) × (length k ≤ room)
+    go true p = let h = leb-true (length k) room p in let f = fitting-fits room k h in (cc, h)
+    go false p = let f = fitting-over room k (leb-false (length k) room p) in absurd (let z : _≡_ {A = ℕ} 0 1 = cc in omega arith)
+
 pub record Counted (room : ℕ) (l : List Float) (n : ℕ) : Type 0 where
   pub same : n ≡ length l
   pub fits : length l ≤ room

@@ -1,6 +1,6 @@
 -- The parameters of an edge: sample_params and subdivide of edge.rs, over what they ask of the curve. Definitions only.
 use mathlib.Core.Bool.{Bool, true, false}
-use mathlib.Core.List.{List, [], _∷_, _++_, reverse}
+use mathlib.Core.List.{List, [], _∷_, _++_, map, reverse}
 use Prim.Native.Nat.{ℕ, zero, suc, _-_}
 use lib.ListN.{length}
 use lib.Dec.{ltb}
@@ -10,21 +10,42 @@ use Rattle.math.specs.declared.Interval.{Interval}
 use Rattle.math.specs.Math.{at}
 use Rattle.edge_params.specs.declared.Closed.{Closed}
 use Rattle.edge_params.specs.declared.Closed.the-variants.{Unknown, Segments}
-use Rattle.edge_params.specs.Work.{Work, done, forms, andThen}
+use Rattle.base_lists.specs.Result.{refused, each}
+use Rattle.edge_params.specs.Work.{Work, joins, ends, done, forms, andThen, asking}
 
 -- ---- subdivide of edge.rs
 -- 0.5 * (a + b)
 abbrev pub midpoint : Float → Float → Float
 midpoint a b = half ⊗ (a ⊕ b)
 
--- subdivide: what it pushes between a and b, over the test that a span is within budget
-unfoldable pub subdivided : (Float → Float → Bool) → ℕ → Float → Float → List Float
-subdivided within zero a b = []
-subdivided within (suc depth) a b =
+-- what bisection does, a move at a time
+pub data Move : Type 0 where
+  -- it asks for the curve's point or derivative at a parameter
+  asks : Float → Move
+  -- a parameter joins its list
+  adds : Float → Move
+
+-- subdivide between a and b, over the test that a span is within budget. (The tangents at a and b ask for nothing new.)
+unfoldable pub subdividing : (Float → Float → Bool) → ℕ → Float → Float → List Move
+subdividing within zero a b = []
+subdividing within (suc depth) a b =
+    asks a ∷ asks b ∷ asks (midpoint a b) ∷
     elim (within a b) [
       | true ↦ []
-      | false ↦ subdivided within depth a (midpoint a b) ++ midpoint a b ∷ subdivided within depth (midpoint a b) b
+      | false ↦ subdividing within depth a (midpoint a b) ++ adds (midpoint a b) ∷ subdividing within depth (midpoint a b) b
     ]
+
+-- the list that such moves form, behind the first k of it; the work ends with 11 at a parameter that is too far
+unfoldable pub forming : (Float → Bool) → ℕ → List Move → Work (List Float)
+forming far k [] = done []
+forming far k (asks t ∷ moves) =
+    elim (far t) [
+      | true ↦ ends (refused 11)
+      | false ↦ forming far k moves
+    ]
+forming far k (adds t ∷ moves) =
+    let w = forming far (suc k) moves in
+    record { acts = joins (suc k) t ∷ w .acts; end = each (λ l. t ∷ l) (w .end) }
 
 -- ---- sample_params of edge.rs
 -- what it asks of the curve and the options
@@ -41,6 +62,10 @@ pub record Sampler : Type 0 where
   pub least : ℕ
   -- thin_breaks of the curve's breaks
   pub breaks : List Float
+  -- the parameters at which thin_breaks asks for the curve's points
+  pub breakAsks : List Float
+  -- the curve may not be asked for this parameter: it would ask a hyperbola for one beyond 100 in magnitude
+  pub far : Float → Bool
 
 -- range.at(i as f64 / n as f64)
 abbrev pub stepAt : Interval → ℕ → ℕ → Float
@@ -71,18 +96,16 @@ unlessHi range b =
       | false ↦ []
     ]
 
--- the loop over the breaks and range.hi: what it pushes from left on
-unfoldable pub walked : Sampler → Interval → Float → List Float → List Float
-walked s range left [] = []
-walked s range left (b ∷ bs) = subdivided (s .within) (s .depth) left b ++ (unlessHi range b ++ walked s range b bs)
+-- the loop over the breaks and range.hi, from left on
+unfoldable pub walking : Sampler → Interval → Float → List Float → List Move
+walking s range left [] = []
+walking s range left (b ∷ bs) =
+    subdividing (s .within) (s .depth) left b ++ (map adds (unlessHi range b) ++ walking s range b bs)
 
--- range.lo, what the loop pushes, range.hi
-unfoldable pub through : Sampler → Interval → List Float → List Float
-through s range breaks = range .lo ∷ (walked s range (range .lo) (breaks ++ (range .hi ∷ [])) ++ (range .hi ∷ []))
-
--- bisection between the breaks
-abbrev pub bisected : Sampler → Interval → List Float
-bisected s range = through s range (breaksAlong s range)
+-- bisection between the breaks: range.lo, the loop, range.hi
+unfoldable pub bisecting : Sampler → Interval → List Move
+bisecting s range =
+    adds (range .lo) ∷ (walking s range (range .lo) (breaksAlong s range ++ (range .hi ∷ [])) ++ (adds (range .hi) ∷ []))
 
 -- the segment floor: even steps where a list has fewer segments
 unfoldable pub floored : Sampler → Interval → List Float → Work (List Float)
@@ -94,9 +117,10 @@ floored s range out =
 
 -- the way of a curve that has no closed form, or whose closed form leaves the curve by more than the sag
 unfoldable pub refined : Sampler → Interval → Work (List Float)
-refined s range = andThen (forms (bisected s range)) (floored s range)
+refined s range = asking (s .far) (s .breakAsks) (andThen (forming (s .far) 0 (bisecting s range)) (floored s range))
 
--- sample_params: the lists that it forms, and the parameters that it comes to
+-- sample_params: the lists that it forms, and the parameters that it comes to. (A curve that has a closed form asks no hyperbola for anything:
+-- `ClosedNeverFar` in crates/edge_sample/specs/Claims.antt. So what the check of that form asks for is left out.)
 unfoldable pub sampleParams : Sampler → Interval → Work (List Float)
 sampleParams s range =
     elim (s .closed) [

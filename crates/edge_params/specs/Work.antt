@@ -1,5 +1,5 @@
 -- What the reference does on its way to an answer, in order, and what it comes to. It has no room: a room only looks at the record. Definitions only.
-use mathlib.Core.Bool.{Bool, false, cond, _||_}
+use mathlib.Core.Bool.{Bool, true, false, cond, _||_}
 use mathlib.Core.List.{List, [], _∷_, _++_}
 use Prim.Native.Nat.{ℕ, suc}
 use lib.Dec.{ltb}
@@ -11,7 +11,8 @@ pub data Act : Type 0 where
   -- a parameter joins a parameter list, as its so-many-th
   joins : ℕ → Float → Act
 
--- the acts in the reference's order, and the end: an answer, or refused 9 where the reference never ends
+-- the acts in the reference's order, and the end: an answer; refused 9 where the reference never ends; refused 11 where it would ask a
+-- hyperbola for a parameter beyond 100 in magnitude, behind which nothing is looked at
 pub record Work (A : Type 0) : Type 0 where
   pub acts : List Act
   pub end : Result A
@@ -33,7 +34,7 @@ joining k (t ∷ l) = joins k t ∷ joining (suc k) l
 abbrev pub forms : List Float → Work (List Float)
 forms l = record { acts = joining 1 l; end = got l }
 
--- the acts that follow an end; nothing follows what never ends
+-- the acts that follow an end; nothing follows a refusal
 abbrev pub actsAfter : {A B : Type 0} → Result A → (A → Work B) → List Act
 actsAfter (refused n) f = []
 actsAfter (got a) f = f a .acts
@@ -41,6 +42,20 @@ actsAfter (got a) f = f a .acts
 -- one work after the other
 abbrev pub andThen : {A B : Type 0} → Work A → (A → Work B) → Work B
 andThen w f = record { acts = w .acts ++ actsAfter (w .end) f; end = bind (w .end) (λ a. f a .end) }
+
+-- ---- what may not be asked
+-- some of these parameters is too far
+unfoldable pub someFar : (Float → Bool) → List Float → Bool
+someFar far [] = false
+someFar far (t ∷ ts) = far t || someFar far ts
+
+-- the curve is asked for its points at these parameters, one after another, and the work goes on; at one that is too far it ends with 11
+unfoldable pub asking : {A : Type 0} → (Float → Bool) → List Float → Work A → Work A
+asking far ts next =
+    elim (someFar far ts) [
+      | true ↦ ends (refused 11)
+      | false ↦ next
+    ]
 
 -- ---- in a room
 -- a parameter joins its list after the room's last
@@ -52,6 +67,6 @@ unfoldable pub overflows : ℕ → List Act → Bool
 overflows room [] = false
 overflows room (a ∷ acts) = passes room a || overflows room acts
 
--- the work in a room: 8 where some list is longer than it, else what the reference comes to
+-- the work in a room: 8 where some list is longer than it, else what the reference comes to. So 8 or 11 is the one that comes first
 abbrev pub within : {A : Type 0} → ℕ → Work A → Result A
 within room w = cond (overflows room (w .acts)) (refused 8) (w .end)

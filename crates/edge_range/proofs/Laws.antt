@@ -11,7 +11,7 @@ use Rattle.math.specs.declared.Interval.{Interval}
 use Rattle.math.specs.Math.{spanOf}
 use Rattle.brep.specs.Rows.{Tables}
 use Rattle.brep.specs.Tree.{CurveTree, tree}
-use Rattle.brep.proofs.ByKind.{rowKind, at-parabola, at-polyline, at-composite}
+use Rattle.brep.proofs.ByKind.{rowKind, at-parabola, at-polyline, at-composite, at-hyperbola}
 use Rattle.curve.specs.declared.Repeats.{Repeats}
 use Rattle.curve.specs.Eval.{naturalRange, period}
 use Rattle.curve_parameter.specs.Own.Under.{under}
@@ -54,10 +54,11 @@ module _ (T : Tables) (range : Interval) (s : Resolved) (row : ℕ) {r kind : �
 
   pub unknown : ((Unit {0} × (kind ≡ 1 → ⊥)) × (kind ≡ 2 → ⊥)) × (kind ≡ 3 → ⊥) → Unknown ≡ analyticSegments (tree T row) range s
   unfolding analyticSegments
-  unknown n = go (eqb kind 4) (eqb kind 5) (eqb kind 7) refl refl refl
+  unknown n = go (eqb kind 4) (eqb kind 5) (eqb kind 7) (eqb kind 8) refl refl refl refl
     where
-      go : (a b c : Bool) → eqb kind 4 ≡ a → eqb kind 5 ≡ b → eqb kind 7 ≡ c → Unknown ≡ segments-at (tree T row)
-      go true b c h i j = at-parabola segments-at T r k (eqb-true kind 4 h) refl refl ∙ under-same segments-at (λ b r. refl) T row u
-      go false true c h i j = at-polyline segments-at T r k (eqb-true kind 5 i) refl refl ∙ under-same segments-at (λ b r. refl) T row u
-      go false false true h i j = at-composite segments-at T r k (eqb-true kind 7 j) refl refl ∙ under-same segments-at (λ b r. refl) T row u
-      go false false false h i j = under-rest segments-at (λ b r. refl) T row u k (((n, eqb-false kind 4 h), eqb-false kind 5 i), eqb-false kind 7 j)
+      go : (a b c d : Bool) → eqb kind 4 ≡ a → eqb kind 5 ≡ b → eqb kind 7 ≡ c → eqb kind 8 ≡ d → Unknown ≡ segments-at (tree T row)
+      go true b c d h i j l = at-parabola segments-at T r k (eqb-true kind 4 h) refl refl ∙ under-same segments-at (λ b r. refl) T row u
+      go false true c d h i j l = at-polyline segments-at T r k (eqb-true kind 5 i) refl refl ∙ under-same segments-at (λ b r. refl) T row u
+      go false false true d h i j l = at-composite segments-at T r k (eqb-true kind 7 j) refl refl ∙ under-same segments-at (λ b r. refl) T row u
+      go false false false true h i j l = at-hyperbola segments-at T r k (eqb-true kind 8 l) refl refl refl ∙ under-same segments-at (λ b r. refl) T row u
+      go false false false false h i j l = under-rest segments-at (λ b r. refl) T row u k ((((n, eqb-false kind 4 h), eqb-false kind 5 i), eqb-false kind 7 j), eqb-false kind 8 l)

@@ -8,7 +8,7 @@ use Rattle.arith.specs.Constants.{billion, billionth}
 use Rattle.arith.specs.Pick.{absOf, minOf, maxOf}
 use Rattle.math.specs.declared.Interval.{Interval}
 use Rattle.math.specs.Math.{interval, spanOf}
-use Rattle.brep.specs.Tree.{CurveTree, analytic, line, circle, ellipse, parabola, polyline, trimmed, composite}
+use Rattle.brep.specs.Tree.{CurveTree, analytic, line, circle, ellipse, parabola, hyperbola, polyline, trimmed, composite}
 use Rattle.curve.specs.declared.Repeats.{Repeats}
 use Rattle.curve.specs.declared.Repeats.the-variants.{Every, Never}
 use Rattle.curve.specs.Eval.{naturalRange, period}
@@ -59,6 +59,7 @@ analyticSegments (analytic (line o d)) range r = Segments (max (r .segments) 1)
 analyticSegments (analytic (circle f radius)) range r = Segments (segmentsForArc r radius (spanOf range))
 analyticSegments (analytic (ellipse f major minor)) range r = Segments (segmentsForArc r (ellipseRadius major minor) (spanOf range))
 analyticSegments (analytic (parabola f d)) range r = Unknown
+analyticSegments (analytic (hyperbola f a b)) range r = Unknown
 analyticSegments (polyline ps) range r = Unknown
 analyticSegments (trimmed base own) range r = analyticSegments base range r
 analyticSegments (composite ss) range r = Unknown

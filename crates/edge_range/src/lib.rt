@@ -133,6 +133,7 @@ pub fn usable_range(
         2 => usable_round(range),
         3 => usable_round(range),
         4 => usable_once(Interval { lo: -1e6, hi: 1e6 }, range),
+        8 => usable_once(Interval { lo: -1e6, hi: 1e6 }, range),
         _ => usable_any(points, curves, reals, parts, ranges, row, range),
     }
 }

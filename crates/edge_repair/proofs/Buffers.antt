@@ -1,6 +1,5 @@
 -- What the buffers hold of a repair, from what they hold of its parts. Assumes nothing.
 use mathlib.Core.Path.{_≡_, refl, sym, ap, _∙_}
-use mathlib.Core.Logic.{⊎-elim}
 use mathlib.Core.Bool.{Bool, true, false}
 use mathlib.Core.List.{List, []}
 use Prim.Native.Nat.{ℕ, _-_, _*_, _≤_, _<_}
@@ -31,7 +30,7 @@ use Rattle.draw_spec.specs.declared.Way.the-variants.{Runaway}
 use Rattle.draw_spec.specs.Edge.{chordOf, discretised}
 use Rattle.draw_spec.specs.Repair.{Got, by, escapes, runaway}
 use Rattle.draw_spec.specs.Draw.{roomOf, answerOf, inFirst, firstAfter, secondAfter}
-use Rattle.draw_spec.proofs.Answers.{answers-refused}
+use Rattle.draw_spec.proofs.Answers.{late-above, answers-refused}
 use Rattle.draw_spec.proofs.Discretised.{Room, discretised-answers}
 use Rattle.edge_discretise.specs.Own.Discretised.{DiscretisedInto}
 use Rattle.edge_repair.specs.Own.Redrawn.{RedrawnChain, RedrawnInto, DrawnInto, InSecond}
@@ -47,8 +46,7 @@ enough a b h k = record { least = omega arith; most = omega arith }
 
 discretised-late : (T : Tables) (e : Edge) (r : Resolved) (a b n : ℕ) → shortest ≤ a → shortest ≤ b → within (roomOf a b) (discretised T e r) ≡ refused n → 7 < n
 discretised-late T e r a b n h k q =
-    ⊎-elim (λ (z : n ≡ 8). omega arith) (λ (z : n ≡ 9). omega arith)
-    (answers-refused n (discretised-answers ⊥ T e (λ x. absurd x) (λ x. absurd x) (roomOf a b) (enough a b h k) r) q)
+    late-above (answers-refused n (discretised-answers ⊥ T e (λ x. absurd x) (λ x. absurd x) (roomOf a b) (enough a b h k) r) q)
 
 pub redrawn-chain : (T : Tables) (e d : Edge) (r : Resolved) {first second : List Float} {w : Counted} {first' second' : List Float} → shortest ≤ length first → shortest ≤ length second → e ≡ d
     → DiscretisedInto (discretised T e r) second first w second' first'
@@ -146,6 +144,14 @@ module _ {g : Got} {n : ℕ} {w : Drawn} {second' : List Float} (i : InSecond g 
     drawn = rw (← q) (record { answered = i .answered; firstHolds = rw (i .there) p; secondHolds = rw (i .there) (i .holds ∙ ap (λ (k : ℕ). filled k (flat (g .chain))) m) });
     late = λ k t. absurd (let a = i .answered in let z : _≡_ {A = ℕ} 0 1 = cc in omega arith);
   }
+
+-- ---- a refusal that is answered at once, with both buffers cleared
+pub redrawn-cleared : (D : Work Got) (first second : List Float) (n : ℕ) {first' second' : List Float} → 7 < n → first' ≡ filled (length first) [] → second' ≡ filled (length second) []
+    → refused n ≡ within (roomOf (length first) (length second)) D → RedrawnInto D first second (Refused n) first' second'
+unfolding answerOf firstAfter secondAfter
+redrawn-cleared D first second n h p s q =
+    let l = above n h in
+    record { drawn = rw (← q) (record { answered = refl; firstHolds = rw l p; secondHolds = rw l s }); late = λ k u. let v : n ≡ k = cc in rw (sym v) h }
 
 -- ---- another name for the answer, and buffers that were as long
 module _ {D : Work Got} {first second : List Float} {w : Drawn} {first' second' : List Float} (d : RedrawnInto D first second w first' second') where

@@ -6,7 +6,7 @@ use Prim.Native.Nat.{ℕ}
 use lib.Ieee.{Float, lt, le}
 use lib.Ieee.Scale.{finite}
 use Rattle.arith.specs.Notation.{plusZero}
-use Rattle.base_lists.specs.Result.{Result, got, bind}
+use Rattle.base_lists.specs.Result.{Result, refused, got, bind}
 use Rattle.math.specs.Math.{interval, spanOf, isEmpty, diagonal}
 use Rattle.math.specs.declared.Interval.{Interval}
 use Rattle.math.specs.declared.Aabb.{Aabb}
@@ -17,12 +17,14 @@ use Rattle.curve.specs.declared.Repeats.{Repeats}
 use Rattle.curve.specs.declared.Repeats.the-variants.{Every, Never}
 use Rattle.curve.specs.Eval.{naturalRange, period}
 use Rattle.options.specs.declared.Resolved.{Resolved}
-use Rattle.edge_params.specs.Work.{done, andThen, overflows, within}
+use Rattle.curve_asks.specs.Asks.{asksFar}
+use Rattle.edge_params.specs.Work.{done, andThen, someFar, overflows, within}
+use Rattle.edge_params.proofs.Asks.{asking-clear, asking-far}
 use Rattle.edge_params.proofs.Work.{within-then}
 use Rattle.edge_record.specs.declared.Sample.{Sample}
 use Rattle.draw_spec.specs.declared.Way.the-variants.{Complement, ShortArc}
 use Rattle.draw_spec.specs.Edge.{edgeCurve, edgeStart, edgeEnd, discretised}
-use Rattle.draw_spec.specs.Repair.{Got, by, withRange, reference, escapes, reaches, nearest, orderedInterval, runaway, serves, arcOrChord, shortRange, hasShortArc, byShortArc, complementOrShort, complementRange, byComplement, byPeriod, stays, repaired}
+use Rattle.draw_spec.specs.Repair.{Got, by, withRange, reference, escapes, reaches, nearest, orderedInterval, runaway, serves, arcOrChord, shortRange, sweep, hasShortArc, shortArcTried, byShortArc, complementOrShort, complementRange, byComplement, byPeriod, stays, repaired}
 use Rattle.edge_place.specs.Own.Place.{ofPoints}
 
 -- ---- the short arc
@@ -73,19 +75,31 @@ module _ (T : Tables) (e : Edge) (r : Resolved) where
 
   module _ (room : ℕ) where
     -- ---- the short arc
-    pub short-chord : hasShortArc T e ≡ false → got (runaway (ofPoints (T .points)) e) ≡ within room (byShortArc T e r)
-    unfolding byShortArc overflows
-    short-chord h = rw (h, byShortArc)
+    pub short-chord : hasShortArc T e ≡ false → got (runaway (ofPoints (T .points)) e) ≡ within room (shortArcTried T e r)
+    unfolding shortArcTried overflows
+    short-chord h = rw (h, shortArcTried)
 
     module _ {short : Interval} (h : hasShortArc T e ≡ true) (s : short ≡ shortRange T e) where
-      pub short-bind : within room (byShortArc T e r) ≡ bind (within room (discretised T (withRange e short) r)) (λ arc. got (arcOrChord T e r arc))
-      unfolding byShortArc overflows
+      pub short-bind : within room (shortArcTried T e r) ≡ bind (within room (discretised T (withRange e short) r)) (λ arc. got (arcOrChord T e r arc))
+      unfolding shortArcTried overflows
       short-bind =
-          let q : byShortArc T e r ≡ andThen (discretised T (withRange e short) r) (λ arc. done (arcOrChord T e r arc)) = rw (h, byShortArc, s) in
+          let q : shortArcTried T e r ≡ andThen (discretised T (withRange e short) r) (λ arc. done (arcOrChord T e r arc)) = rw (h, shortArcTried, s) in
           ap (within room) q ∙ within-then room (discretised T (withRange e short) r) (λ arc. done (arcOrChord T e r arc))
 
-      pub short-drawn : (arc : List Sample) → within room (discretised T (withRange e short) r) ≡ got arc → got (arcOrChord T e r arc) ≡ within room (byShortArc T e r)
+      pub short-drawn : (arc : List Sample) → within room (discretised T (withRange e short) r) ≡ got arc → got (arcOrChord T e r arc) ≡ within room (shortArcTried T e r)
       short-drawn arc d = sym (short-bind ∙ ap (λ (X : Result (List Sample)). bind X (λ arc. got (arcOrChord T e r arc))) d)
+
+    -- swept first: a parameter that is too far is refused, and otherwise it is tried
+    module _ {natural : Interval} {w : Bool} (p : natural ≡ naturalRange (edgeCurve T e)) (own : w ≡ someFar (asksFar (edgeCurve T e)) (sweep natural)) where
+      sweep-is : (v : Bool) → w ≡ v → someFar (asksFar (edgeCurve T e)) (sweep (naturalRange (edgeCurve T e))) ≡ v
+      sweep-is v h = ap (λ (i : Interval). someFar (asksFar (edgeCurve T e)) (sweep i)) (sym p) ∙ sym own ∙ h
+
+      pub short-far : w ≡ true → refused 11 ≡ within room (byShortArc T e r)
+      unfolding overflows
+      short-far h = sym (ap (within room) (asking-far (asksFar (edgeCurve T e)) _ (shortArcTried T e r) (sweep-is true h)))
+
+      pub short-tried : w ≡ false → within room (shortArcTried T e r) ≡ within room (byShortArc T e r)
+      short-tried h = sym (ap (within room) (asking-clear (asksFar (edgeCurve T e)) _ (shortArcTried T e r) (sweep-is false h)))
 
     -- ---- the complementary arc
     module _ (p : Float) {width : Float} (w : width ≡ spanOf (complementRange e p)) where

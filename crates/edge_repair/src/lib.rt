@@ -11,19 +11,20 @@ use options::Resolved;
 ghost use mathlib.Core.Path.{_≡_};
 ghost use mathlib.Core.Bool.{true};
 ghost use mathlib.Core.List.{[]};
-ghost use Prim.Native.Nat.{_*_, _≤_};
+ghost use Prim.Native.Nat.{_*_, _<_, _≤_};
 ghost use lib.ListN.{length};
 ghost use lib.Ieee.{Float, le};
 ghost use Rattle.base_lists.specs.Room.{filled};
 ghost use Rattle.arith.specs.Notation.{plusZero};
 ghost use Rattle.brep.specs.Rows.{lent, given};
 ghost use Rattle.brep.specs.Tree.{tree};
+ghost use Rattle.curve.specs.Eval.{naturalRange};
 ghost use Rattle.knots_sort.specs.Own.Sortable.{mostKnots};
 ghost use Rattle.knots.specs.Knots.{curveKnots};
 ghost use Rattle.edge_params.specs.Work.{within};
 ghost use Rattle.edge_record.specs.Chain.{width, shortest, flat, samples};
 ghost use Rattle.draw_spec.specs.Edge.{discretised};
-ghost use Rattle.draw_spec.specs.Repair.{by, withRange, reference, runaway, serves, arcOrChord, shortRange, hasShortArc, byShortArc, byComplement, stays, repaired};
+ghost use Rattle.draw_spec.specs.Repair.{by, withRange, reference, runaway, serves, arcOrChord, shortRange, hasShortArc, shortArcTried, byShortArc, byComplement, stays, repaired};
 ghost use Rattle.draw_spec.specs.Draw.{roomOf, inFirst};
 ghost use Rattle.edge_place.specs.Own.Place.{ofPoints, chordBetween};
 ghost use Rattle.edge_repair.specs.Own.Redrawn.{RedrawnChain, InSecond, RedrawnInto, DrawnInto};
@@ -126,7 +127,7 @@ fn redraw(
     first: &mut [f64],
     second: &mut [f64],
 ) -> Counted
-    requires { ⌜ (shortest ≤ length (now first)) × (shortest ≤ length (now second)) × (length (curveKnots (tree (lent points curves reals parts ranges) (edge .curve))) ≤ mostKnots) ⌝ }
+    requires { ⌜ (shortest ≤ length (now first)) × (shortest ≤ length (now second)) × (length (curveKnots (tree (lent points curves reals parts ranges) (edge .curve))) ≤ mostKnots) × (0 < r .depth) ⌝ }
     ensures { λ w. ⌜ RedrawnChain (within (roomOf (length (now (first .entry))) (length (now (second .entry)))) (discretised (given points curves reals parts ranges) (withRange edge range) r)) (now (first .entry)) (now (second .entry)) w (now (first .exit)) (now (second .exit)) ⌝ }
 {
     let d = with_range(edge, range);
@@ -146,9 +147,9 @@ fn draw_short(
     first: &mut [f64],
     second: &mut [f64],
 ) -> Drawn
-    requires { ⌜ (shortest ≤ length (now first)) × (shortest ≤ length (now second)) × (length (curveKnots (tree (lent points curves reals parts ranges) (edge .curve))) ≤ mostKnots)
+    requires { ⌜ (shortest ≤ length (now first)) × (shortest ≤ length (now second)) × (length (curveKnots (tree (lent points curves reals parts ranges) (edge .curve))) ≤ mostKnots) × (0 < r .depth)
         × (hasShortArc (lent points curves reals parts ranges) edge ≡ true) × (short ≡ shortRange (lent points curves reals parts ranges) edge) ⌝ }
-    ensures { λ w. ⌜ RedrawnInto (byShortArc (given points curves reals parts ranges) edge r) (now (first .entry)) (now (second .entry)) w (now (first .exit)) (now (second .exit)) ⌝ }
+    ensures { λ w. ⌜ RedrawnInto (shortArcTried (given points curves reals parts ranges) edge r) (now (first .entry)) (now (second .entry)) w (now (first .exit)) (now (second .exit)) ⌝ }
 {
     let drawn = redraw(
         points,
@@ -168,22 +169,24 @@ fn draw_short(
     }
 }
 
-// Where the range itself ran away: the arc between the parameters at which the vertices sit, else the chord.
-fn by_short_arc(
+// The arc between the parameters at which the vertices sit, drawn and tried; else the chord. The curve's natural range is known, and that
+// nothing in it is too far to be asked for.
+fn try_short_arc(
     points: &[f64],
     curves: &[u32],
     reals: &[f64],
     parts: &[u32],
     ranges: &[f64],
     edge: Edge,
+    natural: Interval,
     r: Resolved,
     first: &mut [f64],
     second: &mut [f64],
 ) -> Drawn
-    requires { ⌜ (shortest ≤ length (now first)) × (shortest ≤ length (now second)) × (length (curveKnots (tree (lent points curves reals parts ranges) (edge .curve))) ≤ mostKnots) ⌝ }
-    ensures { λ w. ⌜ RedrawnInto (byShortArc (given points curves reals parts ranges) edge r) (now (first .entry)) (now (second .entry)) w (now (first .exit)) (now (second .exit)) ⌝ }
+    requires { ⌜ (shortest ≤ length (now first)) × (shortest ≤ length (now second)) × (length (curveKnots (tree (lent points curves reals parts ranges) (edge .curve))) ≤ mostKnots) × (0 < r .depth)
+        × (natural ≡ naturalRange (tree (lent points curves reals parts ranges) (edge .curve))) ⌝ }
+    ensures { λ w. ⌜ RedrawnInto (shortArcTried (given points curves reals parts ranges) edge r) (now (first .entry)) (now (second .entry)) w (now (first .exit)) (now (second .exit)) ⌝ }
 {
-    let natural = curve::natural_range(points, curves, reals, parts, ranges, edge.curve);
     let span = natural.span();
     if arith::is_finite(span) && 0.0 < span {
         let short = short_range(points, curves, reals, parts, ranges, edge);
@@ -206,6 +209,41 @@ fn by_short_arc(
     runaway(points, edge, second)
 }
 
+// Where the range itself ran away: the curve is swept for the parameters at which the vertices sit, unless that would ask for one that is too far.
+fn by_short_arc(
+    points: &[f64],
+    curves: &[u32],
+    reals: &[f64],
+    parts: &[u32],
+    ranges: &[f64],
+    edge: Edge,
+    r: Resolved,
+    first: &mut [f64],
+    second: &mut [f64],
+) -> Drawn
+    requires { ⌜ (shortest ≤ length (now first)) × (shortest ≤ length (now second)) × (length (curveKnots (tree (lent points curves reals parts ranges) (edge .curve))) ≤ mostKnots) × (0 < r .depth) ⌝ }
+    ensures { λ w. ⌜ RedrawnInto (byShortArc (given points curves reals parts ranges) edge r) (now (first .entry)) (now (second .entry)) w (now (first .exit)) (now (second .exit)) ⌝ }
+{
+    let natural = curve::natural_range(points, curves, reals, parts, ranges, edge.curve);
+    if edge_asks::sweep_far(curves, parts, ranges, edge.curve, natural) {
+        base_lists::clear_from(first, 0);
+        base_lists::clear_from(second, 0);
+        return Drawn::Refused(11);
+    }
+    try_short_arc(
+        points,
+        curves,
+        reals,
+        parts,
+        ranges,
+        edge,
+        natural,
+        r,
+        first,
+        second,
+    )
+}
+
 // The complementary arc of a curve of period p, from where the range ends back round to where it began, drawn and tried;
 // where there is none, or it escapes too, the short arc.
 fn by_complement(
@@ -220,7 +258,7 @@ fn by_complement(
     first: &mut [f64],
     second: &mut [f64],
 ) -> Drawn
-    requires { ⌜ (shortest ≤ length (now first)) × (shortest ≤ length (now second)) × (length (curveKnots (tree (lent points curves reals parts ranges) (edge .curve))) ≤ mostKnots) ⌝ }
+    requires { ⌜ (shortest ≤ length (now first)) × (shortest ≤ length (now second)) × (length (curveKnots (tree (lent points curves reals parts ranges) (edge .curve))) ≤ mostKnots) × (0 < r .depth) ⌝ }
     ensures { λ w. ⌜ RedrawnInto (byComplement (given points curves reals parts ranges) edge r p) (now (first .entry)) (now (second .entry)) w (now (first .exit)) (now (second .exit)) ⌝ }
 {
     let complement = Interval {
@@ -295,7 +333,7 @@ pub fn repair_runaway(
     first: &mut [f64],
     second: &mut [f64],
 ) -> Drawn
-    requires { ⌜ (shortest ≤ length (now first)) × (shortest ≤ length (now second)) × (length (curveKnots (tree (lent points curves reals parts ranges) (edge .curve))) ≤ mostKnots)
+    requires { ⌜ (shortest ≤ length (now first)) × (shortest ≤ length (now second)) × (length (curveKnots (tree (lent points curves reals parts ranges) (edge .curve))) ≤ mostKnots) × (0 < r .depth)
         × (width * n ≤ length (now first)) × (now first ≡ filled (length (now first)) (flat (samples n (now first)))) × (now second ≡ filled (length (now second)) []) × (inFirst way ≡ true) ⌝ }
     ensures { λ w. ⌜ DrawnInto (within (roomOf (length (now (first .entry))) (length (now (second .entry)))) (repaired (given points curves reals parts ranges) edge r (by way (samples n (now (first .entry)))))) (now (first .entry)) (now (second .entry)) w (now (first .exit)) (now (second .exit)) ⌝ }
 {

@@ -50,11 +50,12 @@ empty [] e = refl
 empty (a ∷ l) e = absurd (omega arith)
 
 module _ (c : CurveTree) (lo hi sag : Float) where
-  pub no-breaks : 0 ≡ length (curveKnots c) → [] ≡ keptBreaks c lo hi sag
+  pub none-found : 0 ≡ length (curveKnots c) → [] ≡ curveBreaks c lo hi
   unfolding curveBreaks
-  no-breaks e =
-      thin-none lo hi sag (curveDeviation c)
-      ∙ ap (λ (bs : List Float). curveThinned c bs lo hi sag) (inside-none lo hi ∙ ap (λ (ks : List Float). insideOf ks lo hi) (empty (curveKnots c) e))
+  none-found e = inside-none lo hi ∙ ap (λ (ks : List Float). insideOf ks lo hi) (empty (curveKnots c) e)
+
+  pub no-breaks : 0 ≡ length (curveKnots c) → [] ≡ keptBreaks c lo hi sag
+  no-breaks e = thin-none lo hi sag (curveDeviation c) ∙ ap (λ (bs : List Float). curveThinned c bs lo hi sag) (none-found e)
 
   -- ---- what kept_breaks answered and left of a buffer that the knots fit
   module _ (room : ℕ) (kept : Knots) (fits : length (curveKnots c) ≤ room) (answered : kept ≡ keptAnswer room c lo hi sag) where

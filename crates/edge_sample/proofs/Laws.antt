@@ -1,5 +1,8 @@
--- What callers cite of `sampledIn`: at least two parameters, and no more than the room has, and that it is `sampled` within the room; and that a curve with a closed form needs no tables. Assumes nothing.
+-- What callers cite of `sampledIn`: at least two parameters, and no more than the room has, and that it is `sampled` within the room where
+-- nothing that sampling asks for is too far, and wherever `sampled` answers; and that a curve with a closed form needs no tables, and asks no
+-- hyperbola for anything. Assumes nothing.
 use mathlib.Core.Path.{_≡_, refl}
+use mathlib.Core.Logic.{_⊎_}
 use mathlib.Core.Bool.{Bool, true, false}
 use mathlib.Core.List.{List}
 use Prim.Native.Nat.{ℕ, suc, max, _-_, _≤_}
@@ -10,19 +13,23 @@ use lib.Ieee.{Float}
 use borrow.Author.Tests.{ltb-true}
 use Rattle.base_lists.specs.Result.{Result, refused, got, bind}
 use Rattle.math.specs.declared.Interval.{Interval}
-use Rattle.brep.specs.Tree.{CurveTree, analytic, line, circle, ellipse, parabola, polyline, trimmed, composite}
+use Rattle.brep.specs.Tree.{CurveTree, analytic, line, circle, ellipse, parabola, hyperbola, polyline, trimmed, composite}
 use Rattle.options.specs.declared.Resolved.{Resolved}
 use Rattle.options.specs.Options.{segmentsForArc}
 use Rattle.edge_params.specs.declared.Closed.{Closed}
 use Rattle.edge_params.specs.declared.Closed.the-variants.{Unknown, Segments}
 use Rattle.edge_params.specs.Work.{within}
-use Rattle.edge_params.specs.Params.{Sampler, evenly, bisected}
+use Rattle.edge_params.specs.Params.{Sampler, evenly}
+use Rattle.edge_params.specs.Own.Bisected.{bisected, NothingFar}
 use Rattle.edge_params.specs.Own.InRoom.{fitting, flooredIn, refinedIn, sampleParamsIn}
-use Rattle.edge_params.proofs.Work.{sample-params-in}
+use Rattle.edge_params.proofs.Asks.{never-clear}
+use Rattle.edge_params.proofs.Work.{sample-params-in, sample-params-kept, sample-params-late, sample-params-refused}
 use Rattle.edge_params.proofs.Lists.{Gives, list, eight, gives-got, steps-length, sampled-length}
+use Rattle.curve_asks.specs.Asks.{asksFar}
 use Rattle.curve_prepared.specs.Own.Prepared.{preparedOf, isPlain}
 use Rattle.edge_range.specs.Usable.{analyticSegments}
 use Rattle.edge_sample.specs.Sample.{sampler, sampled}
+use Rattle.edge_sample.specs.Claims.{ClosedNeverFar}
 use Rattle.edge_sample.specs.Own.Answered.{sampledIn}
 use Rattle.edge_sample.proofs.Settled.{bisected-long}
 
@@ -39,6 +46,7 @@ form-some (analytic (line o d)) range r n e = at-least _ n e
 form-some (analytic (circle f radius)) range r n e = at-least _ n e
 form-some (analytic (ellipse f major minor)) range r n e = at-least _ n e
 form-some (analytic (parabola f d)) range r n e = formless n e
+form-some (analytic (hyperbola f a b)) range r n e = formless n e
 form-some (polyline ps) range r n e = formless n e
 form-some (trimmed base own) range r n e = form-some base range r n e
 form-some (composite ss) range r n e = formless n e
@@ -50,9 +58,22 @@ form-plain (analytic (line o d)) range r n e = refl
 form-plain (analytic (circle f radius)) range r n e = refl
 form-plain (analytic (ellipse f major minor)) range r n e = refl
 form-plain (analytic (parabola f d)) range r n e = refl
+form-plain (analytic (hyperbola f a b)) range r n e = refl
 form-plain (polyline ps) range r n e = let z : _≡_ {A = ℕ} 0 1 = cc in absurd (omega arith)
 form-plain (trimmed base own) range r n e = form-plain base range r n e
 form-plain (composite ss) range r n e = let z : _≡_ {A = ℕ} 0 1 = cc in absurd (omega arith)
+
+-- nor does it ask a hyperbola for anything
+pub closed-never-far : ClosedNeverFar
+unfolding analyticSegments asksFar
+closed-never-far (analytic (line o d)) range r n e t = refl
+closed-never-far (analytic (circle f radius)) range r n e t = refl
+closed-never-far (analytic (ellipse f major minor)) range r n e t = refl
+closed-never-far (analytic (parabola f d)) range r n e t = refl
+closed-never-far (analytic (hyperbola f a b)) range r n e t = let z : _≡_ {A = ℕ} 0 1 = cc in absurd (omega arith)
+closed-never-far (polyline ps) range r n e t = refl
+closed-never-far (trimmed base own) range r n e t = closed-never-far base range r n e t
+closed-never-far (composite ss) range r n e t = let z : _≡_ {A = ℕ} 0 1 = cc in absurd (omega arith)
 
 -- ---- two parameters or more
 abbrev Long : List Float → Type 0
@@ -112,7 +133,28 @@ module _ (room : ℕ) (c : CurveTree) (range : Interval) (r : Resolved) (l : Lis
   unfolding sampledIn
   sampled-room = sampled-length room (sampler c range r) range l e
 
--- the reference's sample_params, within the room
-pub sampled-in : (room : ℕ) (c : CurveTree) (range : Interval) (r : Resolved) → within room (sampled c range r) ≡ sampledIn room c range r
-unfolding sampled sampledIn
-sampled-in room c range r = sample-params-in room (sampler c range r) range
+-- ---- the reference's sample_params, within the room
+module _ (room : ℕ) (c : CurveTree) (range : Interval) (r : Resolved) where
+  -- where nothing that it asks for is too far
+  pub sampled-in : NothingFar (sampler c range r) range → within room (sampled c range r) ≡ sampledIn room c range r
+  unfolding sampled sampledIn
+  sampled-in clear = sample-params-in room (sampler c range r) range clear
+
+  -- of a curve that never asks a hyperbola for a parameter that is too far
+  pub sampled-never : ((t : Float) → asksFar c t ≡ false) → within room (sampled c range r) ≡ sampledIn room c range r
+  unfolding sampler
+  sampled-never h = sampled-in (never-clear (sampler c range r) range h)
+
+  -- parameters that are answered
+  pub sampled-kept : (l : List Float) → within room (sampled c range r) ≡ got l → sampledIn room c range r ≡ got l
+  unfolding sampled sampledIn
+  sampled-kept l = sample-params-kept room (sampler c range r) range l
+
+  -- a refusal is 8 or 11, and what has no room is refused with 11 alone
+  pub sampled-late : (n : ℕ) → within room (sampled c range r) ≡ refused n → (n ≡ 8) ⊎ (n ≡ 11)
+  unfolding sampled
+  sampled-late n = sample-params-late room (sampler c range r) range n
+
+pub sampled-refused : (c : CurveTree) (range : Interval) (r : Resolved) (n : ℕ) → sampled c range r .end ≡ refused n → n ≡ 11
+unfolding sampled
+sampled-refused c range r n = sample-params-refused (sampler c range r) range n

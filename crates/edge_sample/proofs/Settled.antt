@@ -11,7 +11,8 @@ use borrow.Author.Tests.{lt-ltb, le-ltb}
 use Rattle.base_lists.specs.Result.{Result, refused, got, each, bind}
 use Rattle.base_lists.specs.Room.{filled}
 use Rattle.math.specs.declared.Interval.{Interval}
-use Rattle.edge_params.specs.Params.{Sampler, evenly, walked, through, bisected, breaksAlong}
+use Rattle.edge_params.specs.Params.{Sampler, evenly, breaksAlong}
+use Rattle.edge_params.specs.Own.Bisected.{walked, through, bisected}
 use Rattle.edge_params.specs.Own.InRoom.{fitting, flooredIn, refinedIn}
 use Rattle.edge_params.specs.declared.Listed.{Listed}
 use Rattle.edge_params.specs.declared.Listed.the-variants.{Count, Refused}

@@ -3,11 +3,12 @@ use mathlib.Core.Path.{_≡_, refl, sym, ap, _∙_}
 use mathlib.Core.Bool.{Bool, true, false}
 use mathlib.Core.Logic.{_⊎_, inl, inr}
 use mathlib.Core.List.{List, [], _∷_, _++_, reverse, reverse-cons}
-use Prim.Native.Nat.{ℕ, suc, _+_, _-_, _<_}
+use Prim.Native.Nat.{ℕ, suc, _+_, _-_, _≤_, _<_}
 use native.Mathlib.Nat.{eq-or-lt-of-le}
+use native.Mathlib.Numerals.{add-one}
 use native.Mathlib.Omega.{arith}
-use lib.ListN.{length, getD, length-append, length-reverse, List·getD-append}
-use lib.Seq.{getD-at}
+use lib.ListN.{length, getD, drop, length-append, length-reverse, drop-of-length-le, List·getD-append}
+use lib.Seq.{getD-at, drop-cons}
 use lib.Ieee.{Float, nan, lt}
 use Rattle.math.specs.declared.Interval.{Interval}
 use Rattle.edge_sample.specs.Own.Answered.{stops}
@@ -42,6 +43,15 @@ module _ (range : Interval) (breaks : List Float) where
   pub stop-last : (i : ℕ) → i ≡ length breaks → range .hi ≡ getD (stops range breaks) i nan
   unfolding stops turned
   stop-last i e = sym (getD-at (turned (lt (range .hi) (range .lo))) (range .hi) [] nan i (turned-length (lt (range .hi) (range .lo)) ∙ sym e))
+
+  -- what is left at stop number i
+  pub stops-from : (i : ℕ) → i ≤ length breaks → getD (stops range breaks) i nan ∷ drop (i + 1) (stops range breaks) ≡ drop i (stops range breaks)
+  stops-from i h =
+      ap (λ (n : ℕ). getD (stops range breaks) i nan ∷ drop n (stops range breaks)) (add-one i)
+      ∙ sym (drop-cons (stops range breaks) i nan (omega (arith, stops-length)))
+
+  pub stops-past : (i : ℕ) → i ≡ length breaks + 1 → drop i (stops range breaks) ≡ []
+  stops-past i e = drop-of-length-le (stops range breaks) {i = i} (omega (arith, stops-length))
 
   module _ (i : ℕ) (h : i < length breaks) where
     stop-of : (t : Bool) → lt (range .hi) (range .lo) ≡ t → getD (turned t) i nan ≡ getD (stops range breaks) i nan

@@ -4,14 +4,13 @@ use mathlib.Core.Bool.{Bool, true, false}
 use mathlib.Core.List.{List, [], _∷_, _++_, append-assoc}
 use Prim.Native.Nat.{ℕ, _+_, _*_, _≤_}
 use native.Mathlib.Numerals.{add-one}
-use native.Mathlib.Omega.{arith}
-use lib.ListN.{length, getD, drop, drop-of-length-le}
-use lib.Seq.{drop-cons}
+use lib.ListN.{length, getD, drop}
 use lib.Ieee.{Float, nan, ne}
 use Rattle.math.specs.declared.Interval.{Interval}
 use Rattle.brep.specs.Tree.{CurveTree}
 use Rattle.options.specs.declared.Resolved.{Resolved}
-use Rattle.edge_params.specs.Params.{subdivided, breaksAlong, unlessHi, walked, through, bisected}
+use Rattle.edge_params.specs.Params.{breaksAlong, unlessHi}
+use Rattle.edge_params.specs.Own.Bisected.{subdivided, walked, through, bisected}
 use Rattle.edge_params.specs.declared.Listed.{Listed}
 use Rattle.edge_params.specs.declared.Listed.the-variants.{Count, Refused}
 use Rattle.edge_params.proofs.Written.{written-length}
@@ -25,7 +24,7 @@ pub use Rattle.edge_subdivide.proofs.Laws.{end-own}
 use Rattle.edge_subdivide.proofs.Recorded.{recorded-none, recorded-room, recorded-refused, recorded-then}
 use Rattle.edge_sample.specs.Sample.{sampler}
 use Rattle.edge_sample.specs.Own.Answered.{stops}
-use Rattle.edge_sample.proofs.Stops.{stops-length, stop-last}
+use Rattle.edge_sample.proofs.Stops.{stop-last, stops-from, stops-past}
 
 -- ---- a span, by whether its end is range.hi
 module _ (range : Interval) (b : Float) where
@@ -115,10 +114,7 @@ module _ (c : CurveTree) (range : Interval) (r : Resolved) where
         here = end-t c b right own ∙ is
 
         behind : right .t ∷ drop (i + 1) (stops range breaks) ≡ drop i (stops range breaks)
-        behind =
-            ap (λ (x : Float). x ∷ drop (i + 1) (stops range breaks)) here
-            ∙ ap (λ (n : ℕ). getD (stops range breaks) i nan ∷ drop n (stops range breaks)) (add-one i)
-            ∙ sym (drop-cons (stops range breaks) i nan (omega (arith, stops-length range breaks)))
+        behind = ap (λ (x : Float). x ∷ drop (i + 1) (stops range breaks)) here ∙ stops-from range breaks i h
 
         more : (s .front ++ span (left .t) (right .t)) ++ rest ≡ onwards (range .lo) (stops range breaks)
         unfolding rest
@@ -162,7 +158,5 @@ module _ (c : CurveTree) (range : Interval) (r : Resolved) where
           done =
               ap (λ (l : List Float). s .front ++ l)
               (ap (λ (t : Float). t ∷ []) hi
-              ∙ sym
-              (ap (onwards (left .t)) (drop-of-length-le (stops range breaks) {i = i} (omega (arith, stops-length range breaks)))
-              ∙ onwards-none (left .t)))
+              ∙ sym (ap (onwards (left .t)) (stops-past range breaks i e) ∙ onwards-none (left .t)))
               ∙ s .all

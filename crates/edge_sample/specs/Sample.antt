@@ -7,7 +7,8 @@ use Rattle.brep.specs.Tree.{CurveTree}
 use Rattle.options.specs.declared.Resolved.{Resolved}
 use Rattle.edge_params.specs.Work.{Work}
 use Rattle.edge_params.specs.Params.{Sampler, sampleParams}
-use Rattle.knots_thin.specs.Thin.{keptBreaks}
+use Rattle.curve_asks.specs.Asks.{asksFar}
+use Rattle.knots_thin.specs.Thin.{keptBreaks, breakAsks}
 use Rattle.edge_range.specs.Usable.{analyticSegments}
 use Rattle.edge_subdivide.specs.Bisect.{withinBudget}
 unfoldable pub use Rattle.edge_closed_form.specs.Miss.{missOf, worstMiss}
@@ -21,6 +22,8 @@ sampler c range r = record {
   depth = r .depth;
   least = r .segments;
   breaks = keptBreaks c (range .lo) (range .hi) (r .sag);
+  breakAsks = breakAsks c (range .lo) (range .hi) (r .sag);
+  far = asksFar c;
 }
 
 -- sample_params: the lists that it forms, and the parameters that it comes to

@@ -18,7 +18,8 @@ ghost use Rattle.brep.specs.Rows.{lent, given};
 ghost use Rattle.brep.specs.Tree.{tree};
 ghost use Rattle.curve_prepared.specs.Own.Prepared.{preparedOf};
 ghost use Rattle.knots_sort.specs.Own.Sortable.{mostKnots};
-ghost use Rattle.edge_params.specs.Params.{subdivided, unlessHi, bisected};
+ghost use Rattle.edge_params.specs.Params.{unlessHi};
+ghost use Rattle.edge_params.specs.Own.Bisected.{subdivided, bisected};
 ghost use Rattle.edge_params.specs.Own.InRoom.{refinedIn};
 ghost use Rattle.knots.specs.Knots.{curveKnots};
 ghost use Rattle.knots_thin.specs.Thin.{keptBreaks};
@@ -30,7 +31,7 @@ ghost use Rattle.edge_sample.specs.Own.Traced.{traced, tracedRefined, tr
 ghost use Rattle.edge_sample.specs.Own.Answered.{sampledIn, SampledInto, keptFloats, stops};
 
 // Stop number i of the walk. The breaks are read backwards where the range runs down.
-fn stop_at(range: Interval, breaks: &[f64], i: usize) -> f64
+pub fn stop_at(range: Interval, breaks: &[f64], i: usize) -> f64
     requires { ⌜ i ≤ length (now breaks) ⌝ }
     ensures { λ w. ⌜ w ≡ getD (stops range (now (breaks .entry))) i nan ⌝ }
 {

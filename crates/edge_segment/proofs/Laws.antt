@@ -25,10 +25,9 @@ use Rattle.options.specs.declared.Options.{Options}
 use Rattle.options.specs.declared.Resolved.{Resolved}
 use Rattle.options.specs.Options.{resolve, sagFor, forExtent}
 use Rattle.edge_params.specs.declared.Closed.the-variants.{Segments}
-use Rattle.edge_params.specs.Work.{ends, overflows, within}
+use Rattle.edge_params.specs.Work.{within}
 use Rattle.edge_params.specs.Params.{midpoint, steps, evenly}
 use Rattle.edge_params.specs.Own.InRoom.{refinedIn, sampleParamsIn}
-use Rattle.edge_params.proofs.Work.{within-then}
 use Rattle.edge_params.proofs.Lists.{steps-length}
 use Rattle.edge_params.proofs.Written.{fitting-fits}
 use Rattle.edge_range.specs.Usable.{analyticSegments}
@@ -37,11 +36,12 @@ use Rattle.edge_record.specs.Chain.{flat, lastOf}
 use Rattle.edge_closed_form.specs.Miss.{worstMiss}
 use Rattle.edge_closed_form.specs.Own.Worst.{missSquare, largerOf}
 use Rattle.edge_closed_form.proofs.Squares.{miss-root, worst-first, worst-next, same-test}
-use Rattle.edge_sample.specs.Sample.{sampler, sampled}
+use Rattle.edge_sample.specs.Sample.{sampler}
 use Rattle.edge_sample.specs.Own.Answered.{sampledIn}
-use Rattle.edge_sample.proofs.Laws.{sampled-in}
+use Rattle.edge_sample.proofs.Laws.{closed-never-far}
 use Rattle.edge_merge.specs.Merge.{mergeFloor, spaced, withEnd, merged}
-use Rattle.draw_spec.specs.Edge.{edgeCurve, edgeStart, edgeEnd, located, isReversed, oriented, lastPinned, pinned, thinnedIf, chordOf, atLeastTwo, placed, finished, overRange}
+use Rattle.draw_spec.specs.Edge.{edgeCurve, edgeStart, edgeEnd, located, isReversed, oriented, lastPinned, pinned, thinnedIf, chordOf, placed, finished, overRange}
+use Rattle.draw_spec.proofs.Listed.{listed-never, over-within}
 use Rattle.edge_place.specs.Own.Place.{chordBetween}
 use Rattle.edge_place.proofs.Laws.{placed-length}
 use Rattle.edge_segment.specs.Own.Segment.{SegmentInto}
@@ -123,12 +123,12 @@ placed-size T e range = placed-length T e (evenly range 1) ∙ steps-length rang
 module _ (T : Tables) (e : Edge) {o d : Vec3} (R : preparedOf (edgeCurve T e) ≡ Line o d) (range : Interval) where
   line-over : (r : Resolved) → r .segments ≤ 1 → le (worstMiss (edgeCurve T e) plusZero (evenly range 1)) (r .sag) ≡ true
       → (room : ℕ) → 2 ≤ room → within room (overRange T e r range) ≡ got (placed T e (evenly range 1))
-  unfolding finished atLeastTwo steps thinnedIf overflows
+  unfolding finished thinnedIf
   line-over r k m room h =
       let c = edgeCurve T e in
       let P = placed T e (evenly range 1) in
-      within-then room (sampled c range r) (λ params. ends (finished T e r (atLeastTwo range params)))
-      ∙ ap (λ (x : Result (List Float)). bind x (λ params. finished T e r (atLeastTwo range params))) (sampled-in room c range r ∙ line-sampled c R range r room h k m)
+      over-within T e r range room
+      ∙ ap (λ (x : Result (List Float)). bind x (finished T e r)) (listed-never room c range r (closed-never-far c range r 1 (line-form c R range r k)) ∙ line-sampled c R range r room h k m)
       ∙ ap (λ (b : Bool). each (merged (mergeFloor (e .tolerance) (r .sag))) (thinnedIf b r P)) (line-unsampled c R range r)
       ∙ ap got (merged-two (mergeFloor (e .tolerance) (r .sag)) P (placed-size T e range))
 

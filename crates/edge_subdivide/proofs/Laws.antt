@@ -23,7 +23,8 @@ use Rattle.curve_prepared.specs.declared.Prepared.{Prepared}
 use Rattle.curve_prepared.specs.Own.Prepared.{preparedOf, preparedDerivative}
 use Rattle.curve_prepared.proofs.Laws.{prepared-derivative}
 use Rattle.options.specs.declared.Resolved.{Resolved}
-use Rattle.edge_params.specs.Params.{midpoint, subdivided}
+use Rattle.edge_params.specs.Params.{midpoint}
+use Rattle.edge_params.specs.Own.Bisected.{subdivided}
 use Rattle.edge_params.proofs.Lists.{subdivided-zero, subdivided-within, subdivided-split}
 use Rattle.edge_params.specs.declared.Listed.the-variants.{Count}
 use Rattle.edge_subdivide.specs.Own.Recorded.{Room, ListRecorded}

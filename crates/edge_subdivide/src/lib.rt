@@ -15,7 +15,7 @@ ghost use Rattle.brep.specs.Rows.{lent, given};
 ghost use Rattle.brep.specs.Tree.{tree};
 ghost use Rattle.curve_prepared.specs.Own.Prepared.{preparedOf};
 ghost use Rattle.options.specs.declared.Resolved.{Resolved};
-ghost use Rattle.edge_params.specs.Params.{subdivided};
+ghost use Rattle.edge_params.specs.Own.Bisected.{subdivided};
 ghost use Rattle.edge_params.specs.Own.Written.{ListAppended};
 ghost use Rattle.edge_record.specs.Chain.{width, row};
 ghost use Rattle.edge_subdivide.specs.Own.Recorded.{Room, ListRecorded};
@@ -124,8 +124,9 @@ fn is_within(l: Limits, a: End, b: End, pm: Vec3) -> bool
     false
 }
 
-// The middle's tangent is evaluated only where the span is split.
-fn split_of(
+// What becomes of the span from a to b, for whoever walks the spans: `subdivide`, or a pass that only counts. The middle's tangent is
+// evaluated only where the span is split.
+pub fn split_of(
     points: &[f64],
     curves: &[u32],
     reals: &[f64],

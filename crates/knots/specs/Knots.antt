@@ -27,9 +27,13 @@ curveKnots (composite ss) = segmentKnots ss
 unfoldable pub curveBreaks : CurveTree → Float → Float → List Float
 curveBreaks curve lo hi = insideOf (curveKnots curve) lo hi
 
--- at(a + (b - a) * t), with t = k as f64 / 4.0
+-- a + (b - a) * t, with t = k as f64 / 4.0
+abbrev pub innerParameter : Float → Float → ℕ → Float
+innerParameter a b k = a ⊕ (b ⊖ a) ⊗ (count k ⊘ four)
+
+-- at(a + (b - a) * t)
 abbrev pub innerAt : (Float → Vec3) → Float → Float → ℕ → Vec3
-innerAt at a b k = at (a ⊕ (b ⊖ a) ⊗ (count k ⊘ four))
+innerAt at a b k = at (innerParameter a b k)
 
 -- the largest distance of three points to the chord from pa to pb
 unfoldable pub worstOfThree : Vec3 → Vec3 → Vec3 → Vec3 → Vec3 → Float

@@ -46,7 +46,7 @@ module _ {buffer : List Float} {curve : CurveTree} {lo hi : Float} {out : List F
   pub part-length : length (take n out) ≡ n
   part-length = length-take-le n out part-room
 
-  part : take n out ≡ curveBreaks curve lo hi
+  pub part : take n out ≡ curveBreaks curve lo hi
   part =
       ap (take n) (s .floats) ∙ ap (λ (k : ℕ). take k (filled (length buffer) (curveBreaks curve lo hi))) (s .count)
       ∙ filled-front (length buffer) (curveBreaks curve lo hi)

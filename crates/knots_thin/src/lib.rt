@@ -14,7 +14,7 @@ ghost use Rattle.knots_thin.specs.Own.Kept.{curveDeviation, keptAnswer, 
 ghost use Rattle.knots_thin.specs.Thin.{curveThinned};
 
 // How far the curve of a row leaves the chord from a to b; pa is its point at a.
-fn deviation(
+pub fn deviation(
     points: &[f64],
     curves: &[u32],
     reals: &[f64],
@@ -37,7 +37,7 @@ fn deviation(
 }
 
 // The break after number i, or the range's end.
-fn next_of(breaks: &[f64], i: usize, hi: f64) -> f64
+pub fn next_of(breaks: &[f64], i: usize, hi: f64) -> f64
     requires { ⌜ i < length (now breaks) ⌝ }
     ensures { λ r. ⌜ r ≡ nextOf hi (drop (i + 1) (now (breaks .entry))) ⌝ }
 {

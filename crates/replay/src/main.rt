@@ -53,6 +53,12 @@ const COS: u64 = 0x01636f73;
 
 const ACOS: u64 = 0x0161636f73;
 
+const EXP: u64 = 0x01657870;
+
+const COSH: u64 = 0x01636f7368;
+
+const SINH: u64 = 0x0173696e68;
+
 const FLOOR: u64 = 0x01666c6f6f72;
 
 const CEIL: u64 = 0x016365696c;
@@ -213,11 +219,12 @@ fn put_vector(name: &[u8], v: Vec3, out: &mut [u8; 4096], at: usize) -> usize {
     put_floats(name, &[v.x, v.y, v.z], out, at)
 }
 
-// The word of a kind and the space behind it, of ten bytes for each. A sheet that was read has the kinds 1 to 7.
+// The word of a kind and the space behind it, of ten bytes for each. A sheet that was read has the kinds 1 to 8.
 fn put_kind(kind: u32, out: &mut [u8; 4096], at: usize) -> usize {
-    let words = b"?         line      circle    ellipse   parabola  polyline  trimmed   composite ";
+    let words =
+        b"?         line      circle    ellipse   parabola  polyline  trimmed   composite hyperbola ";
     let mut n = at;
-    let mut i = ((kind % 8) as usize) * 10;
+    let mut i = ((kind % 9) as usize) * 10;
     while i < words.len() {
         let b = words[i];
         n = replay_text::put_byte(out, n, b);
@@ -346,6 +353,15 @@ fn value_of(name: u64, a: Floats) -> Value {
         SIN => Value::Of(arith_trig::sin(a.x)),
         COS => Value::Of(arith_trig::cos(a.x)),
         ACOS => Value::Of(arith_trig::acos(a.x)),
+        EXP => Value::Of(arith_exp::exp(a.x)),
+        COSH => {
+            let h = arith_exp::cosh_sinh(a.x);
+            Value::Of(h.cosh)
+        }
+        SINH => {
+            let h = arith_exp::cosh_sinh(a.x);
+            Value::Of(h.sinh)
+        }
         FLOOR => Value::Of(arith::floor(a.x)),
         CEIL => Value::Of(arith::ceil(a.x)),
         ABS => Value::Of(arith::abs(a.x)),

@@ -1,5 +1,5 @@
 -- The sheet's layout. A raw sheet is lists of whole numbers: a line's numbers in the order of its columns, a float as its 64 bits, a
--- kind as its number from 1 to 7.
+-- kind as its number from 1 to 8.
 use mathlib.Core.Path.{_≡_}
 use mathlib.Core.Bool.{cond}
 use mathlib.Core.List.{List, [], _∷_}
@@ -13,7 +13,7 @@ use Rattle.text_format.specs.Table.{Field, float, whole, word, Column, _of_, ta
 
 -- the kinds' words, numbered from 1
 unfoldable pub kinds : List (List ℕ)
-kinds = bytes "line" ∷ bytes "circle" ∷ bytes "ellipse" ∷ bytes "parabola" ∷ bytes "polyline" ∷ bytes "trimmed" ∷ bytes "composite" ∷ []
+kinds = bytes "line" ∷ bytes "circle" ∷ bytes "ellipse" ∷ bytes "parabola" ∷ bytes "polyline" ∷ bytes "trimmed" ∷ bytes "composite" ∷ bytes "hyperbola" ∷ []
 
 -- what the columns hold besides floats
 abbrev pub u32 : Field

@@ -50,7 +50,8 @@ fn kind(s: &[u8], at: usize) -> Num
     let parabola = or_word(ellipse, s, at, b"parabola", 4);
     let polyline = or_word(parabola, s, at, b"polyline", 5);
     let trimmed = or_word(polyline, s, at, b"trimmed", 6);
-    or_word(trimmed, s, at, b"composite", 7)
+    let composite = or_word(trimmed, s, at, b"composite", 7);
+    or_word(composite, s, at, b"hyperbola", 8)
 }
 
 // A cell of a line: a value by its letter, and the byte behind it. f: a float's bits; w: 32 bits; l: 64 bits; k: a kind.

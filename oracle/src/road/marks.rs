@@ -1,9 +1,14 @@
 //! Marks in the branches of the road, for the coverage table. Only the marked build has them.
 
-use std::cell::RefCell;
+use std::cell::{Cell, RefCell};
 
 /// Every mark. One that begins with `fact` is expected never to be met.
-pub const ALL: [&str; 99] = [
+pub const ALL: [&str; 106] = [
+    "11: bisection",
+    "11: break thinning",
+    "11: probe",
+    "11: segment floor's points",
+    "11: sweep",
     "8: bisected",
     "8: closed form",
     "8: segment floor",
@@ -35,6 +40,7 @@ pub const ALL: [&str; 99] = [
     "ends apart: reversed",
     "ends together: kept by sense",
     "ends together: reversed by sense",
+    "equal: a hyperbola's parameter and 100",
     "equal: break's deviation and sag",
     "equal: closed form's gap and sag",
     "equal: deviation and sag",
@@ -48,6 +54,7 @@ pub const ALL: [&str; 99] = [
     "equal: thinning's turn and angle",
     "equal: turn and angle",
     "equal: vertices as far apart as the tolerance",
+    "fact: a hyperbola asked for NaN",
     "fact: closure of a trim asked",
     "fact: probe not finite",
     "fact: remainder below zero, t not subnormal",
@@ -107,6 +114,7 @@ pub const ALL: [&str; 99] = [
 
 thread_local! {
     static MET: RefCell<Vec<&'static str>> = const { RefCell::new(Vec::new()) };
+    static PLACE: Cell<&'static str> = const { Cell::new("") };
 }
 
 /// Notes that a branch was met, where `when` holds.
@@ -118,6 +126,16 @@ pub fn mark(name: &'static str, when: bool) {
             }
         });
     }
+}
+
+/// The step of the road that begins here, by the mark that stands for 11 in it.
+pub fn at_work(name: &'static str) {
+    PLACE.set(name);
+}
+
+/// The step that began last.
+pub fn place() -> &'static str {
+    PLACE.get()
 }
 
 /// The marks met since this was last asked.

@@ -4,6 +4,7 @@
 extern crate self as cad_ir;
 extern crate self as rayon;
 
+pub mod asks;
 pub mod brep;
 pub mod edge;
 pub mod eval {

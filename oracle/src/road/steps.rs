@@ -1,10 +1,14 @@
-//! The fixed steps of the scope for sin, cos, acos, min and max. Every operation rounds once.
+//! The fixed steps for sin, cos, acos, min and max, and for e^t, cosh and sinh. Every operation rounds once.
 
 /// 2 / π, π / 2 in two parts, and π.
 const TWO_OVER_PI: f64 = f64::from_bits(0x3FE45F306DC9C883);
 const HALF_PI_HIGH: f64 = f64::from_bits(0x3FF921FB54400000);
 const HALF_PI_LOW: f64 = f64::from_bits(0x3DD0B4611A626331);
 const PI: f64 = f64::from_bits(0x400921FB54442D18);
+/// 1 / ln 2, and ln 2 in two parts.
+const ONE_OVER_LN_2: f64 = 1.4426950408889634;
+const LN_2_HIGH: f64 = f64::from_bits(0x3FE62E42FEE00000);
+const LN_2_LOW: f64 = f64::from_bits(0x3DEA39EF35793C76);
 
 const SINE_DIVISORS: [f64; 8] = [272.0, 210.0, 156.0, 110.0, 72.0, 42.0, 20.0, 6.0];
 const COSINE_DIVISORS: [f64; 8] = [240.0, 182.0, 132.0, 90.0, 56.0, 30.0, 12.0, 2.0];
@@ -82,4 +86,31 @@ fn arc(y: f64) -> f64 {
 /// The tangent of half the angle whose tangent is `y`.
 fn halved(y: f64) -> f64 {
     y / (1.0 + (1.0 + y * y).sqrt())
+}
+
+pub fn cosh(t: f64) -> f64 {
+    (exp(t) + exp(-t)) * 0.5
+}
+
+pub fn sinh(t: f64) -> f64 {
+    (exp(t) - exp(-t)) * 0.5
+}
+
+/// e^t.
+pub fn exp(t: f64) -> f64 {
+    let k = (t * ONE_OVER_LN_2 + 0.5).floor();
+    let r = (t - k * LN_2_HIGH) - k * LN_2_LOW;
+    let w = (1..=16).rev().fold(1.0, |w, d| 1.0 + (r / d as f64) * w);
+    w * power_of_two(k)
+}
+
+/// 2^k, for a whole k. Past the floats' range, which no parameter up to 100 comes near, infinity or zero.
+fn power_of_two(k: f64) -> f64 {
+    if k > 1023.0 {
+        f64::INFINITY
+    } else if k >= -1022.0 {
+        f64::from_bits(((k + 1023.0) as u64) << 52)
+    } else {
+        0.0
+    }
 }

@@ -1,4 +1,4 @@
--- `brep::kind_of` meets its contract. The kind is the arm's number, or none of the seven. Assumes nothing.
+-- `brep::kind_of` meets its contract. The kind is the arm's number, or none of the eight. Assumes nothing.
 use Rattle.brep.specs.Rows.{kindOf}
 use borrow.Author.Tests.{ne-eqb}
 use native.Mathlib.Nat.{add-zero}
@@ -36,12 +36,20 @@ returns-7 c = rw (c .match .keys7)
 
 returns-8 : tie.Need-returns-8
 unfolding kindOf
-returns-8 c = let k = c .before .before .args .kind in simp (ne-eqb k 1 (c .match .rest .0 .0 .0 .0 .0 .0 .1), ne-eqb k 2 (c .match .rest .0 .0 .0 .0 .0 .1), ne-eqb k 3 (c .match .rest .0 .0 .0 .0 .1), ne-eqb k 4 (c .match .rest .0 .0 .0 .1), ne-eqb k 5 (c .match .rest .0 .0 .1), ne-eqb k 6 (c .match .rest .0 .1), ne-eqb k 7 (c .match .rest .1))
+returns-8 c = rw (c .before .match .keys8, c .frame-at4 .ensures)
+
+returns-9 : tie.Need-returns-9
+unfolding kindOf
+returns-9 c =
+    let k = c .before .before .args .kind in
+    let n = c .match .rest in
+    simp (ne-eqb k 1 (n .0 .0 .0 .0 .0 .0 .0 .1), ne-eqb k 2 (n .0 .0 .0 .0 .0 .0 .1), ne-eqb k 3 (n .0 .0 .0 .0 .0 .1), ne-eqb k 4 (n .0 .0 .0 .0 .1), ne-eqb k 5 (n .0 .0 .0 .1), ne-eqb k 6 (n .0 .0 .1), ne-eqb k 7 (n .0 .1), ne-eqb k 8 (n .1))
 
 pub kind-of-spec : {M : Type 1} → statement M
 kind-of-spec =
     tie.close
     (tie.spec
+    (λ c κs. search needs)
     (λ c κs. search needs)
     (λ c κs. search needs)
     (λ c κs. search needs)
@@ -54,4 +62,5 @@ kind-of-spec =
     returns-5
     returns-6
     returns-7
-    returns-8)
+    returns-8
+    returns-9)

@@ -18,7 +18,11 @@ returns-3 c = rw (ne-eqb _ _ (c .before .before .if1 .left), lt-leb _ _ (c .befo
 
 returns-4 : tie.Need-returns-4
 unfolding wrongCount
-returns-4 c = rw (ne-eqb _ _ (c .before .before .if1 .left), lt-leb _ _ (c .before .if2 .left), ne-eqb _ _ (c .if3 .left))
+returns-4 c = rw (ne-eqb _ _ (c .before .before .before .if1 .left), lt-leb _ _ (c .before .before .if2 .left), ne-eqb _ _ (c .before .if3 .left), eq-eqb _ _ (c .if4 .taken))
+
+returns-5 : tie.Need-returns-5
+unfolding wrongCount
+returns-5 c = rw (ne-eqb _ _ (c .before .before .before .if1 .left), lt-leb _ _ (c .before .before .if2 .left), ne-eqb _ _ (c .before .if3 .left), ne-eqb _ _ (c .if4 .left))
 
 pub wrong-count-spec : {M : Type 1} → statement M
-wrong-count-spec = tie.close (tie.spec returns returns-2 returns-3 returns-4)
+wrong-count-spec = tie.close (tie.spec returns returns-2 returns-3 returns-4 returns-5)

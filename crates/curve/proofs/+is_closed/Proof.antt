@@ -1,6 +1,6 @@
 -- `curve::is_closed` meets its contract. Assumes nothing.
 use mathlib.Core.Path.{refl, sym, _∙_}
-use Rattle.brep.proofs.ByKind.{at-line, at-circle, at-ellipse, at-parabola, at-polyline, at-trim, at-composite, at-unknown}
+use Rattle.brep.proofs.ByKind.{at-line, at-circle, at-ellipse, at-parabola, at-polyline, at-trim, at-composite, at-hyperbola, at-unknown}
 use Rattle.curve.specs.Eval.{isClosed, closes}
 use Rattle.curve.proofs.Laws.{closed-trim, open-trim, high-trim}
 use borrow.Author.Needs.{needs}
@@ -71,7 +71,11 @@ is-closed-returns-9 t c = at-composite isClosed _ _ (c .before .before .int-at .
 
 is-closed-returns-10 : (t : ℕ) → is-closed-lts.Need-returns-10 (is-closed-claims t) (is-closed-at t) is-closed.Post
 unfolding isClosed closes
-is-closed-returns-10 t c = at-unknown isClosed _ _ (c .before .before .int-at .ensures) (c .match .rest)
+is-closed-returns-10 t c = at-hyperbola isClosed _ _ (c .before .before .int-at .ensures) (c .match .keys8) refl refl refl
+
+is-closed-returns-11 : (t : ℕ) → is-closed-lts.Need-returns-11 (is-closed-claims t) (is-closed-at t) is-closed.Post
+unfolding isClosed closes
+is-closed-returns-11 t c = at-unknown isClosed _ _ (c .before .before .int-at .ensures) (c .match .rest)
 
 pub +is-closed-spec : {M : Type 1} → statement M
 +is-closed-spec = close μ-is-closed λ t. is-closed-lts.spec (is-closed-claims t) (is-closed-at t) is-closed.Post
@@ -99,3 +103,4 @@ pub +is-closed-spec : {M : Type 1} → statement M
     (is-closed-returns-8 t)
     (is-closed-returns-9 t)
     (is-closed-returns-10 t)
+    (is-closed-returns-11 t)

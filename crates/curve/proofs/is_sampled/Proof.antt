@@ -1,6 +1,6 @@
 -- `curve::is_sampled` meets its contract. Assumes nothing.
 use mathlib.Core.Path.{refl, _∙_}
-use Rattle.brep.proofs.ByKind.{at-line, at-circle, at-ellipse, at-parabola, at-polyline, at-composite}
+use Rattle.brep.proofs.ByKind.{at-line, at-circle, at-ellipse, at-parabola, at-polyline, at-composite, at-hyperbola}
 use Rattle.curve.specs.Eval.{isSampled}
 use Rattle.curve_parameter.proofs.Under.{under-same, under-rest}
 use borrow.Author.Needs.{needs}
@@ -33,7 +33,11 @@ returns-6 c = at-composite isSampled _ _ (c .before .int-at .ensures) (c .match 
 
 returns-7 : tie.Need-returns-7
 unfolding isSampled
-returns-7 c = under-rest isSampled (λ b r. refl) _ _ (c .before .before .under-trims .ensures) (c .before .int-at .ensures) (c .match .rest)
+returns-7 c = at-hyperbola isSampled _ _ (c .before .int-at .ensures) (c .match .keys7) refl refl refl ∙ under-same isSampled (λ b r. refl) _ _ (c .before .before .under-trims .ensures)
+
+returns-8 : tie.Need-returns-8
+unfolding isSampled
+returns-8 c = under-rest isSampled (λ b r. refl) _ _ (c .before .before .under-trims .ensures) (c .before .int-at .ensures) (c .match .rest)
 
 pub is-sampled-spec : {M : Type 1} → statement M
 is-sampled-spec =
@@ -49,4 +53,5 @@ is-sampled-spec =
     returns-4
     returns-5
     returns-6
-    returns-7)
+    returns-7
+    returns-8)

@@ -1,6 +1,6 @@
 -- `curve::natural_range` meets its contract. Assumes nothing.
 use mathlib.Core.Path.{refl, _∙_}
-use Rattle.brep.proofs.ByKind.{at-line, at-circle, at-ellipse, at-parabola, at-polyline, at-trim, at-composite, at-unknown}
+use Rattle.brep.proofs.ByKind.{at-line, at-circle, at-ellipse, at-parabola, at-polyline, at-trim, at-composite, at-hyperbola, at-unknown}
 use Rattle.curve.specs.Eval.{naturalRange}
 use Rattle.curve.proofs.Laws.{polyline-range, nothing-range, composite-range}
 use borrow.Author.Needs.{needs}
@@ -37,7 +37,11 @@ returns-7 c = composite-range _ _ _ _ ∙ at-composite naturalRange _ _ (c .befo
 
 returns-8 : tie.Need-returns-8
 unfolding naturalRange
-returns-8 c = nothing-range ∙ at-unknown naturalRange _ _ (c .before .int-at .ensures) (c .match .rest)
+returns-8 c = at-hyperbola naturalRange _ _ (c .before .int-at .ensures) (c .match .keys8) refl refl refl
+
+returns-9 : tie.Need-returns-9
+unfolding naturalRange
+returns-9 c = nothing-range ∙ at-unknown naturalRange _ _ (c .before .int-at .ensures) (c .match .rest)
 
 pub natural-range-spec : {M : Type 1} → statement M
 natural-range-spec =
@@ -60,4 +64,5 @@ natural-range-spec =
     returns-5
     returns-6
     returns-7
-    returns-8)
+    returns-8
+    returns-9)

@@ -1,6 +1,6 @@
 -- `curve::period` meets its contract. Assumes nothing.
 use mathlib.Core.Path.{refl, _∙_}
-use Rattle.brep.proofs.ByKind.{at-line, at-circle, at-ellipse, at-parabola, at-polyline, at-composite}
+use Rattle.brep.proofs.ByKind.{at-line, at-circle, at-ellipse, at-parabola, at-polyline, at-composite, at-hyperbola}
 use Rattle.curve.specs.Eval.{period, closes}
 use Rattle.curve_parameter.proofs.Under.{under-same, under-rest}
 use borrow.Author.Needs.{needs}
@@ -33,7 +33,11 @@ returns-6 c = at-composite period _ _ (c .before .int-at .ensures) (c .match .ke
 
 returns-7 : tie.Need-returns-7
 unfolding period closes
-returns-7 c = under-rest period (λ b r. refl) _ _ (c .before .before .under-trims .ensures) (c .before .int-at .ensures) (c .match .rest)
+returns-7 c = at-hyperbola period _ _ (c .before .int-at .ensures) (c .match .keys7) refl refl refl ∙ under-same period (λ b r. refl) _ _ (c .before .before .under-trims .ensures)
+
+returns-8 : tie.Need-returns-8
+unfolding period closes
+returns-8 c = under-rest period (λ b r. refl) _ _ (c .before .before .under-trims .ensures) (c .before .int-at .ensures) (c .match .rest)
 
 pub period-spec : {M : Type 1} → statement M
 period-spec =
@@ -54,4 +58,5 @@ period-spec =
     returns-4
     returns-5
     returns-6
-    returns-7)
+    returns-7
+    returns-8)

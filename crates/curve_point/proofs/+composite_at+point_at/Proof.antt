@@ -1,5 +1,5 @@
 -- `curve_point::composite_at` and `curve_point::point_at` meet their contracts. Assumes nothing.
-use Rattle.curve_point.proofs.Turn.{circle-around, ellipse-around, trim-stays}
+use Rattle.curve_point.proofs.Turn.{circle-around, ellipse-around, hyperbola-around, trim-stays}
 use Rattle.curve_parameter.proofs.Under.{under-same, under-low}
 use Rattle.curve_point.proofs.Laws.{composite-none, composite-some}
 use Rattle.curve_point.specs.Point.{pointAt, polylinePoint}
@@ -108,6 +108,10 @@ point-at-returns-7 : (t : ℕ) → point-at-lts.Need-returns-7 (point-at-claims 
 unfolding pointAt grown polylinePoint
 point-at-returns-7 t c = c .composite-at .ensures ∙ at-row (λ x. pointAt x (c .before .before .before .before .before .before .before .before .before .before .before .before .args .t)) _ _ (c .before .before .c6 .given .1) (c .before .before .before .before .row-at .ensures) ∙ under-same (λ x. pointAt x (c .before .before .before .before .before .before .before .before .before .before .before .before .args .t)) (λ b r. refl) _ _ (c .before .before .before .before .before .before .under-trims .ensures)
 
+point-at-returns-8 : (t : ℕ) → point-at-lts.Need-returns-8 (point-at-claims t) (point-at-at t) point-at.Post
+unfolding pointAt grown polylinePoint
+point-at-returns-8 t c = let a = c .before .before .before .before .before .before .before .before .before .before .before .before .args in c .around3 .ensures ∙ hyperbola-around (lent (a .points) (a .curves) (a .reals) (a .parts) (a .ranges)) _ (c .before .before .before .before .row-at .ensures) _ (c .before .before .before .before .before .turn-at .ensures) (c .before .before .c7 .given .1) ∙ at-row (λ x. pointAt x (c .before .before .before .before .before .before .before .before .before .before .before .before .args .t)) _ _ (c .before .before .c7 .given .1) (c .before .before .before .before .row-at .ensures) ∙ under-same (λ x. pointAt x (c .before .before .before .before .before .before .before .before .before .before .before .before .args .t)) (λ b r. refl) _ _ (c .before .before .before .before .before .before .under-trims .ensures)
+
 pub +composite-at+point-at-spec : {M : Type 1} → statement M
 +composite-at+point-at-spec = close μ-composite-at μ-point-at (λ t. composite-at-lts.spec (composite-at-claims t) (composite-at-at t) composite-at.Post
     (composite-at-returns t)
@@ -139,6 +143,8 @@ pub +composite-at+point-at-spec : {M : Type 1} → statement M
     (λ c. search needs)
     (λ c. search needs)
     (point-at-composite-at-requires t)
+    (λ c. search needs)
+    (λ c κs. search needs)
     (point-at-returns t)
     (point-at-returns-2 t)
     (point-at-returns-3 t)
@@ -146,3 +152,4 @@ pub +composite-at+point-at-spec : {M : Type 1} → statement M
     (point-at-returns-5 t)
     (point-at-returns-6 t)
     (point-at-returns-7 t)
+    (point-at-returns-8 t)

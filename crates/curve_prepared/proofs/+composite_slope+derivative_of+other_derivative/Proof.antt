@@ -31,6 +31,7 @@ use Rattle.curve_parameter.proofs.under_trims.Reads as under-trims-reads
 use Rattle.curve_prepared.proofs.polyline_at.Reads as polyline-at-reads
 use Rattle.curve_prepared.proofs.prepare.Reads as prepare-reads
 use Rattle.curve_tangent.proofs.ellipse_derivative.Reads as ellipse-derivative-reads
+use Rattle.curve_tangent.proofs.hyperbola_derivative.Reads as hyperbola-derivative-reads
 use Rattle.curve_tangent.proofs.parabola_derivative.Reads as parabola-derivative-reads
 use Rattle.curve_tangent.proofs.signed_span.Reads as signed-span-reads
 use Rattle.math.proofs.Vec3.scale.Reads as scale-reads
@@ -95,7 +96,7 @@ abbrev composite-slope-claims : ℕ → composite-slope-lts.Claims
 composite-slope-claims t = (clamp-reads.Asked, clamp-reads.Learnt, index-in-reads.Asked, index-in-reads.Learnt, segment-at-reads.Asked, segment-at-reads.Learnt, own-parameter-reads.Asked, own-parameter-reads.Learnt, signed-span-reads.Asked, signed-span-reads.Learnt, prepare-reads.Asked, prepare-reads.Learnt, derivative-of-below t, derivative-of.Post, scale-reads.Asked, scale-reads.Learnt)
 
 abbrev derivative-of-claims : ℕ → derivative-of-lts.Claims
-derivative-of-claims t = (ellipse-derivative-reads.Asked, ellipse-derivative-reads.Learnt, parabola-derivative-reads.Asked, parabola-derivative-reads.Learnt, other-derivative-below t, other-derivative.Post)
+derivative-of-claims t = (ellipse-derivative-reads.Asked, ellipse-derivative-reads.Learnt, parabola-derivative-reads.Asked, parabola-derivative-reads.Learnt, hyperbola-derivative-reads.Asked, hyperbola-derivative-reads.Learnt, other-derivative-below t, other-derivative.Post)
 
 abbrev other-derivative-claims : ℕ → other-derivative-lts.Claims
 other-derivative-claims t = (under-trims-reads.Asked, under-trims-reads.Learnt, int-at-reads.Asked, int-at-reads.Learnt, polyline-at-reads.Asked, polyline-at-reads.Learnt, composite-slope-below t, composite-slope.Post)
@@ -113,7 +114,7 @@ unfolding derivativeAt polylineDerivative
 composite-slope-returns-3 t c = c .scale2 .ensures ∙ at-high (λ x. vScale (derivativeAt x (c .before .before .before .own-parameter .result)) (c .before .before .signed-span .result)) _ _ (c .before .if2 .left) ∙ derivative-some _ _ _ _ _ (c .before .before .before .before .before .before .before .before .before .before .if1 .left) _ (c .before .before .before .before .before .before .before .before .clamp .ensures) _ (c .before .before .before .before .before .before .before .index-in .ensures) _ (c .before .before .before .before .before .before .segment-at .ensures) _ (c .before .before .before .own-parameter .ensures) _ (c .before .before .signed-span .ensures)
 
 derivative-of-other-derivative-requires : (t : ℕ) → derivative-of-lts.Need-other-derivative-requires (derivative-of-claims t) (derivative-of-at t) derivative-of.Post
-derivative-of-other-derivative-requires t c κs = let e = sym (c .before .prepared4 .given .1) ∙ c .before .before .before .before .before .before .before .before .pre .1 in search needs
+derivative-of-other-derivative-requires t c κs = let e = sym (c .before .prepared5 .given .1) ∙ c .before .before .before .before .before .before .before .before .pre .1 in search needs
 
 derivative-of-returns : (t : ℕ) → derivative-of-lts.Need-returns (derivative-of-claims t) (derivative-of-at t) derivative-of.Post
 unfolding preparedDerivative
@@ -129,7 +130,11 @@ derivative-of-returns-3 t c = derivative-by _ _ (c .before .before .prepared3 .g
 
 derivative-of-returns-4 : (t : ℕ) → derivative-of-lts.Need-returns-4 (derivative-of-claims t) (derivative-of-at t) derivative-of.Post
 unfolding preparedDerivative
-derivative-of-returns-4 t c = derivative-by _ _ (c .before .before .prepared4 .given .1) (c .other-derivative .ensures)
+derivative-of-returns-4 t c = derivative-by _ _ (c .before .before .prepared4 .given .1) (c .hyperbola-derivative .ensures)
+
+derivative-of-returns-5 : (t : ℕ) → derivative-of-lts.Need-returns-5 (derivative-of-claims t) (derivative-of-at t) derivative-of.Post
+unfolding preparedDerivative
+derivative-of-returns-5 t c = derivative-by _ _ (c .before .before .prepared5 .given .1) (c .other-derivative .ensures)
 
 other-derivative-polyline-at-requires : (t : ℕ) → other-derivative-lts.Need-polyline-at-requires (other-derivative-claims t) (other-derivative-at t) other-derivative.Post
 unfolding preparedOf
@@ -174,11 +179,14 @@ pub +composite-slope+derivative-of+other-derivative-spec : {M : Type 1} → stat
     (λ c. search needs)
     (λ c κs. search needs)
     (λ c. search needs)
+    (λ c κs. search needs)
+    (λ c. search needs)
     (derivative-of-other-derivative-requires t)
     (derivative-of-returns t)
     (derivative-of-returns-2 t)
     (derivative-of-returns-3 t)
-    (derivative-of-returns-4 t))
+    (derivative-of-returns-4 t)
+    (derivative-of-returns-5 t))
     λ t. other-derivative-lts.spec (other-derivative-claims t) (other-derivative-at t) other-derivative.Post
     (λ c κs. search needs)
     (λ c. search needs)

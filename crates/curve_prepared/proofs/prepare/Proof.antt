@@ -1,9 +1,9 @@
 -- `curve_prepared::prepare` meets its contract. Assumes nothing.
-use Rattle.curve_prepared.specs.Own.Prepared.{roundOf, parabolaOf, preparedOf}
+use Rattle.curve_prepared.specs.Own.Prepared.{roundOf, parabolaOf, hyperbolaOf, preparedOf}
 use Rattle.curve_parameter.specs.Run.{closes}
 use Rattle.curve_prepared.specs.declared.Prepared.the-variants.{Other}
 use Rattle.curve_parameter.proofs.Under.{under-same, under-rest}
-use Rattle.brep.proofs.ByKind.{at-line, at-circle, at-ellipse, at-parabola, at-polyline, at-composite}
+use Rattle.brep.proofs.ByKind.{at-line, at-circle, at-ellipse, at-parabola, at-polyline, at-composite, at-hyperbola}
 use mathlib.Core.Path.{refl, ap, _∙_}
 use borrow.Author.Needs.{needs}
 use Rattle.curve_prepared.proofs.prepare.Statement.{statement}
@@ -34,8 +34,12 @@ unfolding preparedOf
 returns-6 c = at-composite preparedOf _ _ (c .before .before .int-at .ensures) (c .match .keys6) refl refl ∙ under-same preparedOf (λ b r. refl) _ _ (c .before .before .before .under-trims .ensures)
 
 returns-7 : tie.Need-returns-7
+unfolding preparedOf
+returns-7 c = c .hyperbola-of .ensures ∙ ap (λ f. hyperbolaOf f (c .before .before .before .float-at5 .result) (c .before .before .float-at6 .result)) (c .before .frame-at4 .ensures) ∙ at-hyperbola preparedOf _ _ (c .before .before .before .before .before .before .int-at .ensures) (c .before .before .before .before .match .keys7) (c .before .before .before .before .before .int-at2 .ensures) (c .before .before .before .float-at5 .ensures) (c .before .before .float-at6 .ensures) ∙ under-same preparedOf (λ b r. refl) _ _ (c .before .before .before .before .before .before .before .under-trims .ensures)
+
+returns-8 : tie.Need-returns-8
 unfolding preparedOf closes
-returns-7 c = under-rest preparedOf (λ b r. refl) _ _ (c .before .before .before .under-trims .ensures) (c .before .before .int-at .ensures) (c .match .rest)
+returns-8 c = under-rest preparedOf (λ b r. refl) _ _ (c .before .before .before .under-trims .ensures) (c .before .before .int-at .ensures) (c .match .rest)
 
 pub prepare-spec : {M : Type 1} → statement M
 prepare-spec =
@@ -70,10 +74,20 @@ prepare-spec =
     (λ c. search needs)
     (λ c κs. search needs)
     (λ c κs. search needs)
+    (λ c. search needs)
+    (λ c. search needs)
+    (λ c κs. search needs)
+    (λ c. search needs)
+    (λ c. search needs)
+    (λ c. search needs)
+    (λ c κs. search needs)
+    (λ c κs. search needs)
+    (λ c κs. search needs)
     returns
     returns-2
     returns-3
     returns-4
     returns-5
     returns-6
-    returns-7)
+    returns-7
+    returns-8)

@@ -25,6 +25,7 @@ use Rattle.curve_parameter.proofs.under_trims.Reads as under-trims-reads
 use Rattle.math.proofs.Frame.y_dir.Reads as y-dir-reads
 use Rattle.math.proofs.Vec3.scale.Reads as scale-reads
 use Rattle.curve_tangent.proofs.ellipse_derivative.Reads as ellipse-derivative-reads
+use Rattle.curve_tangent.proofs.hyperbola_derivative.Reads as hyperbola-derivative-reads
 use Rattle.curve_tangent.proofs.parabola_derivative.Reads as parabola-derivative-reads
 use Rattle.curve_tangent.proofs.polyline_derivative.Reads as polyline-derivative-reads
 use Rattle.curve_tangent.proofs.signed_span.Reads as signed-span-reads
@@ -70,7 +71,7 @@ abbrev composite-derivative-claims : ℕ → composite-derivative-lts.Claims
 composite-derivative-claims t = (clamp-reads.Asked, clamp-reads.Learnt, index-in-reads.Asked, index-in-reads.Learnt, segment-at-reads.Asked, segment-at-reads.Learnt, own-parameter-reads.Asked, own-parameter-reads.Learnt, signed-span-reads.Asked, signed-span-reads.Learnt, derivative-at-below t, derivative-at.Post, scale-reads.Asked, scale-reads.Learnt)
 
 abbrev derivative-at-claims : ℕ → derivative-at-lts.Claims
-derivative-at-claims t = (under-trims-reads.Asked, under-trims-reads.Learnt, row-at-reads.Asked, row-at-reads.Learnt, y-dir-reads.Asked, y-dir-reads.Learnt, ellipse-derivative-reads.Asked, ellipse-derivative-reads.Learnt, parabola-derivative-reads.Asked, parabola-derivative-reads.Learnt, polyline-derivative-reads.Asked, polyline-derivative-reads.Learnt, composite-derivative-below t, composite-derivative.Post)
+derivative-at-claims t = (under-trims-reads.Asked, under-trims-reads.Learnt, row-at-reads.Asked, row-at-reads.Learnt, y-dir-reads.Asked, y-dir-reads.Learnt, ellipse-derivative-reads.Asked, ellipse-derivative-reads.Learnt, parabola-derivative-reads.Asked, parabola-derivative-reads.Learnt, polyline-derivative-reads.Asked, polyline-derivative-reads.Learnt, composite-derivative-below t, composite-derivative.Post, hyperbola-derivative-reads.Asked, hyperbola-derivative-reads.Learnt)
 
 composite-derivative-returns : (t : ℕ) → composite-derivative-lts.Need-returns (composite-derivative-claims t) (composite-derivative-at t) composite-derivative.Post
 unfolding derivativeAt
@@ -114,6 +115,10 @@ derivative-at-returns-7 : (t : ℕ) → derivative-at-lts.Need-returns-7 (deriva
 unfolding derivativeAt grown
 derivative-at-returns-7 t c = c .composite-derivative .ensures ∙ derivative-row _ _ _ (c .before .before .before .before .before .under-trims .ensures) (c .before .before .before .before .row-at .ensures) (c .before .before .c6 .given .1)
 
+derivative-at-returns-8 : (t : ℕ) → derivative-at-lts.Need-returns-8 (derivative-at-claims t) (derivative-at-at t) derivative-at.Post
+unfolding derivativeAt grown
+derivative-at-returns-8 t c = rw (c .hyperbola-derivative .ensures, c .before .y-dir4 .ensures) (derivative-row _ _ _ (c .before .before .before .before .before .before .under-trims .ensures) (c .before .before .before .before .before .row-at .ensures) (c .before .before .before .c7 .given .1))
+
 pub +composite-derivative+derivative-at-spec : {M : Type 1} → statement M
 +composite-derivative+derivative-at-spec =
     close μ-composite-derivative μ-derivative-at (λ t. composite-derivative-lts.spec (composite-derivative-claims t) (composite-derivative-at t) composite-derivative.Post
@@ -149,6 +154,9 @@ pub +composite-derivative+derivative-at-spec : {M : Type 1} → statement M
     (λ c. search needs)
     (λ c. search needs)
     (derivative-at-composite-derivative-requires t)
+    (λ c. search needs)
+    (λ c κs. search needs)
+    (λ c κs. search needs)
     (derivative-at-returns t)
     (derivative-at-returns-2 t)
     (derivative-at-returns-3 t)
@@ -156,3 +164,4 @@ pub +composite-derivative+derivative-at-spec : {M : Type 1} → statement M
     (derivative-at-returns-5 t)
     (derivative-at-returns-6 t)
     (derivative-at-returns-7 t)
+    (derivative-at-returns-8 t)

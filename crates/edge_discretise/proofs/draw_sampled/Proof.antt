@@ -48,7 +48,7 @@ returns c =
     let st = c .before .before .before .before .before .before .before .before .before .before .before .before .before .before .before .before .before .before .before .before in
     let p = c .before .before .before .before .before .before .before .before .before .before .sample-params .ensures .0 in
     let e = c .before .before .before .before .enum-told .given .1 in
-    (into-over (tables-of st) (st .args .edge) (st .args .r) (st .args .range) (length (now (st .args .scratch))) (into-as (whole-length (lent-of st) (c .before .before .before .before .before .before .before .before .before .before .sample-params .last .1 .1 .1 .1 .1 .1 .1 .1 .1 .0) (now (st .args .chain)) (c .before .before .before .before .before .before .before .before .before .chain .given .0)) (into-none (sampling st) _ _ (c .before .before .before .before .before .before .before .before .before .before .sample-params .last .1 .1 .1 .1 .1 .1 .1 .1 .1 .0 ++ drop (lent-of st) (now (st .args .chain))) _ (p .0) e (c .before .before .clear-from .ensures))), none-listed _ (sampling st) _ (p .0) e (p .1))
+    (into-over (tables-of st) (st .args .edge) (st .args .r) (st .args .range) (length (now (st .args .scratch))) (st .pre .3) (into-as (whole-length (lent-of st) (c .before .before .before .before .before .before .before .before .before .before .sample-params .last .1 .1 .1 .1 .1 .1 .1 .1 .1 .0) (now (st .args .chain)) (c .before .before .before .before .before .before .before .before .before .chain .given .0)) (into-none (sampling st) _ _ (c .before .before .before .before .before .before .before .before .before .before .sample-params .last .1 .1 .1 .1 .1 .1 .1 .1 .1 .0 ++ drop (lent-of st) (now (st .args .chain))) _ (p .0) e (c .before .before .clear-from .ensures))), none-listed _ (sampling st) _ (p .0) e (p .1))
 
 slice-reshare-prefix-params : tie.Need-slice-reshare-prefix-params
 slice-reshare-prefix-params c = part-room (told (c .before))
@@ -85,7 +85,7 @@ returns-2 : tie.Need-returns-2
 returns-2 c =
     let s = told (c .before .before .before .before .before .before .before .before .before .before .before .before .before .before) in
     let st = c .before .before .before .before .before .before .before .before .before .before .before .before .before .before .before .before .before .before .before .before .before .before .before .before .before .before .before .before .before .before in (
-      into-as (whole-length (lent-of st) (c .before .before .before .before .before .before .before .before .before .before .before .before .before .before .before .before .before .before .before .before .sample-params .last .1 .1 .1 .1 .1 .1 .1 .1 .1 .0) (now (st .args .chain)) (c .before .before .before .before .before .before .before .before .before .before .before .before .before .before .before .before .before .before .before .chain .given .0)) (into-some (tables-of st) (st .args .edge) (st .args .r) (st .args .range) s (c .before .before .before .before .before .before .before .before .before .before .before .before .before .before .before .before .before .before .before .before .sample-params .last .1 .1 .1 .1 .1 .1 .1 .1 .1 .0 ++ drop (lent-of st) (now (st .args .chain))) _ (omega (arith, s .fits, st .pre .1, c .before .before .before .before .before .before .before .before .before .before .before .before .before .before .before .before .before .before .before .chain .given)) (c .before .before .before .before .before .before .before .before .before .before .place .ensures) _ _ (c .before .before .finish .ensures)),
+      into-as (whole-length (lent-of st) (c .before .before .before .before .before .before .before .before .before .before .before .before .before .before .before .before .before .before .before .before .sample-params .last .1 .1 .1 .1 .1 .1 .1 .1 .1 .0) (now (st .args .chain)) (c .before .before .before .before .before .before .before .before .before .before .before .before .before .before .before .before .before .before .before .chain .given .0)) (into-some (tables-of st) (st .args .edge) (st .args .r) (st .args .range) s (c .before .before .before .before .before .before .before .before .before .before .before .before .before .before .before .before .before .before .before .before .sample-params .last .1 .1 .1 .1 .1 .1 .1 .1 .1 .0 ++ drop (lent-of st) (now (st .args .chain))) _ (omega (arith, s .fits, st .pre .1, c .before .before .before .before .before .before .before .before .before .before .before .before .before .before .before .before .before .before .before .chain .given)) (c .before .before .before .before .before .before .before .before .before .before .place .ensures) (st .pre .3) _ _ (c .before .before .finish .ensures)),
       cleared-used s (c .before .before .before .before .before .before .clear-from2 .ensures),
     )
 

@@ -8,7 +8,8 @@ use lib.Ieee.{Float}
 use Rattle.base_lists.specs.Result.{Result, refused, got, bind}
 use Rattle.math.specs.declared.Interval.{Interval}
 use Rattle.edge_params.specs.declared.Closed.the-variants.{Unknown, Segments}
-use Rattle.edge_params.specs.Params.{Sampler, evenly, bisected}
+use Rattle.edge_params.specs.Params.{Sampler, evenly}
+use Rattle.edge_params.specs.Own.Bisected.{bisected}
 
 -- a list that fits the room; 8 where a parameter more than that would join it
 unfoldable pub fitting : ℕ → List Float → Result (List Float)

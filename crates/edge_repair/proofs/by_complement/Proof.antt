@@ -30,7 +30,7 @@ escapes-requires : tie.Need-escapes-requires
 escapes-requires c κs = omega (arith, chain-room (drawn-chain (c .before .before .before .before .before .before .before .before .before .redraw .ensures) _ (c .before .before .before .drawn2 .given .1) (c .before .before .before .before .before .before .second2 .given)))
 
 by-short-arc-requires-2 : tie.Need-by-short-arc-requires-2
-by-short-arc-requires-2 c κs = let p = c .before .before .before .before .before .before .before .before .before .before .before .before .before .before .before .before .before .before .before .before .before .before .before .before .before .before .pre in (omega (arith, p .0), omega (arith, p .1), p .2)
+by-short-arc-requires-2 c κs = let p = c .before .before .before .before .before .before .before .before .before .before .before .before .before .before .before .before .before .before .before .before .before .before .before .before .before .before .pre in (omega (arith, p .0), omega (arith, p .1), p .2, p .3)
 
 returns-2 : tie.Need-returns-2
 returns-2 c =

@@ -6,7 +6,7 @@ use Rattle.edge_repair.proofs.redraw.Statement.{statement}
 use Rattle.edge_repair.proofs.redraw.Tie as tie
 
 discretise-requires : tie.Need-discretise-requires
-discretise-requires c κs = let p = c .before .before .before .before .before .before .before .before .before .before .pre in (p .1, p .0, rw (c .before .before .with-range .ensures) (p .2))
+discretise-requires c κs = let p = c .before .before .before .before .before .before .before .before .before .before .pre in (p .1, p .0, rw (c .before .before .with-range .ensures) (p .2), p .3)
 
 returns : tie.Need-returns
 returns c =

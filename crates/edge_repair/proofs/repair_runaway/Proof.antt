@@ -22,7 +22,7 @@ returns c =
     let s = c .before .before .before .before .before .before .before .before .before .before in
     let a = s .args in
     kept-after _ (a .way) (a .n) (now (a .first)) (now (a .second))
-    (repaired-kept (tables-of s) (a .edge) (a .r) _ (chain-of s) (sym (c .before .stays .ensures) ∙ c .if1 .taken)) (s .pre .6) (s .pre .4) (s .pre .5)
+    (repaired-kept (tables-of s) (a .edge) (a .r) _ (chain-of s) (sym (c .before .stays .ensures) ∙ c .if1 .taken)) (s .pre .7) (s .pre .5) (s .pre .6)
 
 returns-2 : tie.Need-returns-2
 returns-2 c =

@@ -9,7 +9,7 @@ use borrow.Fn.PlainCycle.{Measures, is, falls, and}
 use Rattle.brep.specs.Tree.{CurveTree, tree}
 use Rattle.brep.specs.Rows.{lent}
 use Rattle.options.specs.declared.Resolved.{Resolved}
-use Rattle.edge_params.specs.Params.{subdivided}
+use Rattle.edge_params.specs.Own.Bisected.{subdivided}
 use Rattle.edge_subdivide.specs.Bisect.{endAt, withinBudget}
 use Rattle.edge_subdivide.specs.Own.Limits.{limitsOf}
 use Rattle.edge_subdivide.proofs.Laws.{none-deep, none-within, middle-own, halves}

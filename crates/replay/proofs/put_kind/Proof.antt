@@ -5,10 +5,10 @@ use Rattle.replay.proofs.put_kind.Statement.{statement}
 use Rattle.replay.proofs.put_kind.Tie as tie
 
 abbrev Inv-loop : tie.InvT-loop
-Inv-loop kind out₀ at words n₀ i₀ out n i = i ≤ 80
+Inv-loop kind out₀ at words n₀ i₀ out n i = i ≤ 90
 
 abbrev μ-loop : tie.MeasureT-loop
-μ-loop kind out₀ at words n₀ i₀ out n i = 80 - i
+μ-loop kind out₀ at words n₀ i₀ out n i = 90 - i
 
 pub put-kind-spec : {M : Type 1} → statement M
 put-kind-spec =

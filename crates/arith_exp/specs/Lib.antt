@@ -1,0 +1,3 @@
+pub mod Exp
+pub mod Claims
+pub mod Own

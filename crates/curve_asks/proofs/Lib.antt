@@ -1,0 +1,4 @@
+pub mod Laws
+pub mod Calm
+pub mod Never
+pub mod Left

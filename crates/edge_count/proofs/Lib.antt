@@ -1,0 +1,4 @@
+pub mod Counting
+pub mod Walking
+pub mod Thinning
+pub mod Laws
