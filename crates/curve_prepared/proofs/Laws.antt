@@ -13,14 +13,14 @@ use Rattle.brep.specs.declared.Curve.the-variants as rows
 use Rattle.brep.specs.Rows.{Tables, pointOf}
 use Rattle.brep.specs.Tree.{CurveTree, analytic, line, circle, ellipse, parabola, hyperbola, polyline, trimmed, composite, rowIn, grown, tree}
 use Rattle.brep.proofs.Laws.{at-row}
-use Rattle.brep.proofs.ByKind.{rowKind, rowFirst, number, at-line, at-circle, at-ellipse, at-parabola, at-hyperbola}
+use Rattle.brep.proofs.ByKind.{rowKind, rowFirst, number, at-line, at-circle, at-ellipse, at-parabola}
 use Rattle.curve_parameter.specs.Own.Under.{under}
 use Rattle.curve_parameter.specs.Run.{closes}
 use Rattle.curve_parameter.proofs.Under.{under-same, under-rest, empty-trim}
 use Rattle.curve_point.specs.Point as curves
 use Rattle.curve_tangent.specs.Derivative as derivatives
 use Rattle.curve_prepared.specs.declared.Prepared.{Prepared}
-use Rattle.curve_prepared.specs.declared.Prepared.the-variants.{Line, Round, Parabola, Hyperbola, Other}
+use Rattle.curve_prepared.specs.declared.Prepared.the-variants.{Line, Round, Parabola, Other}
 use Rattle.curve_prepared.specs.Own.Prepared.{preparedOf, lineOnly, isPlain, plainPoint, preparedPoint, preparedDerivative}
 
 -- of a curve c that has the points of b, which is c with trims taken off
@@ -30,7 +30,7 @@ points-of (analytic (line o d)) c t e = refl
 points-of (analytic (circle f r)) c t e = refl
 points-of (analytic (ellipse f a b)) c t e = refl
 points-of (analytic (parabola f d)) c t e = refl
-points-of (analytic (hyperbola f a b)) c t e = refl
+points-of (analytic (hyperbola f a b)) c t e = e
 points-of (polyline ps) c t e = e
 points-of (trimmed base range) c t e = points-of base c t e
 points-of (composite ss) c t e = e
@@ -45,7 +45,7 @@ derivatives-of (analytic (line o d)) c t e = refl
 derivatives-of (analytic (circle f r)) c t e = refl
 derivatives-of (analytic (ellipse f a b)) c t e = refl
 derivatives-of (analytic (parabola f d)) c t e = refl
-derivatives-of (analytic (hyperbola f a b)) c t e = refl
+derivatives-of (analytic (hyperbola f a b)) c t e = e
 derivatives-of (polyline ps) c t e = e
 derivatives-of (trimmed base range) c t e = derivatives-of base c t e
 derivatives-of (composite ss) c t e = e
@@ -70,7 +70,6 @@ unfolding isPlain plainPoint preparedPoint
 plain-is (Line o d) c t h = refl
 plain-is (Round o x y a b) c t h = refl
 plain-is (Parabola o x y d) c t h = refl
-plain-is (Hyperbola o x y a b) c t h = refl
 plain-is (Other closed) c t h = absurd (false≢true h)
 
 pub plain-point : (c : CurveTree) (t : Float) {prepared : Prepared} → preparedOf c ≡ prepared → isPlain prepared ≡ true → {p : Vec3} → p ≡ plainPoint prepared t → p ≡ curves.pointAt c t
@@ -89,21 +88,20 @@ pub known-closed : {closed : Bool} (points : List Vec3) → Other closed ≡ pre
 unfolding preparedOf
 known-closed points e = cc
 
--- a row that was left to be looked up, and is neither a polyline nor a composite under its trims, has no points, and zero as its derivative
+-- a row that was left to be looked up, and is no polyline, composite or hyperbola under its trims, has no points, and zero as its derivative
 module _ (T : Tables) (row : ℕ) {r kind : ℕ} (u : r ≡ under (T .curves) row) (k : kind ≡ rowKind T r) {closed : Bool} (o : Other closed ≡ preparedOf (tree T row)) where
   not-plain : {p : Prepared} → p ≡ preparedOf (tree T r) → isPlain p ≡ true → ⊥
   unfolding preparedOf isPlain
   not-plain e h = false≢true (ap isPlain (o ∙ sym (e ∙ under-same preparedOf (λ b i. refl) T row u)) ∙ h)
 
-  pub no-slope : (Unit {0} × (kind ≡ 5 → ⊥)) × (kind ≡ 7 → ⊥) → (t : Float) → vZero ≡ derivatives.derivativeAt (tree T row) t
+  pub no-slope : ((Unit {0} × (kind ≡ 5 → ⊥)) × (kind ≡ 7 → ⊥)) × (kind ≡ 8 → ⊥) → (t : Float) → vZero ≡ derivatives.derivativeAt (tree T row) t
   unfolding preparedOf isPlain derivatives.derivativeAt derivatives.polylineDerivative
   no-slope n t =
       let one : kind ≡ 1 → ⊥ = λ e. not-plain (at-line preparedOf T r k e refl) refl in
       let two : kind ≡ 2 → ⊥ = λ e. not-plain (at-circle preparedOf T r k e refl refl) refl in
       let three : kind ≡ 3 → ⊥ = λ e. not-plain (at-ellipse preparedOf T r k e refl refl refl) refl in
       let four : kind ≡ 4 → ⊥ = λ e. not-plain (at-parabola preparedOf T r k e refl refl) refl in
-      let eight : kind ≡ 8 → ⊥ = λ e. not-plain (at-hyperbola preparedOf T r k e refl refl refl) refl in
-      under-rest (λ (c : CurveTree). derivatives.derivativeAt c t) (λ b i. refl) T row u k (((((((tt, one), two), three), four), n .0 .1), n .1), eight)
+      under-rest (λ (c : CurveTree). derivatives.derivativeAt c t) (λ b i. refl) T row u k (((((((tt, one), two), three), four), n .0 .0 .1), n .0 .1), n .1)
 
 -- ---- a line under trims: the row that the trims of a row lead down to, by its kind's number
 abbrev lineOf : CurveTree → Prepared
@@ -150,5 +148,4 @@ unfolding lineOnly
 told-line (Line p q) e = e
 told-line (Round p x y a b) e = let z : _≡_ {A = ℕ} 0 1 = cc in absurd (omega arith)
 told-line (Parabola p x y a) e = let z : _≡_ {A = ℕ} 0 1 = cc in absurd (omega arith)
-told-line (Hyperbola p x y a b) e = let z : _≡_ {A = ℕ} 0 1 = cc in absurd (omega arith)
 told-line (Other closed) e = let z : _≡_ {A = ℕ} 0 1 = cc in absurd (omega arith)

@@ -6,7 +6,6 @@ ghost use mathlib.Core.List.{List};
 ghost use Prim.Native.Nat.{ℕ, _+_};
 ghost use lib.Ieee.{Float};
 ghost use Rattle.arith_trig.specs.Trig.{sinOf, cosOf};
-ghost use Rattle.arith_exp.specs.Exp.{coshOf, sinhOf};
 ghost use Rattle.brep.specs.Rows.{tables, lent, given, pointOf};
 ghost use Rattle.brep.specs.Own.RunOf.{runOf};
 ghost use Rattle.brep.specs.Tree.{tree, run};
@@ -14,7 +13,7 @@ ghost use Rattle.curve_parameter.specs.Run.{closes, polylineParameter};
 ghost use Rattle.curve_point.specs.Point.{polylinePoint, axesPoint, parabolaPoint, pointAt};
 ghost use Rattle.curve_tangent.specs.Derivative.{polylineDerivative, derivativeAt};
 ghost use Rattle.curve_prepared.specs.declared.Prepared.the-variants.{Line, Other};
-ghost use Rattle.curve_prepared.specs.Own.Prepared.{roundOf, parabolaOf, hyperbolaOf, preparedOf, lineOnly, plainPoint, preparedPoint, preparedDerivative};
+ghost use Rattle.curve_prepared.specs.Own.Prepared.{roundOf, parabolaOf, preparedOf, lineOnly, hyperbolaSlope, plainPoint, preparedPoint, preparedDerivative};
 
 // Axes are as they are: nothing is normalised. A circle is round with equal axes.
 pub enum Prepared {
@@ -35,14 +34,9 @@ pub enum Prepared {
         y: Vec3,
         focal_dist: f64,
     },
-    Hyperbola {
-        origin: Vec3,
-        x: Vec3,
-        y: Vec3,
-        major: f64,
-        minor: f64,
-    },
-    // A polyline or a composite, whose row is looked up at each point. Whether a polyline is closed is worked out once.
+    // A polyline, a composite or a hyperbola, whose row is looked up at each point. Whether a polyline is closed is worked out once. (A
+    // hyperbola of its own here would cost every other curve: the function that takes a point apart by these cases is then no longer
+    // read in place where many points are wanted.)
     Other {
         closed: bool,
     },
@@ -74,21 +68,6 @@ fn parabola_of(frame: Frame, focal_dist: f64) -> Prepared
         x,
         y,
         focal_dist,
-    }
-}
-
-fn hyperbola_of(frame: Frame, major: f64, minor: f64) -> Prepared
-    ensures { λ r. ⌜ r ≡ hyperbolaOf frame major minor ⌝ }
-{
-    let origin = frame.origin;
-    let x = frame.ref_dir;
-    let y = frame.y_dir();
-    Prepared::Hyperbola {
-        origin,
-        x,
-        y,
-        major,
-        minor,
     }
 }
 
@@ -150,11 +129,7 @@ pub fn prepare(
             Prepared::Other { closed }
         }
         7 => Prepared::Other { closed: false },
-        8 => {
-            let p = brep::float_at(reals, r as usize * 2);
-            let q = brep::float_at(reals, r as usize * 2 + 1);
-            hyperbola_of(brep::frame_at(points, first), p, q)
-        }
+        8 => Prepared::Other { closed: false },
         _ => Prepared::Other { closed: false },
     }
 }
@@ -174,15 +149,6 @@ fn parabola_point(origin: Vec3, x: Vec3, y: Vec3, focal_dist: f64, t: f64) -> Ve
     origin
         .add(x.scale(focal_dist * t * t))
         .add(y.scale(2.0 * focal_dist * t))
-}
-
-fn hyperbola_point(origin: Vec3, x: Vec3, y: Vec3, major: f64, minor: f64, t: f64) -> Vec3
-    ensures { λ r. ⌜ r ≡ axesPoint origin x y major minor (coshOf t) (sinhOf t) ⌝ }
-{
-    let h = arith_exp::cosh_sinh(t);
-    origin
-        .add(x.scale(major * h.cosh))
-        .add(y.scale(minor * h.sinh))
 }
 
 // A polyline's own parameter: a closed one wraps t, an open one clamps it.
@@ -229,7 +195,7 @@ fn polyline_at(points: &[f64], first: u32, count: u32, closed: bool, t: f64) -> 
     Spot { point, slope }
 }
 
-// The point at t of a polyline or a composite. A polyline's row is read as far as it is needed.
+// The point at t of a polyline, a composite or a hyperbola. A polyline's row is read as far as it is needed.
 fn other_point(
     points: &[f64],
     curves: &[u32],
@@ -276,13 +242,6 @@ pub fn plain_point(prepared: Prepared, t: f64) -> Vec3
             y,
             focal_dist,
         } => parabola_point(origin, x, y, focal_dist, t),
-        Prepared::Hyperbola {
-            origin,
-            x,
-            y,
-            major,
-            minor,
-        } => hyperbola_point(origin, x, y, major, minor, t),
         Prepared::Other { closed: _ } => Vec3::ZERO,
     }
 }
@@ -307,7 +266,20 @@ pub fn point_of(
     other_point(points, curves, reals, parts, ranges, row, closed, t)
 }
 
-// The derivative at t of a polyline or a composite.
+// A hyperbola's derivative at t, of its row.
+fn hyperbola_slope(points: &[f64], curves: &[u32], reals: &[f64], row: u32, t: f64) -> Vec3
+    ensures { λ r. ⌜ r ≡ hyperbolaSlope (now (points .entry)) (now (curves .entry)) (now (reals .entry)) row t ⌝ }
+{
+    let first = brep::int_at(curves, row as usize * 3 + 1);
+    let frame = brep::frame_at(points, first);
+    let p = brep::float_at(reals, row as usize * 2);
+    let q = brep::float_at(reals, row as usize * 2 + 1);
+    let x = frame.ref_dir;
+    let y = frame.y_dir();
+    curve_tangent::hyperbola_derivative(x, y, p, q, t)
+}
+
+// The derivative at t of a polyline, a composite or a hyperbola.
 fn other_derivative(
     points: &[f64],
     curves: &[u32],
@@ -336,6 +308,7 @@ fn other_derivative(
             let count = brep::int_at(curves, at + 2);
             composite_slope(points, curves, reals, parts, ranges, r, first, count, t)
         }
+        8 => hyperbola_slope(points, curves, reals, r, t),
         // Of an unknown kind, or a trim whose base does not fall: no points.
         _ => Vec3::ZERO,
     }
@@ -405,13 +378,6 @@ pub fn derivative_of(
             y,
             focal_dist,
         } => curve_tangent::parabola_derivative(x, y, focal_dist, t),
-        Prepared::Hyperbola {
-            origin: _,
-            x,
-            y,
-            major,
-            minor,
-        } => curve_tangent::hyperbola_derivative(x, y, major, minor, t),
         Prepared::Other { closed } => {
             other_derivative(points, curves, reals, parts, ranges, row, closed, t)
         }

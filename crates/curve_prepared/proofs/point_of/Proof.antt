@@ -8,7 +8,7 @@ use native.Mathlib.Omega.{arith}
 use denote.Enum.Declared.{tagOf}
 use types.Run.{OneOf}
 use Rattle.curve_prepared.specs.declared.Prepared.{Prepared}
-use Rattle.curve_prepared.specs.declared.Prepared.the-variants.{Line, Round, Parabola, Hyperbola, Other}
+use Rattle.curve_prepared.specs.declared.Prepared.the-variants.{Line, Round, Parabola, Other}
 use Rattle.curve_prepared.specs.Own.Prepared.{isPlain, preparedPoint}
 use Rattle.curve_prepared.proofs.Prepared.{the-type}
 use Rattle.curve_prepared.proofs.Laws.{point-by, plain-is}
@@ -17,16 +17,15 @@ use Rattle.curve_prepared.proofs.point_of.Statement.{statement}
 use Rattle.curve_prepared.proofs.point_of.Tie as tie
 
 -- every variant but the last
-plain : (r : Prepared) → OneOf (0 ∷ 1 ∷ 2 ∷ 3 ∷ []) (tagOf the-type r) → isPlain r ≡ true
+plain : (r : Prepared) → OneOf (0 ∷ 1 ∷ 2 ∷ []) (tagOf the-type r) → isPlain r ≡ true
 unfolding isPlain
 plain (Line o d) h = refl
 plain (Round o x y a b) h = refl
 plain (Parabola o x y d) h = refl
-plain (Hyperbola o x y a b) h = refl
-plain (Other closed) h = absurd (omega (arith, below 4 h))
+plain (Other closed) h = absurd (omega (arith, below 3 h))
   where
-    below : (k : ℕ) → OneOf (0 ∷ 1 ∷ 2 ∷ 3 ∷ []) k → k < 4
-    below k w = ⊎-elim (λ e. omega arith) (⊎-elim (λ e. omega arith) (⊎-elim (λ e. omega arith) (λ e. omega arith))) w
+    below : (k : ℕ) → OneOf (0 ∷ 1 ∷ 2 ∷ []) k → k < 3
+    below k w = ⊎-elim (λ e. omega arith) (⊎-elim (λ e. omega arith) (λ e. omega arith)) w
 
 returns : tie.Need-returns
 returns c = c .plain-point .ensures ∙ plain-is _ _ _ (plain _ (c .before .match .keys2))

@@ -1,5 +1,5 @@
 -- `curve_prepared::prepare` meets its contract. Assumes nothing.
-use Rattle.curve_prepared.specs.Own.Prepared.{roundOf, parabolaOf, hyperbolaOf, preparedOf}
+use Rattle.curve_prepared.specs.Own.Prepared.{roundOf, parabolaOf, preparedOf}
 use Rattle.curve_parameter.specs.Run.{closes}
 use Rattle.curve_prepared.specs.declared.Prepared.the-variants.{Other}
 use Rattle.curve_parameter.proofs.Under.{under-same, under-rest}
@@ -35,7 +35,7 @@ returns-6 c = at-composite preparedOf _ _ (c .before .before .int-at .ensures) (
 
 returns-7 : tie.Need-returns-7
 unfolding preparedOf
-returns-7 c = c .hyperbola-of .ensures ∙ ap (λ f. hyperbolaOf f (c .before .before .before .float-at5 .result) (c .before .before .float-at6 .result)) (c .before .frame-at4 .ensures) ∙ at-hyperbola preparedOf _ _ (c .before .before .before .before .before .before .int-at .ensures) (c .before .before .before .before .match .keys7) (c .before .before .before .before .before .int-at2 .ensures) (c .before .before .before .float-at5 .ensures) (c .before .before .float-at6 .ensures) ∙ under-same preparedOf (λ b r. refl) _ _ (c .before .before .before .before .before .before .before .under-trims .ensures)
+returns-7 c = at-hyperbola preparedOf _ _ (c .before .before .int-at .ensures) (c .match .keys7) refl refl refl ∙ under-same preparedOf (λ b r. refl) _ _ (c .before .before .before .under-trims .ensures)
 
 returns-8 : tie.Need-returns-8
 unfolding preparedOf closes
@@ -72,15 +72,6 @@ prepare-spec =
     (λ c κs. search needs)
     (λ c κs. search needs)
     (λ c. search needs)
-    (λ c κs. search needs)
-    (λ c κs. search needs)
-    (λ c. search needs)
-    (λ c. search needs)
-    (λ c κs. search needs)
-    (λ c. search needs)
-    (λ c. search needs)
-    (λ c. search needs)
-    (λ c κs. search needs)
     (λ c κs. search needs)
     (λ c κs. search needs)
     returns
