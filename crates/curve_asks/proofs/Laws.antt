@@ -1,5 +1,5 @@
 -- What the code's proofs use: a row that is neither a hyperbola nor a composite under its trims, and a run of segments that is asked. Assumes nothing.
-use mathlib.Core.Path.{_≡_, refl, _∙_}
+use mathlib.Core.Path.{_≡_, refl, sym, _∙_}
 use mathlib.Core.Bool.{Bool, true, false}
 use mathlib.Core.List.{List, []}
 use Prim.Native.Nat.{ℕ, _+_, _-_, _<_, _≤_}
@@ -22,7 +22,7 @@ use Rattle.brep.proofs.ByKind.{rowKind, rowFirst, rowCount, number, at-composit
 use Rattle.curve_parameter.specs.Own.Under.{under}
 use Rattle.curve_parameter.specs.Run.{clampedTo, indexIn, ownParameter}
 use Rattle.curve_parameter.proofs.Laws.{of-composite}
-use Rattle.curve_parameter.proofs.Under.{under-same, empty-trim}
+use Rattle.curve_parameter.proofs.Under.{under-other, under-same, empty-trim}
 use Rattle.curve_nests.specs.Nests.{isComposite}
 use Rattle.curve_nests.proofs.Laws.{by-kind}
 use Rattle.curve_asks.specs.Asks.{asksFar, segmentAsksFar}
@@ -67,6 +67,11 @@ plain-far t = record {
   polylines = λ ps. refl;
   through = λ b r. refl;
 }
+
+-- a row that is plain by its number asks for nothing that is too far
+pub plain-near : (T : Tables) (row : ℕ) → rowKind T row < 6 → (t : Float) → asksFar (tree T row) t ≡ false
+plain-near T row h t =
+    sym (under-plain (plain-far t) T row (under-other (T .curves) row (λ k. omega arith)) refl (λ k. omega arith) (λ k. omega arith))
 
 module _ (T : Tables) (f : ℕ → CurveTree) (first n : ℕ) (t : Float) where
   pub far-none : n ≡ 0 → false ≡ asksFar (composite (segments T f first n)) t

@@ -3,7 +3,7 @@
 use curve_parameter::under_trims;
 use math::Interval;
 ghost use mathlib.Core.Path.{_≡_};
-ghost use mathlib.Core.Bool.{false, not};
+ghost use mathlib.Core.Bool.{true, false, not};
 ghost use mathlib.Core.List.{List};
 ghost use Prim.Native.Nat.{ℕ, _+_};
 ghost use lib.Dec.{eqb};
@@ -13,7 +13,7 @@ ghost use Rattle.brep.specs.Own.RunOf.{runOf};
 ghost use Rattle.brep.specs.Tree.{tree, below};
 ghost use Rattle.curve_nests.specs.Nests.{isComposite};
 ghost use Rattle.curve_asks.specs.Asks.{isFar, asksFar};
-ghost use Rattle.curve_asks.specs.Own.Risk.{inReach, isCalm, isHyperbola, someHyperbola, mayAsk};
+ghost use Rattle.curve_asks.specs.Own.Risk.{inReach, isCalm, isHyperbola, isPlain, someHyperbola, mayAsk};
 
 // Beyond 100 in magnitude. A NaN is not.
 fn is_far(t: f64) -> bool
@@ -143,6 +143,13 @@ fn run_may_ask(
         i += 1;
     }
     composite && some_hyperbola(curves)
+}
+
+// Whether a row is neither a trim, a composite nor a hyperbola, by its number alone: the commonest rows, which ask no hyperbola for anything.
+pub fn is_plain(curves: &[u32], row: u32) -> bool
+    ensures { λ r. ⌜ (r ≡ isPlain (now (curves .entry)) row) × ((points reals : List Float) (parts : List ℕ) (ranges : List Float) → r ≡ true → (t : Float) → asksFar (tree (tables points (now (curves .entry)) reals parts ranges) row) t ≡ false) ⌝ }
+{
+    brep::int_at(curves, row as usize * 3) < 6
 }
 
 // Whether the curve of a row may ask a hyperbola for a parameter that is too far, at some t. Where it may not, it does at none.

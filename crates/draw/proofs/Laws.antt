@@ -28,8 +28,8 @@ use Rattle.curve_prepared.specs.Own.Prepared.{preparedOf}
 use Rattle.curve_prepared.proofs.Laws.{through-line}
 use Rattle.curve_asks.specs.Asks.{asksFar}
 use Rattle.edge_params.specs.Params.{evenly}
-use Rattle.edge_params.specs.Work.{someFar, within}
-use Rattle.edge_params.proofs.Asks.{someFar-never, within-asking}
+use Rattle.edge_params.specs.Work.{Work, ends, andThen, someFar, asking, within}
+use Rattle.edge_params.proofs.Asks.{someFar-never, asking-clear}
 use Rattle.edge_params.proofs.Work.{within-then}
 use Rattle.edge_range.specs.declared.Usable.{Usable}
 use Rattle.edge_range.specs.declared.Usable.the-variants.{Range, Unusable}
@@ -48,11 +48,11 @@ use Rattle.draw_spec.specs.declared.Drawn.the-variants.{Refused, Chain}
 use Rattle.draw_spec.specs.Edge.{edgeCurve, edgeStart, edgeEnd, edgeExtent, placed, overRange, discretised}
 use Rattle.draw_spec.specs.Repair.{Got, by, stays, repaired}
 use Rattle.draw_spec.specs.Draw as draw
-use Rattle.draw_spec.specs.Draw.{firstWay, localOptions, probes, drawnRepaired, referenced, inBuffers, roomOf, tooShort, drawn, Outcome, inFirst, afterRefusal, firstAfter, secondAfter}
+use Rattle.draw_spec.specs.Draw.{firstWay, localOptions, probes, referenced, inBuffers, roomOf, tooShort, drawn, Outcome, inFirst, afterRefusal, firstAfter, secondAfter}
 use Rattle.draw_spec.specs.Own.Binary.{AllBinary64}
-use Rattle.draw_spec.proofs.Answers.{Answers, late-above, answers-got, answers-refused}
+use Rattle.draw_spec.proofs.Answers.{Answers, late-above, answers-asking, answers-got, answers-refused}
 use Rattle.draw_spec.proofs.Discretised.{Chained, Room, discretised-answers}
-use Rattle.draw_spec.proofs.Repaired.{drawn-repaired-answers, referenced-answers}
+use Rattle.draw_spec.proofs.Repaired.{referenced-answers}
 use Rattle.draw_spec.proofs.Sound.{Binary}
 use Rattle.draw_spec.proofs.Accepted.{given, by-tables, refused-so}
 use Rattle.draw_spec.proofs.ReadBack.{outcome}
@@ -60,7 +60,7 @@ use Rattle.edge_segment.specs.Own.Segment.{SegmentInto}
 use Rattle.edge_segment.proofs.Sag.{sag-above}
 use Rattle.edge_segment.proofs.Laws.{placed-size, placed-chord}
 use Rattle.edge_place.specs.Own.Place.{ofPoints, chordBetween}
-use Rattle.edge_discretise.specs.Own.Discretised.{DiscretisedInto}
+use Rattle.edge_discretise.specs.Own.Discretised.{probedDiscretised, DiscretisedInto}
 use Rattle.edge_repair.specs.Own.Redrawn.{DrawnInto}
 use Rattle.edge_repair.proofs.Ways.{repaired-kept}
 use Rattle.draw.specs.Own.Straight.{StraightInto}
@@ -107,40 +107,48 @@ pub room-answers : (t : Tables) (e : Edge) (r : Resolved) (first second : ℕ) �
     → Answers (roomOf first second) (λ (g : Got). Chained ⊥ t e (mergeFloor (e .tolerance) (r .sag)) (roomOf first second) (g .chain)) (referenced t e r)
 room-answers t e r first second p q = referenced-answers ⊥ t e (λ x. absurd x) (λ x. absurd x) (roomOf first second) (room-fine first second p q) r
 
+-- ---- the reference: discretise after the probes, then repair_runaway
+asking-then : {A B : Type 0} (far : Float → Bool) (ts : List Float) (w : Work A) (f : A → Work B) → asking far ts (andThen w f) ≡ andThen (asking far ts w) f
+unfolding asking
+asking-then {A} {B} far ts w f = go (someFar far ts)
+  where
+    go : (v : Bool) → _≡_ {A = Work B} (elim v [ true ↦ ends (refused 11) | false ↦ andThen w f ]) (andThen (elim v [ true ↦ ends (refused 11) | false ↦ w ]) f)
+    go true = refl
+    go false = refl
+
 -- ---- drawn_in, after discretise answered w and left f and s
 module _ (t : Tables) (e : Edge) (r : Resolved) (first second : List Float) (p : shortest ≤ length first) (q : shortest ≤ length second) where
   abbrev chain : Result (List Sample)
-  chain = within (roomOf (length first) (length second)) (discretised t e r)
+  chain = within (roomOf (length first) (length second)) (probedDiscretised true t e r)
 
   abbrev whole : Result Got
-  whole = within (roomOf (length first) (length second)) (drawnRepaired t e r)
+  whole = within (roomOf (length first) (length second)) (referenced t e r)
 
   abbrev way : Way
   way = firstWay (usableRange (edgeCurve t e) (e .range))
 
+  chain-answers : Answers (roomOf (length first) (length second)) (Chained ⊥ t e (mergeFloor (e .tolerance) (r .sag)) (roomOf (length first) (length second))) (probedDiscretised true t e r)
+  chain-answers = answers-asking (roomOf (length first) (length second)) (asksFar (edgeCurve t e)) (probes (usableRange (edgeCurve t e) (e .range))) (discretised t e r)
+      (discretised-answers ⊥ t e (λ x. absurd x) (λ x. absurd x) (roomOf (length first) (length second)) (room-fine (length first) (length second) p q) r)
+
   chain-late : (n : ℕ) → chain ≡ refused n → 7 < n
-  chain-late n h =
-      late-above
-      (answers-refused n (discretised-answers ⊥ t e (λ x. absurd x) (λ x. absurd x) (roomOf (length first) (length second)) (room-fine (length first) (length second) p q) r) h)
+  chain-late n h = late-above (answers-refused n chain-answers h)
 
   chain-fits : (l : List Sample) → chain ≡ got l → width * length l ≤ length first
-  chain-fits l h = room-least (length first) (length second) (length l)
-      (answers-got l
-      (discretised-answers ⊥ t e (λ x. absurd x) (λ x. absurd x) (roomOf (length first) (length second)) (room-fine (length first) (length second) p q) r)
-      h .fits)
+  chain-fits l h = room-least (length first) (length second) (length l) (answers-got l chain-answers h .fits)
 
   whole-late : (n : ℕ) → whole ≡ refused n → 7 < n
-  whole-late n h =
-      late-above
-      (answers-refused n (drawn-repaired-answers ⊥ t e (λ x. absurd x) (λ x. absurd x) (roomOf (length first) (length second)) (room-fine (length first) (length second) p q) r) h)
+  whole-late n h = late-above (answers-refused n (room-answers t e r (length first) (length second) p q) h)
 
   -- what follows the chain, by what discretise answered
   whole-by : (c : Result (List Sample)) → chain ≡ c → whole ≡ bind c (λ l. within (roomOf (length first) (length second)) (repaired t e r (by way l)))
+  unfolding referenced
   whole-by c h =
-      within-then (roomOf (length first) (length second)) (discretised t e r) (λ l. repaired t e r (by way l))
+      ap (within (roomOf (length first) (length second))) (asking-then (asksFar (edgeCurve t e)) (probes (usableRange (edgeCurve t e) (e .range))) (discretised t e r) (λ l. repaired t e r (by way l)))
+      ∙ within-then (roomOf (length first) (length second)) (probedDiscretised true t e r) (λ l. repaired t e r (by way l))
       ∙ ap (λ (x : Result (List Sample)). bind x (λ l. within (roomOf (length first) (length second)) (repaired t e r (by way l)))) h
 
-  module _ {w : Counted} {f s : List Float} (d : DiscretisedInto (discretised t e r) first second w f s) where
+  module _ {w : Counted} {f s : List Float} (d : DiscretisedInto (probedDiscretised true t e r) first second w f s) where
     -- it refused
     pub not-drawn : (n : ℕ) → w ≡ counted.Refused n → DrawnInto whole first second (Refused n) f s
     not-drawn n is = go chain refl
@@ -217,16 +225,22 @@ module _ (t : Tables) (e : Edge) (r : Resolved) (first second : List Float) (p :
 
 -- ---- draw_straight
 module _ (t : Tables) (e : Edge) (r : Resolved) (first second : List Float) (p : shortest ≤ length first) (q : shortest ≤ length second) (range : Interval)
-    (u : usableRange (edgeCurve t e) (e .range) ≡ Range range) where
+    (u : usableRange (edgeCurve t e) (e .range) ≡ Range range) (near : (x : Float) → asksFar (edgeCurve t e) x ≡ false) where
   over-usable : overRange t e r range ≡ discretised t e r
   unfolding discretised
   over-usable = rw (u, discretised)
+
+  -- and its probes ask for nothing that is too far
+  over-probed : overRange t e r range ≡ probedDiscretised true t e r
+  over-probed =
+      let ts = probes (usableRange (edgeCurve t e) (e .range)) in
+      over-usable ∙ sym (asking-clear (asksFar (edgeCurve t e)) ts (discretised t e r) (someFar-never (asksFar (edgeCurve t e)) near ts))
 
   -- one segment, which stays, is all of the drawing
   straight-whole : (l : List Sample) → within (roomOf (length first) (length second)) (overRange t e r range) ≡ got l → stays t e r l ≡ true → whole t e r first second p q ≡ got (by AsDrawn l)
   unfolding firstWay
   straight-whole l h k =
-      whole-by t e r first second p q (got l) (ap (within (roomOf (length first) (length second))) (sym over-usable) ∙ h)
+      whole-by t e r first second p q (got l) (ap (within (roomOf (length first) (length second))) (sym over-probed) ∙ h)
       ∙ repaired-kept t e r (roomOf (length first) (length second)) (by (firstWay (usableRange (edgeCurve t e) (e .range))) l) k
       ∙ ap (λ (v : Usable). got (by (firstWay v) l)) u
 
@@ -247,34 +261,15 @@ pub early : (n : ℕ) (first second : List Float) (d : Result Got) → n ≤ 7 �
 unfolding draw.answerOf firstAfter secondAfter
 early n first second d h q = record { answered = rw q; firstHolds = rw (q, le-leb n 7 h); secondHolds = rw (q, le-leb n 7 h) }
 
--- whether the extent's probes of a usable range that was worked out ask for a parameter that is too far
-pub probed : (t : Tables) (e : Edge) {u : Usable} {w : Bool} (v : Bool) → u ≡ usableRange (edgeCurve t e) (e .range) → w ≡ someFar (asksFar (edgeCurve t e)) (probes u) → w ≡ v
-    → someFar (asksFar (edgeCurve t e)) (probes (usableRange (edgeCurve t e) (e .range))) ≡ v
-probed t e v own is h = ap (λ (x : Usable). someFar (asksFar (edgeCurve t e)) (probes x)) (sym own) ∙ sym is ∙ h
-
 module _ (t : Tables) (e : Edge) (o : Options) (first second : List Float) where
   -- draw_unchecked
   pub too-short : tooShort (length first) (length second) ≡ true → DrawnInto (inBuffers t e o (length first) (length second)) first second (Refused 7) first second
   too-short h = early 7 first second _ (omega arith) (rw h)
 
-  -- by whether the extent's probes ask for a parameter that is too far
-  module _ (v : Bool) (h : tooShort (length first) (length second) ≡ false) (far : someFar (asksFar (edgeCurve t e)) (probes (usableRange (edgeCurve t e) (e .range))) ≡ v) where
-    in-room : inBuffers t e o (length first) (length second)
-        ≡ elim v [ true ↦ refused 11 | false ↦ within (roomOf (length first) (length second)) (drawnRepaired t e (localOptions t e o)) ]
-    unfolding referenced
-    in-room =
-        ap (λ (b : Bool). cond b (refused 7) (within (roomOf (length first) (length second)) (referenced t e (localOptions t e o)))) h
-        ∙ within-asking (asksFar (edgeCurve t e)) (probes (usableRange (edgeCurve t e) (e .range))) (drawnRepaired t e (localOptions t e o)) (roomOf (length first) (length second))
-        ∙ ap (λ (b : Bool). elim b [ true ↦ refused 11 | false ↦ within (roomOf (length first) (length second)) (drawnRepaired t e (localOptions t e o)) ]) far
-
-  pub in-buffers : tooShort (length first) (length second) ≡ false → someFar (asksFar (edgeCurve t e)) (probes (usableRange (edgeCurve t e) (e .range))) ≡ false → (r : Resolved) → r ≡ localOptions t e o
-      → (answer : Drawn) (f s : List Float) → DrawnInto (within (roomOf (length first) (length second)) (drawnRepaired t e r)) first second answer f s
+  pub in-buffers : tooShort (length first) (length second) ≡ false → (r : Resolved) → r ≡ localOptions t e o
+      → (answer : Drawn) (f s : List Float) → DrawnInto (within (roomOf (length first) (length second)) (referenced t e r)) first second answer f s
       → DrawnInto (inBuffers t e o (length first) (length second)) first second answer f s
-  in-buffers h far r is answer f s d = rw (in-room false h far, ← is) d
-
-  pub probed-far : tooShort (length first) (length second) ≡ false → someFar (asksFar (edgeCurve t e)) (probes (usableRange (edgeCurve t e) (e .range))) ≡ true
-      → {f s : List Float} → f ≡ filled (length first) [] → s ≡ filled (length second) [] → DrawnInto (inBuffers t e o (length first) (length second)) first second (Refused 11) f s
-  probed-far h far a b = rw (in-room true h far, a, b) (refused-left 11 first second (omega arith))
+  in-buffers h r is answer f s d = rw (h, ← is) d
 
   -- draw
   pub by-verdict : (n : ℕ) → verdict t e o ≡ verdicts.Refused n → DrawnInto (drawn t e o (length first) (length second)) first second (Refused n) first second
@@ -332,16 +327,16 @@ module _ (t : Tables) (e : Edge) (o : Options) (first second : List Float) (p : 
       let r = forExtent (resolve o) (edgeExtent t e) in
       record {
         chain = λ z.
-            in-buffers t e o first second (neither-short (length first) (length second) p q) (someFar-never (asksFar (edgeCurve t e)) line-near _) r refl _ f s
-            (straight-drawn t e r first second p q range u d h (own-stays r (k r (sag-above o (edgeExtent t e)))) c);
+            in-buffers t e o first second (neither-short (length first) (length second) p q) r refl _ f s
+            (straight-drawn t e r first second p q range u line-near d h (own-stays r (k r (sag-above o (edgeExtent t e)))) c);
         keptFirst = λ z. absurd (false≢true (sym z));
         keptSecond = λ z. absurd (false≢true (sym z));
       }
 
 -- the buffers as they were, and drawing went on from there
 pub drawn-from : (t : Tables) (e : Edge) (r : Resolved) {first second f s : List Float} → f ≡ first → s ≡ second → {answer : Drawn} {f' s' : List Float}
-    → DrawnInto (within (roomOf (length f) (length s)) (drawnRepaired t e r)) f s answer f' s'
-    → DrawnInto (within (roomOf (length first) (length second)) (drawnRepaired t e r)) first second answer f' s'
+    → DrawnInto (within (roomOf (length f) (length s)) (referenced t e r)) f s answer f' s'
+    → DrawnInto (within (roomOf (length first) (length second)) (referenced t e r)) first second answer f' s'
 drawn-from t e r {first} {second} {f} {s} h k {answer} {f'} {s'} d =
-    subst (λ (x : List Float). DrawnInto (within (roomOf (length x) (length second)) (drawnRepaired t e r)) x second answer f' s') h
-    (subst (λ (y : List Float). DrawnInto (within (roomOf (length f) (length y)) (drawnRepaired t e r)) f y answer f' s') k d)
+    subst (λ (x : List Float). DrawnInto (within (roomOf (length x) (length second)) (referenced t e r)) x second answer f' s') h
+    (subst (λ (y : List Float). DrawnInto (within (roomOf (length f) (length y)) (referenced t e r)) f y answer f' s') k d)

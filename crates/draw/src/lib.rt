@@ -23,7 +23,7 @@ ghost use Rattle.knots.specs.Knots.{curveKnots};
 ghost use Rattle.edge_params.specs.Work.{within};
 ghost use Rattle.edge_record.specs.Chain.{shortest};
 ghost use Rattle.edge_range.specs.Usable.{usableRange};
-ghost use Rattle.draw_spec.specs.Draw.{firstWay, localOptions, drawnRepaired, inBuffers, roomOf, Outcome};
+ghost use Rattle.draw_spec.specs.Draw.{firstWay, localOptions, referenced, inBuffers, roomOf, Outcome};
 ghost use Rattle.draw_spec.specs.Own.Binary.{AllBinary64};
 ghost use Rattle.edge_repair.specs.Own.Redrawn.{DrawnInto};
 ghost use Rattle.draw.specs.Own.Straight.{StraightInto};
@@ -75,7 +75,7 @@ fn local_options(
         let extent = edge_extent::extent_usable(points, curves, reals, parts, ranges, edge, usable);
         return r.for_extent(extent);
     }
-    // No extent changes these, so that none is worked out. (What its probes may not ask for has been looked at before.)
+    // No extent changes these, so that none is worked out. (What its probes may not ask for is looked at before the edge is discretised.)
     r
 }
 
@@ -115,7 +115,7 @@ fn draw_straight(
     false
 }
 
-// The closure inside discretise_all: discretise, then repair_runaway.
+// The closure inside discretise_all: the probes, discretise, then repair_runaway.
 fn drawn_in(
     points: &[f64],
     curves: &[u32],
@@ -130,7 +130,7 @@ fn drawn_in(
 ) -> Drawn
     requires { ⌜ (shortest ≤ length (now first)) × (shortest ≤ length (now second)) × (length (curveKnots (tree (lent points curves reals parts ranges) (edge .curve))) ≤ mostKnots)
         × (0 < r .depth) × (usable ≡ usableRange (tree (lent points curves reals parts ranges) (edge .curve)) (edge .range)) ⌝ }
-    ensures { λ w. ⌜ DrawnInto (within (roomOf (length (now (first .entry))) (length (now (second .entry)))) (drawnRepaired (given points curves reals parts ranges) edge r)) (now (first .entry)) (now (second .entry)) w (now (first .exit)) (now (second .exit)) ⌝ }
+    ensures { λ w. ⌜ DrawnInto (within (roomOf (length (now (first .entry))) (length (now (second .entry)))) (referenced (given points curves reals parts ranges) edge r)) (now (first .entry)) (now (second .entry)) w (now (first .exit)) (now (second .exit)) ⌝ }
 {
     let counted = edge_discretise::discretise_usable(
         points,
@@ -140,6 +140,7 @@ fn drawn_in(
         ranges,
         edge,
         usable,
+        true,
         r,
         first,
         second,
@@ -194,11 +195,6 @@ fn draw_unchecked(
     );
     if draw_straight(points, curves, edge, usable, options, first, second) {
         return Drawn::Chain(Way::AsDrawn, 2);
-    }
-    if edge_asks::probes_far(curves, parts, ranges, edge.curve, usable) {
-        base_lists::clear_from(first, 0);
-        base_lists::clear_from(second, 0);
-        return Drawn::Refused(11);
     }
     let r = local_options(points, curves, reals, parts, ranges, edge, usable, options);
     drawn_in(

@@ -1,6 +1,5 @@
 // What drawing would ask a curve for, told before it is asked: whether some of it is too far, and whether refusal 8 or 11 comes first. Where
 // a look at the rows says that no hyperbola can be asked for a parameter that is too far, nothing is gone through.
-use edge_range::Usable;
 use edge_record::Counted;
 use math::Interval;
 use options::Resolved;
@@ -20,13 +19,13 @@ ghost use Rattle.knots.specs.Knots.{curveKnots};
 ghost use Rattle.edge_params.specs.Work.{someFar, within};
 ghost use Rattle.edge_params.specs.Params.{evenly};
 ghost use Rattle.edge_params.specs.declared.Closed.the-variants.{Unknown};
+ghost use Rattle.edge_range.specs.declared.Usable.the-variants.{Range};
 ghost use Rattle.edge_range.specs.Usable.{analyticSegments};
 ghost use Rattle.edge_record.specs.Chain.{most};
 ghost use Rattle.edge_sample.specs.Own.Answered.{sampledIn};
 ghost use Rattle.draw_spec.specs.Edge.{listed};
 ghost use Rattle.draw_spec.specs.Repair.{sweep};
-ghost use Rattle.draw_spec.specs.Draw.{probes};
-ghost use Rattle.edge_asks.specs.Own.Told.{toldOf};
+ghost use Rattle.edge_asks.specs.Own.Told.{askedFirst, toldOf, Telling};
 
 // What is told of a range: nothing is too far, and it can be sampled as if nothing could be; or the refusal that comes first.
 pub enum Told {
@@ -72,14 +71,18 @@ fn evenly_far(
         && steps_far(curves, parts, ranges, row, range, n)
 }
 
-// Whether one of the extent's nine probes is too far. They are asked for whether or not the options use the extent.
-pub fn probes_far(curves: &[u32], parts: &[u32], ranges: &[f64], row: u32, usable: Usable) -> bool
-    ensures { λ w. ⌜ ((points reals : List Float) → w ≡ someFar (asksFar (tree (tables points (now (curves .entry)) reals (now (parts .entry)) (now (ranges .entry))) row)) (probes usable)) ⌝ }
+// Whether a range is probed and one of edge_extent's nine probes is too far. They are asked for whether or not the options use the extent.
+fn probes_far(
+    curves: &[u32],
+    parts: &[u32],
+    ranges: &[f64],
+    row: u32,
+    range: Interval,
+    probed: bool,
+) -> bool
+    ensures { λ w. ⌜ ((points reals : List Float) → w ≡ someFar (asksFar (tree (tables points (now (curves .entry)) reals (now (parts .entry)) (now (ranges .entry))) row)) (askedFirst probed (Range range))) ⌝ }
 {
-    match usable {
-        Usable::Range(range) => evenly_far(curves, parts, ranges, row, range, 8),
-        Usable::Unusable => false,
-    }
+    probed && steps_far(curves, parts, ranges, row, range, 8)
 }
 
 // Whether one of the 513 parameters at which repair looks for the vertices is too far.
@@ -164,8 +167,8 @@ fn tell_by_count(
     }
 }
 
-// What sampling a range in a room comes to, as far as what may not be asked goes: `Clear` where the list is the one that sampling makes
-// without looking, or the refusal that comes first.
+// What sampling a range in a room comes to, as far as what may not be asked goes, where the range was probed before or not: `Clear` where the list
+// is the one that sampling makes without looking, or the refusal that comes first.
 pub fn tell(
     points: &[f64],
     curves: &[u32],
@@ -174,14 +177,22 @@ pub fn tell(
     ranges: &[f64],
     row: u32,
     range: Interval,
+    probed: bool,
     r: Resolved,
     room: usize,
 ) -> Told
     requires { ⌜ (length (curveKnots (tree (lent points curves reals parts ranges) row)) ≤ mostKnots) × (0 < r .depth) × (room ≤ most) ⌝ }
-    ensures { λ w. ⌜ within room (listed (tree (given points curves reals parts ranges) row) range r) ≡ toldOf w (sampledIn room (tree (given points curves reals parts ranges) row) range r) ⌝ }
+    ensures { λ w. ⌜ Telling room (tree (given points curves reals parts ranges) row) range r (askedFirst probed (Range range)) w ⌝ }
 {
+    // Most rows are told by their number, in place.
+    if curve_asks::is_plain(curves, row) {
+        return Told::Clear;
+    }
     if !curve_asks::may_ask(curves, parts, ranges, row) {
         return Told::Clear;
+    }
+    if probes_far(curves, parts, ranges, row, range, probed) {
+        return Told::Refused(11);
     }
     if is_near_hyperbola(curves, row, range) {
         // A list has a segment at least, so that a floor of one changes nothing.

@@ -1,6 +1,6 @@
 -- The ways through `draw_sampled`, `draw_range` and `discretise_usable`. Assumes nothing.
-use mathlib.Core.Path.{_≡_, refl, sym, ap, _∙_}
-use mathlib.Core.Bool.{Bool, true}
+use mathlib.Core.Path.{_≡_, refl, sym, ap, subst, _∙_}
+use mathlib.Core.Bool.{Bool, true, false}
 use mathlib.Core.List.{List, [], _∷_, _++_}
 use Prim.Native.Nat.{ℕ, _+_, _-_, _*_, _≤_}
 use native.Mathlib.Omega.{arith}
@@ -17,7 +17,9 @@ use Rattle.brep.specs.Tree.{CurveTree}
 use Rattle.options.specs.declared.Resolved.{Resolved}
 use Rattle.edge_params.specs.declared.Listed.{Listed}
 use Rattle.edge_params.specs.declared.Listed.the-variants as counts
-use Rattle.edge_params.specs.Work.{overflows, within}
+use Rattle.curve_asks.specs.Asks.{asksFar}
+use Rattle.edge_params.specs.Work.{Work, someFar, asking, overflows, within}
+use Rattle.edge_params.proofs.Asks.{someFar-none, asking-clear, within-asking}
 use Rattle.edge_params.specs.Own.Written.{said}
 use Rattle.edge_record.specs.declared.Sample.{Sample}
 use Rattle.edge_record.specs.declared.Counted.{Counted}
@@ -35,14 +37,14 @@ use Rattle.edge_sample.proofs.Laws.{sampled-two, sampled-room}
 use Rattle.edge_sample.proofs.Ways.{reads-held}
 use Rattle.edge_closed_form.specs.Located.{located}
 use Rattle.draw_spec.specs.Edge.{edgeCurve, chordOf, placed, thinnedMerged, finished, listed, overRange, discretised}
-use Rattle.draw_spec.specs.Draw.{roomOf}
+use Rattle.draw_spec.specs.Draw.{probes, roomOf}
 use Rattle.draw_spec.proofs.Listed.{over-within}
 use Rattle.edge_asks.specs.declared.Told.{Told}
 use Rattle.edge_asks.specs.declared.Told.the-variants as asks
-use Rattle.edge_asks.specs.Own.Told.{toldOf}
+use Rattle.edge_asks.specs.Own.Told.{askedFirst, Telling}
 use Rattle.edge_place.proofs.Records.{read-back}
 use Rattle.edge_place.proofs.Laws.{placed-length}
-use Rattle.edge_discretise.specs.Own.Discretised.{ChainInto}
+use Rattle.edge_discretise.specs.Own.Discretised.{ChainInto, probedDiscretised, DiscretisedInto}
 
 into-is : (n m : ℕ) (D E : Result (List Sample)) {w : Counted} {g : List Float} → n ≡ m → D ≡ E → ChainInto n D w g → ChainInto m E w g
 into-is n m D E k e p = record {
@@ -150,18 +152,31 @@ none-listed room (refused n) w a e h = h
 none-listed room (got l) w a e h = let q : refused 8 ≡ got (length l) = ap said (sym e) ∙ a in let z : _≡_ {A = ℕ} 0 1 = cc in absurd (omega arith)
 
 -- ---- `draw_range`
--- by what is told of the range: the refusal that comes first, or that nothing asked for is too far
-module _ (T : Tables) (e : Edge) (r : Resolved) (range : Interval) (room : ℕ) (w : Told)
-    (own : within room (listed (edgeCurve T e) range r) ≡ toldOf w (sampledIn room (edgeCurve T e) range r)) where
-  pub told-clear : w ≡ asks.Clear → within room (listed (edgeCurve T e) range r) ≡ sampledIn room (edgeCurve T e) range r
-  told-clear q = own ∙ ap (λ (v : Told). toldOf v (sampledIn room (edgeCurve T e) range r)) q
+-- by what is told of the range, after some parameters were asked for: the refusal that comes first, or that nothing asked for is too far
+module _ (T : Tables) (e : Edge) (r : Resolved) (range : Interval) (room : ℕ) (before : List Float) (w : Told) (own : Telling room (edgeCurve T e) range r before w) where
+  abbrev far : Float → Bool
+  far = asksFar (edgeCurve T e)
 
-  pub into-told : (n k : ℕ) (g : List Float) → w ≡ asks.Refused n → g ≡ filled k [] → ChainInto k (within room (overRange T e r range)) (Refused n) g
+  abbrev asked : Work (List Sample)
+  asked = asking far before (overRange T e r range)
+
+  over-asked : within room asked ≡ bind (within room (asking far before (listed (edgeCurve T e) range r))) (finished T e r)
+  over-asked =
+      within-asking far before (overRange T e r range) room ∙ go (someFar far before)
+      ∙ sym (ap (λ (x : Result (List Float)). bind x (finished T e r)) (within-asking far before (listed (edgeCurve T e) range r) room))
+    where
+      go : (v : Bool) → elim v [ true ↦ refused 11 | false ↦ within room (overRange T e r range) ]
+          ≡ bind (elim v [ true ↦ refused 11 | false ↦ within room (listed (edgeCurve T e) range r) ]) (finished T e r)
+      go true = refl
+      go false = over-within T e r range room
+
+  pub into-clear : {k : ℕ} {a : Counted} {g : List Float} → w ≡ asks.Clear → ChainInto k (within room (overRange T e r range)) a g → ChainInto k (within room asked) a g
+  into-clear {k} q = into-is k k _ _ refl (sym (ap (within room) (asking-clear far before (overRange T e r range) (own .clear q .0))))
+
+  pub into-told : (n k : ℕ) (g : List Float) → w ≡ asks.Refused n → g ≡ filled k [] → ChainInto k (within room asked) (Refused n) g
   unfolding flat
   into-told n k g q h =
-      let x : within room (overRange T e r range) ≡ refused n =
-      over-within T e r range room
-      ∙ ap (λ (x : Result (List Float)). bind x (finished T e r)) (own ∙ ap (λ (v : Told). toldOf v (sampledIn room (edgeCurve T e) range r)) q) in
+      let x : within room asked ≡ refused n = over-asked ∙ ap (λ (x : Result (List Float)). bind x (finished T e r)) (own .refuses n q) in
       into-is k k (refused n) _ refl (sym x) (record { answered = refl; holds = h })
 
 -- ---- `discretise_usable`
@@ -202,13 +217,40 @@ cleared-whole n left scratch h l q =
     ∙ ap (filled (length scratch)) (take-at left (drop n scratch) n m ∙ clear)
     ∙ filled-twice (length scratch) n h
 
-module _ (room : ℕ) (T : Tables) (e : Edge) (r : Resolved) (k : ℕ) {w : Counted} {g : List Float} (u : Usable) (own : u ≡ usableRange (edgeCurve T e) (e .range)) where
-  pub into-range : (range : Interval) (j : ℕ) → u ≡ Range range → j ≡ room → ChainInto k (within j (overRange T e r range)) w g → ChainInto k (within room (discretised T e r)) w g
+-- an edge that is not probed is discretised, and no more
+pub unprobed : (T : Tables) (e : Edge) (r : Resolved) {chain scratch : List Float} {w : Counted} {f g : List Float}
+    → DiscretisedInto (probedDiscretised false T e r) chain scratch w f g → DiscretisedInto (discretised T e r) chain scratch w f g
+unprobed T e r {chain} {scratch} {w} {f} {g} =
+    let far = asksFar (edgeCurve T e) in
+    subst (λ (D : Work (List Sample)). DiscretisedInto D chain scratch w f g) (asking-clear far [] (discretised T e r) (someFar-none far))
+
+-- what has no range is not probed
+nothing-first : (far : Float → Bool) (probed : Bool) → someFar far (askedFirst probed Unusable) ≡ false
+unfolding probes
+nothing-first far true = someFar-none far
+nothing-first far false = someFar-none far
+
+module _ (room : ℕ) (T : Tables) (e : Edge) (probed : Bool) (r : Resolved) (k : ℕ) {w : Counted} {g : List Float} (u : Usable) (own : u ≡ usableRange (edgeCurve T e) (e .range)) where
+  pub into-range : (range : Interval) (j : ℕ) → u ≡ Range range → j ≡ room → ChainInto k (within j (asking (asksFar (edgeCurve T e)) (askedFirst probed (Range range)) (overRange T e r range))) w g
+      → ChainInto k (within room (probedDiscretised probed T e r)) w g
   unfolding discretised
   into-range range j q h =
-      let s : overRange T e r range ≡ discretised T e r = rw (sym own ∙ q, discretised) in
-      into-is k k _ _ refl (ap (λ (i : ℕ). within i (overRange T e r range)) h ∙ ap (within room) s)
+      let far = asksFar (edgeCurve T e) in
+      let is : Range range ≡ usableRange (edgeCurve T e) (e .range) = sym q ∙ own in
+      let s : overRange T e r range ≡ discretised T e r = rw (sym is, discretised) in
+      into-is k k _ _ refl
+      (ap (λ (i : ℕ). within i (asking far (askedFirst probed (Range range)) (overRange T e r range))) h
+      ∙ ap (λ (x : Usable). within room (asking far (askedFirst probed x) (overRange T e r range))) is
+      ∙ ap (λ (x : Work (List Sample)). within room (asking far (askedFirst probed (usableRange (edgeCurve T e) (e .range))) x)) s)
 
-  pub into-chord : u ≡ Unusable → w ≡ Count 2 → g ≡ filled k (flat (chordOf T e (e .range .lo) (e .range .hi))) → ChainInto k (within room (discretised T e r)) w g
+  pub into-chord : u ≡ Unusable → w ≡ Count 2 → g ≡ filled k (flat (chordOf T e (e .range .lo) (e .range .hi))) → ChainInto k (within room (probedDiscretised probed T e r)) w g
   unfolding discretised overflows
-  into-chord q a b = rw (sym own ∙ q, discretised) (record { answered = a; holds = b })
+  into-chord q a b =
+      let far = asksFar (edgeCurve T e) in
+      let is : usableRange (edgeCurve T e) (e .range) ≡ Unusable = sym own ∙ q in
+      let chord : ChainInto k (within room (discretised T e r)) w g = rw (is, discretised) (record { answered = a; holds = b }) in
+      into-is k k _ _ refl
+      (sym
+      (ap (within room)
+      (asking-clear far (askedFirst probed (usableRange (edgeCurve T e) (e .range))) (discretised T e r) (ap (λ (x : Usable). someFar far (askedFirst probed x)) is ∙ nothing-first far probed))))
+      chord

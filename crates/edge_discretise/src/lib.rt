@@ -17,14 +17,17 @@ ghost use Rattle.brep.specs.Tree.{tree};
 ghost use Rattle.curve.specs.Eval.{isSampled};
 ghost use Rattle.knots_sort.specs.Own.Sortable.{mostKnots};
 ghost use Rattle.knots.specs.Knots.{curveKnots};
-ghost use Rattle.edge_params.specs.Work.{within};
+ghost use Rattle.curve_asks.specs.Asks.{asksFar};
+ghost use Rattle.edge_params.specs.Work.{asking, within};
+ghost use Rattle.edge_range.specs.declared.Usable.the-variants.{Range};
 ghost use Rattle.edge_range.specs.Usable.{usableRange};
 ghost use Rattle.edge_sample.specs.Own.Answered.{sampledIn};
 ghost use Rattle.edge_record.specs.Own.Stored.{countedOf, after};
 ghost use Rattle.edge_record.specs.Chain.{width, shortest, most, samples};
 ghost use Rattle.draw_spec.specs.Edge.{thinnedIf, thinnedMerged, listed, overRange, discretised};
 ghost use Rattle.draw_spec.specs.Draw.{roomOf};
-ghost use Rattle.edge_discretise.specs.Own.Discretised.{ChainInto, DiscretisedInto};
+ghost use Rattle.edge_asks.specs.Own.Told.{askedFirst};
+ghost use Rattle.edge_discretise.specs.Own.Discretised.{ChainInto, probedDiscretised, DiscretisedInto};
 
 // The smaller of two.
 fn least(a: usize, b: usize) -> usize
@@ -165,7 +168,8 @@ fn draw_sampled(
     finish(points, curves, reals, parts, ranges, edge, r, chain, n)
 }
 
-// The chain over a usable range. Whether something asked for is too far, and comes before the room is full, is told first.
+// The chain over a usable range, which is probed before that or not. Whether something asked for is too far, and comes before the room is full,
+// is told first.
 fn draw_range(
     points: &[f64],
     curves: &[u32],
@@ -174,18 +178,30 @@ fn draw_range(
     ranges: &[f64],
     edge: Edge,
     range: Interval,
+    probed: bool,
     r: Resolved,
     chain: &mut [f64],
     scratch: &mut [f64],
 ) -> Counted
     requires { ⌜ (length (now scratch) ≤ most) × (width * length (now scratch) ≤ length (now chain))
         × (length (curveKnots (tree (lent points curves reals parts ranges) (edge .curve))) ≤ mostKnots) × (0 < r .depth) ⌝ }
-    ensures { λ w. ⌜ ChainInto (length (now (chain .entry))) (within (length (now (scratch .entry))) (overRange (given points curves reals parts ranges) edge r range)) w (now (chain .exit))
+    ensures { λ w. ⌜ ChainInto (length (now (chain .entry))) (within (length (now (scratch .entry))) (asking (asksFar (tree (given points curves reals parts ranges) (edge .curve))) (askedFirst probed (Range range)) (overRange (given points curves reals parts ranges) edge r range))) w (now (chain .exit))
         × (now (scratch .exit) ≡ filled (length (now (scratch .entry))) []) ⌝ }
 {
     let row = edge.curve;
     let room = scratch.len();
-    let told = edge_asks::tell(points, curves, reals, parts, ranges, row, range, r, room);
+    let told = edge_asks::tell(
+        points,
+        curves,
+        reals,
+        parts,
+        ranges,
+        row,
+        range,
+        probed,
+        r,
+        room,
+    );
     match told {
         Told::Refused(cause) => {
             base_lists::clear_from(chain, 0);
@@ -208,7 +224,8 @@ fn draw_range(
 }
 
 // The edge's chain over its usable range, which is known, from the start of chain, and +0.0 behind it, or everywhere where
-// it is refused; +0.0 in all of scratch.
+// it is refused; +0.0 in all of scratch. Before an edge is first drawn its range is probed for its extent: what the probes may not ask for
+// is looked at here, together with the rest.
 pub fn discretise_usable(
     points: &[f64],
     curves: &[u32],
@@ -217,13 +234,14 @@ pub fn discretise_usable(
     ranges: &[f64],
     edge: Edge,
     usable: Usable,
+    probed: bool,
     r: Resolved,
     chain: &mut [f64],
     scratch: &mut [f64],
 ) -> Counted
     requires { ⌜ (shortest ≤ length (now chain)) × (shortest ≤ length (now scratch)) × (length (curveKnots (tree (lent points curves reals parts ranges) (edge .curve))) ≤ mostKnots)
         × (0 < r .depth) × (usable ≡ usableRange (tree (lent points curves reals parts ranges) (edge .curve)) (edge .range)) ⌝ }
-    ensures { λ w. ⌜ DiscretisedInto (discretised (given points curves reals parts ranges) edge r) (now (chain .entry)) (now (scratch .entry)) w (now (chain .exit)) (now (scratch .exit)) ⌝ }
+    ensures { λ w. ⌜ DiscretisedInto (probedDiscretised probed (given points curves reals parts ranges) edge r) (now (chain .entry)) (now (scratch .entry)) w (now (chain .exit)) (now (scratch .exit)) ⌝ }
 {
     let Usable::Range(range) = usable else {
         edge_place::chord(points, edge, edge.range.lo, edge.range.hi, chain);
@@ -240,6 +258,7 @@ pub fn discretise_usable(
         ranges,
         edge,
         range,
+        probed,
         r,
         chain,
         part,
@@ -281,6 +300,7 @@ pub fn discretise(
         ranges,
         edge,
         usable,
+        false,
         r,
         chain,
         scratch,

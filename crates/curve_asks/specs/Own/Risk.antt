@@ -4,7 +4,7 @@ use mathlib.Core.Bool.{Bool, true, false, not, _&&_, _||_}
 use mathlib.Core.List.{List}
 use Prim.Native.Nat.{ℕ, _*_, _/_}
 use lib.ListN.{length, getD}
-use lib.Dec.{eqb}
+use lib.Dec.{eqb, ltb}
 use lib.Ieee.{Float, le, neg}
 use Rattle.arith.specs.Notation.{one}
 use Rattle.math.specs.declared.Interval.{Interval}
@@ -37,6 +37,10 @@ isHyperbola (composite ss) = false
 unfoldable pub someRisky : Segments → Bool
 someRisky none = false
 someRisky (segment curve range same rest) = (isHyperbola curve && not (isCalm range)) || someRisky rest
+
+-- the number of a row is that of no trim, no composite and no hyperbola
+abbrev pub isPlain : List ℕ → ℕ → Bool
+isPlain curves row = ltb (getD curves (row * 3) 0) 6
 
 -- some row of the table is a hyperbola's
 abbrev pub someHyperbola : List ℕ → Bool

@@ -7,18 +7,11 @@ use Rattle.edge_asks.proofs.probes_far.Tie as tie
 
 returns : tie.Need-returns
 unfolding probes
-returns c points reals = rw (c .before .before .usable .given .1) (c .evenly-far .ensures points reals)
+returns c points reals = rw (c .before .if1 .taken) (c .steps-far .ensures points reals)
 
 returns-2 : tie.Need-returns-2
-unfolding probes someFar
-returns-2 c points reals = rw (c .enum-told .given .1)
+unfolding someFar
+returns-2 c points reals = rw (c .if1 .left)
 
 pub probes-far-spec : {M : Type 1} → statement M
-probes-far-spec =
-    tie.close
-    (tie.spec
-    (λ c. search needs)
-    (λ c κs. search needs)
-    (λ c. search needs)
-    returns
-    returns-2)
+probes-far-spec = tie.close (tie.spec (λ c κs. search needs) returns returns-2)
