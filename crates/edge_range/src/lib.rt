@@ -109,7 +109,8 @@ fn usable_any(
 }
 
 // usable_range: the edge's own range, where a curve can be drawn over it; else the curve's natural one, where that is short enough. A
-// row that is no trim and no run is told by its kind alone, as curve::natural_range and curve::period have it.
+// line, a circle, an ellipse or a parabola is told by its kind alone, as curve::natural_range and curve::period have it; so the commonest
+// rows cost a few compares.
 pub fn usable_range(
     points: &[f64],
     curves: &[u32],
@@ -133,7 +134,6 @@ pub fn usable_range(
         2 => usable_round(range),
         3 => usable_round(range),
         4 => usable_once(Interval { lo: -1e6, hi: 1e6 }, range),
-        8 => usable_once(Interval { lo: -1e6, hi: 1e6 }, range),
         _ => usable_any(points, curves, reals, parts, ranges, row, range),
     }
 }

@@ -2,7 +2,7 @@
 use mathlib.Core.Path.{refl, _∙_}
 use Rattle.math.specs.declared.Interval.{Interval}
 use Rattle.brep.specs.Tree.{CurveTree}
-use Rattle.brep.proofs.ByKind.{at-line, at-circle, at-ellipse, at-parabola, at-hyperbola}
+use Rattle.brep.proofs.ByKind.{at-line, at-circle, at-ellipse, at-parabola}
 use Rattle.curve.specs.Eval.{naturalRange, period}
 use Rattle.edge_range.specs.declared.Usable.{Usable}
 use Rattle.edge_range.specs.Usable.{usableRange}
@@ -30,10 +30,6 @@ returns-4 : tie.Need-returns-4
 unfolding naturalRange period
 returns-4 c = c .usable-once2 .ensures _ refl refl ∙ at-parabola (usable-at _) _ _ (c .before .before .int-at .ensures) (c .before .match .keys4) refl refl
 
-returns-5 : tie.Need-returns-5
-unfolding naturalRange period
-returns-5 c = c .usable-once3 .ensures _ refl refl ∙ at-hyperbola (usable-at _) _ _ (c .before .before .int-at .ensures) (c .before .match .keys5) refl refl refl
-
 pub usable-range-spec : {M : Type 1} → statement M
 usable-range-spec =
     tie.close
@@ -45,10 +41,8 @@ usable-range-spec =
     (λ c κs. search needs)
     (λ c κs. search needs)
     (λ c κs. search needs)
-    (λ c κs. search needs)
     returns
     returns-2
     returns-3
     returns-4
-    returns-5
     (λ c. search needs))
