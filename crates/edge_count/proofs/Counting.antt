@@ -1,10 +1,13 @@
--- A count of moves, by the tests that the code makes: one parameter more, and the ways out of count_subdivided and count_span. Assumes nothing.
+-- A count of moves, by the tests that the code makes: one parameter more, and the ways out of is_split, count_subdivided and count_span.
+-- Assumes nothing.
 use mathlib.Core.Path.{_≡_, refl, sym, ap, _∙_}
-use mathlib.Core.Bool.{Bool, true, false}
+use mathlib.Core.Bool.{Bool, true, false, not, Bool·not-not, cond}
 use mathlib.Core.List.{List, [], _∷_, _++_, map}
 use Prim.Native.Nat.{ℕ, suc, _+_, _-_, _≤_, _<_}
 use native.Mathlib.Omega.{arith}
 use native.Mathlib.Numerals.{add-one}
+use lib.ListN.{length}
+use lib.Dec.{eqb}
 use lib.Ieee.{Float, ne}
 use borrow.Author.Tests.{lt-ltb, le-ltb}
 use Rattle.base_lists.specs.Result.{Result, refused, got, bind}
@@ -13,16 +16,18 @@ use Rattle.brep.specs.Tree.{CurveTree}
 use Rattle.options.specs.declared.Resolved.{Resolved}
 use Rattle.curve_asks.specs.Asks.{asksFar}
 use Rattle.edge_params.specs.Params.{midpoint, Move, asks, adds, subdividing, unlessHi}
+use Rattle.edge_params.specs.Own.Bisected.{subdivided}
 use Rattle.edge_params.specs.Own.Counted.{counted}
+use Rattle.edge_params.specs.Own.Written.{ListAppended}
+use Rattle.edge_params.specs.declared.Listed.{Listed}
+use Rattle.edge_params.specs.declared.Listed.the-variants as listed
 use Rattle.edge_params.proofs.Asks.{counted-append}
+use Rattle.edge_params.proofs.Written.{behind-count, behind-full}
 use Rattle.edge_record.specs.declared.Counted.{Counted}
 use Rattle.edge_record.specs.declared.Counted.the-variants.{Refused, Count}
 use Rattle.edge_subdivide.specs.declared.End.{End}
-use Rattle.edge_subdivide.specs.declared.Split.{Split}
-use Rattle.edge_subdivide.specs.declared.Split.the-variants.{Within, At}
-use Rattle.edge_subdivide.specs.Own.Limits.{splitOf}
 use Rattle.edge_subdivide.specs.Bisect.{endAt, withinBudget}
-use Rattle.edge_subdivide.proofs.Laws.{was-within, Was-split, was-split, end-t}
+use Rattle.edge_subdivide.proofs.Laws.{end-t}
 use Rattle.edge_sample.proofs.Walking.{not-hi, is-hi}
 use Rattle.edge_count.specs.Own.Said.{countSaid}
 
@@ -117,6 +122,36 @@ module _ (far : Float → Bool) (within : Float → Float → Bool) (depth : ℕ
         past-middle f v e =
             ap (λ (v : Bool). counted far room k (after within depth a b v)) (sym e) ∙ ask-near far room k (midpoint a b) next f ∙ past-right
 
+-- ---- the ways out of is_split: the list that a depth of one makes of a span, in a buffer of one place
+module _ (within : Float → Float → Bool) (a b : Float) {out after : List Float} (room : length out ≡ 1) {w : Listed}
+    (h : ListAppended out 0 (subdivided within 1 a b) w after) where
+  -- the middle, or nothing
+  long : length (subdivided within 1 a b) ≡ cond (within a b) 0 1
+  unfolding subdivided
+  long = go (within a b)
+    where
+      go : (v : Bool) → length {A = Float} (elim v [ true ↦ [] | false ↦ midpoint a b ∷ [] ]) ≡ cond v 0 1
+      go true = refl
+      go false = refl
+
+  pub not-refused : w ≡ listed.Refused → ⊥
+  not-refused e = go (within a b) (rw long at (behind-full out 0 (subdivided within 1 a b) after h (omega arith) e))
+    where
+      go : (v : Bool) → length out < 0 + cond v 0 1 → ⊥
+      go true g = omega arith
+      go false g = omega arith
+
+  pub is-split : {n : ℕ} → w ≡ listed.Count n → not (eqb n 0) ≡ not (within a b)
+  is-split {n} e = go (within a b) (behind-count out 0 (subdivided within 1 a b) after h (omega arith) n e ∙ ap (λ (i : ℕ). 0 + i) long)
+    where
+      go : (v : Bool) → n ≡ 0 + cond v 0 1 → not (eqb n 0) ≡ not v
+      go true g = rw g
+      go false g = rw g
+
+-- ---- the curve's end at a parameter that is not too far
+pub end-near : (c : CurveTree) (x : Float) (m : End) → m ≡ endAt c x → {v : Bool} → v ≡ asksFar c x → v ≡ false → asksFar c (m .t) ≡ false
+end-near c x m M F near = ap (asksFar c) (end-t c x m M) ∙ sym F ∙ near
+
 -- ---- the ways out of count_subdivided
 module _ (c : CurveTree) (r : Resolved) (depth : ℕ) (a b : End) (fa : asksFar c (a .t) ≡ false) (fb : asksFar c (b .t) ≡ false) (room k : ℕ) where
   abbrev span : Result ℕ
@@ -129,35 +164,29 @@ module _ (c : CurveTree) (r : Resolved) (depth : ℕ) (a b : End) (fa : asksFar 
     pub out-far : v ≡ true → refused 11 ≡ span
     out-far e = at-middle (asksFar c) (withinBudget c r) depth (a .t) (b .t) room k deep fa fb (sym F ∙ e)
 
-    module _ (A : a ≡ endAt c (a .t)) (B : b ≡ endAt c (b .t)) (near : v ≡ false) (s : Split) (S : s ≡ splitOf c r a b) where
+    module _ (near : v ≡ false) {w : Bool} (W : w ≡ not (withinBudget c r (a .t) (b .t))) where
+      told : withinBudget c r (a .t) (b .t) ≡ not w
+      told = sym (ap not W ∙ Bool·not-not (withinBudget c r (a .t) (b .t)))
+
       -- counted on, by the test
       on : (v : Bool) → withinBudget c r (a .t) (b .t) ≡ v → counted (asksFar c) room k (after (withinBudget c r) depth (a .t) (b .t) v) ≡ span
       on = past-middle (asksFar c) (withinBudget c r) depth (a .t) (b .t) room k deep fa fb (sym F ∙ near)
 
-      pub out-within : s ≡ Within → got k ≡ span
+      pub out-within : not w ≡ true → got k ≡ span
       unfolding counted
-      out-within e = on true (was-within c r a b A B (sym e ∙ S))
+      out-within e = on true (told ∙ e)
 
-      module _ (m : End) (M : s ≡ At m) where
-        split : Was-split c r a b A B m
-        split = was-split c r a b A B m (sym M ∙ S)
-
-        middle : m .t ≡ midpoint (a .t) (b .t)
-        middle = end-t c (midpoint (a .t) (b .t)) m (split .middle)
-
-        pub middle-near : asksFar c (m .t) ≡ false
-        middle-near = ap (asksFar c) middle ∙ sym F ∙ near
-
-        -- the first half, the middle, the other half
-        pub halves : bind (counted (asksFar c) room k (subdividing (withinBudget c r) (depth - 1) (a .t) (m .t)))
-            (λ (n : ℕ). bind (counted (asksFar c) room n (adds (m .t) ∷ [])) (λ (p : ℕ). counted (asksFar c) room p (subdividing (withinBudget c r) (depth - 1) (m .t) (b .t))))
-            ≡ span
-        unfolding left right
-        halves =
-            rw middle
-            (counted-three (asksFar c) room k (subdividing (withinBudget c r) (depth - 1) (a .t) (midpoint (a .t) (b .t))) (midpoint (a .t) (b .t))
-            (subdividing (withinBudget c r) (depth - 1) (midpoint (a .t) (b .t)) (b .t))
-            ∙ on false (split .over))
+      -- the first half, the middle, the other half
+      pub halves : not w ≡ false → (m : End) → m ≡ endAt c (midpoint (a .t) (b .t))
+          → bind (counted (asksFar c) room k (subdividing (withinBudget c r) (depth - 1) (a .t) (m .t)))
+          (λ (n : ℕ). bind (counted (asksFar c) room n (adds (m .t) ∷ [])) (λ (p : ℕ). counted (asksFar c) room p (subdividing (withinBudget c r) (depth - 1) (m .t) (b .t))))
+          ≡ span
+      unfolding left right
+      halves e m M =
+          rw (end-t c (midpoint (a .t) (b .t)) m M)
+          (counted-three (asksFar c) room k (subdividing (withinBudget c r) (depth - 1) (a .t) (midpoint (a .t) (b .t))) (midpoint (a .t) (b .t))
+          (subdividing (withinBudget c r) (depth - 1) (midpoint (a .t) (b .t)) (b .t))
+          ∙ on false (told ∙ e))
 
 -- ---- the ways out of count_span
 -- what bisection puts inside a span, then its end

@@ -1,15 +1,15 @@
 // Sampling without its lists: how many parameters bisection would form, or refusal 8 or 11, whichever comes first. It asks for what
 // sample_params asks for, in its order. Only curves that may lead to a hyperbola's parameter that is too far are gone through so.
 use curve_prepared::Prepared;
+use edge_params::Listed;
 use edge_record::Counted;
 use edge_subdivide::End;
 use edge_subdivide::Limits;
-use edge_subdivide::Split;
 use knots::Knots;
 use math::Interval;
 use options::Resolved;
 ghost use mathlib.Core.Path.{_≡_};
-ghost use mathlib.Core.Bool.{Bool, false};
+ghost use mathlib.Core.Bool.{Bool, false, not};
 ghost use mathlib.Core.List.{List, [], _∷_, _++_, map};
 ghost use Prim.Native.Nat.{_<_, _≤_};
 ghost use lib.ListN.{length};
@@ -38,6 +38,51 @@ fn count_one(room: usize, k: usize) -> Counted
         return Counted::Count(k + 1);
     }
     Counted::Refused(8)
+}
+
+// Whether bisection splits the span from a to b, by the list that it makes of the span with a depth of one: the middle, or nothing. (Asked
+// of `subdivide` itself: a second caller of what it asks for would keep that from being read in place there, and every bisected curve
+// would pay.)
+fn is_split(
+    points: &[f64],
+    curves: &[u32],
+    reals: &[f64],
+    parts: &[u32],
+    ranges: &[f64],
+    row: u32,
+    prepared: Prepared,
+    l: Limits,
+    a: End,
+    b: End,
+) -> bool
+    requires { ⌜ (prepared ≡ preparedOf (tree (lent points curves reals parts ranges) row)) × OfOptions l
+        × (a ≡ endAt (tree (lent points curves reals parts ranges) row) (a .t))
+        × (b ≡ endAt (tree (lent points curves reals parts ranges) row) (b .t)) ⌝ }
+    ensures { λ w. ⌜ ((r : Resolved) → l ≡ limitsOf r → w ≡ not (withinBudget (tree (given points curves reals parts ranges) row) r (a .t) (b .t))) ⌝ }
+{
+    let mut list = [0.0; 1];
+    let mut chain = [0.0; edge_record::WIDTH];
+    let listed = edge_subdivide::subdivide(
+        points,
+        curves,
+        reals,
+        parts,
+        ranges,
+        row,
+        prepared,
+        l,
+        a,
+        b,
+        1,
+        &mut list,
+        &mut chain,
+        0,
+    );
+    // Never else: there is room for one.
+    let Listed::Count(n) = listed else {
+        return true;
+    };
+    n != 0
 }
 
 // How many parameters there are after bisection between a and b, where there were k before it.
@@ -72,21 +117,10 @@ fn count_subdivided(
     if curve_asks::far_at(curves, parts, ranges, row, t) {
         return Counted::Refused(11);
     }
-    let split = edge_subdivide::split_of(
-        points,
-        curves,
-        reals,
-        parts,
-        ranges,
-        row,
-        prepared,
-        l,
-        a,
-        b,
-    );
-    let Split::At(m) = split else {
+    if !is_split(points, curves, reals, parts, ranges, row, prepared, l, a, b) {
         return Counted::Count(k);
-    };
+    }
+    let m = edge_subdivide::end_at(points, curves, reals, parts, ranges, row, prepared, t);
     let before = count_subdivided(
         points,
         curves,

@@ -39,7 +39,7 @@ pub struct Limits {
 }
 
 // What becomes of a span: it is within budget, or split at its middle.
-pub enum Split {
+enum Split {
     Within,
     At(End),
 }
@@ -124,9 +124,8 @@ fn is_within(l: Limits, a: End, b: End, pm: Vec3) -> bool
     false
 }
 
-// What becomes of the span from a to b, for whoever walks the spans: `subdivide`, or a pass that only counts. The middle's tangent is
-// evaluated only where the span is split.
-pub fn split_of(
+// The middle's tangent is evaluated only where the span is split.
+fn split_of(
     points: &[f64],
     curves: &[u32],
     reals: &[f64],
