@@ -28,8 +28,8 @@ use Rattle.curve_prepared.specs.Own.Prepared.{preparedOf}
 use Rattle.curve_prepared.proofs.Laws.{through-line}
 use Rattle.curve_asks.specs.Asks.{asksFar}
 use Rattle.edge_params.specs.Params.{evenly}
-use Rattle.edge_params.specs.Work.{Work, ends, andThen, someFar, asking, within}
-use Rattle.edge_params.proofs.Asks.{someFar-never, asking-clear}
+use Rattle.edge_params.specs.Work.{within}
+use Rattle.edge_params.proofs.Asks.{someFar-never, asking-clear, asking-then}
 use Rattle.edge_params.proofs.Work.{within-then}
 use Rattle.edge_range.specs.declared.Usable.{Usable}
 use Rattle.edge_range.specs.declared.Usable.the-variants.{Range, Unusable}
@@ -106,15 +106,6 @@ refused-left n first second h = record { answered = refl; firstHolds = sym (late
 pub room-answers : (t : Tables) (e : Edge) (r : Resolved) (first second : ℕ) → shortest ≤ first → shortest ≤ second
     → Answers (roomOf first second) (λ (g : Got). Chained ⊥ t e (mergeFloor (e .tolerance) (r .sag)) (roomOf first second) (g .chain)) (referenced t e r)
 room-answers t e r first second p q = referenced-answers ⊥ t e (λ x. absurd x) (λ x. absurd x) (roomOf first second) (room-fine first second p q) r
-
--- ---- the reference: discretise after the probes, then repair_runaway
-asking-then : {A B : Type 0} (far : Float → Bool) (ts : List Float) (w : Work A) (f : A → Work B) → asking far ts (andThen w f) ≡ andThen (asking far ts w) f
-unfolding asking
-asking-then {A} {B} far ts w f = go (someFar far ts)
-  where
-    go : (v : Bool) → _≡_ {A = Work B} (elim v [ true ↦ ends (refused 11) | false ↦ andThen w f ]) (andThen (elim v [ true ↦ ends (refused 11) | false ↦ w ]) f)
-    go true = refl
-    go false = refl
 
 -- ---- drawn_in, after discretise answered w and left f and s
 module _ (t : Tables) (e : Edge) (r : Resolved) (first second : List Float) (p : shortest ≤ length first) (q : shortest ≤ length second) where

@@ -12,7 +12,7 @@ use lib.Ieee.{Float, ne}
 use borrow.Author.Tests.{ltb-true, ltb-false, lt-ltb, le-ltb}
 use Rattle.base_lists.specs.Result.{Result, refused, got, bind, each}
 use Rattle.math.specs.declared.Interval.{Interval}
-use Rattle.edge_params.specs.Work.{Work, joins, ends, joining, someFar, asking, overflows, within}
+use Rattle.edge_params.specs.Work.{Work, joins, ends, andThen, joining, someFar, asking, overflows, within}
 use Rattle.edge_params.specs.Params.{midpoint, Move, asks, adds, subdividing, forming, Sampler, breaksAlong, unlessHi, walking, bisecting}
 use Rattle.edge_params.specs.Own.Bisected.{added, asked, subdivided, walked, through, bisected, NothingFar}
 use Rattle.edge_params.specs.Own.Counted.{counted}
@@ -144,6 +144,15 @@ module _ (far : Float → Bool) where
         go : (v : Bool) → endOf {A = A} (elim v [ true ↦ ends (refused 11) | false ↦ w ]) ≡ refused n → n ≡ 11
         go true q = cc
         go false q = h q
+
+    -- what follows the work follows it behind what is asked for
+    pub asking-then : {B : Type 0} (f : A → Work B) → asking far ts (andThen w f) ≡ andThen (asking far ts w) f
+    unfolding asking
+    asking-then {B} f = go (someFar far ts)
+      where
+        go : (v : Bool) → _≡_ {A = Work B} (elim v [ true ↦ ends (refused 11) | false ↦ andThen w f ]) (andThen (elim v [ true ↦ ends (refused 11) | false ↦ w ]) f)
+        go true = refl
+        go false = refl
 
     -- in a room: 11 comes before whatever the work comes to
     pub within-asking : (room : ℕ) → within room (asking far ts w) ≡ elim (someFar far ts) [ true ↦ refused 11 | false ↦ within room w ]
