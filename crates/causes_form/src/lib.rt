@@ -40,10 +40,12 @@ fn wrong_count(kind: u32, count: u32) -> bool
 {
     if kind == 1 {
         count != 2
-    } else if either(kind <= 4, kind == 8) {
+    } else if kind <= 4 {
         count != 3
     } else if kind == 6 {
         count != 1
+    } else if kind == 8 {
+        count != 3
     } else {
         false
     }
