@@ -179,8 +179,8 @@ class Part:
 
     def hyperbola(self, origin, axis, ref_dir, semi_axes) -> Row:
         """Adds the branch of a hyperbola that opens along ref_dir. At a parameter u lies origin + first cosh u along ref_dir +
-        second sinh u beside it. A range is within -100 to 100: an edge that would ask for another parameter, since its range is
-        lost or it leaves the box, is refused with TooFar.
+        second sinh u beside it. A range is within -100 to 100: an edge that would ask for another parameter is refused with TooFar,
+        and so is one that is no trim and whose range is lost, or which leaves the box.
 
         >>> import math
         >>> # A cone of half angle 45 degrees, cut 3 from its axis: 3 cosh u high, 3 sinh u to the side.

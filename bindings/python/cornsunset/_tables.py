@@ -124,8 +124,8 @@ class Edge:
     index on a polyline, the segment's index on a composite, the base's parameter on a trim.
 
     A range has to rise. One that does not, or is not finite, counts as lost: then the curve's whole range is drawn, a full turn
-    on a circle, and on a line the chord of the vertices; a hyperbola is refused with TooFar, and so is one that leaves the box. The
-    chain runs from start to end whichever way the range does.
+    on a circle, and on a line the chord of the vertices; a hyperbola that is no trim is refused with TooFar, and so is one that
+    leaves the box. The chain runs from start to end whichever way the range does.
 
     curve: its curve row.
     start, end: the points of its vertices.
@@ -234,7 +234,7 @@ def check_tables(tables: Tables) -> Checked:
 
 def draw_over(checked: Checked, edge: Edge, options: Options, first=None, second=None) -> Chain:
     """Draws an edge over tables that check_tables accepted, as draw does and with the same answer; only the edge, the options
-    and the buffers are checked, so that it is refused with 2, 3 or 6 to 9 alone."""
+    and the buffers are checked, so that it is refused with 2, 3, 6 to 9 or 11 alone."""
     tables = of_type(Checked, checked, "checked").tables
     # Without lent buffers nobody else knows of any memory that is handed over.
     call = parallel.cs_flat_draw_over if first is second is None else library.cs_flat_draw_over

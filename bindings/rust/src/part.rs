@@ -157,8 +157,8 @@ impl Part {
     }
 
     /// Adds the branch of a hyperbola that opens along ref_dir. At a parameter u lies origin + first cosh u along ref_dir +
-    /// second sinh u beside it. A range is within -100 to 100: an edge that would ask for another parameter, since its range
-    /// is lost or it leaves the box, is refused with [`Refusal::TooFar`].
+    /// second sinh u beside it. A range is within -100 to 100: an edge that would ask for another parameter is refused with
+    /// [`Refusal::TooFar`], and so is one that is no trim and whose range is lost, or which leaves the box.
     ///
     /// ```
     /// # use cornsunset::{Edge, Options, Part, Refusal};

@@ -68,8 +68,8 @@ pub struct Tables<'a> {
 /// on a polyline, the segment's index on a composite, the base's parameter on a trim.
 ///
 /// A range has to rise. One that does not, or is not finite, counts as lost: then the curve's whole range is drawn, a full
-/// turn on a circle, and on a line the chord of the vertices; a hyperbola is refused with [`Refusal::TooFar`], and so is one that
-/// leaves the box. The chain runs from start to end whichever way the range does.
+/// turn on a circle, and on a line the chord of the vertices; a hyperbola that is no trim is refused with [`Refusal::TooFar`],
+/// and so is one that leaves the box. The chain runs from start to end whichever way the range does.
 ///
 /// ```
 /// # use cornsunset::{Angle, Edge, Options, Part};
@@ -264,7 +264,7 @@ pub fn check_tables<'a>(tables: &Tables<'a>) -> Result<Checked<'a>, Refusal> {
 }
 
 /// Draws an edge over tables that [`check_tables`] accepted, as [`draw`] does and with the same answer; only the edge, the
-/// options and the buffers are checked, so that it is refused with 2, 3 or 6 to 9 alone.
+/// options and the buffers are checked, so that it is refused with 2, 3, 6 to 9 or 11 alone.
 pub fn draw_over<'b>(
     checked: &Checked,
     edge: &Edge,

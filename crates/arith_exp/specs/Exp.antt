@@ -1,6 +1,6 @@
 -- e^t, cosh and sinh in fixed steps, every operation rounded once. Definitions only.
 -- Where t is NaN or an infinity, r is NaN, and so are all three. The steps are the same for every other t, but that 2^k is 0 below -1022 and the
--- infinity above 1023. Drawing asks for t up to 100 in magnitude alone: k is within 145 of 0 there, and 2^k exact (Claims).
+-- infinity above 1023. No answer of drawing rests on a t beyond 100 in magnitude: within it k is within 145 of 0, and 2^k exact (Claims).
 use mathlib.Core.List.{List, [], _∷_}
 use Prim.Native.Nat.{ℕ, _*_, _^_, min}
 use lib.Ieee.{Float, neg, toUnsigned}

@@ -13,7 +13,7 @@ ghost use Rattle.brep.specs.Own.RunOf.{runOf};
 ghost use Rattle.brep.specs.Tree.{tree, below};
 ghost use Rattle.curve_nests.specs.Nests.{isComposite};
 ghost use Rattle.curve_asks.specs.Asks.{isFar, asksFar};
-ghost use Rattle.curve_asks.specs.Own.Risk.{inReach, isCalm, isHyperbola, isPlain, someHyperbola, mayAsk};
+ghost use Rattle.curve_asks.specs.Own.Risk.{inReach, isCalm, isHyperbola, neverAsks, someHyperbola, mayAsk};
 
 // Beyond 100 in magnitude. A NaN is not.
 fn is_far(t: f64) -> bool
@@ -145,9 +145,9 @@ fn run_may_ask(
     composite && some_hyperbola(curves)
 }
 
-// Whether a row is neither a trim, a composite nor a hyperbola, by its number alone: the commonest rows, which ask no hyperbola for anything.
-pub fn is_plain(curves: &[u32], row: u32) -> bool
-    ensures { λ r. ⌜ (r ≡ isPlain (now (curves .entry)) row) × ((points reals : List Float) (parts : List ℕ) (ranges : List Float) → r ≡ true → (t : Float) → asksFar (tree (tables points (now (curves .entry)) reals parts ranges) row) t ≡ false) ⌝ }
+// Whether a row's number is below those of trims, composites and hyperbolas: then it asks no hyperbola for anything. `false` says nothing.
+pub fn never_asks(curves: &[u32], row: u32) -> bool
+    ensures { λ r. ⌜ (r ≡ neverAsks (now (curves .entry)) row) × ((points reals : List Float) (parts : List ℕ) (ranges : List Float) → r ≡ true → (t : Float) → asksFar (tree (tables points (now (curves .entry)) reals parts ranges) row) t ≡ false) ⌝ }
 {
     brep::int_at(curves, row as usize * 3) < 6
 }

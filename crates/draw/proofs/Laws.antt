@@ -60,7 +60,7 @@ use Rattle.edge_segment.specs.Own.Segment.{SegmentInto}
 use Rattle.edge_segment.proofs.Sag.{sag-above}
 use Rattle.edge_segment.proofs.Laws.{placed-size, placed-chord}
 use Rattle.edge_place.specs.Own.Place.{ofPoints, chordBetween}
-use Rattle.edge_discretise.specs.Own.Discretised.{probedDiscretised, DiscretisedInto}
+use Rattle.edge_discretise.specs.Own.Discretised.{askedDiscretised, DiscretisedInto}
 use Rattle.edge_repair.specs.Own.Redrawn.{DrawnInto}
 use Rattle.edge_repair.proofs.Ways.{repaired-kept}
 use Rattle.draw.specs.Own.Straight.{StraightInto}
@@ -110,7 +110,7 @@ room-answers t e r first second p q = referenced-answers ⊥ t e (λ x. absurd x
 -- ---- drawn_in, after discretise answered w and left f and s
 module _ (t : Tables) (e : Edge) (r : Resolved) (first second : List Float) (p : shortest ≤ length first) (q : shortest ≤ length second) where
   abbrev chain : Result (List Sample)
-  chain = within (roomOf (length first) (length second)) (probedDiscretised true t e r)
+  chain = within (roomOf (length first) (length second)) (askedDiscretised true t e r)
 
   abbrev whole : Result Got
   whole = within (roomOf (length first) (length second)) (referenced t e r)
@@ -118,7 +118,7 @@ module _ (t : Tables) (e : Edge) (r : Resolved) (first second : List Float) (p :
   abbrev way : Way
   way = firstWay (usableRange (edgeCurve t e) (e .range))
 
-  chain-answers : Answers (roomOf (length first) (length second)) (Chained ⊥ t e (mergeFloor (e .tolerance) (r .sag)) (roomOf (length first) (length second))) (probedDiscretised true t e r)
+  chain-answers : Answers (roomOf (length first) (length second)) (Chained ⊥ t e (mergeFloor (e .tolerance) (r .sag)) (roomOf (length first) (length second))) (askedDiscretised true t e r)
   chain-answers = answers-asking (roomOf (length first) (length second)) (asksFar (edgeCurve t e)) (probes (usableRange (edgeCurve t e) (e .range))) (discretised t e r)
       (discretised-answers ⊥ t e (λ x. absurd x) (λ x. absurd x) (roomOf (length first) (length second)) (room-fine (length first) (length second) p q) r)
 
@@ -136,10 +136,10 @@ module _ (t : Tables) (e : Edge) (r : Resolved) (first second : List Float) (p :
   unfolding referenced
   whole-by c h =
       ap (within (roomOf (length first) (length second))) (asking-then (asksFar (edgeCurve t e)) (probes (usableRange (edgeCurve t e) (e .range))) (discretised t e r) (λ l. repaired t e r (by way l)))
-      ∙ within-then (roomOf (length first) (length second)) (probedDiscretised true t e r) (λ l. repaired t e r (by way l))
+      ∙ within-then (roomOf (length first) (length second)) (askedDiscretised true t e r) (λ l. repaired t e r (by way l))
       ∙ ap (λ (x : Result (List Sample)). bind x (λ l. within (roomOf (length first) (length second)) (repaired t e r (by way l)))) h
 
-  module _ {w : Counted} {f s : List Float} (d : DiscretisedInto (probedDiscretised true t e r) first second w f s) where
+  module _ {w : Counted} {f s : List Float} (d : DiscretisedInto (askedDiscretised true t e r) first second w f s) where
     -- it refused
     pub not-drawn : (n : ℕ) → w ≡ counted.Refused n → DrawnInto whole first second (Refused n) f s
     not-drawn n is = go chain refl
@@ -222,7 +222,7 @@ module _ (t : Tables) (e : Edge) (r : Resolved) (first second : List Float) (p :
   over-usable = rw (u, discretised)
 
   -- and its probes ask for nothing that is too far
-  over-probed : overRange t e r range ≡ probedDiscretised true t e r
+  over-probed : overRange t e r range ≡ askedDiscretised true t e r
   over-probed =
       let ts = probes (usableRange (edgeCurve t e) (e .range)) in
       over-usable ∙ sym (asking-clear (asksFar (edgeCurve t e)) ts (discretised t e r) (someFar-never (asksFar (edgeCurve t e)) near ts))

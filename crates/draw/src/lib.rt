@@ -75,7 +75,8 @@ fn local_options(
         let extent = edge_extent::extent_usable(points, curves, reals, parts, ranges, edge, usable);
         return r.for_extent(extent);
     }
-    // No extent changes these, so that none is worked out. (What its probes may not ask for is looked at before the edge is discretised.)
+    // No extent changes these, so that none is worked out. What its probes may not ask for is looked at before the edge is discretised, either
+    // way; where one is too far, an extent was worked out for nothing.
     r
 }
 

@@ -26,10 +26,9 @@ use Rattle.curve_asks.specs.Asks.{asksFar, segmentAsksFar}
 use Rattle.knots_inside.specs.Thinned.{nextOf, thinnedFrom, thinBreaks}
 use Rattle.knots.specs.Knots.{curveBreaks, deviation}
 use Rattle.knots_thin.specs.Thin.{deviationAsks, thinAsks, breakAsks, thinningAsks}
-use Rattle.edge_params.specs.Params.{Move, asks, adds, midpoint, subdividing, stepAt, steps}
+use Rattle.edge_params.specs.Params.{Move, asks, adds, asked, midpoint, subdividing, stepAt, steps}
 use Rattle.edge_params.specs.Work.{someFar}
-use Rattle.edge_params.specs.Own.Bisected.{asked}
-use Rattle.edge_params.proofs.Asks.{someFar-first, asking-answers, forming-kept}
+use Rattle.edge_params.proofs.Asks.{asked-append, someFar-first, asking-answers, forming-kept}
 use Rattle.edge_params.proofs.Lists.{steps-length}
 use Rattle.edge_range.specs.declared.Usable.the-variants.{Range, Unusable}
 use Rattle.edge_record.specs.declared.Sample.{Sample}
@@ -37,23 +36,17 @@ use Rattle.edge_subdivide.specs.Bisect.{endAt, isWithin, withinBudget}
 use Rattle.draw_spec.specs.Edge.{located, probed, extentBox}
 use Rattle.draw_spec.specs.Repair.{sweepAt, nearestOf}
 use Rattle.draw_spec.specs.Draw.{probes}
-use Rattle.draw_asked.specs.Asked.{pointWith, segmentPointWith, derivativeWith, segmentDerivativeWith, AnsweredNear, AgreeNear, NeedsNone, boxOver, ProbesAsked, nearestFrom, nearestAmong, SweepAsked, worstOver, BreaksAsked, withinOver, askedBy, BisectionAsked}
+use Rattle.draw_asked.specs.Asked.{pointWith, segmentPointWith, derivativeWith, segmentDerivativeWith, AnsweredNear, AgreeNear, NeedsNone, boxOver, ProbesAsked, nearestFrom, nearestAmong, SweepAsked, worstOver, BreaksAsked, withinOver, BisectionAsked}
 
 -- ---- what is recorded
 all-near : (far : Float → Bool) (ts : List Float) → someFar far ts ≡ false → All (λ t. far t ≡ false) ts
 all-near far [] h = nothing
 all-near far (t ∷ ts) h = let n = someFar-first far t ts h in more (n .0) (all-near far ts (n .1))
 
-asked-by : (moves : List Move) → asked moves ≡ askedBy moves
-unfolding asked askedBy
-asked-by [] = refl
-asked-by (asks t ∷ moves) = rw (asked-by moves)
-asked-by (adds t ∷ moves) = asked-by moves
-
 pub answered-near : AnsweredNear
 answered-near = record {
   listed = λ far ts w a e. all-near far ts (asking-answers far ts w a e);
-  moved = λ far k moves l e. all-near far (askedBy moves) (rw (asked-by moves) at (forming-kept far k moves l e));
+  moved = λ far k moves l e. all-near far (asked moves) (forming-kept far k moves l e);
 }
 
 -- ---- cosh and sinh
@@ -245,12 +238,6 @@ within-over : (c : CurveTree) (r : Resolved) (a b : Float) → withinBudget c r 
 unfolding withinBudget isWithin endAt withinOver
 within-over c r a b = refl
 
-asked-append : (k l : List Move) → askedBy (k ++ l) ≡ askedBy k ++ askedBy l
-unfolding askedBy
-asked-append [] l = refl
-asked-append (asks t ∷ k) l = rw (asked-append k l)
-asked-append (adds t ∷ k) l = asked-append k l
-
 module _ (c : CurveTree) (at derivative : Float → Vec3) (r : Resolved) where
   abbrev Alike : Float → Type 0
   Alike t = (at t ≡ pointAt c t) × (derivative t ≡ derivativeAt c t)
@@ -267,13 +254,13 @@ module _ (c : CurveTree) (at derivative : Float → Vec3) (r : Resolved) where
   ]
 
   abbrev Asking : ℕ → Float → Float → Type 0
-  Asking depth a b = All Alike (askedBy (subdividing (withinBudget c r) depth a b))
+  Asking depth a b = All Alike (asked (subdividing (withinBudget c r) depth a b))
 
   abbrev Moving : ℕ → Float → Float → Type 0
   Moving depth a b = subdividing (withinOver at derivative r) depth a b ≡ subdividing (withinBudget c r) depth a b
 
   moves-same : (depth : ℕ) (a b : Float) → Asking depth a b → Moving depth a b
-  unfolding subdividing askedBy
+  unfolding subdividing asked
   moves-same zero a b h = refl
   moves-same (suc depth) a b (more p (more q (more m h))) =
       ap (λ (v : Bool). asks a ∷ asks b ∷ asks (midpoint a b) ∷ halves (withinOver at derivative r) depth a b v) (within-same a b p q m)
@@ -281,14 +268,14 @@ module _ (c : CurveTree) (at derivative : Float → Vec3) (r : Resolved) where
       (go (moves-same depth a (midpoint a b)) (moves-same depth (midpoint a b) b) (withinBudget c r a b) h)
     where
       go : (Asking depth a (midpoint a b) → Moving depth a (midpoint a b)) → (Asking depth (midpoint a b) b → Moving depth (midpoint a b) b)
-          → (v : Bool) → All Alike (askedBy (halves (withinBudget c r) depth a b v))
+          → (v : Bool) → All Alike (asked (halves (withinBudget c r) depth a b v))
           → halves (withinOver at derivative r) depth a b v ≡ halves (withinBudget c r) depth a b v
       go f g true l = refl
       go f g false l =
           let left = subdividing (withinBudget c r) depth a (midpoint a b) in
           let right = subdividing (withinBudget c r) depth (midpoint a b) b in
           let k = rw (asked-append left (adds (midpoint a b) ∷ right)) at l in
-          rw (f (all-left (askedBy left) (askedBy right) k), g (all-right (askedBy left) (askedBy right) k))
+          rw (f (all-left (asked left) (asked right) k), g (all-right (asked left) (asked right) k))
 
 pub bisection-asked : BisectionAsked
 bisection-asked = record { span = within-over; moves = moves-same }

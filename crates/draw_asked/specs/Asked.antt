@@ -26,7 +26,7 @@ use Rattle.knots_inside.specs.Thinned.{thinBreaks}
 use Rattle.knots.specs.Knots.{curveBreaks, worstOfThree, deviation}
 use Rattle.knots_thin.specs.Thin.{keptBreaks, deviationAsks, breakAsks}
 use Rattle.edge_params.specs.Work.{Work, asking}
-use Rattle.edge_params.specs.Params.{Move, asks, adds, midpoint, subdividing, forming, evenly}
+use Rattle.edge_params.specs.Params.{Move, asked, midpoint, subdividing, forming, evenly}
 use Rattle.edge_range.specs.declared.Usable.{Usable}
 use Rattle.edge_record.specs.declared.Sample.{Sample}
 use Rattle.edge_subdivide.specs.Bisect.{sagOf, tangentTurn, withinBudget}
@@ -35,16 +35,10 @@ use Rattle.draw_spec.specs.Repair.{sweepAt, nearest}
 use Rattle.draw_spec.specs.Draw.{probes}
 
 -- ---- what is recorded
--- the parameters that moves ask for
-unfoldable pub askedBy : List Move → List Float
-askedBy [] = []
-askedBy (asks t ∷ moves) = t ∷ askedBy moves
-askedBy (adds t ∷ moves) = askedBy moves
-
 -- a work that comes to an answer has asked for nothing too far: neither among listed parameters, nor in moves that form a list
 pub record AnsweredNear : Type 1 where
   pub listed : {A : Type 0} (far : Float → Bool) (ts : List Float) (w : Work A) (a : A) → asking far ts w .end ≡ got a → All (λ t. far t ≡ false) ts
-  pub moved : (far : Float → Bool) (k : ℕ) (moves : List Move) (l : List Float) → forming far k moves .end ≡ got l → All (λ t. far t ≡ false) (askedBy moves)
+  pub moved : (far : Float → Bool) (k : ℕ) (moves : List Move) (l : List Float) → forming far k moves .end ≡ got l → All (λ t. far t ≡ false) (asked moves)
 
 -- ---- point_at and derivative_at with other functions for cosh and sinh
 -- `pointAt` but for the hyperbola's line
@@ -147,5 +141,5 @@ withinOver at derivative r a b =
 pub record BisectionAsked : Type 0 where
   pub span : (c : CurveTree) (r : Resolved) (a b : Float) → withinBudget c r a b ≡ withinOver (pointAt c) (derivativeAt c) r a b
   pub moves : (c : CurveTree) (at derivative : Float → Vec3) (r : Resolved) (depth : ℕ) (a b : Float)
-      → All (λ t. (at t ≡ pointAt c t) × (derivative t ≡ derivativeAt c t)) (askedBy (subdividing (withinBudget c r) depth a b))
+      → All (λ t. (at t ≡ pointAt c t) × (derivative t ≡ derivativeAt c t)) (asked (subdividing (withinBudget c r) depth a b))
       → subdividing (withinOver at derivative r) depth a b ≡ subdividing (withinBudget c r) depth a b

@@ -1,6 +1,6 @@
 -- The parameters of a range in a room, by what is asked of the curve: where nothing is too far they are those of `sampledIn`, which the code
 -- writes; and what the reference comes to of a curve that never asks a hyperbola for a parameter that is too far. Assumes nothing.
-use mathlib.Core.Path.{_≡_, refl, sym, ap, _∙_}
+use mathlib.Core.Path.{_≡_, refl, ap, _∙_}
 use mathlib.Core.Bool.{Bool, true, false}
 use mathlib.Core.List.{List, [], _∷_}
 use Prim.Native.Nat.{ℕ, suc, _-_, _≤_, _<_}
@@ -21,13 +21,12 @@ use Rattle.edge_params.specs.Params.{evenly}
 use Rattle.edge_params.specs.Own.Bisected.{bisected, NothingFar}
 use Rattle.edge_params.proofs.Asks.{someFar-never, never-clear, asking-clear, within-asking}
 use Rattle.edge_params.proofs.Work.{within-ends, within-then, open-near}
-use Rattle.edge_range.specs.Usable.{usableRange, analyticSegments}
+use Rattle.edge_range.specs.Usable.{analyticSegments}
 use Rattle.edge_sample.specs.Sample.{sampler, sampled}
 use Rattle.edge_sample.specs.Own.Answered.{sampledIn}
 use Rattle.edge_sample.proofs.Laws.{sampled-two, sampled-in, sampled-kept}
 use Rattle.draw_spec.specs.Edge.{edgeCurve, atLeastTwo, finished, listed, overRange}
 use Rattle.draw_spec.specs.Repair.{sweep, shortArcTried, byShortArc}
-use Rattle.draw_spec.specs.Draw.{probes, drawnRepaired, referenced}
 
 -- two parameters or more are left as they are
 pub two-left : (range : Interval) (l : List Float) → 2 ≤ length l → atLeastTwo range l ≡ l
@@ -97,15 +96,9 @@ module _ (T : Tables) (e : Edge) (r : Resolved) where
   unfolding overflows
   over-within range room = within-then room (listed (edgeCurve T e) range r) (λ params. ends (finished T e r params))
 
-  -- ---- the reference, of a curve that never asks a hyperbola for a parameter that is too far
+  -- ---- the short arc, of a curve that never asks a hyperbola for a parameter that is too far
   module _ (never : (t : Float) → asksFar (edgeCurve T e) t ≡ false) where
     pub short-arc-never : byShortArc T e r ≡ shortArcTried T e r
     short-arc-never =
         let ts = sweep (naturalRange (edgeCurve T e)) in
         asking-clear (asksFar (edgeCurve T e)) ts (shortArcTried T e r) (someFar-never (asksFar (edgeCurve T e)) never ts)
-
-    pub referenced-never : referenced T e r ≡ drawnRepaired T e r
-    unfolding referenced
-    referenced-never =
-        let ts = probes (usableRange (edgeCurve T e) (e .range)) in
-        asking-clear (asksFar (edgeCurve T e)) ts (drawnRepaired T e r) (someFar-never (asksFar (edgeCurve T e)) never ts)

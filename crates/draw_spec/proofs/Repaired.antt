@@ -115,7 +115,7 @@ module _ (H : Type 0) (t : Tables) (e : Edge) (tame : H → Tame (edgeCurve t e)
       go false = period-answers (period (edgeCurve t e)) refl
 
   -- discretise, then repair_runaway
-  pub drawn-repaired-answers : Answers room (λ (g : Got). Chained H t e (mergeFloor (e .tolerance) (r .sag)) room (g .chain)) (drawnRepaired t e r)
+  drawn-repaired-answers : Answers room (λ (g : Got). Chained H t e (mergeFloor (e .tolerance) (r .sag)) room (g .chain)) (drawnRepaired t e r)
   drawn-repaired-answers =
       let way = firstWay (usableRange (edgeCurve t e) (e .range)) in
       answers-then room (discretised t e r) (λ chain. repaired t e r (by way chain)) (discretised-answers H t e tame (λ x. own x .ends) room fine r)

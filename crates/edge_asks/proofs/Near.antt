@@ -21,8 +21,8 @@ use Rattle.curve_asks.proofs.Calm.{Near, near, not-far, near-modest}
 use Rattle.knots.specs.Knots.{curveKnots}
 use Rattle.edge_params.specs.declared.Closed.the-variants.{Unknown}
 use Rattle.edge_params.specs.Work.{someFar}
-use Rattle.edge_params.specs.Params.{midpoint, Move, adds, subdividing, Sampler, breaksAlong, walking, bisecting}
-use Rattle.edge_params.specs.Own.Bisected.{asked, NothingFar}
+use Rattle.edge_params.specs.Params.{midpoint, Move, adds, asked, subdividing, Sampler, breaksAlong, walking, bisecting}
+use Rattle.edge_params.specs.Own.Bisected.{NothingFar}
 use Rattle.edge_params.proofs.Asks.{asked-append, asked-adds, someFar-none, someFar-more, someFar-join}
 use Rattle.edge_range.specs.Usable.{analyticSegments}
 use Rattle.edge_sample.specs.Sample.{sampler}

@@ -19,44 +19,49 @@ use Rattle.edge_params.specs.Work.{Work, someFar, asking, within}
 use Rattle.edge_params.specs.Params.{forming, Sampler, evenly, bisecting}
 use Rattle.edge_params.specs.Own.Bisected.{bisected, NothingFar}
 use Rattle.edge_params.specs.Own.InRoom.{fitting, flooredIn}
-use Rattle.edge_params.proofs.Asks.{added-bisecting, asking-clear, within-asking, asking-got, forming-kept, forming-list}
+use Rattle.edge_params.proofs.Asks.{added-bisecting, within-asking, asking-got, forming-kept, forming-list}
 use Rattle.edge_params.proofs.Work.{sample-params-open, refined-within, within-got}
 use Rattle.edge_params.proofs.Lists.{steps-length}
 use Rattle.edge_params.proofs.Written.{fitting-fits}
 use Rattle.edge_range.specs.Usable.{analyticSegments}
 use Rattle.edge_sample.specs.Sample.{sampler, sampled}
 use Rattle.edge_sample.specs.Own.Answered.{sampledIn}
+use Rattle.edge_sample.proofs.Laws.{sampled-in-eight}
 use Rattle.edge_sample.proofs.Settled.{bisected-long}
 use Rattle.edge_count.specs.Own.Said.{rangeCounted}
 use Rattle.edge_count.proofs.Laws.{range-counted}
 use Rattle.draw_spec.specs.Edge.{listed}
 use Rattle.draw_spec.proofs.Listed.{listed-refused, listed-far, listed-open}
-use Rattle.edge_asks.specs.declared.Told.{Told}
-use Rattle.edge_asks.specs.declared.Told.the-variants.{Clear, Refused}
-use Rattle.edge_asks.specs.Own.Told.{toldOf, Telling}
 use Rattle.edge_asks.proofs.Near.{both}
 
 -- the segment floor's even steps fit the room and one of them is too far
 abbrev pub floorFar : ℕ → CurveTree → Interval → Resolved → Bool
 floorFar room c range r = ltb (r .segments) room && someFar (asksFar c) (evenly range (r .segments))
 
--- ---- what is told, after some parameters were asked for
+-- ---- what is told, behind some parameters that are asked for
 module _ (room : ℕ) (c : CurveTree) (range : Interval) (r : Resolved) (before : List Float) where
-  -- none of them is too far: it is told of the range alone
-  pub telling : (told : Told) → someFar (asksFar c) before ≡ false → within room (listed c range r) ≡ toldOf told (sampledIn room c range r) → Telling room c range r before told
-  telling told near own = record {
-    clear = λ q. (near, own ∙ ap (λ (v : Told). toldOf v (sampledIn room c range r)) q);
-    refuses = λ n q. ap (within room) (asking-clear (asksFar c) before (listed c range r) near) ∙ own ∙ ap (λ (v : Told). toldOf v (sampledIn room c range r)) q;
-  }
+  abbrev behind : Result (List Float)
+  behind = within room (asking (asksFar c) before (listed c range r))
+
+  by-far : (v : Bool) → someFar (asksFar c) before ≡ v → behind ≡ elim v [ true ↦ refused 11 | false ↦ within room (listed c range r) ]
+  by-far v e =
+      within-asking (asksFar c) before (listed c range r) room ∙ ap (λ (b : Bool). elim b [ true ↦ refused 11 | false ↦ within room (listed c range r) ]) e
+
+  -- none of them is too far: what is told of the range alone
+  pub told-near : {x : Result (List Float)} → someFar (asksFar c) before ≡ false → within room (listed c range r) ≡ x → behind ≡ x
+  told-near near own = by-far false near ∙ own
 
   -- one of them is: 11, whatever follows
-  pub telling-far : someFar (asksFar c) before ≡ true → Telling room c range r before (Refused 11)
-  telling-far far = record {
-    clear = λ q. absurd (let z : _≡_ {A = ℕ} 0 1 = cc in omega arith);
-    refuses = λ n q.
-        let k : 11 ≡ n = cc in
-        within-asking (asksFar c) before (listed c range r) room ∙ ap (λ (b : Bool). elim b [ true ↦ refused 11 | false ↦ within room (listed c range r) ]) far ∙ ap refused k;
-  }
+  pub told-far : someFar (asksFar c) before ≡ true → behind ≡ refused 11
+  told-far = by-far true
+
+  -- what is told to be clear is near, before and in sampling: sampling itself refuses with 8 alone
+  pub told-clear : behind ≡ sampledIn room c range r → (someFar (asksFar c) before ≡ false) × (within room (listed c range r) ≡ sampledIn room c range r)
+  told-clear q = go (someFar (asksFar c) before) refl
+    where
+      go : (v : Bool) → someFar (asksFar c) before ≡ v → (v ≡ false) × (within room (listed c range r) ≡ sampledIn room c range r)
+      go true e = absurd (omega (arith, sampled-in-eight room c range r 11 (sym q ∙ by-far true e)))
+      go false e = (refl, sym (by-far false e) ∙ q)
 
 -- what is refused is refused before it is measured
 each-refused : {A B : Type 0} (f : A → B) (x : Result A) (n : ℕ) → each f x ≡ refused n → x ≡ refused n

@@ -1,4 +1,4 @@
-// What drawing would ask a curve for, told before it is asked: whether some of it is too far, and whether refusal 8 or 11 comes first. Where
+// What drawing would ask a curve for, told before a chain is made of it: whether some of it is too far, and whether refusal 8 or 11 comes first. Where
 // a look at the rows says that no hyperbola can be asked for a parameter that is too far, nothing is gone through.
 use edge_record::Counted;
 use math::Interval;
@@ -16,7 +16,7 @@ ghost use Rattle.curve_asks.specs.Asks.{asksFar};
 ghost use Rattle.curve_asks.specs.Own.Risk.{inReach, isHyperbola};
 ghost use Rattle.knots_sort.specs.Own.Sortable.{mostKnots};
 ghost use Rattle.knots.specs.Knots.{curveKnots};
-ghost use Rattle.edge_params.specs.Work.{someFar, within};
+ghost use Rattle.edge_params.specs.Work.{someFar, asking, within};
 ghost use Rattle.edge_params.specs.Params.{evenly};
 ghost use Rattle.edge_params.specs.declared.Closed.the-variants.{Unknown};
 ghost use Rattle.edge_range.specs.declared.Usable.the-variants.{Range};
@@ -25,7 +25,7 @@ ghost use Rattle.edge_record.specs.Chain.{most};
 ghost use Rattle.edge_sample.specs.Own.Answered.{sampledIn};
 ghost use Rattle.draw_spec.specs.Edge.{listed};
 ghost use Rattle.draw_spec.specs.Repair.{sweep};
-ghost use Rattle.edge_asks.specs.Own.Told.{askedFirst, toldOf, Telling};
+ghost use Rattle.edge_asks.specs.Own.Told.{askedFirst, toldOf};
 
 // What is told of a range: nothing is too far, and it can be sampled as if nothing could be; or the refusal that comes first.
 pub enum Told {
@@ -71,18 +71,18 @@ fn evenly_far(
         && steps_far(curves, parts, ranges, row, range, n)
 }
 
-// Whether a range is probed and one of edge_extent's nine probes is too far. They are asked for whether or not the options use the extent.
+// Whether edge_extent's nine probes are asked for, and one of them is too far. They are asked for whether or not the options use the extent.
 fn probes_far(
     curves: &[u32],
     parts: &[u32],
     ranges: &[f64],
     row: u32,
     range: Interval,
-    probed: bool,
+    probes_first: bool,
 ) -> bool
-    ensures { λ w. ⌜ ((points reals : List Float) → w ≡ someFar (asksFar (tree (tables points (now (curves .entry)) reals (now (parts .entry)) (now (ranges .entry))) row)) (askedFirst probed (Range range))) ⌝ }
+    ensures { λ w. ⌜ ((points reals : List Float) → w ≡ someFar (asksFar (tree (tables points (now (curves .entry)) reals (now (parts .entry)) (now (ranges .entry))) row)) (askedFirst «probes_first» (Range range))) ⌝ }
 {
-    probed && steps_far(curves, parts, ranges, row, range, 8)
+    probes_first && steps_far(curves, parts, ranges, row, range, 8)
 }
 
 // Whether one of the 513 parameters at which repair looks for the vertices is too far.
@@ -167,8 +167,9 @@ fn tell_by_count(
     }
 }
 
-// What sampling a range in a room comes to, as far as what may not be asked goes, where the range was probed before or not: `Clear` where the list
-// is the one that sampling makes without looking, or the refusal that comes first.
+// What sampling a range in a room comes to, as far as what may not be asked goes, behind the probes or not: `Clear` where the list is the one that
+// sampling makes without looking, or the refusal that comes first. Where a list passes the room before anything that is too far is asked for, either
+// may be told: sampling then refuses it.
 pub fn tell(
     points: &[f64],
     curves: &[u32],
@@ -177,21 +178,21 @@ pub fn tell(
     ranges: &[f64],
     row: u32,
     range: Interval,
-    probed: bool,
+    probes_first: bool,
     r: Resolved,
     room: usize,
 ) -> Told
     requires { ⌜ (length (curveKnots (tree (lent points curves reals parts ranges) row)) ≤ mostKnots) × (0 < r .depth) × (room ≤ most) ⌝ }
-    ensures { λ w. ⌜ Telling room (tree (given points curves reals parts ranges) row) range r (askedFirst probed (Range range)) w ⌝ }
+    ensures { λ w. ⌜ within room (asking (asksFar (tree (given points curves reals parts ranges) row)) (askedFirst «probes_first» (Range range)) (listed (tree (given points curves reals parts ranges) row) range r)) ≡ toldOf w (sampledIn room (tree (given points curves reals parts ranges) row) range r) ⌝ }
 {
-    // Most rows are told by their number, in place.
-    if curve_asks::is_plain(curves, row) {
+    // Most rows are told by their number, read in place.
+    if curve_asks::never_asks(curves, row) {
         return Told::Clear;
     }
     if !curve_asks::may_ask(curves, parts, ranges, row) {
         return Told::Clear;
     }
-    if probes_far(curves, parts, ranges, row, range, probed) {
+    if probes_far(curves, parts, ranges, row, range, probes_first) {
         return Told::Refused(11);
     }
     if is_near_hyperbola(curves, row, range) {

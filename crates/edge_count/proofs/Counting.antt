@@ -1,4 +1,4 @@
--- A count of moves, by the tests that the code makes: one parameter more, and the ways out of is_split, count_subdivided and count_span.
+-- A count of moves, by the tests that the code makes: one parameter more, and the ways out of is_halved, count_subdivided and count_span.
 -- Assumes nothing.
 use mathlib.Core.Path.{_≡_, refl, sym, ap, _∙_}
 use mathlib.Core.Bool.{Bool, true, false, not, Bool·not-not, cond}
@@ -122,7 +122,7 @@ module _ (far : Float → Bool) (within : Float → Float → Bool) (depth : ℕ
         past-middle f v e =
             ap (λ (v : Bool). counted far room k (after within depth a b v)) (sym e) ∙ ask-near far room k (midpoint a b) next f ∙ past-right
 
--- ---- the ways out of is_split: the list that a depth of one makes of a span, in a buffer of one place
+-- ---- the ways out of is_halved: the list that a depth of one makes of a span, in a buffer of one place
 module _ (within : Float → Float → Bool) (a b : Float) {out after : List Float} (room : length out ≡ 1) {w : Listed}
     (h : ListAppended out 0 (subdivided within 1 a b) w after) where
   -- the middle, or nothing
@@ -141,8 +141,8 @@ module _ (within : Float → Float → Bool) (a b : Float) {out after : List Flo
       go true g = omega arith
       go false g = omega arith
 
-  pub is-split : {n : ℕ} → w ≡ listed.Count n → not (eqb n 0) ≡ not (within a b)
-  is-split {n} e = go (within a b) (behind-count out 0 (subdivided within 1 a b) after h (omega arith) n e ∙ ap (λ (i : ℕ). 0 + i) long)
+  pub is-halved : {n : ℕ} → w ≡ listed.Count n → not (eqb n 0) ≡ not (within a b)
+  is-halved {n} e = go (within a b) (behind-count out 0 (subdivided within 1 a b) after h (omega arith) n e ∙ ap (λ (i : ℕ). 0 + i) long)
     where
       go : (v : Bool) → n ≡ 0 + cond v 0 1 → not (eqb n 0) ≡ not v
       go true g = rw g

@@ -40,10 +40,9 @@ fn count_one(room: usize, k: usize) -> Counted
     Counted::Refused(8)
 }
 
-// Whether bisection splits the span from a to b, by the list that it makes of the span with a depth of one: the middle, or nothing. (Asked
-// of `subdivide` itself: a second caller of what it asks for would keep that from being read in place there, and every bisected curve
-// would pay.)
-fn is_split(
+// Whether bisection halves the span from a to b, by the list that it makes of the span with a depth of one: the middle, or nothing. (With a
+// second caller, what `subdivide` decides this by would not be read in place there any more, and every bisected curve would pay.)
+fn is_halved(
     points: &[f64],
     curves: &[u32],
     reals: &[f64],
@@ -117,7 +116,7 @@ fn count_subdivided(
     if curve_asks::far_at(curves, parts, ranges, row, t) {
         return Counted::Refused(11);
     }
-    if !is_split(points, curves, reals, parts, ranges, row, prepared, l, a, b) {
+    if !is_halved(points, curves, reals, parts, ranges, row, prepared, l, a, b) {
         return Counted::Count(k);
     }
     let m = edge_subdivide::end_at(points, curves, reals, parts, ranges, row, prepared, t);

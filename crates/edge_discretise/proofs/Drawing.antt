@@ -41,10 +41,11 @@ use Rattle.draw_spec.specs.Draw.{probes, roomOf}
 use Rattle.draw_spec.proofs.Listed.{over-within}
 use Rattle.edge_asks.specs.declared.Told.{Told}
 use Rattle.edge_asks.specs.declared.Told.the-variants as asks
-use Rattle.edge_asks.specs.Own.Told.{askedFirst, Telling}
+use Rattle.edge_asks.specs.Own.Told.{askedFirst, toldOf}
+use Rattle.edge_asks.proofs.Telling.{told-clear}
 use Rattle.edge_place.proofs.Records.{read-back}
 use Rattle.edge_place.proofs.Laws.{placed-length}
-use Rattle.edge_discretise.specs.Own.Discretised.{ChainInto, probedDiscretised, DiscretisedInto}
+use Rattle.edge_discretise.specs.Own.Discretised.{ChainInto, askedDiscretised, DiscretisedInto}
 
 into-is : (n m : ℕ) (D E : Result (List Sample)) {w : Counted} {g : List Float} → n ≡ m → D ≡ E → ChainInto n D w g → ChainInto m E w g
 into-is n m D E k e p = record {
@@ -153,7 +154,8 @@ none-listed room (got l) w a e h = let q : refused 8 ≡ got (length l) = ap sai
 
 -- ---- `draw_range`
 -- by what is told of the range, after some parameters were asked for: the refusal that comes first, or that nothing asked for is too far
-module _ (T : Tables) (e : Edge) (r : Resolved) (range : Interval) (room : ℕ) (before : List Float) (w : Told) (own : Telling room (edgeCurve T e) range r before w) where
+module _ (T : Tables) (e : Edge) (r : Resolved) (range : Interval) (room : ℕ) (before : List Float) (w : Told)
+    (own : within room (asking (asksFar (edgeCurve T e)) before (listed (edgeCurve T e) range r)) ≡ toldOf w (sampledIn room (edgeCurve T e) range r)) where
   abbrev far : Float → Bool
   far = asksFar (edgeCurve T e)
 
@@ -170,13 +172,16 @@ module _ (T : Tables) (e : Edge) (r : Resolved) (range : Interval) (room : ℕ) 
       go true = refl
       go false = over-within T e r range room
 
+  pub clear : w ≡ asks.Clear → (someFar far before ≡ false) × (within room (listed (edgeCurve T e) range r) ≡ sampledIn room (edgeCurve T e) range r)
+  clear q = told-clear room (edgeCurve T e) range r before (own ∙ ap (λ (v : Told). toldOf v (sampledIn room (edgeCurve T e) range r)) q)
+
   pub into-clear : {k : ℕ} {a : Counted} {g : List Float} → w ≡ asks.Clear → ChainInto k (within room (overRange T e r range)) a g → ChainInto k (within room asked) a g
-  into-clear {k} q = into-is k k _ _ refl (sym (ap (within room) (asking-clear far before (overRange T e r range) (own .clear q .0))))
+  into-clear {k} q = into-is k k _ _ refl (sym (ap (within room) (asking-clear far before (overRange T e r range) (clear q .0))))
 
   pub into-told : (n k : ℕ) (g : List Float) → w ≡ asks.Refused n → g ≡ filled k [] → ChainInto k (within room asked) (Refused n) g
   unfolding flat
   into-told n k g q h =
-      let x : within room asked ≡ refused n = over-asked ∙ ap (λ (x : Result (List Float)). bind x (finished T e r)) (own .refuses n q) in
+      let x : within room asked ≡ refused n = over-asked ∙ ap (λ (x : Result (List Float)). bind x (finished T e r)) (own ∙ ap (λ (v : Told). toldOf v (sampledIn room (edgeCurve T e) range r)) q) in
       into-is k k (refused n) _ refl (sym x) (record { answered = refl; holds = h })
 
 -- ---- `discretise_usable`
@@ -219,31 +224,31 @@ cleared-whole n left scratch h l q =
 
 -- an edge that is not probed is discretised, and no more
 pub unprobed : (T : Tables) (e : Edge) (r : Resolved) {chain scratch : List Float} {w : Counted} {f g : List Float}
-    → DiscretisedInto (probedDiscretised false T e r) chain scratch w f g → DiscretisedInto (discretised T e r) chain scratch w f g
+    → DiscretisedInto (askedDiscretised false T e r) chain scratch w f g → DiscretisedInto (discretised T e r) chain scratch w f g
 unprobed T e r {chain} {scratch} {w} {f} {g} =
     let far = asksFar (edgeCurve T e) in
     subst (λ (D : Work (List Sample)). DiscretisedInto D chain scratch w f g) (asking-clear far [] (discretised T e r) (someFar-none far))
 
 -- what has no range is not probed
-nothing-first : (far : Float → Bool) (probed : Bool) → someFar far (askedFirst probed Unusable) ≡ false
+nothing-first : (far : Float → Bool) (probesFirst : Bool) → someFar far (askedFirst probesFirst Unusable) ≡ false
 unfolding probes
 nothing-first far true = someFar-none far
 nothing-first far false = someFar-none far
 
-module _ (room : ℕ) (T : Tables) (e : Edge) (probed : Bool) (r : Resolved) (k : ℕ) {w : Counted} {g : List Float} (u : Usable) (own : u ≡ usableRange (edgeCurve T e) (e .range)) where
-  pub into-range : (range : Interval) (j : ℕ) → u ≡ Range range → j ≡ room → ChainInto k (within j (asking (asksFar (edgeCurve T e)) (askedFirst probed (Range range)) (overRange T e r range))) w g
-      → ChainInto k (within room (probedDiscretised probed T e r)) w g
+module _ (room : ℕ) (T : Tables) (e : Edge) (probesFirst : Bool) (r : Resolved) (k : ℕ) {w : Counted} {g : List Float} (u : Usable) (own : u ≡ usableRange (edgeCurve T e) (e .range)) where
+  pub into-range : (range : Interval) (j : ℕ) → u ≡ Range range → j ≡ room → ChainInto k (within j (asking (asksFar (edgeCurve T e)) (askedFirst probesFirst (Range range)) (overRange T e r range))) w g
+      → ChainInto k (within room (askedDiscretised probesFirst T e r)) w g
   unfolding discretised
   into-range range j q h =
       let far = asksFar (edgeCurve T e) in
       let is : Range range ≡ usableRange (edgeCurve T e) (e .range) = sym q ∙ own in
       let s : overRange T e r range ≡ discretised T e r = rw (sym is, discretised) in
       into-is k k _ _ refl
-      (ap (λ (i : ℕ). within i (asking far (askedFirst probed (Range range)) (overRange T e r range))) h
-      ∙ ap (λ (x : Usable). within room (asking far (askedFirst probed x) (overRange T e r range))) is
-      ∙ ap (λ (x : Work (List Sample)). within room (asking far (askedFirst probed (usableRange (edgeCurve T e) (e .range))) x)) s)
+      (ap (λ (i : ℕ). within i (asking far (askedFirst probesFirst (Range range)) (overRange T e r range))) h
+      ∙ ap (λ (x : Usable). within room (asking far (askedFirst probesFirst x) (overRange T e r range))) is
+      ∙ ap (λ (x : Work (List Sample)). within room (asking far (askedFirst probesFirst (usableRange (edgeCurve T e) (e .range))) x)) s)
 
-  pub into-chord : u ≡ Unusable → w ≡ Count 2 → g ≡ filled k (flat (chordOf T e (e .range .lo) (e .range .hi))) → ChainInto k (within room (probedDiscretised probed T e r)) w g
+  pub into-chord : u ≡ Unusable → w ≡ Count 2 → g ≡ filled k (flat (chordOf T e (e .range .lo) (e .range .hi))) → ChainInto k (within room (askedDiscretised probesFirst T e r)) w g
   unfolding discretised overflows
   into-chord q a b =
       let far = asksFar (edgeCurve T e) in
@@ -252,5 +257,5 @@ module _ (room : ℕ) (T : Tables) (e : Edge) (probed : Bool) (r : Resolved) (k 
       into-is k k _ _ refl
       (sym
       (ap (within room)
-      (asking-clear far (askedFirst probed (usableRange (edgeCurve T e) (e .range))) (discretised T e r) (ap (λ (x : Usable). someFar far (askedFirst probed x)) is ∙ nothing-first far probed))))
+      (asking-clear far (askedFirst probesFirst (usableRange (edgeCurve T e) (e .range))) (discretised T e r) (ap (λ (x : Usable). someFar far (askedFirst probesFirst x)) is ∙ nothing-first far probesFirst))))
       chord

@@ -27,7 +27,7 @@ ghost use Rattle.edge_record.specs.Chain.{width, shortest, most, samples};
 ghost use Rattle.draw_spec.specs.Edge.{thinnedIf, thinnedMerged, listed, overRange, discretised};
 ghost use Rattle.draw_spec.specs.Draw.{roomOf};
 ghost use Rattle.edge_asks.specs.Own.Told.{askedFirst};
-ghost use Rattle.edge_discretise.specs.Own.Discretised.{ChainInto, probedDiscretised, DiscretisedInto};
+ghost use Rattle.edge_discretise.specs.Own.Discretised.{ChainInto, askedDiscretised, DiscretisedInto};
 
 // The smaller of two.
 fn least(a: usize, b: usize) -> usize
@@ -178,14 +178,14 @@ fn draw_range(
     ranges: &[f64],
     edge: Edge,
     range: Interval,
-    probed: bool,
+    probes_first: bool,
     r: Resolved,
     chain: &mut [f64],
     scratch: &mut [f64],
 ) -> Counted
     requires { ⌜ (length (now scratch) ≤ most) × (width * length (now scratch) ≤ length (now chain))
         × (length (curveKnots (tree (lent points curves reals parts ranges) (edge .curve))) ≤ mostKnots) × (0 < r .depth) ⌝ }
-    ensures { λ w. ⌜ ChainInto (length (now (chain .entry))) (within (length (now (scratch .entry))) (asking (asksFar (tree (given points curves reals parts ranges) (edge .curve))) (askedFirst probed (Range range)) (overRange (given points curves reals parts ranges) edge r range))) w (now (chain .exit))
+    ensures { λ w. ⌜ ChainInto (length (now (chain .entry))) (within (length (now (scratch .entry))) (asking (asksFar (tree (given points curves reals parts ranges) (edge .curve))) (askedFirst «probes_first» (Range range)) (overRange (given points curves reals parts ranges) edge r range))) w (now (chain .exit))
         × (now (scratch .exit) ≡ filled (length (now (scratch .entry))) []) ⌝ }
 {
     let row = edge.curve;
@@ -198,7 +198,7 @@ fn draw_range(
         ranges,
         row,
         range,
-        probed,
+        probes_first,
         r,
         room,
     );
@@ -234,14 +234,14 @@ pub fn discretise_usable(
     ranges: &[f64],
     edge: Edge,
     usable: Usable,
-    probed: bool,
+    probes_first: bool,
     r: Resolved,
     chain: &mut [f64],
     scratch: &mut [f64],
 ) -> Counted
     requires { ⌜ (shortest ≤ length (now chain)) × (shortest ≤ length (now scratch)) × (length (curveKnots (tree (lent points curves reals parts ranges) (edge .curve))) ≤ mostKnots)
         × (0 < r .depth) × (usable ≡ usableRange (tree (lent points curves reals parts ranges) (edge .curve)) (edge .range)) ⌝ }
-    ensures { λ w. ⌜ DiscretisedInto (probedDiscretised probed (given points curves reals parts ranges) edge r) (now (chain .entry)) (now (scratch .entry)) w (now (chain .exit)) (now (scratch .exit)) ⌝ }
+    ensures { λ w. ⌜ DiscretisedInto (askedDiscretised «probes_first» (given points curves reals parts ranges) edge r) (now (chain .entry)) (now (scratch .entry)) w (now (chain .exit)) (now (scratch .exit)) ⌝ }
 {
     let Usable::Range(range) = usable else {
         edge_place::chord(points, edge, edge.range.lo, edge.range.hi, chain);
@@ -258,7 +258,7 @@ pub fn discretise_usable(
         ranges,
         edge,
         range,
-        probed,
+        probes_first,
         r,
         chain,
         part,

@@ -13,8 +13,8 @@ use borrow.Author.Tests.{ltb-true, ltb-false, lt-ltb, le-ltb}
 use Rattle.base_lists.specs.Result.{Result, refused, got, bind, each}
 use Rattle.math.specs.declared.Interval.{Interval}
 use Rattle.edge_params.specs.Work.{Work, joins, ends, andThen, joining, someFar, asking, overflows, within}
-use Rattle.edge_params.specs.Params.{midpoint, Move, asks, adds, subdividing, forming, Sampler, breaksAlong, unlessHi, walking, bisecting}
-use Rattle.edge_params.specs.Own.Bisected.{added, asked, subdivided, walked, through, bisected, NothingFar}
+use Rattle.edge_params.specs.Params.{midpoint, Move, asks, adds, asked, subdividing, forming, Sampler, breaksAlong, unlessHi, walking, bisecting}
+use Rattle.edge_params.specs.Own.Bisected.{added, subdivided, walked, through, bisected, NothingFar}
 use Rattle.edge_params.specs.Own.Counted.{counted}
 
 -- ---- what moves add, and what they ask for
@@ -269,29 +269,6 @@ module _ (far : Float → Bool) where
           let i = ltb-true k room e in
           rw (le-ltb room (suc k) (omega arith)) (on (omega arith) ∙ more (overflows room (w .acts)) (w .end))
       go false e on = let i = ltb-false k room e in rw (lt-ltb room (suc k) (omega arith))
-
-  -- so a count means that nothing was too far, and a refusal is the list's own
-  module _ (room k : ℕ) (moves : List Move) (n : ℕ) (h : k ≤ room) where
-    pub counted-kept : counted far room k moves ≡ got n → (someFar far (asked moves) ≡ false) × (n ≡ k + length (added moves))
-    counted-kept q = go (overflows room (w .acts)) (w .end) refl (sym (counted-forming room k moves h) ∙ q)
-      where
-        w : Work (List Float)
-        w = forming far k moves
-
-        go : (v : Bool) (x : Result (List Float)) → w .end ≡ x → each (λ (l : List Float). k + length l) (cond v (refused 8) x) ≡ got n
-            → (someFar far (asked moves) ≡ false) × (n ≡ k + length (added moves))
-        go true x e q = absurd (let z : _≡_ {A = ℕ} 0 1 = cc in omega arith)
-        go false (refused i) e q = absurd (let z : _≡_ {A = ℕ} 0 1 = cc in omega arith)
-        go false (got l) e q =
-            let z : k + length l ≡ n = cc in
-            (forming-kept k moves l e, sym z ∙ ap (λ (m : List Float). k + length m) (forming-list k moves l e))
-
-    pub counted-refused : counted far room k moves ≡ refused n → within room (forming far k moves) ≡ refused n
-    counted-refused q = go (within room (forming far k moves)) (sym (counted-forming room k moves h) ∙ q)
-      where
-        go : (x : Result (List Float)) → each (λ (l : List Float). k + length l) x ≡ refused n → x ≡ refused n
-        go (refused i) q = cc
-        go (got l) q = absurd (let z : _≡_ {A = ℕ} 0 1 = cc in omega arith)
 
 -- ---- bisection asks for what it adds
 module _ (far : Float → Bool) where

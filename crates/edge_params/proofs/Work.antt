@@ -15,12 +15,12 @@ use Rattle.math.specs.declared.Interval.{Interval}
 use Rattle.edge_params.specs.declared.Closed.{Closed}
 use Rattle.edge_params.specs.declared.Closed.the-variants.{Unknown, Segments}
 use Rattle.edge_params.specs.Work.{Act, joins, Work, ends, done, joining, forms, actsAfter, andThen, someFar, passes, overflows, within}
-use Rattle.edge_params.specs.Params.{forming, Sampler, evenly, bisecting, floored, refined, sampleParams}
-use Rattle.edge_params.specs.Own.Bisected.{asked, bisected, NothingFar}
+use Rattle.edge_params.specs.Params.{asked, forming, Sampler, evenly, bisecting, floored, refined, sampleParams}
+use Rattle.edge_params.specs.Own.Bisected.{bisected, NothingFar}
 use Rattle.edge_params.specs.Own.InRoom.{fitting, flooredIn, refinedIn, sampleParamsIn}
 use Rattle.edge_params.proofs.Asks.{added-bisecting, within-asking, asking-clear, asking-answers, asking-refused, forming-clear, forming-kept, forming-refused, bisecting-asked}
 use Rattle.edge_params.proofs.Lists.{steps-length}
-use Rattle.edge_params.proofs.Written.{fitting-got}
+use Rattle.edge_params.proofs.Written.{fitting-eight, fitting-then, fitting-got}
 
 -- what follows an answer, told otherwise
 then-as : {A B : Type 0} (x : Result A) {f g : A → Result B} → ((a : A) → f a ≡ g a) → bind x f ≡ bind x g
@@ -248,7 +248,30 @@ module _ (room : ℕ) where
             then-kept (fitting room (evenly range n)) l (λ k. meets k (s .meets k))
             (sym (list-in (evenly range n) (λ k. elim (s .meets k) [ true ↦ done k | false ↦ refined s range ]) (λ k. refl)) ∙ q)
 
-    -- and a refusal is 8 or 11
+    -- in a room alone a refusal is 8
+    pub sample-params-eight : (n : ℕ) → sampleParamsIn room s range ≡ refused n → n ≡ 8
+    unfolding sampleParamsIn refinedIn flooredIn
+    sample-params-eight n = go (s .closed)
+      where
+        floor : (l : List Float) (b : Bool) → _≡_ {A = Result (List Float)} (elim b [ true ↦ fitting room (evenly range (s .least)) | false ↦ got l ]) (refused n) → n ≡ 8
+        floor l true q = fitting-eight room (evenly range (s .least)) n q
+        floor l false q = absurd (let z : _≡_ {A = ℕ} 0 1 = cc in omega arith)
+
+        finer : refinedIn room s range ≡ refused n → n ≡ 8
+        finer = fitting-then room (bisected s range) (flooredIn room s range) n (λ l. floor l (ltb (length l - 1) (s .least)))
+
+        meets : (l : List Float) (b : Bool) → _≡_ {A = Result (List Float)} (elim b [ true ↦ got l | false ↦ refinedIn room s range ]) (refused n) → n ≡ 8
+        meets l true q = absurd (let z : _≡_ {A = ℕ} 0 1 = cc in omega arith)
+        meets l false q = finer q
+
+        go : (c : Closed) → _≡_ {A = Result (List Float)} (elim c [
+          | Unknown ↦ refinedIn room s range
+          | Segments k ↦ bind (fitting room (evenly range k)) (λ l. elim (s .meets l) [ true ↦ got l | false ↦ refinedIn room s range ])
+        ]) (refused n) → n ≡ 8
+        go Unknown q = finer q
+        go (Segments k) q = fitting-then room (evenly range k) (λ l. elim (s .meets l) [ true ↦ got l | false ↦ refinedIn room s range ]) n (λ l. meets l (s .meets l)) q
+
+    -- and with what is asked for it is 8 or 11
     pub sample-params-late : (n : ℕ) → within room (sampleParams s range) ≡ refused n → (n ≡ 8) ⊎ (n ≡ 11)
     sample-params-late n q = go (within-refused (sampleParams s range) n q)
       where

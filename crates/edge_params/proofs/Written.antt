@@ -11,7 +11,7 @@ use lib.Seq.{sets, sets-eq, length-sets, set-out, length-take-le, take-append-se
 use lib.Dec.{leb}
 use lib.Ieee.{Float}
 use borrow.Author.Tests.{le-leb, lt-leb, leb-true, leb-false}
-use Rattle.base_lists.specs.Result.{refused, got, each}
+use Rattle.base_lists.specs.Result.{Result, refused, got, bind, each}
 use Rattle.edge_params.specs.declared.Listed.{Listed}
 use Rattle.edge_params.specs.declared.Listed.the-variants.{Count, Refused}
 use Rattle.edge_params.specs.Own.InRoom.{fitting}
@@ -50,6 +50,22 @@ fitting-fits room l h = rw (le-leb (length l) room h, fitting)
 pub fitting-over : (room : ℕ) (l : List Float) → room < length l → fitting room l ≡ refused 8
 unfolding fitting
 fitting-over room l h = rw (lt-leb (length l) room h, fitting)
+
+-- what does not fit is refused with 8, and so is what follows a list where each list's own refusal is 8
+pub fitting-eight : (room : ℕ) (l : List Float) (n : ℕ) → fitting room l ≡ refused n → n ≡ 8
+unfolding fitting
+fitting-eight room l n = go (leb (length l) room)
+  where
+    go : (b : Bool) → _≡_ {A = Result (List Float)} (elim b [ true ↦ got l | false ↦ refused 8 ]) (refused n) → n ≡ 8
+    go true q = absurd (let z : _≡_ {A = ℕ} 0 1 = cc in omega arith)
+    go false q = cc
+
+pub fitting-then : (room : ℕ) (l : List Float) (f : List Float → Result (List Float)) (n : ℕ) → ((k : List Float) → f k ≡ refused n → n ≡ 8) → bind (fitting room l) f ≡ refused n → n ≡ 8
+fitting-then room l f n h = go (fitting room l) (fitting-eight room l)
+  where
+    go : (x : Result (List Float)) → ((m : ℕ) → x ≡ refused m → m ≡ 8) → bind x f ≡ refused n → n ≡ 8
+    go (refused m) g q = g n q
+    go (got k) g q = h k q
 
 pub fitting-got : (room : ℕ) (k l : List Float) → fitting room k ≡ got l → (k ≡ l) × (length k ≤ room)
 fitting-got room k l q = go (leb (length k) room) refl

@@ -25,6 +25,12 @@ pub data Move : Type 0 where
   -- a parameter joins its list
   adds : Float → Move
 
+-- the parameters that moves ask for
+unfoldable pub asked : List Move → List Float
+asked [] = []
+asked (asks t ∷ moves) = t ∷ asked moves
+asked (adds t ∷ moves) = asked moves
+
 -- subdivide between a and b, over the test that a span is within budget. (The tangents at a and b ask for nothing new.)
 unfoldable pub subdividing : (Float → Float → Bool) → ℕ → Float → Float → List Move
 subdividing within zero a b = []

@@ -22,8 +22,7 @@ use Rattle.edge_params.specs.Work.{within}
 use Rattle.edge_params.specs.Params.{Sampler, evenly}
 use Rattle.edge_params.specs.Own.Bisected.{bisected, NothingFar}
 use Rattle.edge_params.specs.Own.InRoom.{fitting, flooredIn, refinedIn, sampleParamsIn}
-use Rattle.edge_params.proofs.Asks.{never-clear}
-use Rattle.edge_params.proofs.Work.{sample-params-in, sample-params-kept, sample-params-late, sample-params-refused}
+use Rattle.edge_params.proofs.Work.{sample-params-in, sample-params-kept, sample-params-eight, sample-params-late, sample-params-refused}
 use Rattle.edge_params.proofs.Lists.{Gives, list, eight, gives-got, steps-length, sampled-length}
 use Rattle.curve_asks.specs.Asks.{asksFar}
 use Rattle.curve_prepared.specs.Own.Prepared.{preparedOf, isPlain}
@@ -140,15 +139,15 @@ module _ (room : ℕ) (c : CurveTree) (range : Interval) (r : Resolved) where
   unfolding sampled sampledIn
   sampled-in clear = sample-params-in room (sampler c range r) range clear
 
-  -- of a curve that never asks a hyperbola for a parameter that is too far
-  pub sampled-never : ((t : Float) → asksFar c t ≡ false) → within room (sampled c range r) ≡ sampledIn room c range r
-  unfolding sampler
-  sampled-never h = sampled-in (never-clear (sampler c range r) range h)
-
   -- parameters that are answered
   pub sampled-kept : (l : List Float) → within room (sampled c range r) ≡ got l → sampledIn room c range r ≡ got l
   unfolding sampled sampledIn
   sampled-kept l = sample-params-kept room (sampler c range r) range l
+
+  -- in a room alone a refusal is 8
+  pub sampled-in-eight : (n : ℕ) → sampledIn room c range r ≡ refused n → n ≡ 8
+  unfolding sampledIn
+  sampled-in-eight = sample-params-eight room (sampler c range r) range
 
   -- a refusal is 8 or 11, and what has no room is refused with 11 alone
   pub sampled-late : (n : ℕ) → within room (sampled c range r) ≡ refused n → (n ≡ 8) ⊎ (n ≡ 11)

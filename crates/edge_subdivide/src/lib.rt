@@ -124,7 +124,7 @@ fn is_within(l: Limits, a: End, b: End, pm: Vec3) -> bool
     false
 }
 
-// The middle's tangent is evaluated only where the span is split.
+// What becomes of the span from a to b. The middle's tangent is evaluated only where it is split.
 fn split_of(
     points: &[f64],
     curves: &[u32],

@@ -38,9 +38,9 @@ unfoldable pub someRisky : Segments → Bool
 someRisky none = false
 someRisky (segment curve range same rest) = (isHyperbola curve && not (isCalm range)) || someRisky rest
 
--- the number of a row is that of no trim, no composite and no hyperbola
-abbrev pub isPlain : List ℕ → ℕ → Bool
-isPlain curves row = ltb (getD curves (row * 3) 0) 6
+-- the number of a row is below those of trims, composites and hyperbolas
+abbrev pub neverAsks : List ℕ → ℕ → Bool
+neverAsks curves row = ltb (getD curves (row * 3) 0) 6
 
 -- some row of the table is a hyperbola's
 abbrev pub someHyperbola : List ℕ → Bool

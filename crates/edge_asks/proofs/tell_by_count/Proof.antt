@@ -1,6 +1,6 @@
 -- `edge_asks::tell_by_count` meets its contract. Assumes nothing.
 use mathlib.Core.Path.{sym, ap, _∙_}
-use mathlib.Core.Logic.{⊎-elim}
+use mathlib.Core.Logic.{inl, inr}
 use native.Mathlib.Omega.{arith}
 use borrow.Author.Needs.{needs}
 use Rattle.brep.specs.Rows.{lent}
@@ -42,7 +42,10 @@ returns-3 c =
     let f = formed (c .before) in
     clear-told (a .room) (curve st) (a .range) (a .r) (st .pre .3) (f .clear) (st .pre .1)
     (λ few.
-    ⊎-elim (λ w. sym (w .1 .ensures (a .points .now) (a .reals .now)) ∙ w .2 .left) (λ w. absurd (omega (arith, w .left, f .long))) (c .if1 .came))
+    elim (c .if1 .came) [
+      | inl w ↦ sym (w .1 .ensures (a .points .now) (a .reals .now)) ∙ w .2 .left
+      | inr w ↦ absurd (omega (arith, w .left, f .long))
+    ])
 
 pub tell-by-count-spec : {M : Type 1} → statement M
 tell-by-count-spec =

@@ -23,7 +23,7 @@ use Rattle.edge_count.proofs.count_subdivided.Kinds as count-subdivided
 use Rattle.edge_count.proofs.+count_subdivided.Lts-count_subdivided as count-subdivided-lts
 use Rattle.curve_asks.proofs.far_at.Reads as far-at-reads
 use Rattle.edge_count.proofs.count_one.Reads as count-one-reads
-use Rattle.edge_count.proofs.is_split.Reads as is-split-reads
+use Rattle.edge_count.proofs.is_halved.Reads as is-halved-reads
 use Rattle.edge_subdivide.proofs.end_at.Reads as end-at-reads
 use Rattle.edge_count.proofs.+count_subdivided.{statement}
 use Rattle.edge_count.proofs.+count_subdivided.Tie.{close}
@@ -49,7 +49,7 @@ count-subdivided-below t =
 
 -- what each member is handed of its callees
 abbrev count-subdivided-claims : ℕ → count-subdivided-lts.Claims
-count-subdivided-claims t = (far-at-reads.Asked, far-at-reads.Learnt, is-split-reads.Asked, is-split-reads.Learnt, end-at-reads.Asked, end-at-reads.Learnt, count-subdivided-below t, count-subdivided.Post, count-one-reads.Asked, count-one-reads.Learnt)
+count-subdivided-claims t = (far-at-reads.Asked, far-at-reads.Learnt, is-halved-reads.Asked, is-halved-reads.Learnt, end-at-reads.Asked, end-at-reads.Learnt, count-subdivided-below t, count-subdivided.Post, count-one-reads.Asked, count-one-reads.Learnt)
 
 -- the curve that is read
 abbrev curve-of : (t : ℕ) → count-subdivided-lts.Start (count-subdivided-claims t) (count-subdivided-at t) count-subdivided.Post → CurveTree
@@ -73,7 +73,7 @@ both : (t : ℕ) (f : count-subdivided-lts.After-end-at (count-subdivided-claims
 both t f r e =
     let st = f .before .before .before .before .before .before .before .before .before .before .before .before .before in
     let a = st .args in
-    halves (curve-of t st) r (a .depth) (a .a) (a .b) (st .pre .1 .4) (st .pre .1 .5) (a .room) (a .k) (f .before .before .before .before .before .before .before .if1 .left) (f .before .before .before .before .far-at .ensures (a .points .now) (a .reals .now)) (f .before .before .before .if2 .left) (f .before .before .is-split .ensures r e) (f .before .if3 .left) (f .end-at .result) (f .end-at .ensures)
+    halves (curve-of t st) r (a .depth) (a .a) (a .b) (st .pre .1 .4) (st .pre .1 .5) (a .room) (a .k) (f .before .before .before .before .before .before .before .if1 .left) (f .before .before .before .before .far-at .ensures (a .points .now) (a .reals .now)) (f .before .before .before .if2 .left) (f .before .before .is-halved .ensures r e) (f .before .if3 .left) (f .end-at .result) (f .end-at .ensures)
 
 count-subdivided-returns : (t : ℕ) → count-subdivided-lts.Need-returns (count-subdivided-claims t) (count-subdivided-at t) count-subdivided.Post
 count-subdivided-returns t c r e =
@@ -91,7 +91,7 @@ count-subdivided-returns-3 : (t : ℕ) → count-subdivided-lts.Need-returns-3 (
 count-subdivided-returns-3 t c r e =
     let st = c .before .before .before .before .before .before .before .before .before .before .before .before in
     let a = st .args in
-    out-within (curve-of t st) r (a .depth) (a .a) (a .b) (st .pre .1 .4) (st .pre .1 .5) (a .room) (a .k) (c .before .before .before .before .before .before .if1 .left) (c .before .before .before .far-at .ensures (a .points .now) (a .reals .now)) (c .before .before .if2 .left) (c .before .is-split .ensures r e) (c .if3 .taken)
+    out-within (curve-of t st) r (a .depth) (a .a) (a .b) (st .pre .1 .4) (st .pre .1 .5) (a .room) (a .k) (c .before .before .before .before .before .before .if1 .left) (c .before .before .before .far-at .ensures (a .points .now) (a .reals .now)) (c .before .before .if2 .left) (c .before .is-halved .ensures r e) (c .if3 .taken)
 
 count-subdivided-count-subdivided-requires : (t : ℕ) → count-subdivided-lts.Need-count-subdivided-requires (count-subdivided-claims t) (count-subdivided-at t) count-subdivided.Post
 count-subdivided-count-subdivided-requires t c κs =

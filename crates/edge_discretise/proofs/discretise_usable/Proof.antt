@@ -26,7 +26,7 @@ told f = lent-part _ _ _ (f .room .ensures)
 returns : tie.Need-returns
 returns c =
     let st = c .before .before .before .before .before .before .before .before .before .before .before .before .before .before .before .before .before in
-    let z = into-chord (room-of st) (tables-of st) (st .args .edge) (st .args .probed) (st .args .r) (length (now (st .args .chain))) _ (st .pre .4) (c .before .before .before .before .before .before .before .before .enum-told .given .1) refl (c .before .before .before .before .before .before .chord .ensures) in
+    let z = into-chord (room-of st) (tables-of st) (st .args .edge) (st .args .probes-first) (st .args .r) (length (now (st .args .chain))) _ (st .pre .4) (c .before .before .before .before .before .before .before .before .enum-told .given .1) refl (c .before .before .before .before .before .before .chord .ensures) in
     record { drawn = z; cleared = c .before .before .clear-from .ensures }
 
 slice-relend-prefix-part : tie.Need-slice-relend-prefix-part
@@ -55,7 +55,7 @@ returns-2 c =
     let d = c .before .before .before .before .before .before .before .before .draw-range in
     record {
       drawn =
-          into-range (room-of st) (tables-of st) (st .args .edge) (st .args .probed) (st .args .r) (length (now (st .args .chain))) _ (st .pre .4) _ _ (c .before .before .before .before .before .before .before .before .before .before .before .before .before .usable .given .1)
+          into-range (room-of st) (tables-of st) (st .args .edge) (st .args .probes-first) (st .args .r) (length (now (st .args .chain))) _ (st .pre .4) _ _ (c .before .before .before .before .before .before .before .before .before .before .before .before .before .usable .given .1)
           (l .size ∙ n .ensures) (d .ensures .0);
       cleared = cleared-whole (n .result) (d .last .1 .1 .1 .1 .1 .1 .1 .1 .1 .1 .0) (now (st .args .scratch)) (l .inside) (d .ensures .1) (c .before .before .clear-from2 .ensures);
     }

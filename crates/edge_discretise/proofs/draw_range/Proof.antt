@@ -3,7 +3,7 @@ use denote.Ref.{now}
 use lib.ListN.{length}
 use borrow.Author.Needs.{needs}
 use Rattle.brep.specs.Rows.{Tables, lent}
-use Rattle.edge_discretise.proofs.Drawing.{into-clear, into-told}
+use Rattle.edge_discretise.proofs.Drawing.{clear, into-clear, into-told}
 use Rattle.edge_discretise.proofs.draw_range.Statement.{statement}
 use Rattle.edge_discretise.proofs.draw_range.Tie as tie
 
@@ -16,8 +16,10 @@ tell-requires c κs = let p = c .before .before .before .before .before .before 
 
 draw-sampled-requires : tie.Need-draw-sampled-requires
 draw-sampled-requires c κs =
-    let p = c .before .before .before .before .before .before .before .before .before .before .before .before .pre in
-    (p .0, p .1, p .2, c .before .before .before .before .tell .ensures .clear (c .before .before .enum-told .given .1) .1)
+    let st = c .before .before .before .before .before .before .before .before .before .before .before .before in
+    let t = c .before .before .before .before .tell in
+    let p = st .pre in
+    (p .0, p .1, p .2, clear (tables-of st) (st .args .edge) (st .args .r) (st .args .range) (length (now (st .args .scratch))) _ (t .result) (t .ensures) (c .before .before .enum-told .given .1) .1)
 
 returns : tie.Need-returns
 returns c =

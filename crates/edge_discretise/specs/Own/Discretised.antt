@@ -27,10 +27,10 @@ pub record ChainInto (n : ℕ) (D : Result (List Sample)) (answer : Counted) (ch
   pub answered : answer ≡ countedOf D
   pub holds : chain ≡ filled n (flat (listOf D))
 
--- discretise, before which the edge's usable range is probed or not
-abbrev pub probedDiscretised : Bool → Tables → Edge → Resolved → Work (List Sample)
-probedDiscretised probed T e r =
-    asking (asksFar (edgeCurve T e)) (askedFirst probed (usableRange (edgeCurve T e) (e .range))) (discretised T e r)
+-- discretise, before which edge_extent's probes are asked for or not
+abbrev pub askedDiscretised : Bool → Tables → Edge → Resolved → Work (List Sample)
+askedDiscretised probesFirst T e r =
+    asking (asksFar (edgeCurve T e)) (askedFirst probesFirst (usableRange (edgeCurve T e) (e .range))) (discretised T e r)
 
 -- of a work D in the room of both buffers, with +0.0 in all of scratch
 pub record DiscretisedInto (D : Work (List Sample)) (chain scratch : List Float) (answer : Counted) (chain' scratch' : List Float) : Type 0 where

@@ -6,18 +6,13 @@ use Prim.Native.Nat.{ℕ, zero, suc}
 use lib.Ieee.{Float}
 use Rattle.math.specs.declared.Interval.{Interval}
 use Rattle.edge_params.specs.Work.{someFar}
-use Rattle.edge_params.specs.Params.{midpoint, Move, asks, adds, Sampler, breaksAlong, unlessHi, bisecting}
+use Rattle.edge_params.specs.Params.{midpoint, Move, asks, adds, asked, Sampler, breaksAlong, unlessHi, bisecting}
 
--- the parameters that moves add, and those that they ask for
+-- the parameters that moves add
 unfoldable pub added : List Move → List Float
 added [] = []
 added (asks t ∷ moves) = added moves
 added (adds t ∷ moves) = t ∷ added moves
-
-unfoldable pub asked : List Move → List Float
-asked [] = []
-asked (asks t ∷ moves) = t ∷ asked moves
-asked (adds t ∷ moves) = asked moves
 
 -- what `subdividing` adds between a and b
 unfoldable pub subdivided : (Float → Float → Bool) → ℕ → Float → Float → List Float

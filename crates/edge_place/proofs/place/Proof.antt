@@ -1,6 +1,6 @@
 -- `place` meets its contract: the records are located, known or not, then oriented, then pinned. Assumes nothing.
 use mathlib.Core.Path.{_≡_, ap, _∙_}
-use mathlib.Core.Logic.{⊎-elim}
+use mathlib.Core.Logic.{inl, inr}
 use native.Mathlib.Omega.{arith}
 use lib.ListN.{length}
 use lib.Seq.{sets, length-sets}
@@ -21,9 +21,10 @@ tables-of st = let a = st .args in lent (a .points) (a .curves) (a .reals) (a .p
 known-chain : (j : tie.Joined1) → let st = j .before .before .before .before .before .before .before .before in j .if1 .chain ≡ sets (st .args .chain .now) 0 (flat (located (edgeCurve (tables-of st) (st .args .edge)) (st .args .params .now)))
 known-chain j =
     let st = j .before .before .before .before .before .before .before .before in
-    ⊎-elim (λ w. w .5 ∙ w .2 .ensures)
-    (λ w. held-known (tables-of st) (st .args .edge) (st .args .params .now) (st .args .chain .now) (st .pre .1) (st .pre .2 (not-false _ (w .0 .left))) (w .1))
-    (j .if1 .came)
+    elim (j .if1 .came) [
+      | inl w ↦ w .5 ∙ w .2 .ensures
+      | inr w ↦ held-known (tables-of st) (st .args .edge) (st .args .params .now) (st .args .chain .now) (st .pre .1) (st .pre .2 (not-false _ (w .0 .left))) (w .1)
+    ]
 
 known-length : (j : tie.Joined1) → length (j .if1 .chain) ≡ length (j .before .before .before .before .before .before .before .before .args .chain .now)
 known-length j = ap length (known-chain j) ∙ simp length-sets

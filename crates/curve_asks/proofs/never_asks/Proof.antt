@@ -1,4 +1,4 @@
--- `curve_asks::is_plain` meets its contract. Assumes nothing.
+-- `curve_asks::never_asks` meets its contract. Assumes nothing.
 use mathlib.Core.Path.{ap}
 use native.Mathlib.Omega.{arith}
 use lib.Dec.{ltb}
@@ -7,8 +7,8 @@ use borrow.Author.Needs.{needs}
 use borrow.Author.Tests.{ltb-true}
 use Rattle.brep.specs.Rows.{tables}
 use Rattle.curve_asks.proofs.Laws.{plain-near}
-use Rattle.curve_asks.proofs.is_plain.Statement.{statement}
-use Rattle.curve_asks.proofs.is_plain.Tie as tie
+use Rattle.curve_asks.proofs.never_asks.Statement.{statement}
+use Rattle.curve_asks.proofs.never_asks.Tie as tie
 
 returns : tie.Need-returns
 returns c =
@@ -18,5 +18,5 @@ returns c =
       λ points reals parts ranges h. plain-near (tables points (a .curves .now) reals parts ranges) (a .row) (omega (arith, k, ltb-true (c .int-at .result) 6 h)),
     )
 
-pub is-plain-spec : {M : Type 1} → statement M
-is-plain-spec = tie.close (tie.spec (λ c. search needs) (λ c κs. search needs) returns)
+pub never-asks-spec : {M : Type 1} → statement M
+never-asks-spec = tie.close (tie.spec (λ c. search needs) (λ c κs. search needs) returns)

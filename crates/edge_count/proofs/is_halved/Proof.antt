@@ -1,12 +1,12 @@
--- `edge_count::is_split` meets its contract: the list has one place, and a depth of one needs no more. Assumes nothing.
+-- `edge_count::is_halved` meets its contract: the list has one place, and a depth of one needs no more. Assumes nothing.
 use mathlib.Core.Path.{refl}
 use borrow.Author.Needs.{needs}
 use Rattle.brep.specs.Rows.{tables}
 use Rattle.brep.specs.Tree.{CurveTree, tree}
 use Rattle.edge_subdivide.specs.Bisect.{withinBudget}
-use Rattle.edge_count.proofs.Counting.{not-refused, is-split}
-use Rattle.edge_count.proofs.is_split.Statement.{statement}
-use Rattle.edge_count.proofs.is_split.Tie as tie
+use Rattle.edge_count.proofs.Counting.{not-refused, is-halved}
+use Rattle.edge_count.proofs.is_halved.Statement.{statement}
+use Rattle.edge_count.proofs.is_halved.Tie as tie
 
 -- the curve that is read
 abbrev curve-of : tie.Start → CurveTree
@@ -24,10 +24,10 @@ returns-2 : tie.Need-returns-2
 returns-2 c r e =
     let st = c .before .before .before .before .before .before .before .before .before .before .before .before .before in
     let a = st .args in
-    is-split (withinBudget (curve-of st) r) (a .a .t) (a .b .t) refl (c .before .before .before .before .before .subdivide .ensures r e .listed) (c .before .listed .given .1)
+    is-halved (withinBudget (curve-of st) r) (a .a .t) (a .b .t) refl (c .before .before .before .before .before .subdivide .ensures r e .listed) (c .before .listed .given .1)
 
-pub is-split-spec : {M : Type 1} → statement M
-is-split-spec =
+pub is-halved-spec : {M : Type 1} → statement M
+is-halved-spec =
     tie.close
     (tie.spec
     (λ c. search needs)
