@@ -1,3 +1,4 @@
+#![tactic(auto)]
 // The functions of f64 that Rattle has no primitive for, for every float.
 ghost use Rattle.std.specs.Prelude.{◌≡◌, false};
 ghost use Rattle.std.specs.Float.Ieee.Scale.{finite};

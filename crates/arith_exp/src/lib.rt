@@ -1,10 +1,11 @@
+#![tactic(auto)]
 // e^t, cosh and sinh in fixed steps.
 ghost use Rattle.std.specs.Prelude.{◌≡◌};
 ghost use Rattle.arith_exp.specs.Exp.{doublings, exp_reduced, exp_step, series, power_of_two, exp_of};
 ghost use Rattle.arith_exp.specs.Own.Hyperbolic.{hyperbolic_of};
 
 // The hyperbolic cosine and sine of one number.
-#[derive(Drop)]
+#[derive(Clone, Copy)]
 pub struct Hyperbolic {
     pub cosh: f64,
     pub sinh: f64,

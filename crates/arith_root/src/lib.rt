@@ -1,3 +1,4 @@
+#![tactic(auto)]
 // The square root of an f64, rounded to nearest even: an estimate by floats, checked in whole
 // numbers, and a root digit by digit where the check fails.
 ghost use Rattle.std.specs.Prelude.{◌≡◌, ◌+◌, ◌-◌, ◌*◌, ◌/◌, ◌%◌, ◌^◌, ◌<◌, ◌≤◌, T, from_bits};
@@ -16,7 +17,7 @@ const TWO_52: u64 = 4503599627370496;
 const TWO_53: u64 = 9007199254740992;
 
 // A root so far, and what is left: root * root + rest is the number.
-#[derive(Drop)]
+#[derive(Clone, Copy)]
 struct Digits {
     root: u64,
     rest: u64,

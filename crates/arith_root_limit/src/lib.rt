@@ -1,3 +1,4 @@
+#![tactic(auto)]
 // A root compared with a limit, mostly without the root: a cut, whose own root stands on the known side of the limit, answers for all
 // that lies beyond it, since a root rises with what stands under it. The square of a number is such a cut, and takes no root itself.
 // And two roots compared, mostly without either.
@@ -12,7 +13,7 @@ pub const A_LITTLE_MORE: f64 = 1.000001;
 const A_LITTLE_LESS: f64 = 0.999999;
 
 // A limit for roots, with a cut on either side of it; a cut that does not serve is a NaN.
-#[derive(Drop)]
+#[derive(Clone, Copy)]
 pub struct Limit {
     pub at: f64,
     pub low: f64,

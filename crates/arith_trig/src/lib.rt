@@ -1,3 +1,4 @@
+#![tactic(auto)]
 // sin, cos and acos in fixed steps.
 ghost use Rattle.std.specs.Prelude.{◌≡◌, ◌<◌, [], ◌∷◌};
 ghost use Rattle.arith.specs.Notation.{one};
@@ -5,7 +6,7 @@ ghost use Rattle.arith_trig.specs.Own.SinCos.{sin_cos_of};
 ghost use Rattle.arith_trig.specs.Trig.{turns, reduced, quarter, step, horner_steps, sin_by, cos_by, sin_of, cos_of, halved, arc_of, angle_of, acos_by, acos_of};
 
 // The sine and the cosine of one angle.
-#[derive(Drop)]
+#[derive(Clone, Copy)]
 pub struct SinCos {
     pub sin: f64,
     pub cos: f64,

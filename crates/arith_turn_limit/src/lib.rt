@@ -1,3 +1,4 @@
+#![tactic(auto)]
 // An angle compared with a limit by its cosine, mostly without the arc cosine: no angle is above twice the tangent of its half, and
 // where it is small it is not far below it either.
 ghost use Rattle.std.specs.Prelude.{◌≡◌};

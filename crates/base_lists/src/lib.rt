@@ -1,3 +1,4 @@
+#![tactic(auto)]
 // Lists in order, sublists and buffers: definitions in specs/, laws in proofs/. The one function clears a buffer's rest.
 ghost use Rattle.std.specs.Prelude.{◌≡◌, ◌≤◌, length, take};
 ghost use Rattle.base_lists.specs.Room.{filled};

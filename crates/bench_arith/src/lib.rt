@@ -1,3 +1,4 @@
+#![tactic(auto)]
 // The root, the sine and the cosine under C names, for bench/arith.rs to time.
 ghost use Rattle.std.specs.Prelude.{◌≡◌};
 ghost use Rattle.arith_root.specs.Root.{root_of};

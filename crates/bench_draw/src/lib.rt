@@ -1,3 +1,4 @@
+#![tactic(auto)]
 // What bench/draw.rs times beside drawing and has no C name in cornsunset: a point of a curve, sorting breaks, clearing a buffer.
 ghost use Rattle.std.specs.Prelude.{◌≡◌, [], cond, length, leb};
 ghost use Rattle.base_lists.specs.Room.{filled};

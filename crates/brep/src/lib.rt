@@ -1,3 +1,4 @@
+#![tactic(auto)]
 // The rows of the tables: a curve row read as one of the eight kinds, a segment, a point, and the record of an edge.
 // Readers are total: past a table's end a float is NaN and a whole number 0.
 ghost use Rattle.std.specs.Prelude.{◌≡◌, ◌+◌, get_or};
@@ -18,7 +19,7 @@ pub const MOST_SEGMENTS: usize = 4096;
 
 // A curve row by value. Where the Rust boxes a curve or owns a Vec, there is a row or a run of rows: a trim's base is a
 // curve row, a polyline's points are a run of the points, a composite's segments a run of the segments.
-#[derive(Drop)]
+#[derive(Clone, Copy)]
 pub enum Curve {
     Line {
         origin: Vec3,
@@ -57,7 +58,7 @@ pub enum Curve {
 }
 
 // CompositeSegment: a curve row, the part of it that is run through, and whether that is in its own direction.
-#[derive(Drop)]
+#[derive(Clone, Copy)]
 pub struct Segment {
     pub curve: u32,
     pub range: Interval,
@@ -66,7 +67,7 @@ pub struct Segment {
 
 // An edge, with the two points that are its box's least and greatest corners. The sense is the number as it was handed
 // in, so that one that is neither 0 nor 1 can be turned away.
-#[derive(Drop)]
+#[derive(Clone, Copy)]
 pub struct Edge {
     pub curve: u32,
     pub start: u32,

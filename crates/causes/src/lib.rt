@@ -1,3 +1,4 @@
+#![tactic(auto)]
 // When an edge is turned away: causes 1 to 6, in order, the lowest that applies. Every row and segment is looked at.
 ghost use Rattle.std.specs.Prelude.{◌≡◌};
 ghost use Rattle.brep.specs.Rows.{given};
@@ -9,7 +10,7 @@ use causes_bounds::either;
 use options::Options;
 
 // What the checks come to: nothing turns the edge away, or the lowest cause that does.
-#[derive(Drop)]
+#[derive(Clone, Copy)]
 pub enum Verdict {
     Accepted,
     Refused(u32),

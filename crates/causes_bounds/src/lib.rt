@@ -1,3 +1,4 @@
+#![tactic(auto)]
 // Cause 2: a float not finite, or above 1e9 in magnitude. Every float is looked at, used or not.
 ghost use Rattle.std.specs.Prelude.{◌≡◌, ◌&&◌, ◌||◌};
 ghost use Rattle.causes_bounds.specs.Some.{some};

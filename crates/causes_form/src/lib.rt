@@ -1,3 +1,4 @@
+#![tactic(auto)]
 // Cause 3: what does not follow the tables' form: the slices, a row, the segments, used or not, the edge and the options.
 ghost use Rattle.std.specs.Prelude.{◌≡◌, ◌+◌, ◌*◌, ◌/◌, ◌≤◌, length, ltb};
 ghost use Rattle.brep.specs.Rows.{given};

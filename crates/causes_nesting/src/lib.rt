@@ -1,3 +1,4 @@
+#![tactic(auto)]
 // Causes 3, 4 and 5 of the curve rows, in one pass from the lowest row up. A table has the depth of each row gone by, so that
 // no reference is followed down. Composites may share runs: two others have the depth of each block of 16 and of 256 segments
 // that a run has covered. Such a block is worked out once; besides, a run takes at most 30 segments and 44 blocks.

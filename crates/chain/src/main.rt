@@ -1,3 +1,4 @@
+#![tactic(auto)]
 // Reads one sheet from standard input and writes the chain of its edge, or the number of a refusal.
 use libc::{STDERR_FILENO, STDIN_FILENO, STDOUT_FILENO};
 

@@ -1,3 +1,4 @@
+#![tactic(auto)]
 // The answer to a sheet: its text in, the listing of its edge's chain or of a refusal out.
 ghost use Rattle.std.specs.Prelude.{◌≡◌, List, ℕ, ◌+◌, ◌*◌, ◌<◌, ◌≤◌, length, take};
 ghost use Rattle.brep.specs.Rows.{lent, given};

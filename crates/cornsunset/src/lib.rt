@@ -1,3 +1,4 @@
+#![tactic(auto)]
 // Drawing, walking, presets and angles under C names, over numbers and slices alone. A slice is a pointer and a length, an
 // out value a pointer. No function has a requires: nothing that another language hands over is outside a contract.
 ghost use Rattle.std.specs.Prelude.{◌≡◌};

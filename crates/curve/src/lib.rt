@@ -1,3 +1,4 @@
+#![tactic(auto)]
 // Ranges, closure, period and sampling on rows, of eval/curve.rs. Each contract is the definition at the row's curve.
 // A row's kind is read by its number, as brep::kind_of has them, and of its other numbers only those that are used: 1 line, 2 circle,
 // 3 ellipse, 4 parabola, 5 polyline, 6 trim, 7 composite, 8 hyperbola; any other is the empty polyline. A match has an arm for each kind, as
@@ -20,7 +21,7 @@ pub use curve_point::point_at;
 const TAU: f64 = 6.283185307179586;
 
 // What `period` finds: how far the parameter runs until the curve is back where it was, or that it never is.
-#[derive(Drop)]
+#[derive(Clone, Copy)]
 pub enum Repeats {
     Every(f64),
     Never,

@@ -1,3 +1,4 @@
+#![tactic(auto)]
 // Whether a curve asks a hyperbola for a parameter that is too far, and whether it may at all: a look at the rows that spares most
 // curves a look at their parameters. What is read decides it, so that each contract holds whatever the other tables hold.
 ghost use Rattle.std.specs.Prelude.{◌≡◌, true, false, not, List, ℕ, ◌+◌, eqb, Float};

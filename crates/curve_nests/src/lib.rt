@@ -1,3 +1,4 @@
+#![tactic(auto)]
 // Whether a row's curve is a composite with a composite among its segments: where it is not, no evaluation goes deeper than a
 // composite and one of its segments, whatever the other rows hold. What is read decides it, so that each contract holds whatever
 // the other tables hold.

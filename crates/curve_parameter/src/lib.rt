@@ -1,3 +1,4 @@
+#![tactic(auto)]
 // What ranges and points of curves share, of eval/curve.rs: the row under a row's trims, runs of points, and a segment's own parameter.
 ghost use Rattle.std.specs.Prelude.{◌≡◌, ◌-◌};
 ghost use Rattle.brep.specs.Tree.{run};

@@ -1,3 +1,4 @@
+#![tactic(auto)]
 // Points on rows: point_at of eval/curve.rs. Each contract is the definition at the row's curve.
 ghost use Rattle.std.specs.Prelude.{◌≡◌, ◌*◌, get_or};
 ghost use Rattle.math.specs.Math.{y_dir};

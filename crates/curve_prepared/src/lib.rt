@@ -1,3 +1,4 @@
+#![tactic(auto)]
 // A curve prepared for many points: its trims taken off, its row read and the second axis of its frame worked out once.
 ghost use Rattle.std.specs.Prelude.{◌≡◌, List, ℕ, ◌+◌, Float};
 ghost use Rattle.arith_trig.specs.Trig.{sin_of, cos_of};
@@ -13,7 +14,7 @@ ghost use Rattle.curve_prepared.specs.Own.Prepared.{round_of, parabola_of, prepa
 use math::{Frame, Vec3};
 
 // Axes are as they are: nothing is normalised. A circle is round with equal axes.
-#[derive(Drop)]
+#[derive(Clone, Copy)]
 pub enum Prepared {
     Line {
         origin: Vec3,
@@ -161,7 +162,7 @@ fn polyline_parameter(count: u32, closed: bool, t: f64) -> f64
 }
 
 // A place on a curve: its point, and the derivative there.
-#[derive(Drop)]
+#[derive(Clone, Copy)]
 struct Spot {
     point: Vec3,
     slope: Vec3,

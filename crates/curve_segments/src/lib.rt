@@ -1,3 +1,4 @@
+#![tactic(auto)]
 // A composite's segments as a lent run of segment records: the thin reader over `&[Segment]`. It picks the segment of a
 // parameter, and hands its numbers to `curve`.
 ghost use Rattle.std.specs.Prelude.{◌≡◌, ◌-◌, slice_index_or};
@@ -10,7 +11,7 @@ use brep::Segment;
 use math::{Interval, Vec3};
 
 // Where a composite's parameter falls: the index of the segment, and how far along that.
-#[derive(Drop)]
+#[derive(Clone, Copy)]
 struct Place {
     index: usize,
     local: f64,

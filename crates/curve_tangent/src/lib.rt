@@ -1,3 +1,4 @@
+#![tactic(auto)]
 // Derivatives and tangents on rows: eval/curve.rs. Each contract is the definition at the row's curve.
 ghost use Rattle.std.specs.Prelude.{◌≡◌};
 ghost use Rattle.arith_trig.specs.Trig.{sin_of, cos_of};

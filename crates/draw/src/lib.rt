@@ -1,3 +1,4 @@
+#![tactic(auto)]
 // Drawing an edge: THE entry point. Whoever calls it, with tables, edge, options and buffers of any content, gets a chain
 // or one of the numbered refusals.
 ghost use Rattle.std.specs.Prelude.{◌≡◌, List, ℕ, ◌<◌, ◌≤◌, length, T, Float};

@@ -1,3 +1,4 @@
+#![tactic(auto)]
 // The chain of an answer, handed back as the part of the lent buffer that holds it, without copying.
 ghost use Rattle.std.specs.Prelude.{◌≡◌, cond, ◌*◌, take};
 ghost use Rattle.brep.specs.Rows.{given};

@@ -1,3 +1,4 @@
+#![tactic(auto)]
 // What drawing would ask a curve for, told before a chain is made of it: whether some of it is too far, and whether refusal 8 or 11 comes first. Where
 // a look at the rows says that no hyperbola can be asked for a parameter that is too far, nothing is gone through.
 ghost use Rattle.std.specs.Prelude.{◌≡◌, ℕ, ◌<◌, ◌≤◌, ◌&&◌, List, length, nat_lt, Float};
@@ -23,7 +24,7 @@ use math::Interval;
 use options::Resolved;
 
 // What is told of a range: nothing is too far, and it can be sampled as if nothing could be; or the refusal that comes first.
-#[derive(Drop)]
+#[derive(Clone, Copy)]
 pub enum Told {
     Clear,
     Refused(u32),

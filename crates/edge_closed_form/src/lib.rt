@@ -1,3 +1,4 @@
+#![tactic(auto)]
 // The check of a closed form: how far a curve's middles lie from those of its chords. The points at its parameters are left in
 // the chain, where they are wanted if the form is good enough.
 ghost use Rattle.std.specs.Prelude.{◌≡◌, true, ◌*◌, ◌≤◌, length, take};

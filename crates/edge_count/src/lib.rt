@@ -1,3 +1,4 @@
+#![tactic(auto)]
 // Sampling without its lists: how many parameters bisection would form, or refusal 8 or 11, whichever comes first. It asks for what
 // sample_params asks for, in its order. Only curves that may lead to a hyperbola's parameter that is too far are gone through so.
 ghost use Rattle.std.specs.Prelude.{◌≡◌, Bool, false, not, List, [], ◌∷◌, ◌++◌, map, ◌<◌, ◌≤◌, length, Float};

@@ -1,3 +1,4 @@
+#![tactic(auto)]
 // The chain of an edge: discretise of edge.rs, on rows.
 ghost use Rattle.std.specs.Prelude.{◌≡◌, [], ◌*◌, ◌<◌, ◌≤◌, min, length};
 ghost use Rattle.base_lists.specs.Room.{filled};

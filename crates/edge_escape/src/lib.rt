@@ -1,3 +1,4 @@
+#![tactic(auto)]
 // The closures of repair_runaway: does a chain leave the reference box, does it reach a vertex, and which parameter is nearest to one.
 ghost use Rattle.std.specs.Prelude.{◌≡◌, true, false, [], ◌∷◌, ◌*◌, ◌≤◌, length, Float};
 ghost use Rattle.std.specs.Float.Ieee.{le};
@@ -17,14 +18,14 @@ use options::Resolved;
 const STEPS: u32 = 512;
 
 // A parameter, and the squared distance of its point to the target.
-#[derive(Drop)]
+#[derive(Clone, Copy)]
 struct Best {
     param: f64,
     square: f64,
 }
 
 // The parameters that are nearest to an edge's two vertices.
-#[derive(Drop)]
+#[derive(Clone, Copy)]
 pub struct Ends {
     pub start: f64,
     pub end: f64,

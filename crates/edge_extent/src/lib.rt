@@ -1,3 +1,4 @@
+#![tactic(auto)]
 // edge_extent of edge.rs, on rows.
 ghost use Rattle.std.specs.Prelude.{◌≡◌, true, cond, T, Float};
 ghost use Rattle.std.specs.Float.Ieee.{le};

@@ -1,3 +1,4 @@
+#![tactic(auto)]
 // The merge block of `discretise`: points of a chain that lie too near the one before them go.
 ghost use Rattle.std.specs.Prelude.{◌≡◌, true, cond, ◌&&◌, ◌*◌, ◌-◌, ◌≤◌, length, ltb};
 ghost use Rattle.std.specs.Float.Ieee.{lt, le};

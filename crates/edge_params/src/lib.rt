@@ -1,3 +1,4 @@
+#![tactic(auto)]
 // The parameters of an edge: definitions in specs/, laws in proofs/; and lists of parameters, written into a buffer whose length is
 // the room for them.
 ghost use Rattle.std.specs.Prelude.{◌≤◌, [], ◌∷◌, length};
@@ -7,14 +8,14 @@ ghost use Rattle.edge_params.specs.Own.Written.{ListWritten, ListAppended};
 use math::Interval;
 
 // What the closed form of a curve gives: a number of segments, or nothing where the curve has none.
-#[derive(Drop)]
+#[derive(Clone, Copy)]
 pub enum Closed {
     Unknown,
     Segments(u64),
 }
 
 // How many parameters the buffer then holds, or refusal 8.
-#[derive(Drop)]
+#[derive(Clone, Copy)]
 pub enum Listed {
     Count(usize),
     Refused,

@@ -1,3 +1,4 @@
+#![tactic(auto)]
 // The records of an edge's chain, from its parameters: in the edge's own direction, with both ends pinned to the vertices. And the chord of
 // the vertices alone.
 ghost use Rattle.std.specs.Prelude.{◌≡◌, true, reverse, ◌+◌, ◌-◌, ◌*◌, ◌<◌, ◌≤◌, length};

@@ -1,3 +1,4 @@
+#![tactic(auto)]
 // usable_range and analytic_segments of edge.rs, on rows.
 ghost use Rattle.std.specs.Prelude.{◌≡◌, List, ℕ, max, Float};
 ghost use Rattle.arith.specs.Notation.{plus_zero};
@@ -17,7 +18,7 @@ use options::{Mode, Resolved};
 const TAU: f64 = 6.283185307179586;
 
 // What `usable_range` finds: the range to sample, or none.
-#[derive(Drop)]
+#[derive(Clone, Copy)]
 pub enum Usable {
     Range(Interval),
     Unusable,

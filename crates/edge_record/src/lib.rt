@@ -1,3 +1,4 @@
+#![tactic(auto)]
 // A chain's records in a lent buffer: a point and its parameter, four floats, x y z t.
 ghost use Rattle.std.specs.Prelude.{◌≡◌, ◌+◌, ◌*◌, ◌≤◌, length};
 ghost use Rattle.std.proofs.lemmas.List.Edits.{sets};
@@ -16,14 +17,14 @@ pub const SHORTEST: usize = 2 * WIDTH;
 pub const MOST: usize = 16384;
 
 // A point of a chain and the parameter beside it.
-#[derive(Drop)]
+#[derive(Clone, Copy)]
 pub struct Sample {
     pub point: Vec3,
     pub param: f64,
 }
 
 // What a pass that may refuse answers: its refusal's number, or how many samples the chain has now.
-#[derive(Drop)]
+#[derive(Clone, Copy)]
 pub enum Counted {
     Refused(u32),
     Count(usize),

@@ -1,3 +1,4 @@
+#![tactic(auto)]
 // repair_runaway of edge.rs: a chain that leaves the reference box is drawn another way, into the second buffer.
 ghost use Rattle.std.specs.Prelude.{◌≡◌, true, [], ◌*◌, ◌<◌, ◌≤◌, length, Float};
 ghost use Rattle.std.specs.Float.Ieee.{le};

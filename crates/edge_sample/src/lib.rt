@@ -1,3 +1,4 @@
+#![tactic(auto)]
 // sample_params of edge.rs, on rows.
 ghost use Rattle.std.specs.Prelude.{◌≡◌, false, ◌++◌, ◌≤◌, length, get_or, take};
 ghost use Rattle.std.specs.Float.{nan};
@@ -229,7 +230,7 @@ fn settle(listed: Listed, out: &mut [f64]) -> Listed
 
 // What sampling answers: how many parameters there are, or that they were refused; and whether the chain's records hold the
 // curve's points at them.
-#[derive(Drop)]
+#[derive(Clone, Copy)]
 pub struct Sampled {
     pub listed: Listed,
     pub known: bool,

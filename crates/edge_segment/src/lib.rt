@@ -1,3 +1,4 @@
+#![tactic(auto)]
 // A line's edge in one segment, as most edges of a part are. Its chain is the two vertices, with range.at(0.0) and range.at(1.0) the way
 // round that the line runs: no list of parameters is filled, nothing is thinned or merged, and the edge's extent is not asked for.
 ghost use Rattle.std.specs.Prelude.{◌≡◌, true, cond, [], ◌∷◌, ◌≤◌, length, Float};

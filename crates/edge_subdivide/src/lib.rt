@@ -1,3 +1,4 @@
+#![tactic(auto)]
 // Bisection of a curve's spans: subdivide of edge.rs, on rows. Each point and each tangent is evaluated once and handed down.
 ghost use Rattle.std.specs.Prelude.{◌≡◌, [], ◌∷◌, ◌*◌};
 ghost use Rattle.std.proofs.lemmas.List.Edits.{sets};
@@ -21,7 +22,7 @@ use math::{Direction, Vec3};
 use options::Resolved;
 
 // An end of a span: its parameter, and the curve's point and tangent there.
-#[derive(Drop)]
+#[derive(Clone, Copy)]
 pub struct End {
     pub t: f64,
     pub point: Vec3,
@@ -30,7 +31,7 @@ pub struct End {
 
 // What a span is held to, with the cuts that spare roots and arc cosines. Of a turn they are squared tangents of half of it: below
 // `turn` it is within the angle, above `over` it is not; a cut that does not serve is a NaN.
-#[derive(Drop)]
+#[derive(Clone, Copy)]
 pub struct Limits {
     pub sag: Limit,
     pub angle: f64,
@@ -39,7 +40,7 @@ pub struct Limits {
 }
 
 // What becomes of a span: it is within budget, or split at its middle.
-#[derive(Drop)]
+#[derive(Clone, Copy)]
 enum Split {
     Within,
     At(End),

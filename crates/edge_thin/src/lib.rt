@@ -1,3 +1,4 @@
+#![tactic(auto)]
 // `thin`: drops the points of a sampled polyline that it does not need, to a bounded deviation.
 ghost use Rattle.std.specs.Prelude.{◌≡◌, true, false, ◌*◌, ◌<◌, ◌≤◌, min, length, replicate};
 ghost use Rattle.std.specs.Float.Ieee.{lt};

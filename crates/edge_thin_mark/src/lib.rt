@@ -1,3 +1,4 @@
+#![tactic(auto)]
 // The spans of `thin`. The Rust keeps the spans to come on a stack; here the flags that are set say where each span ends, and the spans
 // are taken in the chain's order.
 ghost use Rattle.std.specs.Prelude.{◌≡◌, false, ◌*◌, ◌<◌, ◌≤◌, length, replicate};

@@ -1,3 +1,4 @@
+#![tactic(auto)]
 // What `thin` decides of a span of a chain: the points from index a to index b.
 ghost use Rattle.std.specs.Prelude.{◌≡◌, ◌||◌, ◌+◌, ◌*◌, ◌-◌, ◌<◌, ◌≤◌, length};
 ghost use Rattle.std.specs.Float.Ieee.{lt};
@@ -10,14 +11,14 @@ ghost use Rattle.edge_thin_span.specs.Span.{worst_of, directions, first_in, last
 use math::{Direction, Vec3};
 
 // The largest distance of a span's points to its chord, and the index of its point.
-#[derive(Drop)]
+#[derive(Clone, Copy)]
 struct Worst {
     pub distance: f64,
     pub index: usize,
 }
 
 // What becomes of a span.
-#[derive(Drop)]
+#[derive(Clone, Copy)]
 pub enum Decision {
     // No point inside is kept.
     Leave,

@@ -1,3 +1,4 @@
+#![tactic(auto)]
 // Chain::oriented of edge.rs as a walker: it keeps the caller's chain and a place in it, and steps forwards or backwards.
 // The place lies between two points and counts the points before it. Only whole records are points.
 ghost use Rattle.std.specs.Prelude.{◌≡◌, min};
@@ -6,7 +7,7 @@ ghost use Rattle.edge_walker.specs.Walk.{start_of, started, stepped, next, moved
 use edge_record::Sample;
 
 // A walk over the caller's chain: its place lies between two points and counts those before it.
-#[derive(Drop)]
+#[derive(Clone, Copy)]
 pub struct Walker<'a> {
     pub chain: &'a [f64],
     pub at: usize,
@@ -14,14 +15,14 @@ pub struct Walker<'a> {
 }
 
 // What a step gives: the point that it passed, or that none is left.
-#[derive(Drop)]
+#[derive(Clone, Copy)]
 pub enum Step {
     Point(Sample),
     Done,
 }
 
 // A step and the place after it.
-#[derive(Drop)]
+#[derive(Clone, Copy)]
 pub struct Stepped {
     pub step: Step,
     pub at: usize,

@@ -1,3 +1,4 @@
+#![tactic(auto)]
 // Edges, options and answers as the plain numbers that C hands over and takes back.
 ghost use Rattle.std.specs.Prelude.{◌≡◌};
 ghost use Rattle.ffi_numbers.specs.Numbers.{edge_of, options_of, mode_of, cause_of, number_of, codes_of, passed, point_after};
@@ -90,7 +91,7 @@ fn number_of(way: Way) -> u32
 }
 
 // An answer's three numbers. A refusal has no way and no points.
-#[derive(Drop)]
+#[derive(Clone, Copy)]
 pub struct Codes {
     pub refusal: u32,
     pub way: u32,

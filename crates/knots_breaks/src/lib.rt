@@ -1,3 +1,4 @@
+#![tactic(auto)]
 // The breaks of a curve inside a range, in either mode.
 ghost use Rattle.std.specs.Prelude.{◌≡◌, ◌-◌, ◌≤◌, length, take};
 ghost use Rattle.brep.specs.Rows.{given};

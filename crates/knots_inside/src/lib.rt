@@ -1,3 +1,4 @@
+#![tactic(auto)]
 // The breaks of a curve inside a range: `inside` of knots.rs.
 ghost use Rattle.std.specs.Prelude.{◌≡◌, ◌≤◌, length, take};
 ghost use Rattle.base_lists.specs.Room.{filled};

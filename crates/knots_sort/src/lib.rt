@@ -1,3 +1,4 @@
+#![tactic(auto)]
 // A stable sort of floats, by halves: n log n, and linear where the floats stand in order.
 ghost use Rattle.std.specs.Prelude.{◌≡◌, ◌/◌, ◌≤◌, length, drop, take};
 ghost use Rattle.base_lists.specs.All.{All};

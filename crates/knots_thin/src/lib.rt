@@ -1,3 +1,4 @@
+#![tactic(auto)]
 // thin_breaks of knots.rs: the breaks that a curve bends across.
 ghost use Rattle.std.specs.Prelude.{◌≡◌, ◌+◌, ◌<◌, ◌≤◌, length, drop};
 ghost use Rattle.base_lists.specs.Room.{filled};

@@ -1,3 +1,4 @@
+#![tactic(auto)]
 // Vectors, frames, boxes and intervals: the part of math.rs that the road from an edge to its chain uses.
 ghost use Rattle.std.specs.Prelude.{◌≡◌};
 ghost use Rattle.math.specs.Math.{v_add, v_sub, v_scale, v_dot, v_cross, v_length_squared, v_length, distance};
@@ -5,7 +6,7 @@ ghost use Rattle.math.specs.Math.{try_normalized, v_lerp, v_min, v_max, v_finite
 ghost use Rattle.math.specs.Math.{empty_box, is_empty, add_point, box_size, centre, diagonal, span_of, at};
 
 // A point or a vector of space.
-#[derive(Drop)]
+#[derive(Clone, Copy)]
 pub struct Vec3 {
     pub x: f64,
     pub y: f64,
@@ -13,14 +14,14 @@ pub struct Vec3 {
 }
 
 // What `try_normalized` finds: a unit vector, or nothing where the vector is too short to have a direction.
-#[derive(Drop)]
+#[derive(Clone, Copy)]
 pub enum Direction {
     Unit(Vec3),
     Nothing,
 }
 
 // An origin with a Z axis and an X axis, as they are: nothing is normalised.
-#[derive(Drop)]
+#[derive(Clone, Copy)]
 pub struct Frame {
     pub origin: Vec3,
     pub axis: Vec3,
@@ -28,14 +29,14 @@ pub struct Frame {
 }
 
 // An axis-aligned bounding box.
-#[derive(Drop)]
+#[derive(Clone, Copy)]
 pub struct Aabb {
     pub min: Vec3,
     pub max: Vec3,
 }
 
 // An interval of a curve's parameter, from lo to hi.
-#[derive(Drop)]
+#[derive(Clone, Copy)]
 pub struct Interval {
     pub lo: f64,
     pub hi: f64,

@@ -1,3 +1,4 @@
+#![tactic(auto)]
 // The distance of a point to a chord. A chord is a point and a vector; its length is worked out once by the caller.
 ghost use Rattle.std.specs.Prelude.{◌≡◌};
 ghost use Rattle.math_chord.specs.Chord.{foot_of, chord_offset, span_offset, span_distance, bisection_offset};

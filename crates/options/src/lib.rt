@@ -1,3 +1,4 @@
+#![tactic(auto)]
 // Tessellation tolerances: options.rs.
 ghost use Rattle.std.specs.Prelude.{◌≡◌, true, min, max};
 ghost use Rattle.arith.specs.Pick.{min_of};
@@ -15,7 +16,7 @@ const LEAST_STEP: f64 = 1e-3;
 
 // An angle in radians. The type keeps a number of degrees from being taken for one of radians: outside this module an angle is
 // made by `radians` or `degrees` alone.
-#[derive(Drop)]
+#[derive(Clone, Copy)]
 pub struct Angle(f64);
 
 impl Angle {
@@ -51,7 +52,7 @@ impl Angle {
 
 // How finely to draw. `deflection` and `angle` are what a span is tested by, and no bounds on the chain: what a curve does
 // between the places that are looked at is not seen, and a span with no depth left is not tested again.
-#[derive(Drop)]
+#[derive(Clone, Copy)]
 pub struct Options {
     // The sag: how far a span's chord may lie from the curve at the span's middle parameter. A length, unless relative is 1
     // and there is a scale: then it is this fraction of the scale for an edge whose extent is a quarter of the scale up to all
@@ -74,7 +75,7 @@ pub struct Options {
 }
 
 // What a lost range and a composite's breaks mean. It stands beside the options, and is none of them.
-#[derive(Drop)]
+#[derive(Clone, Copy)]
 pub enum Mode {
     // As in the Rust, bit for bit.
     Reference,
@@ -83,7 +84,7 @@ pub enum Mode {
 }
 
 // The options resolved against the model's scale.
-#[derive(Drop)]
+#[derive(Clone, Copy)]
 pub struct Resolved {
     pub sag: f64,
     pub model: f64,

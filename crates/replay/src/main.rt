@@ -1,3 +1,4 @@
+#![tactic(auto)]
 // Replays the oracle's answers. Reads parts from standard input, each ended by exactly four equals signs and a newline, and writes
 // for each its answer and a line `====`. A part `replay KIND` has an empty answer: the parts behind it are of that kind.
 //
@@ -74,7 +75,7 @@ const NO_WHOLES: [u32; 0] = [];
 const NO_LONGS: [u64; 0] = [];
 
 // A line's floats, zeros behind them; no such line where `ok` is false.
-#[derive(Drop)]
+#[derive(Clone, Copy)]
 struct Floats {
     ok: bool,
     x: f64,
@@ -83,7 +84,7 @@ struct Floats {
 }
 
 // How many numbers of each list are written, and how many bytes of the output wait.
-#[derive(Drop)]
+#[derive(Clone, Copy)]
 struct Next {
     float: usize,
     whole: usize,
@@ -101,7 +102,7 @@ fn next_of(float: usize, whole: usize, long: usize, out: usize) -> Next {
 }
 
 // How many rows of each table a sheet has.
-#[derive(Drop)]
+#[derive(Clone, Copy)]
 struct Rows {
     points: usize,
     curves: usize,
@@ -109,7 +110,7 @@ struct Rows {
 }
 
 // A sheet behind its tables, lo and hi by their own bits.
-#[derive(Drop)]
+#[derive(Clone, Copy)]
 struct Ends {
     edge: Edge,
     options: Options,
@@ -118,21 +119,21 @@ struct Ends {
 }
 
 // The value of a line of arithmetic.
-#[derive(Drop)]
+#[derive(Clone, Copy)]
 enum Value {
     Of(f64),
     Malformed,
 }
 
 // What a part of options began with.
-#[derive(Drop)]
+#[derive(Clone, Copy)]
 enum First {
     Of(Resolved),
     Malformed,
 }
 
 // The kind of the parts to come, and how many bytes of the output wait.
-#[derive(Drop)]
+#[derive(Clone, Copy)]
 struct Batch {
     kind: u64,
     out: usize,

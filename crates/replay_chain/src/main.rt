@@ -1,3 +1,4 @@
+#![tactic(auto)]
 // Reads a batch of sheets from standard input, parted by the five bytes `====` and newline, and writes their answers, parted
 // alike. A part that is one line with a setting holds for the sheets behind it and has an empty answer:
 //   buffers FIRST SECOND   the chain buffers have so many floats, each at most 65,536; 8,192 before the first such part
@@ -36,7 +37,7 @@ const BEFORE: u64 = 0x4055555555555555;
 const QUIET: u64 = 0x7FF8000000000000;
 
 // How sheets are answered: the floats of both chain buffers, and whether the whole answer is asked for.
-#[derive(Drop)]
+#[derive(Clone, Copy)]
 struct Settings {
     first: usize,
     second: usize,
@@ -44,7 +45,7 @@ struct Settings {
 }
 
 // What a part is.
-#[derive(Drop)]
+#[derive(Clone, Copy)]
 enum Kind {
     Setting(Settings),
     Sheet,

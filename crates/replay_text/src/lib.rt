@@ -1,3 +1,4 @@
+#![tactic(auto)]
 // Text for a program to write: its bytes wait in a buffer, which is written when it is full. Each `put` takes the buffer
 // and how many bytes wait in it, and answers how many wait afterwards. And the parts of a program's input.
 ghost use Rattle.std.specs.Prelude.{◌≡◌, [], ◌∷◌, ◌++◌, ◌-◌, ◌^◌, ◌≤◌, ◌<◌, length};
@@ -79,7 +80,7 @@ pub fn put_float(out: &mut [u8; 4096], at: usize, x: f64, end: u8) -> usize
 }
 
 // How many decimal digits n has, and what the first of them counts.
-#[derive(Drop)]
+#[derive(Clone, Copy)]
 struct Width {
     digits: usize,
     unit: u64,
@@ -123,7 +124,7 @@ pub fn flush(out: &[u8; 4096], at: usize) -> usize
 
 // A part of the input: how many bytes it has, and whether a separator ended it, or the input's end. Of the chunk that was read
 // last, how many bytes there are, and how many of them are taken.
-#[derive(Drop)]
+#[derive(Clone, Copy)]
 pub struct Part {
     pub bytes: usize,
     pub ended: bool,
@@ -132,7 +133,7 @@ pub struct Part {
 }
 
 // How many bytes a chunk has, and how many of them are taken.
-#[derive(Drop)]
+#[derive(Clone, Copy)]
 struct Chunk {
     read: usize,
     taken: usize,

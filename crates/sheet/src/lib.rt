@@ -1,3 +1,4 @@
+#![tactic(auto)]
 // THE reader of a sheet: the layout is Rattle.sheet_layout.specs.Layout, and what is read of it specs/Sheet.antt.
 ghost use Rattle.std.specs.Prelude.{◌≡◌, ◌≤◌, length};
 ghost use Rattle.sheet_layout.specs.Layout.{size, tables_format, read_sheet, Means};
@@ -28,7 +29,7 @@ pub const RANGES: usize = 2 * sheet_layout::SHEET_SEGMENTS;
 
 // A sheet: how many rows its tables hold, its edge, its options, and the edge's lo and hi by their own 64 bits, since
 // the floats keep no NaN's bits. Or the cause for which it is turned away.
-#[derive(Drop)]
+#[derive(Clone, Copy)]
 pub enum Sheet {
     Read {
         points: usize,
@@ -43,7 +44,7 @@ pub enum Sheet {
 }
 
 // How many rows the three tables have, and the place behind them.
-#[derive(Drop)]
+#[derive(Clone, Copy)]
 enum TableCounts {
     Counts(u64, u64, u64, usize),
     NoTables,

@@ -1,3 +1,4 @@
+#![tactic(auto)]
 // The last two blocks of a sheet, the edge and the options, by value.
 ghost use Rattle.std.specs.Prelude.{◌≡◌, ◌≤◌, length, drop};
 ghost use Rattle.text_format.specs.Table.{single};
@@ -10,21 +11,21 @@ use sheet_row::{RawEdge, RawOptions};
 use text_format::Num;
 
 // The edge, the options, and the place behind them.
-#[derive(Drop)]
+#[derive(Clone, Copy)]
 pub enum Last {
     Pair(RawEdge, RawOptions, usize),
     NoPair,
 }
 
 // The edge and the place behind it.
-#[derive(Drop)]
+#[derive(Clone, Copy)]
 enum EdgeAt {
     Edge(RawEdge, usize),
     NoEdge,
 }
 
 // The options and the place behind them.
-#[derive(Drop)]
+#[derive(Clone, Copy)]
 enum OptionsAt {
     Options(RawOptions, usize),
     NoOptions,

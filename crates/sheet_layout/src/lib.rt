@@ -1,3 +1,4 @@
+#![tactic(auto)]
 // The leaves of the sheet's reader: a kind's word, a cell, and a line. The layout itself is specs/Layout.antt.
 ghost use Rattle.std.specs.Prelude.{◌≡◌, ◌+◌, ◌<◌, ◌≤◌, length, drop};
 ghost use Rattle.text_format.specs.Format.{expect, read_word};
@@ -21,7 +22,7 @@ pub const SHEET_CURVES: usize = 1638;
 pub const SHEET_SEGMENTS: usize = 1724;
 
 // A line's numbers, zeros behind them, and the next place; no line where `ok` is false.
-#[derive(Drop)]
+#[derive(Clone, Copy)]
 pub struct Row {
     pub ok: bool,
     pub numbers: [u64; 9],

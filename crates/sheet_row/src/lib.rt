@@ -1,3 +1,4 @@
+#![tactic(auto)]
 // A line's numbers, as they go into the sheet's tables: floats into one, whole numbers into another, the edge and the options by name.
 ghost use Rattle.std.specs.Prelude.{◌≡◌, [], ◌∷◌, ◌+◌, ◌^◌, ◌≤◌, ◌<◌, length, take};
 ghost use Rattle.std.proofs.lemmas.List.Edits.{sets};
@@ -10,7 +11,7 @@ ghost use Rattle.sheet_row.specs.Own.Narrow.{Narrow};
 ghost use Rattle.sheet_row.specs.Rows.{floats_of, wholes_of, raw_edge_of, raw_options_of};
 
 // The edge of a sheet; lo, hi and tolerance by their 64 bits.
-#[derive(Drop)]
+#[derive(Clone, Copy)]
 pub struct RawEdge {
     pub curve: u32,
     pub start: u32,
@@ -24,7 +25,7 @@ pub struct RawEdge {
 }
 
 // The options of a sheet; deflection, angle and scale by their 64 bits.
-#[derive(Drop)]
+#[derive(Clone, Copy)]
 pub struct RawOptions {
     pub deflection: u64,
     pub angle: u64,

@@ -1,3 +1,4 @@
+#![tactic(auto)]
 // The sheet's three tables: points, curves and segments. Whole numbers go into one table, floats into another, zeros behind
 // them. Where a table cannot be read, both are all zeros.
 ghost use Rattle.std.specs.Prelude.{◌≡◌, ◌*◌, ◌≤◌, length, take, drop};

@@ -1,3 +1,4 @@
+#![tactic(auto)]
 // Formats of texts (definitions in specs/, laws in proofs/), and readers of digits, words and numbers. Each reads at a place of
 // the text and is its definition there; `parsed_at` turns what the definition gives into the answer: the value and the next
 // place, or Bad.
@@ -6,7 +7,7 @@ ghost use Rattle.text_format.specs.Format.{digit_of, char_of, hex16, expect, rea
 ghost use Rattle.text_format.specs.Own.Answers.{parsed_at};
 
 // A number and the place behind it.
-#[derive(Drop)]
+#[derive(Clone, Copy)]
 pub enum Num {
     Got(u64, usize),
     Bad,

@@ -1,3 +1,4 @@
+#![tactic(auto)]
 // The listing of a chain, a line of x y z t for each sample, and that of a refusal, into a lent buffer.
 ghost use Rattle.std.specs.Prelude.{◌≡◌, [], ◌∷◌, ◌+◌, ◌-◌, ◌*◌, ◌^◌, ◌<◌, ◌≤◌, length};
 ghost use Rattle.std.proofs.lemmas.List.Edits.{sets};
@@ -26,7 +27,7 @@ const SIGN: u64 = 0x8000000000000000;
 const INFINITE: u64 = 0x7FF0000000000000;
 
 // How many digits a number has, and the power of ten that the first stands for.
-#[derive(Drop)]
+#[derive(Clone, Copy)]
 struct Top {
     count: usize,
     power: u64,
