@@ -1,0 +1,23 @@
+-- `arith::floor` meets its contract: where the sum is whole, by how x compares with it; elsewhere by `floor_far`. Assumes nothing.
+use Rattle.std.proofs.Common.{◌∙◌, inl, inr}
+use lib.Ieee.{of_bits}
+use Rattle.arith.proofs.Near.{floor_below, floor_above, floor_at}
+use Rattle.arith.proofs.floor.Goals as goal
+
+pub returns-then-x-n : goal.returns-then-x-n
+unfolding of_bits
+returns-then-x-n c =
+    let d = c in
+    floor_below d.args.x d.if-s.true d.if-s-2.true c.if-x-n.true
+
+pub returns-else-x-n : goal.returns-else-x-n
+unfolding of_bits
+returns-else-x-n c =
+    let d = c in
+    let x = d.args.x in
+    let a = d.if-s.true in
+    let b = d.if-s-2.true in
+    elim c.if-n-x.branch [
+      | inl w ↦ w.1 ∙ floor_above x a b w.0.taken
+      | inr w ↦ w.1 ∙ floor_at x a b c.if-x-n.false w.0.left
+    ]

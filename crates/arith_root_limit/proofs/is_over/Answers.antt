@@ -1,0 +1,12 @@
+-- `arith_root_limit::is_over` meets its contract: an s from the cut on has a root from the cut's on. Assumes nothing.
+use Rattle.arith_root_limit.proofs.Roots.{over}
+use lib.Ieee.{lt}
+use mathlib.Core.Path.{ap}
+use borrow.Author.Rules.{rules}
+use Rattle.arith_root_limit.proofs.is_over.Goals as goal
+
+pub returns-then-s-cut : goal.returns-then-s-cut
+returns-then-s-cut c = over c.args.s c.args.cut c.args.limit (search rules) (search rules) (c.requires c.if-has_cut.true) c.if-s-cut.true
+
+pub returns : goal.returns
+returns c = ap (lt c.args.limit) c.root.ensures.0

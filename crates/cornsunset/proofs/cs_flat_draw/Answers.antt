@@ -1,0 +1,6 @@
+-- `cornsunset::cs_flat_draw` meets its contract: the law of proofs/Laws puts the numbers for the edge and the options. Assumes nothing.
+use Rattle.cornsunset.proofs.Laws.{by_outcome}
+use Rattle.cornsunset.proofs.cs_flat_draw.Goals as goal
+
+pub returns : goal.returns
+returns c = by_outcome _ _ _ _ _ _ _ _ _ _ _ c.edge_of-edge.ensures c.options_of-options.ensures c.codes_of-codes.ensures c.draw-drawn.ensures

@@ -1,0 +1,17 @@
+-- `turn` meets its contract. The loop's invariant: the first i records and the last i are exchanged. Assumes nothing.
+use mathlib.Core.Path.{◌≡◌}
+use mathlib.Core.List.{List}
+use Prim.Native.Nat.{◌≤◌, ◌-◌}
+use lib.ListN.{length}
+use lib.Seq.{sets}
+use Rattle.edge_record.specs.declared.Sample.{Sample}
+use Rattle.edge_record.specs.Chain.{flat, sample_at, samples}
+use Rattle.edge_place.proofs.Turned.{Turned}
+use Rattle.edge_place.proofs.turn.Given as goal
+
+abbrev pub invariant-loop-i : goal.invariant-loop-i
+invariant-loop-i l =
+    (l.i ≤ l.half) × (length l.chain ≡ length l.initial.chain) × ((m : List Sample) × (l.chain ≡ sets l.initial.chain 0 (flat m)) × Turned (sample_at l.initial.chain 0) (samples l.n l.initial.chain) m l.i)
+
+abbrev pub decreases-loop-i : goal.decreases-loop-i
+decreases-loop-i l = l.half - l.i

@@ -1,0 +1,41 @@
+-- `edge_segment::meets` meets its contract: the miss by its square, as a closed form's check has it. Assumes nothing.
+use mathlib.Core.Path.{◌≡◌, sym, ap, ◌∙◌}
+use lib.Ieee.{Float, le}
+use Rattle.arith_root.specs.Root.{root_of}
+use Rattle.brep.specs.Tree.{CurveTree}
+use Rattle.options.specs.Options.{resolve, sag_for}
+use Rattle.curve_prepared.specs.declared.Prepared.TheVariants.{Line}
+use Rattle.curve_prepared.specs.Own.Prepared.{prepared_of}
+use Rattle.edge_closed_form.specs.Own.Worst.{miss_square}
+use Rattle.edge_segment.proofs.Sag.{sag_above, root_within}
+use Rattle.edge_segment.proofs.Laws.{line_miss, miss_within, larger_taken, larger_left}
+use borrow.Author.Rules.{rules}
+use Rattle.edge_segment.proofs.meets.Goals as goal
+
+-- the square of the miss
+squared : (f : tie.After-length-squared) (k : CurveTree) → let a = f.args in
+    prepared_of k ≡ Line a.origin a.direction → f.length-squared.result ≡ miss_square k a.a a.b
+squared f k e =
+    let st = f in
+    line_miss k e st.args.a st.args.b
+    (rw (sym st.requires.1, sym st.requires.0, sym f.scale.ensures, sym f.add-m.ensures, sym f.add.ensures, sym f.scale-2.ensures, sym f.sub.ensures) f.length-squared.ensures)
+
+pub returns-then-s : goal.returns-then-s
+returns-then-s c = λ h (k : CurveTree) e (x : Float).
+    let f = c in
+    let a = f.args in
+    let s = f.length_squared-s.result in
+    let sag = sag_for (resolve a.options) x in
+    sym (miss_within k a.a a.b s sag (search rules) (squared f k e))
+    ∙ ap (λ (y : Float). le (root_of y) sag) (larger_taken s c.if-s.true)
+    ∙ root_within a.options x s (search rules) (rw (sym c.resolve-least.ensures) (search rules)) c.if-s.true (rw (sym c.resolve-least.ensures) h)
+
+pub returns : goal.returns
+returns c = λ h (k : CurveTree) e (x : Float).
+    let f = c in
+    let a = f.args in
+    let s = f.length_squared-s.result in
+    let sag = sag_for (resolve a.options) x in
+    sym (miss_within k a.a a.b s sag (search rules) (squared f k e))
+    ∙ ap (λ (y : Float). le y sag) (larger_left s c.if-s.false)
+    ∙ sag_above a.options x

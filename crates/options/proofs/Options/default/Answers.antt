@@ -1,0 +1,5 @@
+-- `options::Options::default` meets its contract. Assumes nothing.
+use Rattle.options.proofs.Options.default.Goals as goal
+
+pub returns : goal.returns
+returns c = rw (c.preset.ensures, c.degrees.ensures)

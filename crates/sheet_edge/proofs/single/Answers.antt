@@ -1,0 +1,34 @@
+-- `sheet_edge::single` meets its contract. Assumes nothing.
+use mathlib.Core.Path.{sym, ap, ◌∙◌}
+use lib.ListN.{drop}
+use Rattle.text_format.specs.Format.{expect}
+use Rattle.text_format.specs.Table.{line}
+use Rattle.sheet_layout.specs.Padded.{padded}
+use Rattle.sheet_layout.specs.Own.Letters.{shape_of, parsed_row}
+use Rattle.text_format.proofs.Place.{Read, names_read, names_bad, before_bad, before_is}
+use Rattle.sheet_layout.proofs.Rows.{parsed_no_row}
+use Rattle.sheet_edge.proofs.single.Goals as goal
+
+-- the names were read
+named : (c : tie.After-known-told)
+    → Read c.args.s.now (expect c.args.names.now (tt {0}) (drop c.args.at c.args.s.now)) (tt {0}) c.in-Got.p
+named c =
+    let a = c.args in
+    let k = c.p-1.given in
+    names_read a.s.now a.names.now 0 a.at k.0.0 k.0.1.0 c.requires.0 (sym k.1 ∙ c.word.ensures)
+
+pub line-requires : goal.line-requires
+line-requires c κs = ((named c).within, c.requires.1)
+
+pub returns-in-Got : goal.returns-in-Got
+returns-in-Got c =
+    let a = c.args in
+    let same = before_is a.s.now a.names.now (line (shape_of a.shape.now)) a.at c.in-Got.p (named c) in
+    c.line.ensures ∙ ap (parsed_row a.s.now) (sym same)
+
+pub returns-in-Bad : goal.returns-in-Bad
+unfolding padded
+returns-in-Bad c =
+    let a = c.args in
+    let none = names_bad a.s.now a.names.now 0 a.at (sym c.in-Bad.is ∙ c.word.ensures) in
+    parsed_no_row a.s.now _ (before_bad a.s.now a.names.now (line (shape_of a.shape.now)) a.at none)
