@@ -10,7 +10,7 @@ returns-then-x c = abs_below c.args.x c.if-x.true
 
 pub returns-then-x-2 : goal.returns-then-x-2
 unfolding of_bits
-returns-then-x-2 c = abs_zero binary64 c.args.x (subst T (sym c.well-formed.0.1) tt) c.if-x-2.true
+returns-then-x-2 c = abs_zero binary64 c.args.x (subst T (sym c.well_formed.0.1) tt) c.if-x-2.true
 
 pub returns-else-x-2 : goal.returns-else-x-2
 unfolding of_bits

@@ -31,4 +31,4 @@ returns-else-k c =
 
 pub returns-else-size : goal.returns-else-size
 unfolding of_bits
-returns-else-size c = of_large c.args.k (holds c.well-formed.0.1) (rw c.abs-size.ensures at c.if-size.false)
+returns-else-size c = of_large c.args.k (holds c.well_formed.0.1) (rw c.abs-size.ensures at c.if-size.false)

@@ -35,16 +35,16 @@ loop-i-init c =
     )
 
 pub overflow_add-i : goal.overflow_add-i
-overflow_add-i c = omega (arith, c.loop-i.invariant.2, c.well-formed.1.0.1)
+overflow_add-i c = omega (arith, c.loop-i.invariant.2, c.well_formed.1.0.1)
 
 pub put-requires : goal.put-requires
 put-requires c κs = omega (arith, c.loop-i.invariant.2, c.loop-i.invariant.4, c.requires.1)
 
 pub overflow_add-b : goal.overflow_add-b
-overflow_add-b c = omega (arith, c.loop-i-test.true, c.well-formed.1.0.1)
+overflow_add-b c = omega (arith, c.loop-i-test.true, c.well_formed.1.0.1)
 
 pub offset_bounds-params-i : goal.offset_bounds-params-i
-offset_bounds-params-i c = omega (arith, c.loop-i-test.true, c.well-formed.1.0.1)
+offset_bounds-params-i c = omega (arith, c.loop-i-test.true, c.well_formed.1.0.1)
 
 pub bounds-params-i : goal.bounds-params-i
 bounds-params-i c = omega (arith, c.loop-i-test.true)
@@ -53,7 +53,7 @@ pub miss_square-s-requires : goal.miss_square-s-requires
 miss_square-s-requires c κs = (c.requires.0, c.loop-i.invariant.0, c.plain_point-pb.ensures)
 
 pub overflow_add-i-in-loop-i : goal.overflow_add-i-in-loop-i
-overflow_add-i-in-loop-i c = omega (arith, c.loop-i-test.true, c.well-formed.1.0.1)
+overflow_add-i-in-loop-i c = omega (arith, c.loop-i-test.true, c.well_formed.1.0.1)
 
 pub loop-i-preserved : goal.loop-i-preserved
 loop-i-preserved c =

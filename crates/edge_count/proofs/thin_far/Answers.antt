@@ -16,7 +16,7 @@ curve-of st =
     tree (tables a.points.now a.curves.now a.reals.now a.parts.now a.ranges.now) a.row
 
 pub offset_bounds-breaks-i : goal.offset_bounds-breaks-i
-offset_bounds-breaks-i c = omega (arith, c.loop-i-test.true, c.well-formed.1.1.1.1.1.1.1.1.1.0.1)
+offset_bounds-breaks-i c = omega (arith, c.loop-i-test.true, c.well_formed.1.1.1.1.1.1.1.1.1.0.1)
 
 pub returns-then-span_far : goal.returns-then-span_far
 returns-then-span_far c =
@@ -26,7 +26,7 @@ returns-then-span_far c =
     ∙ sag_some (asks_far (curve-of st)) (curve-of st) a.breaks.now a.lo a.hi a.sag c.if-sag.true
 
 pub overflow_add-i : goal.overflow_add-i
-overflow_add-i c = omega (arith, c.loop-i-test.true, c.well-formed.1.1.1.1.1.1.1.1.1.0.1)
+overflow_add-i c = omega (arith, c.loop-i-test.true, c.well_formed.1.1.1.1.1.1.1.1.1.0.1)
 
 pub loop-i-preserved-then-sag-d : goal.loop-i-preserved-then-sag-d
 loop-i-preserved-then-sag-d c =

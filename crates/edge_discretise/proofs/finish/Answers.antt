@@ -32,7 +32,7 @@ merge-k-requires c κs = thin_room (told c)
 
 pub overflow_mul-k : goal.overflow_mul-k
 overflow_mul-k c =
-    omega (arith, merged_few (told c) c.merge_floor-floor.result _ c.merge_floor-floor.ensures c.merge-k.ensures, c.well-formed.1.1.1.1.1.1.1.0.1)
+    omega (arith, merged_few (told c) c.merge_floor-floor.result _ c.merge_floor-floor.ensures c.merge-k.ensures, c.well_formed.1.1.1.1.1.1.1.0.1)
 
 pub clear_from-requires : goal.clear_from-requires
 clear_from-requires c κs = merged_room (told c) c.merge_floor-floor.result _ c.merge_floor-floor.ensures c.merge-k.ensures

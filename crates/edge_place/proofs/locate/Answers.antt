@@ -25,7 +25,7 @@ pub put-requires : goal.put-requires
 put-requires c κs = omega (arith, c.loop-i-test.true, c.loop-i.invariant.1, c.requires)
 
 pub overflow_step-i : goal.overflow_step-i
-overflow_step-i c = omega (arith, c.loop-i-test.true, c.well-formed.1.1.1.1.1.1.0.1)
+overflow_step-i c = omega (arith, c.loop-i-test.true, c.well_formed.1.1.1.1.1.1.0.1)
 
 pub loop-i-preserved : goal.loop-i-preserved
 loop-i-preserved c =

@@ -55,7 +55,7 @@ returns-in_default-stepped c =
     (walking_refused (curve-of st) st.args.range st.args.r st.args.breaks.now c.loop-i.invariant.1 c.loop-i-test.true _ c.stop_at-b.ensures _ c.end_at-right.ensures c.step-stepped.ensures c.in_default-stepped.is)
 
 pub overflow_add-i : goal.overflow_add-i
-overflow_add-i c = omega (arith, c.loop-i-test.true, c.well-formed.1.1.1.1.1.1.1.1.0.1)
+overflow_add-i c = omega (arith, c.loop-i-test.true, c.well_formed.1.1.1.1.1.1.1.1.0.1)
 
 pub loop-i-preserved : goal.loop-i-preserved
 loop-i-preserved c =

@@ -12,7 +12,7 @@ pub loop-i-init : goal.loop-i-init
 loop-i-init c =
     let st = c in
     let a = st.args in
-    (c.point_at-pa.ensures, thinning_start (deviation (point_at (tree (tables a.points.now a.curves.now a.reals.now a.parts.now a.ranges.now) a.row))) a.sag a.hi a.lo a.breaks.now st.well-formed.1.1.1.1.1.1.1.1.1.0.1)
+    (c.point_at-pa.ensures, thinning_start (deviation (point_at (tree (tables a.points.now a.curves.now a.reals.now a.parts.now a.ranges.now) a.row))) a.sag a.hi a.lo a.breaks.now st.well_formed.1.1.1.1.1.1.1.1.1.0.1)
 
 pub next_of-next-requires : goal.next_of-next-requires
 next_of-next-requires c κs =
