@@ -7,7 +7,7 @@ use Rattle.arith.proofs.floor_far.Goals as goal
 
 pub truncating_f64_to_u64-n-requires : goal.truncating_f64_to_u64-n-requires
 unfolding of_bits
-truncating_f64_to_u64-n-requires c κs =
+truncating_f64_to_u64-n-requires c =
     let e = c.abs-size.ensures in
     rw e (can_cut 52 (lit≤ tt) c.args.x (rw e at c.if-size.true))
 

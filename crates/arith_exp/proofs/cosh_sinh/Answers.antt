@@ -5,10 +5,10 @@ use Rattle.arith_exp.specs.Own.Hyperbolic.{hyperbolic_of}
 use Rattle.arith_exp.proofs.cosh_sinh.Goals as goal
 
 pub exp-up-requires : goal.exp-up-requires
-exp-up-requires c κs = search rules
+exp-up-requires c = search rules
 
 pub exp-down-requires : goal.exp-down-requires
-exp-down-requires c κs = search rules
+exp-down-requires c = search rules
 
 pub returns : goal.returns
 unfolding hyperbolic_of cosh_of sinh_of

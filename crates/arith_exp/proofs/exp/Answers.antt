@@ -4,16 +4,16 @@ use Rattle.arith_exp.specs.Exp.{exp_of}
 use Rattle.arith_exp.proofs.exp.Goals as goal
 
 pub doublings-k-requires : goal.doublings-k-requires
-doublings-k-requires c κs = search rules
+doublings-k-requires c = search rules
 
 pub reduced-requires : goal.reduced-requires
-reduced-requires c κs = search rules
+reduced-requires c = search rules
 
 pub series-requires : goal.series-requires
-series-requires c κs = search rules
+series-requires c = search rules
 
 pub power-requires : goal.power-requires
-power-requires c κs = search rules
+power-requires c = search rules
 
 pub returns : goal.returns
 unfolding exp_of

@@ -7,7 +7,7 @@ use Rattle.arith_exp.proofs.Field.{no_nan, below, above}
 use Rattle.arith_exp.proofs.power.Goals as goal
 
 pub to_u64-n-requires : goal.to_u64-n-requires
-to_u64-n-requires c κs = search rules
+to_u64-n-requires c = search rules
 
 pub overflow_mul-result : goal.overflow_mul-result
 overflow_mul-result c = omega arith
@@ -16,7 +16,7 @@ pub float_from_bits-result : goal.float_from_bits-result
 float_from_bits-result c = no_nan c.to_u64-n.result c.if-n-lt2047.true
 
 pub infinity-requires : goal.infinity-requires
-infinity-requires c κs = search rules
+infinity-requires c = search rules
 
 pub returns-then-n-lt2047 : goal.returns-then-n-lt2047
 unfolding of_int of_bits

@@ -5,16 +5,16 @@ use Rattle.arith_exp.specs.Exp.{exp_steps, series}
 use Rattle.arith_exp.proofs.series.Goals as goal
 
 pub steps-a-requires : goal.steps-a-requires
-steps-a-requires c κs = search rules
+steps-a-requires c = search rules
 
 pub steps-b-requires : goal.steps-b-requires
-steps-b-requires c κs = search rules
+steps-b-requires c = search rules
 
 pub steps-c-requires : goal.steps-c-requires
-steps-c-requires c κs = search rules
+steps-c-requires c = search rules
 
 pub steps-requires : goal.steps-requires
-steps-requires c κs = search rules
+steps-requires c = search rules
 
 pub returns : goal.returns
 unfolding series exp_steps of_bits of_int

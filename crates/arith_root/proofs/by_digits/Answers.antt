@@ -38,7 +38,7 @@ some : (n : ℕ) → 0 < n → 0 < n * 2 ^ 52
 some n h = omega arith
 
 pub digit-d-requires : goal.digit-d-requires
-digit-d-requires c κs =
+digit-d-requires c =
     let l = c.loop-i in
     let s = c in (
       l.invariant.2,

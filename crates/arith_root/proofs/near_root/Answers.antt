@@ -24,10 +24,10 @@ pub float_to_bits-s : goal.float_to_bits-s
 float_to_bits-s c = no_nan c.estimate-s.result c.if-s.true
 
 pub is_nearest-requires : goal.is_nearest-requires
-is_nearest-requires c κs = (range c.args.b).1
+is_nearest-requires c = (range c.args.b).1
 
 pub returns-then-is_nearest : goal.returns-then-is_nearest
 returns-then-is_nearest c = c.is_nearest.ensures (subst T (sym c.if-is_nearest.true) tt)
 
 pub by_digits-requires : goal.by_digits-requires
-by_digits-requires c κs = range c.args.b
+by_digits-requires c = range c.args.b

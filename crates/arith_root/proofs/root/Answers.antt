@@ -56,7 +56,7 @@ pub float_to_bits-x : goal.float_to_bits-x
 float_to_bits-x c = no_nan c.args.x (is_positive c)
 
 pub positive-requires : goal.positive-requires
-positive-requires c κs = pattern_range c.args.x (search rules) (is_positive c)
+positive-requires c = pattern_range c.args.x (search rules) (is_positive c)
 
 pub float_from_bits-result : goal.float_from_bits-result
 float_from_bits-result c =

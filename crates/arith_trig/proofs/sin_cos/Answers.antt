@@ -5,7 +5,7 @@ use Rattle.arith_trig.proofs.Modulo.{below_four}
 use Rattle.arith_trig.proofs.sin_cos.Goals as goal
 
 pub both-requires : goal.both-requires
-both-requires c κs = rw c.quarter.ensures (below_four c.turns-k.result)
+both-requires c = rw c.quarter.ensures (below_four c.turns-k.result)
 
 pub returns : goal.returns
 unfolding sin_cos_of sin_of cos_of

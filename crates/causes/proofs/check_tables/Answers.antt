@@ -19,7 +19,7 @@ unfolding malformed_segment
 returns-then-either c = third _ (sym c.oversize.ensures ∙ c.if-oversize.false) (sym c.unbounded_tables.ensures ∙ c.if-unbounded_tables.false) (rw (c.either.ensures, c.ragged-ragged.ensures, c.malformed_segments-segments.ensures) at c.if-either.true)
 
 pub rows_cause-requires : goal.rows_cause-requires
-rows_cause-requires c κs = let z = sizes _ (sym c.oversize.ensures ∙ c.if-oversize.false) in (omega (arith, z.1), omega (arith, z.2))
+rows_cause-requires c = let z = sizes _ (sym c.oversize.ensures ∙ c.if-oversize.false) in (omega (arith, z.1), omega (arith, z.2))
 
 pub returns-in-0 : goal.returns-in-0
 unfolding malformed_segment

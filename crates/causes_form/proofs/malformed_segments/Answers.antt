@@ -8,7 +8,7 @@ pub loop-i-init : goal.loop-i-init
 loop-i-init c = (search rules, clear_none _)
 
 pub malformed_segment-requires : goal.malformed_segment-requires
-malformed_segment-requires c κs = omega arith
+malformed_segment-requires c = omega arith
 
 pub returns-then-malformed_segment : goal.returns-then-malformed_segment
 returns-then-malformed_segment c = clear_found c.loop-i.invariant.1 c.loop-i-test.true c.malformed_segment.ensures c.if-malformed_segment.true

@@ -18,7 +18,7 @@ pub overflow_add-b : goal.overflow_add-b
 overflow_add-b c = omega (arith, c.requires.2, c.requires.0.few)
 
 pub block_depth-requires : goal.block_depth-requires
-block_depth-requires c κs = (c.loop-n.invariant.2, omega (arith, c.requires.2, c.loop-n.invariant.3), omega (arith, c.requires.0.few, c.loop-n.invariant.3))
+block_depth-requires c = (c.loop-n.invariant.2, omega (arith, c.requires.2, c.loop-n.invariant.3), omega (arith, c.requires.0.few, c.loop-n.invariant.3))
 
 pub overflow_add-n : goal.overflow_add-n
 overflow_add-n c = omega arith

@@ -4,7 +4,7 @@ use Rattle.causes_nesting.proofs.Depths.{trim_depth, composite_depth, other_dept
 use Rattle.causes_nesting.proofs.row_depth.Goals as goal
 
 pub run_depth-requires : goal.run_depth-requires
-run_depth-requires c κs = (c.requires.0, rw (c.int_at-first.ensures, c.int_at-count.ensures) (c.requires.1 (sym c.int_at-kind.ensures ∙ c.in-7.is)))
+run_depth-requires c = (c.requires.0, rw (c.int_at-first.ensures, c.int_at-count.ensures) (c.requires.1 (sym c.int_at-kind.ensures ∙ c.in-7.is)))
 
 pub returns-in-6 : goal.returns-in-6
 returns-in-6 c = (trim_depth _ _ _ _ c.int_at-kind.ensures c.int_at-first.ensures c.in-6.is c.depth_below.ensures c.one_deeper.ensures, c.requires.0)

@@ -16,7 +16,7 @@ pub loop-row-init : goal.loop-row-init
 loop-row-init c = (search rules, gone_none _ _ _ _ (blocks_none _ _ _ _ _ c.requires.1.0.0 c.requires.1.1.0 c.requires.1.0.2 c.requires.1.1.1), refl, refl, refl)
 
 pub malformed_row-requires : goal.malformed_row-requires
-malformed_row-requires c κs = omega arith
+malformed_row-requires c = omega arith
 
 pub shape_of-depths-then-malformed_row : goal.shape_of-depths-then-malformed_row
 shape_of-depths-then-malformed_row c = c.loop-row.invariant.2
@@ -31,7 +31,7 @@ pub returns-then-malformed_row : goal.returns-then-malformed_row
 returns-then-malformed_row c = gone_malformed _ _ _ _ _ _ c.loop-row.invariant.1 c.loop-row-test.true (sym c.malformed_row.ensures ∙ c.if-malformed_row.true)
 
 pub row_depth-depth-requires : goal.row_depth-depth-requires
-row_depth-depth-requires c κs = (gone_known _ _ _ _ _ _ c.loop-row.invariant.1 c.if-lowest-ne4.true, λ k. omega (arith, c.requires.1.0.1, c.loop-row.invariant.3, composite_inside _ _ (sym c.malformed_row.ensures ∙ c.if-malformed_row.false) k))
+row_depth-depth-requires c = (gone_known _ _ _ _ _ _ c.loop-row.invariant.1 c.if-lowest-ne4.true, λ k. omega (arith, c.requires.1.0.1, c.loop-row.invariant.3, composite_inside _ _ (sym c.malformed_row.ensures ∙ c.if-malformed_row.false) k))
 
 pub bounds-depths-row : goal.bounds-depths-row
 bounds-depths-row c = omega arith

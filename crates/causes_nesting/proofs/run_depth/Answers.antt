@@ -16,7 +16,7 @@ pub overflow_add-n : goal.overflow_add-n
 overflow_add-n c = omega (arith, c.requires.1, c.requires.0.few)
 
 pub large_depth-requires : goal.large_depth-requires
-large_depth-requires c κs =
+large_depth-requires c =
     let l = c.loop-n in
     let w = leb-true (l.n + 256) c.args.count c.if-n-count.true in
     (l.invariant.2, omega (arith, w, c.requires.1, c.requires.0.few, l.invariant.2.enough, l.invariant.3), omega (arith, w, c.requires.1, c.requires.0.few, l.invariant.3))
@@ -42,7 +42,7 @@ pub overflow_add-n-then-i-eq0-2 : goal.overflow_add-n-then-i-eq0-2
 overflow_add-n-then-i-eq0-2 c = omega (arith, c.requires.1, c.requires.0.few)
 
 pub block_depth-requires : goal.block_depth-requires
-block_depth-requires c κs =
+block_depth-requires c =
     let l = c.loop-n in
     let w = leb-true (l.n + 16) c.args.count c.if-n-count-2.true in
     (l.invariant.2.small, omega (arith, w, c.requires.1, c.requires.0.few, l.invariant.3), l.invariant.2.few)

@@ -12,7 +12,7 @@ slice_bounds-answer-end c = sym (length-take-le _ _ (omega arith))
 
 pub answer-requires : goal.answer-requires
 unfolding room_of
-answer-requires c κs = omega arith
+answer-requires c = omega arith
 
 pub returns : goal.returns
 returns c =

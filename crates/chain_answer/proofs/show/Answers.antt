@@ -9,19 +9,19 @@ use Rattle.chain_answer.proofs.Laws.{show_refusal, show_chain}
 use Rattle.chain_answer.proofs.show.Goals as goal
 
 pub write_chain-requires : goal.write_chain-requires
-write_chain-requires c κs = let z = ap chain_floats c.in-Chain.is in (omega arith, omega arith)
+write_chain-requires c = let z = ap chain_floats c.in-Chain.is in (omega arith, omega arith)
 
 pub write_chain-requires-in-Chord : goal.write_chain-requires-in-Chord
-write_chain-requires-in-Chord c κs = let z = ap chain_floats c.in-Chain.is in (omega arith, omega arith)
+write_chain-requires-in-Chord c = let z = ap chain_floats c.in-Chain.is in (omega arith, omega arith)
 
 pub write_chain-requires-in-Complement : goal.write_chain-requires-in-Complement
-write_chain-requires-in-Complement c κs = let z = ap chain_floats c.in-Chain.is in (omega arith, omega arith)
+write_chain-requires-in-Complement c = let z = ap chain_floats c.in-Chain.is in (omega arith, omega arith)
 
 pub write_chain-requires-in-ShortArc : goal.write_chain-requires-in-ShortArc
-write_chain-requires-in-ShortArc c κs = let z = ap chain_floats c.in-Chain.is in (omega arith, omega arith)
+write_chain-requires-in-ShortArc c = let z = ap chain_floats c.in-Chain.is in (omega arith, omega arith)
 
 pub write_chain-requires-in-Runaway : goal.write_chain-requires-in-Runaway
-write_chain-requires-in-Runaway c κs = let z = ap chain_floats c.in-Chain.is in (omega arith, omega arith)
+write_chain-requires-in-Runaway c = let z = ap chain_floats c.in-Chain.is in (omega arith, omega arith)
 
 pub returns-in-Refused : goal.returns-in-Refused
 returns-in-Refused c = let a = c.args in show_refusal a.lo a.hi a.drawn a.first.now a.second.now _ _ _ _ c.in-Refused.is c.write_refusal.ensures

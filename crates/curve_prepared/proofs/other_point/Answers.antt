@@ -10,7 +10,7 @@ use Rattle.curve_prepared.proofs.other_point.Goals as goal
 
 pub polyline_at-spot-requires : goal.polyline_at-spot-requires
 unfolding prepared_of
-polyline_at-spot-requires c κs =
+polyline_at-spot-requires c =
     known_closed _ (c.requires ∙ sym (at_polyline prepared_of _ _ c.int_at-kind.ensures c.in-5.is c.int_at-first.ensures c.int_at-count.ensures ∙ under_same prepared_of (λ b r. refl) _ _ c.under_trims-r.ensures))
 
 pub returns-in-5 : goal.returns-in-5

@@ -29,7 +29,7 @@ pub returns-in_default : goal.returns-in_default
 returns-in_default c = c.plain_point.ensures ∙ plain_is _ _ _ (plain _ c.in_default.keys2)
 
 pub other_point-requires : goal.other_point-requires
-other_point-requires c κs = sym c.in-Other.is ∙ c.requires
+other_point-requires c = sym c.in-Other.is ∙ c.requires
 
 pub returns : goal.returns
 unfolding prepared_point

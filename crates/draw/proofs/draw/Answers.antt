@@ -7,7 +7,7 @@ use Rattle.draw.proofs.Laws.{binary, by_verdict, by_drawing, all_outcome}
 use Rattle.draw.proofs.draw.Goals as goal
 
 pub draw_unchecked-requires : goal.draw_unchecked-requires
-draw_unchecked-requires c κs =
+draw_unchecked-requires c =
     let a = c.args in
     let T = lent a.points a.curves a.reals a.parts a.ranges in
     let k = causes_of T a.edge a.options (sym c.check-verdict.ensures ∙ c.in-Accepted.is) in

@@ -43,7 +43,7 @@ returns-in_default-line c = λ (reals : List Float) (parts : List ℕ) (ranges :
     not_straight _ st.args.first.now st.args.second.now refl refl
 
 pub draw_segment-requires : goal.draw_segment-requires
-draw_segment-requires c κs = let t = c in (t.requires.0, omega (arith, t.if-options-gt1.false))
+draw_segment-requires c = let t = c in (t.requires.0, omega (arith, t.if-options-gt1.false))
 
 pub returns-then-draw_segment : goal.returns-then-draw_segment
 returns-then-draw_segment c = λ (reals : List Float) (parts : List ℕ) (ranges : List Float) u.

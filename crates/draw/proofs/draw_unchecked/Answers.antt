@@ -33,7 +33,7 @@ pub returns-then-draw_straight : goal.returns-then-draw_straight
 returns-then-draw_straight c = (told c).chain c.if-draw_straight.true
 
 pub drawn_in-requires : goal.drawn_in-requires
-drawn_in-requires c κs =
+drawn_in-requires c =
     let f = c in
     let st = c in
     let a = st.args in

@@ -17,10 +17,10 @@ told f =
     counts (tables_of_lem s) s.args.edge s.args.r s.args.first.now s.args.second.now s.requires.0 s.requires.1 f.discretise_usable-counted.ensures _ f.counted2.given.1
 
 pub discretise_usable-counted-requires : goal.discretise_usable-counted-requires
-discretise_usable-counted-requires c κs = c.requires
+discretise_usable-counted-requires c = c.requires
 
 pub repair_runaway-requires : goal.repair_runaway-requires
-repair_runaway-requires c κs =
+repair_runaway-requires c =
     let k = told c in
     let p = c.requires in
     (k.first-enough, k.second-enough, p.2, p.3, k.fits, k.alone, k.clear, ap in_first c.first_way-way.ensures ∙ first_in_first _)

@@ -15,7 +15,7 @@ unfolding for_extent sag_for
 unchanged r x e = rw e
 
 pub extent_usable-extent-requires : goal.extent_usable-extent-requires
-extent_usable-extent-requires c κs = c.requires
+extent_usable-extent-requires c = c.requires
 
 pub returns-then-r : goal.returns-then-r
 unfolding local_options

@@ -84,7 +84,7 @@ returns-then-r-lt2 c =
     ]))
 
 pub tell_by_count-requires : goal.tell_by_count-requires
-tell_by_count-requires c κs =
+tell_by_count-requires c =
     let f = c in
     let p = f.pre in
     (p.0, p.1, p.2, formless c)

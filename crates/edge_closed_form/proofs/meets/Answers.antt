@@ -24,12 +24,12 @@ slice_bounds-params-end c =
     sym (length-take-le st.args.n st.args.out.now st.pre.0)
 
 pub worst_square-worst-requires : goal.worst_square-worst-requires
-worst_square-worst-requires c κs =
+worst_square-worst-requires c =
     let st = c in
     (ap is_plain c.prepare-prepared.ensures ∙ st.pre.2, omega (arith, length-take-le st.args.n st.args.out.now st.pre.0, st.pre.1))
 
 pub is_at_most-requires : goal.is_at_most-requires
-is_at_most-requires c κs = subst Stands (sym c.limit_of-limit.ensures) (stands c.args.sag)
+is_at_most-requires c = subst Stands (sym c.limit_of-limit.ensures) (stands c.args.sag)
 
 pub returns : goal.returns
 returns c =

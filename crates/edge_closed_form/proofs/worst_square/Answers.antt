@@ -38,7 +38,7 @@ pub overflow_add-i : goal.overflow_add-i
 overflow_add-i c = omega (arith, c.loop-i.invariant.2, c.well_formed.1.0.1)
 
 pub put-requires : goal.put-requires
-put-requires c κs = omega (arith, c.loop-i.invariant.2, c.loop-i.invariant.4, c.requires.1)
+put-requires c = omega (arith, c.loop-i.invariant.2, c.loop-i.invariant.4, c.requires.1)
 
 pub overflow_add-b : goal.overflow_add-b
 overflow_add-b c = omega (arith, c.loop-i-test.true, c.well_formed.1.0.1)
@@ -50,7 +50,7 @@ pub bounds-params-i : goal.bounds-params-i
 bounds-params-i c = omega (arith, c.loop-i-test.true)
 
 pub miss_square-s-requires : goal.miss_square-s-requires
-miss_square-s-requires c κs = (c.requires.0, c.loop-i.invariant.0, c.plain_point-pb.ensures)
+miss_square-s-requires c = (c.requires.0, c.loop-i.invariant.0, c.plain_point-pb.ensures)
 
 pub overflow_add-i-in-loop-i : goal.overflow_add-i-in-loop-i
 overflow_add-i-in-loop-i c = omega (arith, c.loop-i-test.true, c.well_formed.1.0.1)
@@ -81,7 +81,7 @@ loop-i-preserved c =
     )
 
 pub put-requires-2 : goal.put-requires-2
-put-requires-2 c κs = omega (arith, c.loop-i.invariant.2, c.loop-i.invariant.4, c.requires.1)
+put-requires-2 c = omega (arith, c.loop-i.invariant.2, c.loop-i.invariant.4, c.requires.1)
 
 pub shape_of-chain : goal.shape_of-chain
 shape_of-chain c = c.put-2.auto.0 ∙ c.loop-i.invariant.4

@@ -77,7 +77,7 @@ pub slice_bounds-count_walk-end : goal.slice_bounds-count_walk-end
 slice_bounds-count_walk-end c = sym (length-take-le _ _ (kept_of c).0)
 
 pub count_walk-requires : goal.count_walk-requires
-count_walk-requires c κs = ((kept_of c).1, c.pre.1)
+count_walk-requires c = ((kept_of c).1, c.pre.1)
 
 pub returns : goal.returns
 returns c =

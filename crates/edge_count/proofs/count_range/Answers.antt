@@ -13,7 +13,7 @@ curve-of st =
     tree (tables a.points.now a.curves.now a.reals.now a.parts.now a.ranges.now) a.row
 
 pub count_walk-requires : goal.count_walk-requires
-count_walk-requires c κs =
+count_walk-requires c =
     let st = c in
     let a = st.args in
     (no_breaks (curve-of st) a.range.lo a.range.hi a.r.sag (sym c.if-knot_count-eq0.true ∙ c.knot_count.ensures), st.pre.1)

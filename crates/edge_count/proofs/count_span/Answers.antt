@@ -24,7 +24,7 @@ returns-then-far_at-2 c =
     span_right (curve-of st) a.range a.r a.left.t a.right.t a.room a.k st.pre.4 (c.far_at.ensures a.points.now a.reals.now) c.if-far_at.false (c.far_at-2.ensures a.points.now a.reals.now) c.if-far_at-2.true
 
 pub count_subdivided-inside-requires : goal.count_subdivided-inside-requires
-count_subdivided-inside-requires c κs =
+count_subdivided-inside-requires c =
     let st = c in
     let a = st.args in
     (st.pre.0, record { options = a.r; own = st.pre.1 }, st.pre.2, st.pre.3, sym (c.far_at.ensures a.points.now a.reals.now) ∙ c.if-far_at.false, sym (c.far_at-2.ensures a.points.now a.reals.now) ∙ c.if-far_at-2.false)

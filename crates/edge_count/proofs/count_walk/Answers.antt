@@ -24,7 +24,7 @@ loop-i-init c =
     (omega arith, walking_start (curve-of st) a.range a.r a.room a.breaks.now st.requires.0 _ (c.count_one-pushed.ensures _ _) c.in-Count.is _ c.end_at-left.ensures)
 
 pub count_span-stepped-requires : goal.count_span-stepped-requires
-count_span-stepped-requires c κs =
+count_span-stepped-requires c =
     let st = c in
     (c.prepare-prepared.ensures, c.limits_of-limits.ensures, c.loop-i.invariant.1.own, end_own (curve-of st) _ _ c.end_at-right.ensures, st.requires.1)
 

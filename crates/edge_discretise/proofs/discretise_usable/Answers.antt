@@ -33,14 +33,14 @@ pub slice_bounds-part-end-2 : goal.slice_bounds-part-end-2
 slice_bounds-part-end-2 c = sym (told c).size
 
 pub draw_range-drawn-requires : goal.draw_range-drawn-requires
-draw_range-drawn-requires c κs =
+draw_range-drawn-requires c =
     let f = c in
     let l = told f in
     let p = f.requires in
     (omega (arith, l.few, l.size), omega (arith, l.fits, l.size), p.2, p.3)
 
 pub clear_from-requires-2 : goal.clear_from-requires-2
-clear_from-requires-2 c κs =
+clear_from-requires-2 c =
     let l = told c in
     omega (arith, l.inside, whole_length c.room-n.result c.draw_range-drawn.new.1.1.1.1.1.1.1.1.1.1.0 c.args.scratch.now c.scratch-2-1.given.0)
 

@@ -9,10 +9,10 @@ abbrev tables_of_lem : tie.Start → Tables
 tables_of_lem st = let a = st.args in lent a.points a.curves a.reals a.parts a.ranges
 
 pub tell-told-requires : goal.tell-told-requires
-tell-told-requires c κs = let p = c.requires in (p.2, p.3, p.0)
+tell-told-requires c = let p = c.requires in (p.2, p.3, p.0)
 
 pub draw_sampled-requires : goal.draw_sampled-requires
-draw_sampled-requires c κs =
+draw_sampled-requires c =
     let st = c in
     let t = c.tell-told in
     let p = st.requires in

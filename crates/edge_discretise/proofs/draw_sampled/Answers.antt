@@ -38,7 +38,7 @@ pub slice_bounds-records-end-2 : goal.slice_bounds-records-end-2
 slice_bounds-records-end-2 c = let st = c in sym (records_length st.args.scratch.now st.args.chain.now st.requires.1)
 
 pub sample_params-sampled-requires : goal.sample_params-sampled-requires
-sample_params-sampled-requires c κs = let st = c in (st.requires.2, records_room st.args.scratch.now st.args.chain.now st.requires.1)
+sample_params-sampled-requires c = let st = c in (st.requires.2, records_room st.args.scratch.now st.args.chain.now st.requires.1)
 
 pub returns-in_default : goal.returns-in_default
 returns-in_default c =
@@ -54,7 +54,7 @@ pub slice_bounds-params-end-2 : goal.slice_bounds-params-end-2
 slice_bounds-params-end-2 c = sym (part_length (told c))
 
 pub place-requires : goal.place-requires
-place-requires c κs =
+place-requires c =
     let s = told c in
     let st = c in
     let chain = st.args.chain.now in (
@@ -70,10 +70,10 @@ pub slice_bounds-used-end-2 : goal.slice_bounds-used-end-2
 slice_bounds-used-end-2 c = sym (part_length (told c))
 
 pub clear_from-requires-2 : goal.clear_from-requires-2
-clear_from-requires-2 c κs = omega (arith, part_length (told c))
+clear_from-requires-2 c = omega (arith, part_length (told c))
 
 pub finish-requires : goal.finish-requires
-finish-requires c κs =
+finish-requires c =
     let s = told c in
     let st = c in
     (s.two, omega (arith, s.fits, st.requires.0), placed_room (tables_of_lem st) st.args.edge st.args.r st.args.range s (c.sample_params-sampled.new.1.1.1.1.1.1.1.1.1.0 ++ drop (lent_of st) st.args.chain.now) _ (omega (arith, s.fits, st.requires.1, c.chain-1.given)) c.place.ensures)

@@ -28,14 +28,14 @@ told f =
     thin_some (is_sampled (tree (lent a.points a.curves a.reals a.parts a.ranges) a.edge.curve)) a.r a.chain.now a.n t.result f.thinned.given.0.0 _ st.requires.0 st.requires.2 t.ensures f.thinned.given.1
 
 pub merge-k-requires : goal.merge-k-requires
-merge-k-requires c κs = thin_room (told c)
+merge-k-requires c = thin_room (told c)
 
 pub overflow_mul-k : goal.overflow_mul-k
 overflow_mul-k c =
     omega (arith, merged_few (told c) c.merge_floor-floor.result _ c.merge_floor-floor.ensures c.merge-k.ensures, c.well_formed.1.1.1.1.1.1.1.0.1)
 
 pub clear_from-requires : goal.clear_from-requires
-clear_from-requires c κs = merged_room (told c) c.merge_floor-floor.result _ c.merge_floor-floor.ensures c.merge-k.ensures
+clear_from-requires c = merged_room (told c) c.merge_floor-floor.result _ c.merge_floor-floor.ensures c.merge-k.ensures
 
 pub returns-in-Count : goal.returns-in-Count
 returns-in-Count c =

@@ -13,7 +13,7 @@ pub loop-i-init : goal.loop-i-init
 loop-i-init c = (omega arith, refl)
 
 pub is_above-requires : goal.is_above-requires
-is_above-requires c κs = root_at_most _ c.root.ensures.0
+is_above-requires c = root_at_most _ c.root.ensures.0
 
 pub returns-then-is_above : goal.returns-then-is_above
 unfolding v_length

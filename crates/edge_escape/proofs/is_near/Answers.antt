@@ -8,7 +8,7 @@ use Rattle.edge_escape.proofs.is_near.Goals as goal
 
 pub all_near-requires : goal.all_near-requires
 unfolding v_length diagonal
-all_near-requires c κs =
+all_near-requires c =
     let l = c in
     let e = l.length_squared-square.ensures ∙ ap v_length_squared l.size.ensures in
     (search rules, rw (sym e) (in_limit l.length_squared-square.result l.args.r.sag (search rules) c.if-sag.true c.if-square.true))

@@ -10,7 +10,7 @@ pub loop-i-init : goal.loop-i-init
 loop-i-init c = (omega arith, refl)
 
 pub is_within-requires : goal.is_within-requires
-is_within-requires c κs = root_beyond _ c.root.ensures.0
+is_within-requires c = root_beyond _ c.root.ensures.0
 
 pub returns-then-is_within : goal.returns-then-is_within
 unfolding v_length

@@ -9,7 +9,7 @@ pub returns-in-Line : goal.returns-in-Line
 returns-in-Line c = c.probe_line.ensures _ (sym c.prepare-prepared.ensures ∙ c.in-Line.is)
 
 pub probe_each-requires : goal.probe_each-requires
-probe_each-requires c κs = c.prepare-prepared.ensures
+probe_each-requires c = c.prepare-prepared.ensures
 
 pub returns : goal.returns
 returns c = c.probe_each.ensures

@@ -17,7 +17,7 @@ pub loop-i-init : goal.loop-i-init
 loop-i-init c = (refl, kept_first_lem _ _ _ c.if-n-le2.false _ c.record_point-last.ensures)
 
 pub is_apart-requires : goal.is_apart-requires
-is_apart-requires c κs = root_beyond _ c.root.ensures.0
+is_apart-requires c = root_beyond _ c.root.ensures.0
 
 pub loop-i-preserved : goal.loop-i-preserved
 loop-i-preserved c =

@@ -19,10 +19,10 @@ loop-i-init c =
     (omega arith, refl, written_none (curve-of st) st.args.chain.now st.args.params.now st.args.chain.now refl)
 
 pub point_of-point-requires : goal.point_of-point-requires
-point_of-point-requires c κs = c.prepare-prepared.ensures
+point_of-point-requires c = c.prepare-prepared.ensures
 
 pub put-requires : goal.put-requires
-put-requires c κs = omega (arith, c.loop-i-test.true, c.loop-i.invariant.1, c.requires)
+put-requires c = omega (arith, c.loop-i-test.true, c.loop-i.invariant.1, c.requires)
 
 pub overflow_step-i : goal.overflow_step-i
 overflow_step-i c = omega (arith, c.loop-i-test.true, c.well_formed.1.1.1.1.1.1.0.1)

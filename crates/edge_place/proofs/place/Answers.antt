@@ -28,10 +28,10 @@ known-length : (j : tie.Joined1) → length j.if1.chain ≡ length j.args.chain.
 known-length j = ap length (known-chain j) ∙ simp length-sets
 
 pub orient-requires : goal.orient-requires
-orient-requires c κs = let p = c.requires in (omega (arith, p.0), omega (arith, p.1, known-length c))
+orient-requires c = let p = c.requires in (omega (arith, p.0), omega (arith, p.1, known-length c))
 
 pub pin_ends-requires : goal.pin_ends-requires
-pin_ends-requires c κs =
+pin_ends-requires c =
     let p = c.requires in
     (omega (arith, p.0), omega (arith, p.1, c.orient.auto.1.1.1.0, known-length c))
 

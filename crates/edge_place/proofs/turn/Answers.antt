@@ -22,7 +22,7 @@ pub overflow_sub-n-in-loop-i : goal.overflow_sub-n-in-loop-i
 overflow_sub-n-in-loop-i c = omega arith
 
 pub swap-requires : goal.swap-requires
-swap-requires c κs = (omega arith, omega arith)
+swap-requires c = (omega arith, omega arith)
 
 pub loop-i-preserved : goal.loop-i-preserved
 loop-i-preserved c =

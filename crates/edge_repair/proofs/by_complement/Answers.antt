@@ -24,10 +24,10 @@ returns-then-not-span c =
     redrawn_is c.by_short_arc.ensures _ (complement_none (tables_of_lem s) s.args.edge s.args.r (its_room s) s.args.p c.span.ensures c.if-not-span.true)
 
 pub escapes-requires : goal.escapes-requires
-escapes-requires c κs = omega (arith, chain_room (drawn_chain c.redraw-drawn.ensures _ c.in-Count.is c.second-2-1.given))
+escapes-requires c = omega (arith, chain_room (drawn_chain c.redraw-drawn.ensures _ c.in-Count.is c.second-2-1.given))
 
 pub by_short_arc-requires-then-escapes : goal.by_short_arc-requires-then-escapes
-by_short_arc-requires-then-escapes c κs = let p = c.requires in (omega (arith, p.0), omega (arith, p.1), p.2, p.3)
+by_short_arc-requires-then-escapes c = let p = c.requires in (omega (arith, p.0), omega (arith, p.1), p.2, p.3)
 
 pub returns-then-escapes : goal.returns-then-escapes
 returns-then-escapes c =

@@ -24,7 +24,7 @@ returns-then-sweep_far c =
     (short_far (tables_of_lem s) a.edge a.r (its_room s) c.natural_range-natural.ensures (c.sweep_far.ensures a.points.now a.reals.now) c.if-sweep_far.true)
 
 pub try_short_arc-requires : goal.try_short_arc-requires
-try_short_arc-requires c κs = let p = c.requires in (p.0, p.1, p.2, p.3, c.natural_range-natural.ensures)
+try_short_arc-requires c = let p = c.requires in (p.0, p.1, p.2, p.3, c.natural_range-natural.ensures)
 
 pub returns : goal.returns
 returns c =

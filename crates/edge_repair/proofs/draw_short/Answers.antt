@@ -18,7 +18,7 @@ abbrev its_room : tie.Start → ℕ
 its_room s = room_of (length s.args.first.now) (length s.args.second.now)
 
 pub arc_or_chord-requires : goal.arc_or_chord-requires
-arc_or_chord-requires c κs =
+arc_or_chord-requires c =
     let d = drawn_chain c.redraw-drawn.ensures _ c.in-Count.is c.second-1.given in
     (omega (arith, c.requires.1), chain_room d, chain_floats_lem d)
 

@@ -4,7 +4,7 @@ use Rattle.brep.specs.Rows.{lent}
 use Rattle.edge_repair.proofs.redraw.Goals as goal
 
 pub discretise-requires : goal.discretise-requires
-discretise-requires c κs = let p = c.requires in (p.1, p.0, rw c.with_range-d.ensures p.2, p.3)
+discretise-requires c = let p = c.requires in (p.1, p.0, rw c.with_range-d.ensures p.2, p.3)
 
 pub returns : goal.returns
 returns c =

@@ -13,7 +13,7 @@ abbrev tables_of_lem : tie.Start → Tables
 tables_of_lem s = let a = s.args in lent a.points a.curves a.reals a.parts a.ranges
 
 pub draw_short-requires : goal.draw_short-requires
-draw_short-requires c κs =
+draw_short-requires c =
     let s = c in
     let p = s.requires in
     let short = c.short_range-short.ensures in

@@ -12,7 +12,7 @@ curve-of st =
     tree (tables a.points.now a.curves.now a.reals.now a.parts.now a.ranges.now) a.row
 
 pub walk-requires : goal.walk-requires
-walk-requires c κs =
+walk-requires c =
     let st = c in
     let a = st.args in
     (no_breaks (curve-of st) a.range.lo a.range.hi a.r.sag (sym c.if-knot_count-eq0.true ∙ c.knot_count.ensures), st.pre.1)

@@ -21,7 +21,7 @@ abbrev sampler-of : tie.Start → Sampler
 sampler-of st = sampler (curve-of st) st.args.range st.args.r
 
 pub settle-requires : goal.settle-requires
-settle-requires c κs = settle_room _ _ refl c.bisect_range-listed.ensures.listed
+settle-requires c = settle_room _ _ refl c.bisect_range-listed.ensures.listed
 
 pub returns-in_default : goal.returns-in_default
 unfolding sampler
@@ -40,7 +40,7 @@ overflow_sub-n c =
     omega arith
 
 pub settle-requires-then-n-r : goal.settle-requires-then-n-r
-settle-requires-then-n-r c κs = settle_room _ _ refl c.evenly-even.ensures
+settle-requires-then-n-r c = settle_room _ _ refl c.evenly-even.ensures
 
 pub returns-then-n-r : goal.returns-then-n-r
 unfolding sampler
@@ -53,7 +53,7 @@ returns-then-n-r c =
     )
 
 pub settle-kept-requires : goal.settle-kept-requires
-settle-kept-requires c κs = settle_room _ _ c.in-Count.is c.bisect_range-listed.ensures.listed
+settle-kept-requires c = settle_room _ _ c.in-Count.is c.bisect_range-listed.ensures.listed
 
 pub returns : goal.returns
 unfolding sampler

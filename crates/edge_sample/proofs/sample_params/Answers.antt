@@ -30,7 +30,7 @@ returns-in_default c =
     )
 
 pub settle-requires : goal.settle-requires
-settle-requires c κs = settle_room _ _ refl c.evenly-even.ensures
+settle-requires c = settle_room _ _ refl c.evenly-even.ensures
 
 pub returns-in_default-even : goal.returns-in_default-even
 returns-in_default-even c =
@@ -41,7 +41,7 @@ returns-in_default-even c =
     )
 
 pub meets-requires : goal.meets-requires
-meets-requires c κs =
+meets-requires c =
     let st = c in
     let room = settle_room _ _ c.in-Count.is c.evenly-even.ensures in (
       room,
@@ -50,7 +50,7 @@ meets-requires c κs =
     )
 
 pub settle-listed-requires : goal.settle-listed-requires
-settle-listed-requires c κs = settle_room _ _ c.in-Count.is c.evenly-even.ensures
+settle-listed-requires c = settle_room _ _ c.in-Count.is c.evenly-even.ensures
 
 pub returns-then-meets : goal.returns-then-meets
 returns-then-meets c =
@@ -62,7 +62,7 @@ returns-then-meets c =
     )
 
 pub refine-requires-2 : goal.refine-requires-2
-refine-requires-2 c κs =
+refine-requires-2 c =
     let st = c in
     (st.pre.0, record { taken = search rules; wide = omega (arith, c.chain-2-1.given, st.pre.1.wide, c.out-2-1.given) })
 

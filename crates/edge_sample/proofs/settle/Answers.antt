@@ -8,7 +8,7 @@ use Rattle.edge_sample.specs.Own.Answered.{kept_floats}
 use Rattle.edge_sample.proofs.settle.Goals as goal
 
 pub clear_from-requires : goal.clear_from-requires
-clear_from-requires c κs = omega (arith, ap kept_floats c.in-Count.is, c.requires)
+clear_from-requires c = omega (arith, ap kept_floats c.in-Count.is, c.requires)
 
 pub returns-in-Count : goal.returns-in-Count
 returns-in-Count c =

@@ -13,7 +13,7 @@ curve-of st =
     tree (tables a.points.now a.curves.now a.reals.now a.parts.now a.ranges.now) a.row
 
 pub subdivide-inside-requires : goal.subdivide-inside-requires
-subdivide-inside-requires c κs =
+subdivide-inside-requires c =
     let st = c in
     (st.pre.0, record { options = st.args.r; own = st.pre.1 }, st.pre.2, st.pre.3, st.pre.4)
 
@@ -23,7 +23,7 @@ returns-in_default c =
     recorded_refused (curve-of st) st.pre.4 (c.subdivide-inside.ensures st.args.r st.pre.1) c.in_default.is _
 
 pub push_end-requires : goal.push_end-requires
-push_end-requires c κs =
+push_end-requires c =
     let st = c in
     recorded_room (curve-of st) st.pre.4 (c.subdivide-inside.ensures st.args.r st.pre.1) c.in-Count.is
 

@@ -14,10 +14,10 @@ curve-of st =
     tree (tables a.points.now a.curves.now a.reals.now a.parts.now a.ranges.now) a.row
 
 pub end_at-low-requires : goal.end_at-low-requires
-end_at-low-requires c κs = c.prepare-prepared.ensures
+end_at-low-requires c = c.prepare-prepared.ensures
 
 pub push_end-pushed-requires : goal.push_end-pushed-requires
-push_end-pushed-requires c κs = c.requires.1
+push_end-pushed-requires c = c.requires.1
 
 pub returns-in_default : goal.returns-in_default
 returns-in_default c =
@@ -30,10 +30,10 @@ loop-i-init c =
     (omega arith, walking_start (curve-of st) st.args.range st.args.r st.args.breaks.now st.requires.0 st.requires.1 _ c.end_at-low.ensures (recorded_one (curve-of st) _ (end_own (curve-of st) _ _ c.end_at-low.ensures) c.push_end-pushed.ensures) c.in-Count.is)
 
 pub end_at-right-requires : goal.end_at-right-requires
-end_at-right-requires c κs = c.prepare-prepared.ensures
+end_at-right-requires c = c.prepare-prepared.ensures
 
 pub step-stepped-requires : goal.step-stepped-requires
-step-stepped-requires c κs =
+step-stepped-requires c =
     let st = c in
     let s = c.loop-i.invariant.1 in
     (c.prepare-prepared.ensures, c.limits_of-limits.ensures, s.own, end_own (curve-of st) _ _ c.end_at-right.ensures, walking_room (curve-of st) st.args.range st.args.r st.args.breaks.now s)
@@ -65,7 +65,7 @@ loop-i-preserved c =
     )
 
 pub push_end-requires : goal.push_end-requires
-push_end-requires c κs =
+push_end-requires c =
     let st = c in
     walking_room (curve-of st) st.args.range st.args.r st.args.breaks.now c.loop-i.invariant.1
 

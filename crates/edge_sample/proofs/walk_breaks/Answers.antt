@@ -30,6 +30,6 @@ slice_bounds-walk-end c =
     (kept_room (curve-of st) st.args.range.lo st.args.range.hi st.args.r.sag most_knots c.kept_breaks-kept.result st.pre.0 c.kept_breaks-kept.ensures.0 _ _ refl c.kept_breaks-kept.ensures.1 _ c.in-Count.is c.breaks-2-1.given))
 
 pub walk-requires : goal.walk-requires
-walk-requires c κs =
+walk-requires c =
     let st = c in
     (kept_list (curve-of st) st.args.range.lo st.args.range.hi st.args.r.sag most_knots c.kept_breaks-kept.result st.pre.0 c.kept_breaks-kept.ensures.0 _ _ refl c.kept_breaks-kept.ensures.1 _ c.in-Count.is, st.pre.1)

@@ -9,11 +9,11 @@ use Rattle.edge_segment.proofs.Laws.{not_drawn, drawn, one_segment, its_sag}
 use Rattle.edge_segment.proofs.draw_segment.Goals as goal
 
 pub meets-requires : goal.meets-requires
-meets-requires c κs =
+meets-requires c =
     (c.add-pa.ensures ∙ ap (v_add _) c.scale.ensures, c.add-pb.ensures ∙ ap (v_add _) c.scale-2.ensures)
 
 pub chord_along-requires : goal.chord_along-requires
-chord_along-requires c κs = c.requires.0
+chord_along-requires c = c.requires.0
 
 pub returns-then-meets : goal.returns-then-meets
 returns-then-meets c = λ (T : Tables) s e l (x : Float).

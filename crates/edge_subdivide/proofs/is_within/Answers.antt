@@ -16,12 +16,12 @@ returns-then-is_turn_over c r e =
     (ap (λ (x : Float). le x r.angle) (sym c.turn_cosine-cosine.ensures) ∙ ap (le _) (sym (angle_limit r a.l e)) ∙ over)
 
 pub is_at_most-requires : goal.is_at_most-requires
-is_at_most-requires c κs =
+is_at_most-requires c =
     let st = c in
     subst Stands (sym (sag_limit st.requires.options st.args.l st.requires.own)) (stands st.requires.options.sag)
 
 pub is_turn_within-requires : goal.is_turn_within-requires
-is_turn_within-requires c κs =
+is_turn_within-requires c =
     let st = c in
     turn_serves st.requires.options st.args.l st.requires.own
 

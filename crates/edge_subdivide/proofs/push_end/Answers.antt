@@ -11,7 +11,7 @@ returns-in_default c =
     (one_as st.requires st.args.end.t _ h Refused e, one_full st.requires st.args.end.t _ h e _)
 
 pub put-requires : goal.put-requires
-put-requires c κs =
+put-requires c =
     let st = c in
     one_fits st.requires st.args.end.t _ c.push-pushed.ensures _ c.in-Count.is
 

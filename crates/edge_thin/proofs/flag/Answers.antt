@@ -11,7 +11,7 @@ returns-then-not-mark c =
     flag_refused _ _ _ m.result m.ensures (not-true m.result c.if-not-mark.true)
 
 pub mark_evenly-requires : goal.mark_evenly-requires
-mark_evenly-requires c κs = (omega arith, c.wanted-want.ensures.1, omega arith)
+mark_evenly-requires c = (omega arith, c.wanted-want.ensures.1, omega arith)
 
 pub returns-then-count_kept-want : goal.returns-then-count_kept-want
 returns-then-count_kept-want c =

@@ -23,7 +23,7 @@ pub slice_bounds-thin_with-end : goal.slice_bounds-thin_with-end
 slice_bounds-thin_with-end c = sym (lent_length c.args.n 128 (omega arith))
 
 pub thin_with-requires : goal.thin_with-requires
-thin_with-requires c κs =
+thin_with-requires c =
     let st = c in
     let n = st.args.n in
     let fits = lent_fits n 128 c.if-n-le128.true c.if-n-lt3.false st.requires.0 st.requires.1 in
@@ -38,7 +38,7 @@ pub slice_bounds-thin_with-end-2 : goal.slice_bounds-thin_with-end-2
 slice_bounds-thin_with-end-2 c = sym (lent_length c.args.n most (omega arith))
 
 pub thin_with-requires-2 : goal.thin_with-requires-2
-thin_with-requires-2 c κs =
+thin_with-requires-2 c =
     let st = c in
     let n = st.args.n in
     let fits = lent_fits n most st.requires.0 c.if-n-lt3.false st.requires.0 st.requires.1 in

@@ -21,7 +21,7 @@ loop-a-init c =
     (refl, simp length-set (omega arith), search rules, marking_none a.chain.now a.tolerance a.angle a.keep.now (length a.keep.now - 1) (omega arith) (omega arith) c.requires.2)
 
 pub decide-d-requires : goal.decide-d-requires
-decide-d-requires c κs =
+decide-d-requires c =
     let a = c.args in
     let l = c.loop-a in
     let D = decides a.chain.now a.tolerance a.angle in

@@ -26,12 +26,12 @@ pub slice_bounds-inside-end-in-Count : goal.slice_bounds-inside-end-in-Count
 slice_bounds-inside-end-in-Count c = sym (part_length (told c))
 
 pub inside-m-requires : goal.inside-m-requires
-inside-m-requires c κs =
+inside-m-requires c =
     let s = told c in
     omega (arith, c.pre, part_length s, part_room s)
 
 pub clear_from-requires : goal.clear_from-requires
-clear_from-requires c κs =
+clear_from-requires c =
     let g = c in
     let i = c in
     let a = c.args in

@@ -26,7 +26,7 @@ pub slice_bounds-passing_wholes-end-then-n-out : goal.slice_bounds-passing_whole
 slice_bounds-passing_wholes-end-then-n-out c = sym (part_length (told c))
 
 pub clear_from-requires : goal.clear_from-requires
-clear_from-requires c κs =
+clear_from-requires c =
     let o = c in
     let p = o.passing_wholes-k in
     let a = c.args in

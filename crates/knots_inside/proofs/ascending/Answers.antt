@@ -23,7 +23,7 @@ pub slice_bounds-sort-end-then-width : goal.slice_bounds-sort-end-then-width
 slice_bounds-sort-end-then-width c = sym (part_length (told c))
 
 pub sort-requires : goal.sort-requires
-sort-requires c κs =
+sort-requires c =
     let h = told c in
     (omega (arith, part_length h, h.fit, c.requires), part_numbers h)
 
@@ -33,7 +33,7 @@ slice_bounds-dedup-end-then-width c =
     sym (sorted_part_length (told c) s.sort.new.0 s.sort.ensures)
 
 pub clear_from-requires : goal.clear_from-requires
-clear_from-requires c κs =
+clear_from-requires c =
     let g = c in
     let d = c in
     let s = c in

@@ -10,7 +10,7 @@ slice_bounds-copy-end-then-next-last c =
     sym (first_length a.a.now a.scratch.now a.m st.requires)
 
 pub copy-requires : goal.copy-requires
-copy-requires c κs =
+copy-requires c =
     let st = c in
     let a = st.args in
     first_room a.a.now a.scratch.now a.m st.requires
@@ -22,7 +22,7 @@ slice_bounds-merge-end-then-next-last c =
     sym (copied_length a.a.now a.scratch.now a.m st.requires _ c.scratch-1.given)
 
 pub merge-requires : goal.merge-requires
-merge-requires c κs =
+merge-requires c =
     let st = c in
     let a = st.args in
     copied_room a.a.now a.scratch.now a.m st.requires _ c.scratch-1.given

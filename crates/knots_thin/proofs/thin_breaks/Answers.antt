@@ -15,12 +15,12 @@ loop-i-init c =
     (c.point_at-pa.ensures, thinning_start (deviation (point_at (tree (tables a.points.now a.curves.now a.reals.now a.parts.now a.ranges.now) a.row))) a.sag a.hi a.lo a.breaks.now st.well_formed.1.1.1.1.1.1.1.1.1.0.1)
 
 pub next_of-next-requires : goal.next_of-next-requires
-next_of-next-requires c κs =
+next_of-next-requires c =
     let l = c.loop-i in
     omega (arith, c.loop-i-test.true, l.invariant.1.filtering.same_length)
 
 pub deviation-d-requires : goal.deviation-d-requires
-deviation-d-requires c κs = c.loop-i.invariant.0
+deviation-d-requires c = c.loop-i.invariant.0
 
 pub overflow_add-i : goal.overflow_add-i
 overflow_add-i c =
@@ -55,7 +55,7 @@ loop-i-preserved c =
     (l.invariant.0, thinning_skip (deviation (point_at (tree (tables a.points.now a.curves.now a.reals.now a.parts.now a.ranges.now) a.row))) a.sag a.hi a.lo l.invariant.1 c.loop-i-test.true c.next_of-next.result c.deviation-d.result c.next_of-next.ensures c.deviation-d.ensures c.if-sag-d.false)
 
 pub clear_from-requires : goal.clear_from-requires
-clear_from-requires c κs =
+clear_from-requires c =
     let a = c.args in
     thinning_room (deviation (point_at (tree (tables a.points.now a.curves.now a.reals.now a.parts.now a.ranges.now) a.row))) a.sag a.hi a.lo c.loop-i.invariant.1 c.loop-i-test.false
 

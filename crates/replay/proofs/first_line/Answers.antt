@@ -15,7 +15,7 @@ shape = bytes "ffwlwf"
 
 pub raw_options_of-requires : goal.raw_options_of-requires
 unfolding bytes fields field_of ◌before◌
-raw_options_of-requires c κs =
+raw_options_of-requires c =
     let called = c.line-row in
     let s = c.args.text.now in
     let r = row_read s (line (shape_of shape)) (shape_law shape) 0 called.result (omega arith) called.ensures c.if-row.true in

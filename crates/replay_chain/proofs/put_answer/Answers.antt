@@ -7,7 +7,7 @@ use Rattle.replay_chain.proofs.put_answer.Goals as goal
 
 pub answer-written-requires : goal.answer-written-requires
 unfolding room_of
-answer-written-requires c κs = omega arith
+answer-written-requires c = omega arith
 
 pub slice_bounds-write_all-end-2 : goal.slice_bounds-write_all-end-2
 slice_bounds-write_all-end-2 c = sym (length-take-le _ _ (omega arith))

@@ -5,7 +5,7 @@ use Rattle.replay_text.proofs.Places.{puts_then, fits_width}
 use Rattle.replay_text.proofs.put_decimal.Goals as goal
 
 pub put_digits-n-requires : goal.put_digits-n-requires
-put_digits-n-requires c κs =
+put_digits-n-requires c =
     let w = c.width_of_lem.ensures in
     let f = fits_width c.args.v c.width_of_lem.result.digits (omega arith) w.0 in
     (omega arith, omega arith, f.0, w.1, f.1)

@@ -23,7 +23,7 @@ pub overflow_cast-rest : goal.overflow_cast-rest
 overflow_cast-rest c = let s = (taken c).small in omega arith
 
 pub char_of-requires : goal.char_of-requires
-char_of-requires c κs = let s = (taken c).small in omega arith
+char_of-requires c = let s = (taken c).small in omega arith
 
 pub nonzero_rem-rest : goal.nonzero_rem-rest
 nonzero_rem-rest c = (taken c).above

@@ -36,7 +36,7 @@ returns-in_default c =
     (parsed_no_tables s _ none, tables_stored_bad s _ _ none)
 
 pub curves-requires : goal.curves-requires
-curves-requires c κs =
+curves-requires c =
     let w = (points-read c).is.within in (w, search rules, search rules, search rules)
 
 pub returns-in_default-curves : goal.returns-in_default-curves
@@ -48,7 +48,7 @@ returns-in_default-curves c =
     (parsed_no_tables s _ no_more, tables_stored_bad s _ _ no_more)
 
 pub segments-requires : goal.segments-requires
-segments-requires c κs =
+segments-requires c =
     let w = (curves-read c).is.within in (w, search rules, search rules, search rules)
 
 pub returns-in_default-segments : goal.returns-in_default-segments

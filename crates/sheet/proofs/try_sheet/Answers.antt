@@ -38,7 +38,7 @@ returns-in_default c =
     (answer_no (read_sheet s) 10 e, sheet_stored_no (read_sheet s) 10 _ e)
 
 pub ends-requires : goal.ends-requires
-ends-requires c κs = (tables-read c).is.within
+ends-requires c = (tables-read c).is.within
 
 pub returns-in_default-ends : goal.returns-in_default-ends
 returns-in_default-ends c =

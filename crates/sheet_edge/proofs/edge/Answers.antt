@@ -21,7 +21,7 @@ read : (c : tie.Then1) → RowRead c.args.s.now ((single edge_columns).read (dro
 read c = row_read c.args.s.now (single edge_columns) edge_law c.args.at c.single-row.result c.requires (parsed_row_lem c) c.if-row.true
 
 pub raw_edge_of-requires : goal.raw_edge_of-requires
-raw_edge_of-requires c κs =
+raw_edge_of-requires c =
     let r = read c in
     let v = (edge_law.was _ r.list _ r.is.is).right in
     rw r.numbers-are (edge_narrow r.list v)

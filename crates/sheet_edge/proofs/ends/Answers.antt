@@ -35,7 +35,7 @@ returns-in_default c =
     parsed_no_ends s _ (then_bad s (single edge_columns ending (10 ∷ [])) (single option_columns) at (ending_bad s (single edge_columns) (10 ∷ []) at none))
 
 pub byte-requires : goal.byte-requires
-byte-requires c κs = (edge-read c).is.within
+byte-requires c = (edge-read c).is.within
 
 pub returns-in_default-byte : goal.returns-in_default-byte
 returns-in_default-byte c =
@@ -46,7 +46,7 @@ returns-in_default-byte c =
     parsed_no_ends s _ (then_bad s (single edge_columns ending (10 ∷ [])) (single option_columns) at none)
 
 pub options-requires : goal.options-requires
-options-requires c κs = (line_read c).within
+options-requires c = (line_read c).within
 
 pub returns-in_default-options : goal.returns-in_default-options
 returns-in_default-options c =

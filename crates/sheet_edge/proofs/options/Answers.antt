@@ -21,7 +21,7 @@ read : (c : tie.Then1) → RowRead c.args.s.now ((single option_columns).read (d
 read c = row_read c.args.s.now (single option_columns) options_law c.args.at c.single-row.result c.requires (parsed_row_lem c) c.if-row.true
 
 pub raw_options_of-requires : goal.raw_options_of-requires
-raw_options_of-requires c κs =
+raw_options_of-requires c =
     let r = read c in
     let v = (options_law.was _ r.list _ r.is.is).right in
     rw r.numbers-are (options_narrow r.list v)

@@ -18,7 +18,7 @@ named c =
     names_read a.s.now a.names.now 0 a.at k.0.0 k.0.1.0 c.requires.0 (sym k.1 ∙ c.word.ensures)
 
 pub line-requires : goal.line-requires
-line-requires c κs = ((named c).within, c.requires.1)
+line-requires c = ((named c).within, c.requires.1)
 
 pub returns-in-Got : goal.returns-in-Got
 returns-in-Got c =

@@ -35,7 +35,7 @@ returns-then-letter-eq108 c =
     ∙ ap (parsed_at a.s.now) (cell_l a.letter a.end (drop a.at a.s.now) c.if-letter-eq102.false c.if-letter-eq119.false c.if-letter-eq108.true)
 
 pub byte-requires : goal.byte-requires
-byte-requires c κs = (kind-read c).within
+byte-requires c = (kind-read c).within
 
 pub returns-in-Got : goal.returns-in-Got
 returns-in-Got c =

@@ -7,7 +7,7 @@ use Rattle.sheet_tables.proofs.points.Goals as goal
 
 pub table-requires : goal.table-requires
 unfolding bytes
-table-requires c κs =
+table-requires c =
     (c.requires.0, c.requires.1, points_room _ _ c.requires.2)
 
 pub returns : goal.returns

@@ -49,7 +49,7 @@ loop-p-init c =
     no_rows a.s.now a.shape.now a.at a.wholes.now a.floats.now c.requires.0
 
 pub clear_behind-requires : goal.clear_behind-requires
-clear_behind-requires c κs = let i = c.loop-p.invariant in (omega (arith, i.w_fits, i.wholes-same), omega (arith, i.f-fits, i.floats_same))
+clear_behind-requires c = let i = c.loop-p.invariant in (omega (arith, i.w_fits, i.wholes-same), omega (arith, i.f-fits, i.floats_same))
 
 pub shape_of-wholes-then-s-p-eq10 : goal.shape_of-wholes-then-s-p-eq10
 shape_of-wholes-then-s-p-eq10 c = c.wholes-1.given ∙ c.loop-p.invariant.wholes-same
@@ -71,14 +71,14 @@ returns-then-s-p-eq10 c =
     )
 
 pub line-row-requires : goal.line-row-requires
-line-row-requires c κs =
+line-row-requires c =
     (c.loop-p.invariant.within, c.requires.2.few)
 
 pub slice_bounds-put_wholes-end : goal.slice_bounds-put_wholes-end
 slice_bounds-put_wholes-end c = sym (nine c)
 
 pub put_wholes-w-requires : goal.put_wholes-w-requires
-put_wholes-w-requires c κs =
+put_wholes-w-requires c =
     let x = next c in
     (x.cells, x.wholes-fit, x.narrow)
 
@@ -86,7 +86,7 @@ pub slice_bounds-put_floats-end : goal.slice_bounds-put_floats-end
 slice_bounds-put_floats-end c = sym (nine c)
 
 pub put_floats-f-requires : goal.put_floats-f-requires
-put_floats-f-requires c κs =
+put_floats-f-requires c =
     let x = next c in
     (x.cells, x.floats-fit)
 

@@ -22,7 +22,7 @@ named c =
     names_read a.s.now a.names.now 0 a.at k.0.0 k.0.1.0 c.requires.0 (sym k.1 ∙ c.word.ensures)
 
 pub rows-requires : goal.rows-requires
-rows-requires c κs =
+rows-requires c =
     ((named c).within, c.requires.1, c.requires.2)
 
 pub returns-in-Got : goal.returns-in-Got

@@ -8,7 +8,7 @@ use Rattle.text_format.proofs.Place.{parsed_bad, read_at, read_bad, ending_is, e
 use Rattle.text_format.proofs.hex_then.Goals as goal
 
 pub byte-requires : goal.byte-requires
-byte-requires c κs =
+byte-requires c =
     let a = c.args in
     let k = c.v-1.given in
     (read_at a.s.now hex16 hex16_law a.at k.0.0 k.0.1.0 c.requires (sym k.1 ∙ c.hex.ensures)).within

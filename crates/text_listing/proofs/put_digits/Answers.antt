@@ -44,7 +44,7 @@ overflow_cast-n c =
     record { fits = omega arith }
 
 pub char_of-requires : goal.char_of-requires
-char_of-requires c κs =
+char_of-requires c =
     let p = c.requires in
     let l = c.loop-left in
     let d = digit_small c.args.base p.0 l.pow l.n l.left (omega arith) (l.invariant.1 (omega arith)) l.invariant.0 in

@@ -14,7 +14,7 @@ pub loop-i-init : goal.loop-i-init
 loop-i-init c = (omega arith, none_written _ _ _)
 
 pub put_sample-at-requires : goal.put_sample-at-requires
-put_sample-at-requires c κs =
+put_sample-at-requires c =
     let a = c.args in
     let l = c.loop-i in
     let w = lines_length a.first a.last a.n a.chain.now 0 (a.n - 0) in
