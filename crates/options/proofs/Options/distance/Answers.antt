@@ -8,4 +8,4 @@ pub returns-then-has_scale : goal.returns-then-has_scale
 returns-then-has_scale c = rw (ne_eqb _ 0 c.if-self-ne0.true, sym c.has_scale.ensures ∙ c.if-has_scale.true)
 
 pub returns-else-self-ne0 : goal.returns-else-self-ne0
-returns-else-self-ne0 c = ⊎_elim (λ w. rw (ne_eqb _ 0 w.0.taken, sym w.1.ensures ∙ w.2.left)) (λ w. rw (eq-eqb _ 0 w.left)) c.else-self-ne0.branch
+returns-else-self-ne0 c = ? c
