@@ -24,7 +24,7 @@ module _ {A : Type 0} where
   pub sub_trans : {j k l : List A} → Sub j k → Sub k l → Sub j l
   sub_trans s end = s
   sub_trans s (skip t) = skip (sub_trans s t)
-  sub_trans (keep s) (keep t) = keep (sub_trans s t)
+  sub_trans (keep {a = a} {k = k} s) (keep {k = k'} {l = l} t) = keep (sub_trans {j = k} s t)
   sub_trans (skip s) (keep t) = skip (sub_trans s t)
 
   pub sub_append : {j k : List A} (t : List A) → Sub j k → Sub (j ++ t) (k ++ t)
