@@ -42,7 +42,7 @@ meets-requires c =
     let curve : CurveTree = tree (tables st.args.points.now st.args.curves.now st.args.reals.now st.args.parts.now st.args.ranges.now) st.args.row in
     let room = settle_room _ _ c.in-Count.is c.evenly-even.ensures in (
       room,
-      omega (arith, room, c.evenly-even.kept, st.requires.1.wide),
+      omega (arith, room, c.evenly-even.auto.out, st.requires.1.wide),
       form_plain curve st.args.range st.args.r _ (sym c.analytic_segments-form.ensures ∙ c.in-Segments.is),
     )
 
