@@ -1,10 +1,10 @@
 -- What holds of a list in order holds where some elements are left out.
 use mathlib.Core.List.{List, [], ◌∷◌, ◌++◌}
-use Prim.Native.Nat.{ℕ, suc, ◌≤◌}
+use Prim.Native.Nat.{◌≤◌}
 use native.Mathlib.Omega.{arith}
 use lib.ListN.{length}
-use Rattle.base_lists.specs.All.{All, none, more}
-use Rattle.base_lists.specs.Own.Sub.{Pairwise, empty, first, Sub, end, keep, skip}
+use Rattle.base_lists.specs.All.{All, more}
+use Rattle.base_lists.specs.Own.Sub.{Pairwise, first, Sub, end, keep, skip}
 
 module _ {A : Type 0} where
   pub sub_all : {P : A → Type 0} {k l : List A} → Sub k l → All P l → All P k

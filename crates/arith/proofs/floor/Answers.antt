@@ -19,6 +19,6 @@ returns-else-x-n c =
     let a = d.if-s.true in
     let b = d.if-s-2.true in
     elim c.if-n-x.branch [
-      then-n-x w ↦ w.most-is ∙ floor_above x a b w.if-n-x.true
+      | then-n-x w ↦ w.most-is ∙ floor_above x a b w.if-n-x.true
       | else-n-x w ↦ w.most-is ∙ floor_at x a b c.if-x-n.false w.if-n-x.false
     ]

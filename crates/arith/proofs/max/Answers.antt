@@ -11,10 +11,10 @@ returns-then-a c =
     let o = c.if-a-b.value in
     let t = lt k.a k.b in
     let same : o ≡ (t || is_nan k.a) =
-        elim c.if-a-b.branch [
-          then-a-b w ↦ by_order t o k.a w.if-a-b.true w.value-is
-          | else-a-b w ↦ by_nan t o k.a w.if-a-b.false w.value-is
-        ]
+    elim c.if-a-b.branch [
+      | then-a-b w ↦ by_order t o k.a w.if-a-b.true w.value-is
+      | else-a-b w ↦ by_nan t o k.a w.if-a-b.false w.value-is
+    ]
     in
     rw (← same, c.if-a.true)
 
@@ -24,9 +24,9 @@ returns-else-a c =
     let o = c.if-a-b.value in
     let t = lt k.a k.b in
     let same : o ≡ (t || is_nan k.a) =
-        elim c.if-a-b.branch [
-          then-a-b w ↦ by_order t o k.a w.if-a-b.true w.value-is
-          | else-a-b w ↦ by_nan t o k.a w.if-a-b.false w.value-is
-        ]
+    elim c.if-a-b.branch [
+      | then-a-b w ↦ by_order t o k.a w.if-a-b.true w.value-is
+      | else-a-b w ↦ by_nan t o k.a w.if-a-b.false w.value-is
+    ]
     in
     rw (← same, c.if-a.false)

@@ -11,10 +11,10 @@ returns-then-a c =
     let o = c.if-b-a.value in
     let t = lt k.b k.a in
     let same : o ≡ (t || is_nan k.a) =
-        elim c.if-b-a.branch [
-          then-b-a w ↦ by_order t o k.a w.if-b-a.true w.value-is
-          | else-b-a w ↦ by_nan t o k.a w.if-b-a.false w.value-is
-        ]
+    elim c.if-b-a.branch [
+      | then-b-a w ↦ by_order t o k.a w.if-b-a.true w.value-is
+      | else-b-a w ↦ by_nan t o k.a w.if-b-a.false w.value-is
+    ]
     in
     rw (← same, c.if-a.true)
 
@@ -24,9 +24,9 @@ returns-else-a c =
     let o = c.if-b-a.value in
     let t = lt k.b k.a in
     let same : o ≡ (t || is_nan k.a) =
-        elim c.if-b-a.branch [
-          then-b-a w ↦ by_order t o k.a w.if-b-a.true w.value-is
-          | else-b-a w ↦ by_nan t o k.a w.if-b-a.false w.value-is
-        ]
+    elim c.if-b-a.branch [
+      | then-b-a w ↦ by_order t o k.a w.if-b-a.true w.value-is
+      | else-b-a w ↦ by_nan t o k.a w.if-b-a.false w.value-is
+    ]
     in
     rw (← same, c.if-a.false)

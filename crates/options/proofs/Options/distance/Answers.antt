@@ -10,6 +10,6 @@ returns-then-has_scale c = rw (ne_eqb _ 0 c.if-self-ne0.true, sym c.has_scale.en
 pub returns-else-self-ne0 : goal.returns-else-self-ne0
 returns-else-self-ne0 c =
     elim c.else-self-ne0.branch [
-      else-self-ne0-via-then-self-ne0+else-has_scale w ↦ rw (ne_eqb _ 0 w.if-self-ne0.true, sym w.has_scale.ensures ∙ w.if-has_scale.false)
+      | else-self-ne0-via-then-self-ne0+else-has_scale w ↦ rw (ne_eqb _ 0 w.if-self-ne0.true, sym w.has_scale.ensures ∙ w.if-has_scale.false)
       | else-self-ne0-via-else-self-ne0 w ↦ rw (eq-eqb _ 0 w.if-self-ne0.false)
     ]
