@@ -46,19 +46,22 @@ pub loop-row-preserved : goal.loop-row-preserved
 loop-row-preserved c =
     let l = c.loop-row in
     let m = sym c.malformed_row.ensures ∙ c.if-malformed_row.false in
-    elim c.if-lowest-ne4.branch [ then-lowest-ne4 w ↦ (
-      omega arith,
-      rw (w.depths-is, w.blocks-is, w.larges-is, w.lowest-is) (gone_more _ _ _ _ _ _ l.invariant.1 w.if-lowest-ne4.true m (omega arith) _ _ w.row_depth-depth.ensures.1 _ w.row_depth-depth.ensures.0 _ w.cause_with-lowest.ensures),
-      rw w.depths-is (simp length-set l.invariant.2),
-      rw w.blocks-is (w.row_depth-depth.auto.blocks ∙ l.invariant.3),
-      rw w.larges-is (w.row_depth-depth.auto.larges ∙ l.invariant.4),
-    ) | else-lowest-ne4 w ↦ (
-      omega arith,
-      rw (w.depths-is, w.blocks-is, w.larges-is, w.lowest-is) (gone_four _ _ _ _ _ _ l.invariant.1 w.if-lowest-ne4.false m),
-      rw w.depths-is l.invariant.2,
-      rw w.blocks-is l.invariant.3,
-      rw w.larges-is l.invariant.4,
-    ) ]
+    elim c.if-lowest-ne4.branch [
+      | then-lowest-ne4 w ↦ (
+        omega arith,
+        rw (w.depths-is, w.blocks-is, w.larges-is, w.lowest-is) (gone_more _ _ _ _ _ _ l.invariant.1 w.if-lowest-ne4.true m (omega arith) _ _ w.row_depth-depth.ensures.1 _ w.row_depth-depth.ensures.0 _ w.cause_with-lowest.ensures),
+        rw w.depths-is (simp length-set l.invariant.2),
+        rw w.blocks-is (w.row_depth-depth.auto.blocks ∙ l.invariant.3),
+        rw w.larges-is (w.row_depth-depth.auto.larges ∙ l.invariant.4),
+      )
+      | else-lowest-ne4 w ↦ (
+        omega arith,
+        rw (w.depths-is, w.blocks-is, w.larges-is, w.lowest-is) (gone_four _ _ _ _ _ _ l.invariant.1 w.if-lowest-ne4.false m),
+        rw w.depths-is l.invariant.2,
+        rw w.blocks-is l.invariant.3,
+        rw w.larges-is l.invariant.4,
+      )
+    ]
 
 pub shape_of-depths : goal.shape_of-depths
 shape_of-depths c = c.loop-row.invariant.2
