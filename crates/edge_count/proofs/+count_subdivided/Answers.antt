@@ -21,11 +21,11 @@ returns-then-far_at t c r e =
     let curve : CurveTree = tree (lent a.points a.curves a.reals a.parts a.ranges) a.row in
     out_far curve r a.depth a.a a.b c.requires.4 c.requires.5 a.room a.k c.if-depth-eq0.false (c.far_at.ensures a.points.now a.reals.now) c.if-far_at.true
 
-pub returns-then-is_halved : goal.returns-then-is_halved
-returns-then-is_halved t c r e =
+pub returns-then-not-is_halved : goal.returns-then-not-is_halved
+returns-then-not-is_halved t c r e =
     let a = c.args in
     let curve : CurveTree = tree (lent a.points a.curves a.reals a.parts a.ranges) a.row in
-    out_within curve r a.depth a.a a.b c.requires.4 c.requires.5 a.room a.k c.if-depth-eq0.false (c.far_at.ensures a.points.now a.reals.now) c.if-far_at.false (c.is_halved.ensures r e) (ap not c.if-is_halved.true)
+    out_within curve r a.depth a.a a.b c.requires.4 c.requires.5 a.room a.k c.if-depth-eq0.false (c.far_at.ensures a.points.now a.reals.now) c.if-far_at.false (c.is_halved.ensures r e) (ap not c.if-not-is_halved.true)
 
 -- where the span is split: its middle is the curve's (`own`) and not too far (`near`), and its count that of its halves (`both`)
 pub count_subdivided-before-requires : goal.count_subdivided-before-requires
@@ -43,14 +43,14 @@ pub returns-in_default : goal.returns-in_default
 returns-in_default t c r e =
     let a = c.args in
     let curve : CurveTree = tree (lent a.points a.curves a.reals a.parts a.ranges) a.row in
-    let both = halves curve r a.depth a.a a.b c.requires.4 c.requires.5 a.room a.k c.if-depth-eq0.false (c.far_at.ensures a.points.now a.reals.now) c.if-far_at.false (c.is_halved.ensures r e) (ap not c.if-is_halved.false) c.end_at-m.result c.end_at-m.ensures in
+    let both = halves curve r a.depth a.a a.b c.requires.4 c.requires.5 a.room a.k c.if-depth-eq0.false (c.far_at.ensures a.points.now a.reals.now) c.if-far_at.false (c.is_halved.ensures r e) (ap not c.if-not-is_halved.false) c.end_at-m.result c.end_at-m.ensures in
     stands (c.count_subdivided-before.ensures r e) _ c.in_default.is ∙ both
 
 pub returns-in_default-pushed : goal.returns-in_default-pushed
 returns-in_default-pushed t c r e =
     let a = c.args in
     let curve : CurveTree = tree (lent a.points a.curves a.reals a.parts a.ranges) a.row in
-    let both = halves curve r a.depth a.a a.b c.requires.4 c.requires.5 a.room a.k c.if-depth-eq0.false (c.far_at.ensures a.points.now a.reals.now) c.if-far_at.false (c.is_halved.ensures r e) (ap not c.if-is_halved.false) c.end_at-m.result c.end_at-m.ensures in
+    let both = halves curve r a.depth a.a a.b c.requires.4 c.requires.5 a.room a.k c.if-depth-eq0.false (c.far_at.ensures a.points.now a.reals.now) c.if-far_at.false (c.is_halved.ensures r e) (ap not c.if-not-is_halved.false) c.end_at-m.result c.end_at-m.ensures in
     stands (c.count_one-pushed.ensures _ _) _ c.in_default-pushed.is
     ∙ goes_on (c.count_subdivided-before.ensures r e) _ c.in-Count.is ∙ both
 
@@ -69,6 +69,6 @@ pub returns : goal.returns
 returns t c r e =
     let a = c.args in
     let curve : CurveTree = tree (lent a.points a.curves a.reals a.parts a.ranges) a.row in
-    let both = halves curve r a.depth a.a a.b c.requires.4 c.requires.5 a.room a.k c.if-depth-eq0.false (c.far_at.ensures a.points.now a.reals.now) c.if-far_at.false (c.is_halved.ensures r e) (ap not c.if-is_halved.false) c.end_at-m.result c.end_at-m.ensures in
+    let both = halves curve r a.depth a.a a.b c.requires.4 c.requires.5 a.room a.k c.if-depth-eq0.false (c.far_at.ensures a.points.now a.reals.now) c.if-far_at.false (c.is_halved.ensures r e) (ap not c.if-not-is_halved.false) c.end_at-m.result c.end_at-m.ensures in
     c.count_subdivided.ensures r e ∙ goes_on (c.count_one-pushed.ensures _ _) _ c.in-Count-pushed.is
     ∙ goes_on (c.count_subdivided-before.ensures r e) _ c.in-Count.is ∙ both
