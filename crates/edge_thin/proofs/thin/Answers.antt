@@ -2,8 +2,6 @@
 use native.Mathlib.Omega.{arith}
 use mathlib.Core.Path.{sym}
 use mathlib.Core.Logic.{inl, inr}
-use lib.Ieee.{lt}
-use Rattle.arith.specs.Notation.{plus_zero}
 use Rattle.edge_record.specs.Chain.{most}
 use Rattle.edge_thin.proofs.Ways.{lent_length, lent_fits, lent_false, said_as_it_was, said_lent}
 use Rattle.edge_thin.proofs.thin.Goals as goal
