@@ -45,6 +45,8 @@ eighth : (b s : Float) → T (finite b) → T (le (b ⊘ eight) (inf false)) →
 unfolding le div of_bits
 eighth b nan h i k = absurd (number_right b nan k)
 eighth (fin t n d) (inf true) h i k = absurd k
+eighth nan (inf true) h i k = elim h [ ]
+eighth (inf _) (inf true) h i k = elim h [ ]
 eighth b (inf false) h i k = i
 eighth b (fin s m e) h i k = div_mono binary64 b (fin s m e) eight h tt tt tt k
 

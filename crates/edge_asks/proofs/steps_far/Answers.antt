@@ -8,22 +8,23 @@ use Rattle.edge_params.specs.Params.{step_at}
 use Rattle.edge_asks.proofs.Steps.{steps_none, steps_passed, evenly_found}
 use Rattle.edge_asks.proofs.steps_far.Goals as goal
 
--- what far_at answers, of step number i
-looked : (c : tie.After-far-at invariant-loop decreases-loop) (points reals : List Float) →
-    let a = c.args in
-    c.far_at.result ≡ asks_far (tree (tables points a.curves.now reals a.parts.now a.ranges.now) a.row) (step_at a.range a.n c.loop-i.i)
-looked c points reals = rw (c.at-t.ensures, c.nearest_u64_to_f64.ensures) at (c.far_at.ensures points reals)
-
 pub loop-i-init : goal.loop-i-init
 loop-i-init c = (omega arith, λ points reals. steps_none _ _ _)
 
 pub returns-then-far_at : goal.returns-then-far_at
-returns-then-far_at c points reals = evenly_found _ _ _ c.loop-i.i (omega arith) (sym (looked c points reals) ∙ c.if-far_at.true)
+returns-then-far_at c points reals =
+    -- what far_at answers, of step number i
+    let looked : c.far_at.result ≡ asks_far (tree (tables points c.args.curves.now reals c.args.parts.now c.args.ranges.now) c.args.row) (step_at c.args.range c.args.n c.loop-i.i) =
+        rw (c.at-t.ensures, c.nearest_u64_to_f64.ensures) at (c.far_at.ensures points reals) in
+    evenly_found _ _ _ c.loop-i.i (omega arith) (sym looked ∙ c.if-far_at.true)
 
 pub loop-i-preserved : goal.loop-i-preserved
 loop-i-preserved c =
     let l = c.loop-i in
-    (omega arith, λ points reals. rw add-one (steps_passed _ _ _ l.i (l.invariant.1 points reals) (sym (looked c points reals) ∙ c.if-far_at.false)))
+    (omega arith, λ (points reals : List Float).
+    let looked : c.far_at.result ≡ asks_far (tree (tables points c.args.curves.now reals c.args.parts.now c.args.ranges.now) c.args.row) (step_at c.args.range c.args.n c.loop-i.i) =
+        rw (c.at-t.ensures, c.nearest_u64_to_f64.ensures) at (c.far_at.ensures points reals) in
+    rw add-one (steps_passed _ _ _ l.i (l.invariant.1 points reals) (sym looked ∙ c.if-far_at.false)))
 
 pub returns : goal.returns
 returns c points reals =

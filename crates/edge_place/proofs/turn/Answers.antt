@@ -35,7 +35,7 @@ loop-i-preserved c =
     let m = l.invariant.2.0 in
     let j = a.n - 1 - l.i in (
       omega arith,
-      c.swap.auto.0 ∙ l.invariant.1,
+      c.swap.auto.chain ∙ l.invariant.1,
       (
         set (set m l.i (get_or m j d)) j (get_or m l.i d),
         exchanged a.chain.now l.chain _ m l.i j d (omega (arith, t.same, n, st.requires)) (omega (arith, t.same, n)) (omega (arith, t.same, n)) l.invariant.2.1 c.swap.ensures,

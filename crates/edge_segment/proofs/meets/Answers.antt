@@ -12,30 +12,28 @@ use Rattle.edge_segment.proofs.Laws.{line_miss, miss_within, larger_taken, large
 use borrow.Author.Rules.{rules}
 use Rattle.edge_segment.proofs.meets.Goals as goal
 
--- the square of the miss
-squared : (f : tie.After-length-squared) (k : CurveTree) → let a = f.args in
-    prepared_of k ≡ Line a.origin a.direction → f.length-squared.result ≡ miss_square k a.a a.b
-squared f k e =
-    let st = f in
-    line_miss k e st.args.a st.args.b
-    (rw (sym st.requires.1, sym st.requires.0, sym f.scale.ensures, sym f.add-m.ensures, sym f.add.ensures, sym f.scale-2.ensures, sym f.sub.ensures) f.length-squared.ensures)
-
 pub returns-then-s : goal.returns-then-s
 returns-then-s c = λ h (k : CurveTree) e (x : Float).
-    let f = c in
-    let a = f.args in
-    let s = f.length_squared-s.result in
+    let a = c.args in
+    let s = c.length_squared-s.result in
     let sag = sag_for (resolve a.options) x in
-    sym (miss_within k a.a a.b s sag (search rules) (squared f k e))
+    -- the square of the miss
+    let squared : s ≡ miss_square k a.a a.b =
+        line_miss k e a.a a.b
+        (rw (sym c.requires.1, sym c.requires.0, sym c.scale.ensures, sym c.add-m.ensures, sym c.add.ensures, sym c.scale-2.ensures, sym c.sub.ensures) c.length_squared-s.ensures) in
+    sym (miss_within k a.a a.b s sag (search rules) squared)
     ∙ ap (λ (y : Float). le (root_of y) sag) (larger_taken s c.if-s.true)
     ∙ root_within a.options x s (search rules) (rw (sym c.resolve-least.ensures) (search rules)) c.if-s.true (rw (sym c.resolve-least.ensures) h)
 
 pub returns : goal.returns
 returns c = λ h (k : CurveTree) e (x : Float).
-    let f = c in
-    let a = f.args in
-    let s = f.length_squared-s.result in
+    let a = c.args in
+    let s = c.length_squared-s.result in
     let sag = sag_for (resolve a.options) x in
-    sym (miss_within k a.a a.b s sag (search rules) (squared f k e))
+    -- the square of the miss
+    let squared : s ≡ miss_square k a.a a.b =
+        line_miss k e a.a a.b
+        (rw (sym c.requires.1, sym c.requires.0, sym c.scale.ensures, sym c.add-m.ensures, sym c.add.ensures, sym c.scale-2.ensures, sym c.sub.ensures) c.length_squared-s.ensures) in
+    sym (miss_within k a.a a.b s sag (search rules) squared)
     ∙ ap (λ (y : Float). le y sag) (larger_left s c.if-s.false)
     ∙ sag_above a.options x

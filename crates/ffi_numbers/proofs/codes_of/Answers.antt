@@ -8,4 +8,4 @@ returns-in-Refused c = rw c.in-Refused.is
 
 pub returns-in-Chain : goal.returns-in-Chain
 unfolding codes_of
-returns-in-Chain c = rw (c.in-Chain.is, c.number_of_lem.ensures)
+returns-in-Chain c = rw (c.in-Chain.is, c.number_of.ensures)
