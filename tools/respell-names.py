@@ -163,6 +163,13 @@ def rattle(text, names):
 
 
 def main():
+    words = sys.argv[1:]
+    if words in (["-h"], ["--help"]):
+        print(__doc__)
+        return
+    if words not in ([], ["--check"], ["--list"]):
+        print("usage: tools/respell-names.py [--check] [--list]", file=sys.stderr)
+        raise SystemExit(2)
     names = table()
     if "--list" in sys.argv:
         for old in sorted(names):

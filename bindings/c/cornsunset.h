@@ -1,5 +1,5 @@
 /* Cornsunset in C: an edge of a part becomes a chain of points. Link with -lcornsunset: target/staticlib/libcornsunset.a, made
- * by rt staticlib cornsunset, or what bindings/install put into place (pkg-config cornsunset).
+ * by tools/build cornsunset, or what bindings/install put into place (pkg-config cornsunset).
  *
  * Every function of the library is proved to answer as its definition says for any numbers and any contents of any lengths;
  * the inline ones only hand structs on, and are tested. What is left to

@@ -23,7 +23,7 @@ fn main() {
     };
     let library = folder.join(LIBRARY);
     println!("cargo:rerun-if-changed={}", library.display());
-    assert!(library.is_file(), "{} is missing: run `rt staticlib cornsunset`", library.display());
+    assert!(library.is_file(), "{} is missing: run `tools/build cornsunset`", library.display());
     println!("cargo:rustc-link-search=native={}", folder.display());
     println!("cargo:rustc-link-lib=static=cornsunset");
 }

@@ -106,7 +106,7 @@ class Loading(unittest.TestCase):
             self.assertEqual((ran.returncode, ran.stderr[:23]), (status, "bindings/python/build: "))
         with tempfile.TemporaryDirectory() as folder:
             ran = subprocess.run([build], env={**os.environ, "CORNSUNSET_LIB": folder}, capture_output=True, text=True)
-            told = f"bindings/python/build: {folder}/libcornsunset.a is missing: run rt staticlib cornsunset\n"
+            told = f"bindings/python/build: {folder}/libcornsunset.a is missing: run tools/build cornsunset\n"
             self.assertEqual((ran.returncode, ran.stderr), (1, told))
 
 

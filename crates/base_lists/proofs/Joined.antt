@@ -1,5 +1,5 @@
 -- `All` and `Pairwise` of joined, reversed and mapped lists; lists that lie between two bounds. Assumes nothing.
-use mathlib.Core.Path.{◌≡◌, refl, sym, subst}
+use mathlib.Core.Path.{sym, subst}
 use mathlib.Core.List.{List, [], ◌∷◌, ◌++◌, map, reverse, reverse-cons}
 use Rattle.base_lists.specs.All.{All, none, more}
 use Rattle.base_lists.specs.Own.Sub.{Pairwise, empty, first, Sub, end, keep, skip}

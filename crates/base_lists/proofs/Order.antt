@@ -1,10 +1,10 @@
 -- What holds of a list in order holds where some elements are left out.
 use mathlib.Core.List.{List, [], ◌∷◌, ◌++◌}
-use Prim.Native.Nat.{ℕ, suc, ◌≤◌}
+use Prim.Native.Nat.{◌≤◌}
 use native.Mathlib.Omega.{arith}
 use lib.ListN.{length}
-use Rattle.base_lists.specs.All.{All, none, more}
-use Rattle.base_lists.specs.Own.Sub.{Pairwise, empty, first, Sub, end, keep, skip}
+use Rattle.base_lists.specs.All.{All, more}
+use Rattle.base_lists.specs.Own.Sub.{Pairwise, first, Sub, end, keep, skip}
 
 module _ {A : Type 0} where
   pub sub_all : {P : A → Type 0} {k l : List A} → Sub k l → All P l → All P k
@@ -24,7 +24,7 @@ module _ {A : Type 0} where
   pub sub_trans : {j k l : List A} → Sub j k → Sub k l → Sub j l
   sub_trans s end = s
   sub_trans s (skip t) = skip (sub_trans s t)
-  sub_trans (keep s) (keep t) = keep (sub_trans s t)
+  sub_trans (keep {a = a} {k = k} s) (keep {k = k'} {l = l} t) = keep (sub_trans {j = k} s t)
   sub_trans (skip s) (keep t) = skip (sub_trans s t)
 
   pub sub_append : {j k : List A} (t : List A) → Sub j k → Sub (j ++ t) (k ++ t)

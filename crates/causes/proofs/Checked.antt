@@ -10,7 +10,6 @@ use lib.Ieee.{Float, nan, le, neg}
 use lib.Ieee.Scale.{finite}
 use borrow.Author.Tests.{ltb-false, leb-false, eqb-true}
 use Rattle.math.specs.declared.Interval.{Interval}
-use Rattle.brep.specs.declared.Curve.{Curve}
 use Rattle.brep.specs.declared.Curve.TheVariants.{Trimmed, Composite}
 use Rattle.brep.specs.declared.Edge.{Edge}
 use Rattle.brep.specs.Rows.{Tables, most_points, most_rows, most_segments, segment_of}

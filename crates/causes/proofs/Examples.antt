@@ -1,22 +1,19 @@
 -- Verdicts of one drawing, a line and a trim of it, as one number of it is changed. Assumes nothing.
 use mathlib.Core.Path.{◌≡◌, refl}
-use mathlib.Core.Bool.{Bool, cond, not, ◌&&◌, ◌||◌}
-use mathlib.Core.List.{List, [], ◌∷◌}
+use mathlib.Core.List.{[], ◌∷◌}
 use Prim.Native.Nat.{ℕ}
-use lib.ListN.{length, get_or}
 use lib.Ieee.{Float, nan, lt, le, eq, ne, neg, of_bits}
 use Rattle.arith.specs.Notation.{bits, plus_zero, one}
 use Rattle.math.specs.Math.{interval}
 use Rattle.brep.specs.declared.Edge.{Edge}
 use Rattle.brep.specs.Rows.{Tables, tables, segment_of, curve_of, kind_of, point_of, frame_of}
 use Rattle.brep.specs.Tree.{tree, below, grown, segments, run}
-use Rattle.causes_nesting.specs.Nest.{high_segment, not_lower, unordered_row, nesting, deepest, deep_row}
+use Rattle.causes_nesting.specs.Nest.{high_segment, not_lower, unordered_row, nesting, deep_row}
 use Rattle.options.specs.declared.Options.{Options}
 use Rattle.options.specs.Options.{preset, radians}
 use Rattle.causes_bounds.specs.Some.{some_below}
 use Rattle.causes_bounds.specs.Bounds.{within, beyond, finite_beyond, edge_beyond, options_beyond, unbounded}
 use Rattle.causes_form.specs.Forms.{broken, uneven, unknown_kind, wrong_count, spare_p, spare_q, unused_set, targets, malformed, malformed_row, malformed_segment, ill_formed}
-use Rattle.causes.specs.declared.Verdict.{Verdict}
 use Rattle.causes.specs.declared.Verdict.TheVariants.{Accepted, Refused}
 use Rattle.causes.specs.Causes.{oversize, missing, verdict}
 

@@ -1,14 +1,31 @@
 #![tactic(auto)]
 // Reads one sheet from standard input and writes the chain of its edge, or the number of a refusal.
-use libc::{STDERR_FILENO, STDIN_FILENO, STDOUT_FILENO};
+ghost use Rattle.std.specs.Prelude.{◌≤◌, length};
+
+use std::io::{Read, Stdin};
+
+// Reads until the buffer is full, the input ends or a read fails; answers how many bytes it put at the buffer's start.
+fn read_full(mut from: Stdin, text: &mut [u8]) -> usize
+    ensures { result ≤ length text.new }
+{
+    let mut done = 0usize;
+    while done < text.len() {
+        let n = from.read(&mut text[done..]).unwrap_or(0);
+        if n == 0 {
+            break;
+        }
+        done += n;
+    }
+    done
+}
 
 // Reads what an input that is too long has left, so that whoever writes it can end. The loop counts its turns down, from a
 // number that no run uses up, since nothing says that an input ends.
-fn drain() {
-    let mut chunk = io::large_buffer();
+fn drain(mut from: Stdin) {
+    let mut chunk = [0u8; 65536];
     let mut turns = u64::MAX;
     while 0 < turns {
-        let n = io::count(libc::read(STDIN_FILENO, &mut chunk), &chunk);
+        let n = from.read(&mut chunk).unwrap_or(0);
         if n == 0 {
             break;
         }
@@ -16,21 +33,21 @@ fn drain() {
     }
 }
 
-// Writes the bytes. A program has no exit status: that they could not be written, as to a full disk, it can only say.
-fn write(bytes: &[u8]) {
-    if !io::write_all(STDOUT_FILENO, bytes) {
-        io::write_all(STDERR_FILENO, b"chain: the answer could not be written\n");
+// Writes the bytes. That they could not be written, as to a full disk, it says on standard error.
+fn write(rt: &(impl Print + Eprint), bytes: &[u8]) {
+    if rt.write_all(bytes).is_err() {
+        let _ = rt.eprint("chain: the answer could not be written\n");
     }
 }
 
-fn main() {
+fn main(rt: HostRuntime) {
     let mut text = [0u8; chain_answer::READ];
     let mut out = [0u8; chain_answer::BYTES];
-    let n = io::read_full(STDIN_FILENO, &mut text);
+    let n = read_full(rt.stdin(), &mut text);
     let written = chain_answer::print(&text, n, &mut out);
-    write(&out[..written]);
+    write(&rt, &out[..written]);
     // After the answer, since an input may have no end.
     if n == chain_answer::READ {
-        drain();
+        drain(rt.stdin());
     }
 }

@@ -16,7 +16,7 @@ use Rattle.math.specs.Math.{v_add, v_sub, v_scale, v_lerp, v_cross, y_dir, at}
 use Rattle.brep.specs.Tree.{CurveTree, Segments, none, segment}
 use Rattle.curve.specs.Eval.{point_at, segment_point, natural_range, axes_point, parabola_point, polyline_parameter, polyline_point, clamped_to, own_parameter}
 use Rattle.curve_iso.specs.Iso.{value, exact, rounded, rounded_vector, iso_line, rust_line, iso_circle, rust_circle, iso_ellipse, rust_ellipse, iso_parabola, rust_parabola, iso_hyperbola, rust_hyperbola, iso_polyline, iso_polyline_from_one, rust_polyline, iso_segment, rust_segment, cross_part}
-use Rattle.curve_iso.specs.Claims.{NumbersFollow, PlacementFollows, LineFollows, CircleFollows, EllipseFollows, ParabolaFollows, HyperbolaFollows, PolylineFollows, segments_from, CompositeFollows, TrimFollows}
+use Rattle.curve_iso.specs.Claims.{Same, NumbersFollow, PlacementFollows, LineFollows, CircleFollows, EllipseFollows, ParabolaFollows, HyperbolaFollows, PolylineFollows, segments_from, CompositeFollows, TrimFollows}
 use Rattle.curve_iso.proofs.Taken.{kept, open_kept, holds, clamped_lies}
 use Rattle.curve_iso.proofs.Wrapped.{wrapped, ended}
 
@@ -55,7 +55,7 @@ module _ {ℓ} {A : Type ℓ} (K : CommRing A) where
   mul_left_comm a b c = rw (← mul_assoc a b c, mul_comm a b, mul_assoc b a c)
 
   mul_one : (a : A) → mul a K.one ≡ a
-  mul_one = K.is_comm_ring.is_ring.is_semiring.mul_one
+  mul_one = K.is_comm_ring.is_ring.is_semiring.mul-one
 
   mul_add : (a b c : A) → mul a (add b c) ≡ add (mul a b) (mul a c)
   mul_add = semiring.left_distrib
@@ -64,13 +64,13 @@ module _ {ℓ} {A : Type ℓ} (K : CommRing A) where
   add_mul = semiring.right_distrib
 
   neg_mul : (a b : A) → mul (neg a) b ≡ neg (mul a b)
-  neg_mul = negation.neg_mul
+  neg_mul = negation.neg-mul
 
   mul_neg : (a b : A) → mul a (neg b) ≡ neg (mul a b)
-  mul_neg = negation.mul_neg
+  mul_neg = negation.mul-neg
 
   neg_neg : (a : A) → neg (neg a) ≡ a
-  neg_neg = negation.is_involutive_neg.neg_neg
+  neg_neg = negation.is_involutive_neg.neg-neg
 
   weights : (p q i u : A) → add p (mul (add q (neg p)) (add u (neg i))) ≡ add (mul p (add (add i K.one) (neg u))) (mul q (add u (neg i)))
   weights p q i u = simp (mul_add, add_mul, neg_mul, mul_neg, neg_neg, mul_one, add_assoc, add_comm, add_left_comm)
@@ -152,7 +152,7 @@ segment_at (segment c' r' same' rest') (suc i) v c r same rest e = segment_at re
 pub composite-follows {ℓ} : CompositeFollows {ℓ}
 unfolding exact rust_segment iso_segment point_at
 composite-follows = record {
-  exact = λ K same lo hi v. elim same [
+  exact = λ K same lo hi v. elim same as (λ s. Same K (rust_segment s lo hi v) (iso_segment s lo hi v)) [
     | true ↦ ap (K.add (exact K lo)) (mul_comm K _ _)
     | false ↦ reverse K (exact K lo) (exact K hi) (exact K v)
   ];

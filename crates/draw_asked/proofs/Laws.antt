@@ -98,7 +98,7 @@ module _ (c : CurveTree) where
       let p = point_at c t in let box = box_over b (map (point_at c) l) in box_over b (map (point_at c) (l ++ (t ∷ []))) ≡ cond (v_finite p) (add_point box p) box
   unfolding box_over
   box_snoc b [] t = refl
-  box_snoc b (u ∷ l) t = box_snoc _ l t
+  box_snoc b (u ∷ l) t = box_snoc (cond (v_finite (point_at c u)) (add_point b (point_at c u)) b) l t
 
   probed_over : (range : Interval) (b : Aabb) (n : ℕ) → probed c range b n ≡ box_over b (map (point_at c) (steps range 8 n))
   unfolding probed box_over steps
@@ -109,7 +109,7 @@ pub probes_asked : ProbesAsked
 unfolding extent_box box_over probes
 probes_asked = record {
   probed = λ c range b. probed_over c range b 9;
-  box = λ c usable b. elim usable [ Range range ↦ probed_over c range b 9 | Unusable ↦ refl ];
+  box = λ c usable b. elim usable as (λ k. extent_box c k b ≡ box_over b (map (point_at c) (probes k))) [ Range range ↦ probed_over c range b 9 | Unusable ↦ refl ];
 }
 
 -- ---- the sweep

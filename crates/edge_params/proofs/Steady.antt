@@ -15,10 +15,12 @@ pub data Steady : List Float → Type 0 where
   falling : {l : List Float} → Pairwise Down l → Steady l
 
 up_no_fall : (l : List Float) → Pairwise Up l → Falls l → ⊥
+up_no_fall _ empty f = elim f [ ]
 up_no_fall l (first (more p q) h) (fall {a = a} {b = b} g) = lt→nle b a g p
 up_no_fall l (first {l = k} p h) (after g) = up_no_fall k h g
 
 down_no_rise : (l : List Float) → Pairwise Down l → Rises l → ⊥
+down_no_rise _ empty r = elim r [ ]
 down_no_rise l (first (more p q) h) (rise {a = a} {b = b} g) = lt→nle a b g p
 down_no_rise l (first {l = k} p h) (later g) = down_no_rise k h g
 

@@ -20,7 +20,6 @@ use Rattle.edge_thin_span.specs.declared.Decision.TheVariants.{Leave, Split, Ref
 use Rattle.edge_thin_span.specs.Span.{decision}
 use Rattle.edge_thin_mark.specs.Spans.{by_split, kept_in, kept, marks, flagged}
 use Rattle.edge_thin.specs.Thin.{flag_count, evens, restored, with_floor, retained_by, thinned}
-use Rattle.edge_thin.proofs.Loops.{length_marks}
 
 -- ---- a flag that is set stays set
 unset : (b : Bool) → b ≡ false → b ≡ true → ⊥

@@ -1,16 +1,15 @@
 -- The walk of `mark` by the decisions of `edge_thin_span`, from flags that are all false to those of `flagged`. Assumes nothing.
-use mathlib.Core.Path.{◌≡◌, refl, sym, ap, ◌∙◌}
+use mathlib.Core.Path.{◌≡◌, sym, ap, ◌∙◌}
 use mathlib.Core.Bool.{Bool, true, false}
 use mathlib.Core.List.{List}
-use Prim.Native.Nat.{ℕ, ◌+◌, ◌-◌, ◌<◌, ◌≤◌}
+use Prim.Native.Nat.{ℕ, ◌+◌, ◌-◌, ◌<◌}
 use native.Mathlib.Omega.{arith}
 use lib.ListN.{length, set, replicate}
 use lib.Ieee.{Float}
-use Rattle.base_lists.specs.Result.{each}
 use Rattle.edge_record.specs.Own.Stored.{record_point}
 use Rattle.edge_thin_span.specs.Span.{decision}
 use Rattle.edge_thin_span.proofs.Laws.{narrow, inside}
-use Rattle.edge_thin_mark.specs.Spans.{kept, marks, flagged}
+use Rattle.edge_thin_mark.specs.Spans.{flagged}
 use Rattle.edge_thin_mark.proofs.Walk.{Splits, Standing, begin}
 
 module _ (chain : List Float) (tolerance angle : Float) where

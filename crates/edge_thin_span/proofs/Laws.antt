@@ -14,9 +14,8 @@ use Rattle.math.specs.declared.Direction.TheVariants.{Unit, Nothing}
 use Rattle.math.specs.Math.{v_sub, v_length_squared, try_normalized, angle_between}
 use Rattle.math_chord.specs.Chord.{span_distance}
 use Rattle.edge_thin_span.specs.declared.Worst.{Worst}
-use Rattle.edge_thin_span.specs.declared.Decision.{Decision}
 use Rattle.edge_thin_span.specs.declared.Decision.TheVariants.{Leave, Split, Refuse}
-use Rattle.edge_thin_span.specs.Span.{worse, worst_from, worst_of, joined, directions, first_in, last_in, turn_by, span_turn, decision}
+use Rattle.edge_thin_span.specs.Span.{worse, worst_from, worst_of, directions, first_in, last_in, turn_by, span_turn, decision}
 use Rattle.edge_thin_span.proofs.Loops.{worst_is}
 
 -- ---- the worst index is the span's start, or inside

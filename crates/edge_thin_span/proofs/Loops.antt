@@ -1,6 +1,6 @@
 -- The loops over a span: of what is left they find what they would find of the whole. Assumes nothing.
 use mathlib.Core.Path.{◌≡◌, refl, sym, ap, ◌∙◌}
-use mathlib.Core.Bool.{Bool, true, false, cond}
+use mathlib.Core.Bool.{Bool, true, false}
 use mathlib.Core.List.{List, [], ◌∷◌, ◌++◌, append-nil}
 use Prim.Native.Nat.{ℕ, zero, suc, ◌+◌, ◌-◌, ◌<◌, ◌≤◌}
 use native.Mathlib.Nat.{add-zero, add-suc, suc-add}
@@ -17,7 +17,7 @@ use Rattle.edge_record.specs.Chain.{last_of}
 use Rattle.edge_record.proofs.Shorter.{last_snoc}
 use Rattle.math_chord.specs.Chord.{span_offset, span_distance}
 use Rattle.edge_thin_span.specs.declared.Worst.{Worst}
-use Rattle.edge_thin_span.specs.Span.{worse, worst_from, worst_of, joined, directions, first_in, last_in}
+use Rattle.edge_thin_span.specs.Span.{worse, worst_from, joined, directions, first_in, last_in}
 
 abbrev pub worst_is : Float → ℕ → Worst
 worst_is d i = record { distance = d; index = i }

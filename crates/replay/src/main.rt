@@ -28,6 +28,7 @@ use knots::Knots;
 use math::{Direction, Vec3};
 use options::{Angle, Options, Resolved};
 use sheet::Sheet;
+use std::io::Stdout;
 use text_format::Num;
 
 // A part has at most so many bytes; what is more is left out.
@@ -190,49 +191,49 @@ fn floats_at(text: &[u8], place: usize, letters: &[u8]) -> Floats
 
 // Lines written.
 
-fn put_malformed(out: &mut [u8; 4096], at: usize) -> usize {
-    replay_text::put_word(out, at, b"?\n")
+fn put_malformed(to: Stdout, out: &mut [u8; 4096], at: usize) -> usize {
+    replay_text::put_word(to, out, at, b"?\n")
 }
 
-fn put_refusal(cause: u32, out: &mut [u8; 4096], at: usize) -> usize {
-    let n = replay_text::put_word(out, at, b"refusal\n");
-    replay_text::put_decimal(out, n, cause as u64, b'\n')
+fn put_refusal(cause: u32, to: Stdout, out: &mut [u8; 4096], at: usize) -> usize {
+    let n = replay_text::put_word(to, out, at, b"refusal\n");
+    replay_text::put_decimal(to, out, n, cause as u64, b'\n')
 }
 
-fn put_flag(b: bool, out: &mut [u8; 4096], at: usize) -> usize {
+fn put_flag(b: bool, to: Stdout, out: &mut [u8; 4096], at: usize) -> usize {
     if b {
-        replay_text::put_word(out, at, b"1\n")
+        replay_text::put_word(to, out, at, b"1\n")
     } else {
-        replay_text::put_word(out, at, b"0\n")
+        replay_text::put_word(to, out, at, b"0\n")
     }
 }
 
 // A line of floats behind its name.
-fn put_floats(name: &[u8], list: &[f64], out: &mut [u8; 4096], at: usize) -> usize {
-    let mut n = replay_text::put_word(out, at, name);
+fn put_floats(name: &[u8], list: &[f64], to: Stdout, out: &mut [u8; 4096], at: usize) -> usize {
+    let mut n = replay_text::put_word(to, out, at, name);
     let mut i = 0usize;
     while i < list.len() {
         let x = list[i];
         i += 1;
         let end = if i < list.len() { b' ' } else { b'\n' };
-        n = replay_text::put_float(out, n, x, end);
+        n = replay_text::put_float(to, out, n, x, end);
     }
     n
 }
 
-fn put_vector(name: &[u8], v: Vec3, out: &mut [u8; 4096], at: usize) -> usize {
-    put_floats(name, &[v.x, v.y, v.z], out, at)
+fn put_vector(name: &[u8], v: Vec3, to: Stdout, out: &mut [u8; 4096], at: usize) -> usize {
+    put_floats(name, &[v.x, v.y, v.z], to, out, at)
 }
 
 // The word of a kind and the space behind it, of ten bytes for each. A sheet that was read has the kinds 1 to 8.
-fn put_kind(kind: u32, out: &mut [u8; 4096], at: usize) -> usize {
+fn put_kind(kind: u32, to: Stdout, out: &mut [u8; 4096], at: usize) -> usize {
     let words =
         b"?         line      circle    ellipse   parabola  polyline  trimmed   composite hyperbola ";
     let mut n = at;
     let mut i = ((kind % 9) as usize) * 10;
     while i < words.len() {
         let b = words[i];
-        n = replay_text::put_byte(out, n, b);
+        n = replay_text::put_byte(to, out, n, b);
         i += 1;
         if b == b' ' {
             break;
@@ -242,20 +243,20 @@ fn put_kind(kind: u32, out: &mut [u8; 4096], at: usize) -> usize {
 }
 
 // A whole number of 32 bits: a kind's word (k), or in decimal.
-fn put_whole(letter: u8, n: u32, end: u8, out: &mut [u8; 4096], at: usize) -> usize {
+fn put_whole(letter: u8, n: u32, end: u8, to: Stdout, out: &mut [u8; 4096], at: usize) -> usize {
     if letter == b'k' {
-        put_kind(n, out, at)
+        put_kind(n, to, out, at)
     } else {
-        replay_text::put_decimal(out, at, n as u64, end)
+        replay_text::put_decimal(to, out, at, n as u64, end)
     }
 }
 
 // A whole number of 64 bits: in decimal (l), or its bits.
-fn put_long(letter: u8, n: u64, end: u8, out: &mut [u8; 4096], at: usize) -> usize {
+fn put_long(letter: u8, n: u64, end: u8, to: Stdout, out: &mut [u8; 4096], at: usize) -> usize {
     if letter == b'l' {
-        replay_text::put_decimal(out, at, n, end)
+        replay_text::put_decimal(to, out, at, n, end)
     } else {
-        replay_text::put_hex(out, at, n, end)
+        replay_text::put_hex(to, out, at, n, end)
     }
 }
 
@@ -267,6 +268,7 @@ fn put_cell(
     wholes: &[u32],
     longs: &[u64],
     next: Next,
+    to: Stdout,
     out: &mut [u8; 4096],
 ) -> Next {
     let f = next.float;
@@ -274,16 +276,16 @@ fn put_cell(
     let l = next.long;
     if letter == b'f' {
         if f < floats.len() {
-            let n = replay_text::put_float(out, next.out, floats[f], end);
+            let n = replay_text::put_float(to, out, next.out, floats[f], end);
             return next_of(f + 1, w, l, n);
         }
     } else if letter == b'w' || letter == b'k' {
         if w < wholes.len() {
-            let n = put_whole(letter, wholes[w], end, out, next.out);
+            let n = put_whole(letter, wholes[w], end, to, out, next.out);
             return next_of(f, w + 1, l, n);
         }
     } else if l < longs.len() {
-        let n = put_long(letter, longs[l], end, out, next.out);
+        let n = put_long(letter, longs[l], end, to, out, next.out);
         return next_of(f, w, l + 1, n);
     }
     next
@@ -295,6 +297,7 @@ fn put_row(
     wholes: &[u32],
     longs: &[u64],
     start: Next,
+    to: Stdout,
     out: &mut [u8; 4096],
 ) -> Next {
     let mut next = start;
@@ -303,7 +306,7 @@ fn put_row(
         let letter = letters[i];
         i += 1;
         let end = if i < letters.len() { b' ' } else { b'\n' };
-        next = put_cell(letter, end, floats, wholes, longs, next, out);
+        next = put_cell(letter, end, floats, wholes, longs, next, to, out);
     }
     next
 }
@@ -316,14 +319,15 @@ fn put_rows(
     floats: &[f64],
     wholes: &[u32],
     longs: &[u64],
+    to: Stdout,
     out: &mut [u8; 4096],
     at: usize,
 ) -> usize {
-    let n = replay_text::put_word(out, at, names);
+    let n = replay_text::put_word(to, out, at, names);
     let mut next = next_of(0, 0, 0, n);
     let mut row = 0usize;
     while row < rows {
-        next = put_row(letters, floats, wholes, longs, next, out);
+        next = put_row(letters, floats, wholes, longs, next, to, out);
         row += 1;
     }
     next.out
@@ -389,18 +393,18 @@ fn value_at(text: &[u8], place: usize) -> Value {
 }
 
 // The answer to the line at a place.
-fn put_value(text: &[u8], place: usize, out: &mut [u8; 4096], at: usize) -> usize {
+fn put_value(text: &[u8], place: usize, to: Stdout, out: &mut [u8; 4096], at: usize) -> usize {
     match value_at(text, place) {
-        Value::Of(x) => replay_text::put_float(out, at, x, b'\n'),
-        Value::Malformed => put_malformed(out, at),
+        Value::Of(x) => replay_text::put_float(to, out, at, x, b'\n'),
+        Value::Malformed => put_malformed(to, out, at),
     }
 }
 
-fn put_arith(text: &[u8], out: &mut [u8; 4096], at: usize) -> usize {
+fn put_arith(text: &[u8], to: Stdout, out: &mut [u8; 4096], at: usize) -> usize {
     let mut n = at;
     let mut place = 0usize;
     while place < text.len() {
-        n = put_value(text, place, out, n);
+        n = put_value(text, place, to, out, n);
         place = next_line(text, place);
     }
     n
@@ -431,7 +435,7 @@ fn first_line(text: &[u8]) -> First {
     preset(text)
 }
 
-fn put_resolved(r: Resolved, out: &mut [u8; 4096], at: usize) -> usize {
+fn put_resolved(r: Resolved, to: Stdout, out: &mut [u8; 4096], at: usize) -> usize {
     let floats = [r.sag, r.model, r.relative, r.angle];
     put_rows(
         b"",
@@ -440,13 +444,14 @@ fn put_resolved(r: Resolved, out: &mut [u8; 4096], at: usize) -> usize {
         &floats,
         &[r.depth],
         &[r.segments],
+        to,
         out,
         at,
     )
 }
 
 // The sag for an extent, and there the step of a radius and the segments of an arc.
-fn put_arc(r: Resolved, a: Floats, out: &mut [u8; 4096], at: usize) -> usize {
+fn put_arc(r: Resolved, a: Floats, to: Stdout, out: &mut [u8; 4096], at: usize) -> usize {
     let own = r.for_extent(a.x);
     let step = own.angle_step_for_radius(a.y);
     let count = own.segments_for_arc(a.y, a.z);
@@ -457,67 +462,82 @@ fn put_arc(r: Resolved, a: Floats, out: &mut [u8; 4096], at: usize) -> usize {
         &[own.sag, step],
         &NO_WHOLES,
         &[count],
+        to,
         out,
         at,
     )
 }
 
 // The answer to a line `degrees ANGLE`.
-fn put_degrees(text: &[u8], place: usize, out: &mut [u8; 4096], at: usize) -> usize
+fn put_degrees(text: &[u8], place: usize, to: Stdout, out: &mut [u8; 4096], at: usize) -> usize
     requires { place ≤ length text.now }
 {
     let Num::Got(_, p) = text_format::word(text, place, b"degrees ", 0) else {
-        return put_malformed(out, at);
+        return put_malformed(to, out, at);
     };
     let a = floats_at(text, p, b"f");
     if a.ok {
         let angle = Angle::degrees(a.x);
-        let n = replay_text::put_float(out, at, angle.to_radians(), b' ');
-        put_flag(angle.is_clamped(), out, n)
+        let n = replay_text::put_float(to, out, at, angle.to_radians(), b' ');
+        put_flag(angle.is_clamped(), to, out, n)
     } else {
-        put_malformed(out, at)
+        put_malformed(to, out, at)
     }
 }
 
 // The answer to the line at a place, behind the options.
-fn put_arc_at(r: Resolved, text: &[u8], place: usize, out: &mut [u8; 4096], at: usize) -> usize
+fn put_arc_at(
+    r: Resolved,
+    text: &[u8],
+    place: usize,
+    to: Stdout,
+    out: &mut [u8; 4096],
+    at: usize,
+) -> usize
     requires { place ≤ length text.now }
 {
     let a = floats_at(text, place, b"fff");
     if a.ok {
-        put_arc(r, a, out, at)
+        put_arc(r, a, to, out, at)
     } else {
-        put_degrees(text, place, out, at)
+        put_degrees(text, place, to, out, at)
     }
 }
 
-fn put_arcs(r: Resolved, text: &[u8], from: usize, out: &mut [u8; 4096], at: usize) -> usize {
+fn put_arcs(
+    r: Resolved,
+    text: &[u8],
+    from: usize,
+    to: Stdout,
+    out: &mut [u8; 4096],
+    at: usize,
+) -> usize {
     let mut n = at;
     let mut place = from;
     while place < text.len() {
-        n = put_arc_at(r, text, place, out, n);
+        n = put_arc_at(r, text, place, to, out, n);
         place = next_line(text, place);
     }
     n
 }
 
-fn put_options(text: &[u8], out: &mut [u8; 4096], at: usize) -> usize {
+fn put_options(text: &[u8], to: Stdout, out: &mut [u8; 4096], at: usize) -> usize {
     if text.len() == 0 {
         return at;
     }
     match first_line(text) {
         First::Of(r) => {
-            let n = put_resolved(r, out, at);
-            put_arcs(r, text, next_line(text, 0), out, n)
+            let n = put_resolved(r, to, out, at);
+            put_arcs(r, text, next_line(text, 0), to, out, n)
         }
-        First::Malformed => put_malformed(out, at),
+        First::Malformed => put_malformed(to, out, at),
     }
 }
 
 // Sheets, written again.
 
 // The edge's line, lo and hi by their own bits, and the options'.
-fn put_ends(ends: Ends, out: &mut [u8; 4096], at: usize) -> usize {
+fn put_ends(ends: Ends, to: Stdout, out: &mut [u8; 4096], at: usize) -> usize {
     let edge = ends.edge;
     let options = ends.options;
     let n = put_rows(
@@ -529,6 +549,7 @@ fn put_ends(ends: Ends, out: &mut [u8; 4096], at: usize) -> usize {
             edge.curve, edge.start, edge.end, edge.sense, edge.low, edge.high,
         ],
         &[ends.lo, ends.hi],
+        to,
         out,
         at,
     );
@@ -543,6 +564,7 @@ fn put_ends(ends: Ends, out: &mut [u8; 4096], at: usize) -> usize {
         ],
         &[options.relative, options.depth],
         &[options.segments],
+        to,
         out,
         n,
     )
@@ -555,10 +577,11 @@ fn put_table(
     rows: usize,
     floats: &[f64],
     wholes: &[u32],
+    to: Stdout,
     out: &mut [u8; 4096],
     at: usize,
 ) -> usize {
-    put_rows(names, letters, rows, floats, wholes, &NO_LONGS, out, at)
+    put_rows(names, letters, rows, floats, wholes, &NO_LONGS, to, out, at)
 }
 
 fn put_tables(
@@ -567,45 +590,62 @@ fn put_tables(
     reals: &[f64],
     parts: &[u32],
     ranges: &[f64],
+    to: Stdout,
     out: &mut [u8; 4096],
     at: usize,
 ) -> usize {
     let n3 = points.len() / 3;
     let m3 = curves.len() / 3;
     let k2 = parts.len() / 2;
-    let n = put_table(b"x y z\n", b"fff", n3, points, &NO_WHOLES, out, at);
+    let n = put_table(b"x y z\n", b"fff", n3, points, &NO_WHOLES, to, out, at);
     let names = b"\nkind first count p q\n";
-    let m = put_table(names, b"kwwff", m3, reals, curves, out, n);
-    put_table(b"\ncurve lo hi sense\n", b"wffw", k2, ranges, parts, out, m)
+    let m = put_table(names, b"kwwff", m3, reals, curves, to, out, n);
+    put_table(
+        b"\ncurve lo hi sense\n",
+        b"wffw",
+        k2,
+        ranges,
+        parts,
+        to,
+        out,
+        m,
+    )
 }
 
 // Curves.
 
-fn put_period(repeats: Repeats, out: &mut [u8; 4096], at: usize) -> usize {
+fn put_period(repeats: Repeats, to: Stdout, out: &mut [u8; 4096], at: usize) -> usize {
     match repeats {
-        Repeats::Every(span) => put_floats(b"period ", &[span], out, at),
-        Repeats::Never => replay_text::put_word(out, at, b"period none\n"),
+        Repeats::Every(span) => put_floats(b"period ", &[span], to, out, at),
+        Repeats::Never => replay_text::put_word(to, out, at, b"period none\n"),
     }
 }
 
-fn put_tangent(tangent: Direction, out: &mut [u8; 4096], at: usize) -> usize {
+fn put_tangent(tangent: Direction, to: Stdout, out: &mut [u8; 4096], at: usize) -> usize {
     match tangent {
-        Direction::Unit(v) => put_vector(b"tangent ", v, out, at),
-        Direction::Nothing => replay_text::put_word(out, at, b"tangent none\n"),
+        Direction::Unit(v) => put_vector(b"tangent ", v, to, out, at),
+        Direction::Nothing => replay_text::put_word(to, out, at, b"tangent none\n"),
     }
 }
 
 // How many parameters there are, then each.
-fn put_found(name: &[u8], found: Knots, list: &[f64], out: &mut [u8; 4096], at: usize) -> usize {
+fn put_found(
+    name: &[u8],
+    found: Knots,
+    list: &[f64],
+    to: Stdout,
+    out: &mut [u8; 4096],
+    at: usize,
+) -> usize {
     match found {
         Knots::Count(n) => {
             if list.len() < n {
                 return at;
             }
-            let m = replay_text::put_word(out, at, name);
+            let m = replay_text::put_word(to, out, at, name);
             let end = if 0 < n { b' ' } else { b'\n' };
-            let k = replay_text::put_decimal(out, m, n as u64, end);
-            put_floats(b"", &list[..n], out, k)
+            let k = replay_text::put_decimal(to, out, m, n as u64, end);
+            put_floats(b"", &list[..n], to, out, k)
         }
         Knots::TooMany => at,
     }
@@ -621,22 +661,23 @@ fn put_usable(
     row: u32,
     range: Usable,
     sag: f64,
+    to: Stdout,
     out: &mut [u8; 4096],
     at: usize,
 ) -> usize {
     let Usable::Range(r) = range else {
-        return replay_text::put_word(out, at, b"usable none\n");
+        return replay_text::put_word(to, out, at, b"usable none\n");
     };
     let lo = r.lo;
     let hi = r.hi;
     let mut list = [0.0f64; 4096];
-    let n = put_floats(b"usable ", &[lo, hi], out, at);
+    let n = put_floats(b"usable ", &[lo, hi], to, out, at);
     let found = knots::curve_breaks(points, curves, reals, parts, ranges, row, lo, hi, &mut list);
-    let m = put_found(b"breaks ", found, &list, out, n);
+    let m = put_found(b"breaks ", found, &list, to, out, n);
     let kept = knots_thin::kept_breaks(
         points, curves, reals, parts, ranges, row, lo, hi, sag, &mut list,
     );
-    put_found(b"kept ", kept, &list, out, m)
+    put_found(b"kept ", kept, &list, to, out, m)
 }
 
 // What there is to say of a curve without a range.
@@ -647,16 +688,17 @@ fn put_curve(
     parts: &[u32],
     ranges: &[f64],
     row: u32,
+    to: Stdout,
     out: &mut [u8; 4096],
     at: usize,
 ) -> usize {
     let natural = curve::natural_range(points, curves, reals, parts, ranges, row);
-    let n = put_floats(b"natural ", &[natural.lo, natural.hi], out, at);
+    let n = put_floats(b"natural ", &[natural.lo, natural.hi], to, out, at);
     let closed = curve::is_closed(points, curves, reals, parts, ranges, row);
-    let k = replay_text::put_word(out, n, b"closed ");
-    let m = put_flag(closed, out, k);
+    let k = replay_text::put_word(to, out, n, b"closed ");
+    let m = put_flag(closed, to, out, k);
     let repeats = curve::period(points, curves, reals, parts, ranges, row);
-    put_period(repeats, out, m)
+    put_period(repeats, to, out, m)
 }
 
 // The edge's extent, the sag that goes with it, and the breaks.
@@ -668,6 +710,7 @@ fn put_edge(
     ranges: &[f64],
     edge: Edge,
     options: Options,
+    to: Stdout,
     out: &mut [u8; 4096],
     at: usize,
 ) -> usize {
@@ -675,11 +718,11 @@ fn put_edge(
     let range = edge.range;
     let extent = edge_extent::edge_extent(points, curves, reals, parts, ranges, edge);
     let sag = options.resolve().sag_for(extent);
-    let n = put_floats(b"extent ", &[extent], out, at);
-    let m = put_floats(b"sag ", &[sag], out, n);
+    let n = put_floats(b"extent ", &[extent], to, out, at);
+    let m = put_floats(b"sag ", &[sag], to, out, n);
     let found = edge_range::usable_range(points, curves, reals, parts, ranges, row, range);
     put_usable(
-        points, curves, reals, parts, ranges, row, found, sag, out, m,
+        points, curves, reals, parts, ranges, row, found, sag, to, out, m,
     )
 }
 
@@ -692,18 +735,19 @@ fn put_at(
     ranges: &[f64],
     row: u32,
     pattern: u64,
+    to: Stdout,
     out: &mut [u8; 4096],
     at: usize,
 ) -> usize {
     let t = sheet_row::float_of(pattern);
-    let n = replay_text::put_word(out, at, b"at ");
-    let m = replay_text::put_hex(out, n, pattern, b'\n');
+    let n = replay_text::put_word(to, out, at, b"at ");
+    let m = replay_text::put_hex(to, out, n, pattern, b'\n');
     let p = curve::point_at(points, curves, reals, parts, ranges, row, t);
-    let k = put_vector(b"point ", p, out, m);
+    let k = put_vector(b"point ", p, to, out, m);
     let d = curve_tangent::derivative_at(points, curves, reals, parts, ranges, row, t);
-    let l = put_vector(b"derivative ", d, out, k);
+    let l = put_vector(b"derivative ", d, to, out, k);
     let tangent = curve_tangent::tangent_at(points, curves, reals, parts, ranges, row, t);
-    put_tangent(tangent, out, l)
+    put_tangent(tangent, to, out, l)
 }
 
 // The answers to lines, a parameter each.
@@ -715,6 +759,7 @@ fn put_parameters(
     ranges: &[f64],
     row: u32,
     lines: &[u8],
+    to: Stdout,
     out: &mut [u8; 4096],
     at: usize,
 ) -> usize {
@@ -722,8 +767,8 @@ fn put_parameters(
     let mut place = 0usize;
     while place < lines.len() {
         n = match text_format::hex_then(lines, place, b'\n') {
-            Num::Got(t, _) => put_at(points, curves, reals, parts, ranges, row, t, out, n),
-            Num::Bad => put_malformed(out, n),
+            Num::Got(t, _) => put_at(points, curves, reals, parts, ranges, row, t, to, out, n),
+            Num::Bad => put_malformed(to, out, n),
         };
         place = next_line(lines, place);
     }
@@ -741,6 +786,7 @@ fn put_read(
     ranges: &[f64],
     ends: Ends,
     lines: &[u8],
+    to: Stdout,
     out: &mut [u8; 4096],
     at: usize,
 ) -> usize {
@@ -750,15 +796,17 @@ fn put_read(
     if let Verdict::Refused(cause) = causes::check(
         points, curves, reals, parts, ranges, edge, options,
     ) {
-        return put_refusal(cause, out, at);
+        return put_refusal(cause, to, out, at);
     }
     if lines.len() == 0 {
-        let n = put_tables(points, curves, reals, parts, ranges, out, at);
-        return put_ends(ends, out, n);
+        let n = put_tables(points, curves, reals, parts, ranges, to, out, at);
+        return put_ends(ends, to, out, n);
     }
-    let n = put_curve(points, curves, reals, parts, ranges, row, out, at);
-    let m = put_edge(points, curves, reals, parts, ranges, edge, options, out, n);
-    put_parameters(points, curves, reals, parts, ranges, row, lines, out, m)
+    let n = put_curve(points, curves, reals, parts, ranges, row, to, out, at);
+    let m = put_edge(
+        points, curves, reals, parts, ranges, edge, options, to, out, n,
+    );
+    put_parameters(points, curves, reals, parts, ranges, row, lines, to, out, m)
 }
 
 // The answer to a sheet whose tables are the leading rows of those lent.
@@ -771,6 +819,7 @@ fn put_filled(
     rows: Rows,
     ends: Ends,
     lines: &[u8],
+    to: Stdout,
     out: &mut [u8; 4096],
     at: usize,
 ) -> usize
@@ -788,6 +837,7 @@ fn put_filled(
         &ranges[..k2],
         ends,
         lines,
+        to,
         out,
         at,
     )
@@ -804,6 +854,7 @@ fn put_counted(
     rows: Rows,
     ends: Ends,
     lines: &[u8],
+    to: Stdout,
     out: &mut [u8; 4096],
     at: usize,
 ) -> usize {
@@ -817,7 +868,7 @@ fn put_counted(
         return at;
     }
     put_filled(
-        points, curves, reals, parts, ranges, rows, ends, lines, out, at,
+        points, curves, reals, parts, ranges, rows, ends, lines, to, out, at,
     )
 }
 
@@ -830,6 +881,7 @@ fn put_answer(
     parts: &[u32; sheet::PARTS],
     ranges: &[f64; sheet::RANGES],
     lines: &[u8],
+    to: Stdout,
     out: &mut [u8; 4096],
     at: usize,
 ) -> usize {
@@ -855,15 +907,15 @@ fn put_answer(
                 hi,
             };
             put_counted(
-                points, curves, reals, parts, ranges, rows, ends, lines, out, at,
+                points, curves, reals, parts, ranges, rows, ends, lines, to, out, at,
             )
         }
-        Sheet::Refused(cause) => put_refusal(cause, out, at),
+        Sheet::Refused(cause) => put_refusal(cause, to, out, at),
     }
 }
 
 // The answer to a sheet, and to lines of parameters, if there are any.
-fn put_sheet(sheet: &[u8], lines: &[u8], out: &mut [u8; 4096], at: usize) -> usize {
+fn put_sheet(sheet: &[u8], lines: &[u8], to: Stdout, out: &mut [u8; 4096], at: usize) -> usize {
     let mut points = [0.0f64; sheet::POINTS];
     let mut curves = [0u32; sheet::CURVES];
     let mut reals = [0.0f64; sheet::REALS];
@@ -878,31 +930,31 @@ fn put_sheet(sheet: &[u8], lines: &[u8], out: &mut [u8; 4096], at: usize) -> usi
         &mut ranges,
     );
     put_answer(
-        read, &points, &curves, &reals, &parts, &ranges, lines, out, at,
+        read, &points, &curves, &reals, &parts, &ranges, lines, to, out, at,
     )
 }
 
 // The answer to a sheet and the parameters behind the line that begins them.
-fn put_parted(text: &[u8], out: &mut [u8; 4096], at: usize) -> usize {
+fn put_parted(text: &[u8], to: Stdout, out: &mut [u8; 4096], at: usize) -> usize {
     let mut place = 0usize;
     while place < text.len() {
         if let Num::Got(_, from) = text_format::word(text, place, b"parameters\n", 0) {
             if from <= text.len() {
-                return put_sheet(&text[..place], &text[from..], out, at);
+                return put_sheet(&text[..place], &text[from..], to, out, at);
             }
         }
         place += 1;
     }
-    put_malformed(out, at)
+    put_malformed(to, out, at)
 }
 
 // The batch.
 
 // A part of a kind that begins behind a separator.
-fn begun(kind: u64, out: &mut [u8; 4096], at: usize) -> Batch {
+fn begun(kind: u64, to: Stdout, out: &mut [u8; 4096], at: usize) -> Batch {
     Batch {
         kind,
-        out: replay_text::put_word(out, at, b"====\n"),
+        out: replay_text::put_word(to, out, at, b"====\n"),
     }
 }
 
@@ -923,51 +975,52 @@ fn asked_kind(text: &[u8]) -> u64 {
     0
 }
 
-fn answer(kind: u64, text: &[u8], out: &mut [u8; 4096], at: usize) -> usize {
+fn answer(kind: u64, text: &[u8], to: Stdout, out: &mut [u8; 4096], at: usize) -> usize {
     match kind {
-        ARITH => put_arith(text, out, at),
-        OPTIONS => put_options(text, out, at),
-        SHEET => put_sheet(text, b"", out, at),
-        CURVE => put_parted(text, out, at),
-        _ => put_malformed(out, at),
+        ARITH => put_arith(text, to, out, at),
+        OPTIONS => put_options(text, to, out, at),
+        SHEET => put_sheet(text, b"", to, out, at),
+        CURVE => put_parted(text, to, out, at),
+        _ => put_malformed(to, out, at),
     }
 }
 
 // A part, and the line behind its answer.
-fn part(text: &[u8], out: &mut [u8; 4096], batch: Batch) -> Batch {
+fn part(text: &[u8], to: Stdout, out: &mut [u8; 4096], batch: Batch) -> Batch {
     let kind = batch.kind;
     let asked = asked_kind(text);
     if asked == 0 {
-        let n = answer(kind, text, out, batch.out);
-        return begun(kind, out, n);
+        let n = answer(kind, text, to, out, batch.out);
+        return begun(kind, to, out, n);
     }
-    begun(asked, out, batch.out)
+    begun(asked, to, out, batch.out)
 }
 
 // The part that the first n bytes of the text are.
-fn part_of(text: &[u8], n: usize, out: &mut [u8; 4096], batch: Batch) -> Batch {
+fn part_of(text: &[u8], n: usize, to: Stdout, out: &mut [u8; 4096], batch: Batch) -> Batch {
     if text.len() < n {
         return batch;
     }
-    part(&text[..n], out, batch)
+    part(&text[..n], to, out, batch)
 }
 
 // All of the input, part by part. A part that no separator ended has no answer. The loop counts its turns down, from a number
 // that no run uses up, since nothing says that an input ends.
-fn main() {
-    let mut chunk = io::large_buffer();
+fn main(rt: HostRuntime) {
+    let to = rt.stdout();
+    let mut chunk = [0u8; 65536];
     let mut text = [0u8; SIZE];
-    let mut out = io::buffer();
+    let mut out = [0u8; 4096];
     let mut batch = Batch { kind: 0, out: 0 };
     let mut next = replay_text::no_part();
     let mut turns = u64::MAX;
     while 0 < turns {
-        next = replay_text::next_part(&mut text, &mut chunk, next, true);
+        next = replay_text::next_part(rt.stdin(), &mut text, &mut chunk, next, true);
         if !next.ended {
             break;
         }
-        batch = part_of(&text, next.bytes, &mut out, batch);
+        batch = part_of(&text, next.bytes, to, &mut out, batch);
         turns -= 1;
     }
-    replay_text::flush(&out, batch.out);
+    replay_text::flush(to, &out, batch.out);
 }

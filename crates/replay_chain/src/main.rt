@@ -10,10 +10,10 @@ ghost use Rattle.text_listing.specs.Listing.{line_bytes, refusal_bytes};
 
 use brep::Edge;
 use draw_spec::{Drawn, Way};
-use libc::STDOUT_FILENO;
 use options::Options;
 use sheet::Sheet;
 use sheet_layout::Row;
+use std::io::{Print, Stdout};
 use text_format::Num;
 
 // One byte more than a sheet may have, and four for the separator behind it.
@@ -120,17 +120,24 @@ fn nan_at(i: usize, start: u64, end: u64) -> u64 {
 }
 
 // The bits of x, or `nan` if it is NaN, then the byte `end`.
-fn put_float_or(x: f64, nan: u64, end: u8, out: &mut [u8; 4096], at: usize) -> usize {
+fn put_float_or(x: f64, nan: u64, end: u8, to: Stdout, out: &mut [u8; 4096], at: usize) -> usize {
     if x != x {
-        return replay_text::put_hex(out, at, nan, end);
+        return replay_text::put_hex(to, out, at, nan, end);
     }
-    replay_text::put_float(out, at, x, end)
+    replay_text::put_float(to, out, at, x, end)
 }
 
 // All floats of a buffer on one line. `start` and `end` are the bits of a chord's parameters if they are NaN.
-fn put_floats(buffer: &[f64], start: u64, end: u64, out: &mut [u8; 4096], at: usize) -> usize {
+fn put_floats(
+    buffer: &[f64],
+    start: u64,
+    end: u64,
+    to: Stdout,
+    out: &mut [u8; 4096],
+    at: usize,
+) -> usize {
     if buffer.len() == 0 {
-        return replay_text::put_word(out, at, b"\n");
+        return replay_text::put_word(to, out, at, b"\n");
     }
     let mut n = at;
     let mut i = 0usize;
@@ -138,35 +145,42 @@ fn put_floats(buffer: &[f64], start: u64, end: u64, out: &mut [u8; 4096], at: us
         let x = buffer[i];
         let nan = nan_at(i, start, end);
         i += 1;
-        n = put_float_or(x, nan, if i < buffer.len() { b' ' } else { b'\n' }, out, n);
+        n = put_float_or(
+            x,
+            nan,
+            if i < buffer.len() { b' ' } else { b'\n' },
+            to,
+            out,
+            n,
+        );
     }
     n
 }
 
-fn put_refusal(cause: u32, out: &mut [u8; 4096], at: usize) -> usize {
-    let n = replay_text::put_word(out, at, b"refusal ");
-    replay_text::put_decimal(out, n, cause as u64, b'\n')
+fn put_refusal(cause: u32, to: Stdout, out: &mut [u8; 4096], at: usize) -> usize {
+    let n = replay_text::put_word(to, out, at, b"refusal ");
+    replay_text::put_decimal(to, out, n, cause as u64, b'\n')
 }
 
-fn put_way(way: Way, out: &mut [u8; 4096], at: usize) -> usize {
+fn put_way(way: Way, to: Stdout, out: &mut [u8; 4096], at: usize) -> usize {
     match way {
-        Way::AsDrawn => replay_text::put_word(out, at, b"as drawn"),
-        Way::Chord => replay_text::put_word(out, at, b"chord for want of a range"),
-        Way::Complement => replay_text::put_word(out, at, b"complement"),
-        Way::ShortArc => replay_text::put_word(out, at, b"short arc"),
-        Way::Runaway => replay_text::put_word(out, at, b"runaway chord"),
+        Way::AsDrawn => replay_text::put_word(to, out, at, b"as drawn"),
+        Way::Chord => replay_text::put_word(to, out, at, b"chord for want of a range"),
+        Way::Complement => replay_text::put_word(to, out, at, b"complement"),
+        Way::ShortArc => replay_text::put_word(to, out, at, b"short arc"),
+        Way::Runaway => replay_text::put_word(to, out, at, b"runaway chord"),
     }
 }
 
 // The line of what drawing answers.
-fn put_drawn(drawn: Drawn, out: &mut [u8; 4096], at: usize) -> usize {
+fn put_drawn(drawn: Drawn, to: Stdout, out: &mut [u8; 4096], at: usize) -> usize {
     match drawn {
-        Drawn::Refused(cause) => put_refusal(cause, out, at),
+        Drawn::Refused(cause) => put_refusal(cause, to, out, at),
         Drawn::Chain(way, count) => {
-            let n = replay_text::put_word(out, at, b"way ");
-            let m = put_way(way, out, n);
-            let points = replay_text::put_word(out, m, b" points ");
-            replay_text::put_decimal(out, points, count as u64, b'\n')
+            let n = replay_text::put_word(to, out, at, b"way ");
+            let m = put_way(way, to, out, n);
+            let points = replay_text::put_word(to, out, m, b" points ");
+            replay_text::put_decimal(to, out, points, count as u64, b'\n')
         }
     }
 }
@@ -208,11 +222,12 @@ fn put_whole(
     second: &[f64],
     lo: u64,
     hi: u64,
+    to: Stdout,
     out: &mut [u8; 4096],
 ) -> usize {
-    let n = put_drawn(drawn, out, 0);
-    let m = put_floats(first, lo, hi, out, n);
-    put_floats(second, lo, lo, out, m)
+    let n = put_drawn(drawn, to, out, 0);
+    let m = put_floats(first, lo, hi, to, out, n);
+    put_floats(second, lo, lo, to, out, m)
 }
 
 // The answer to what was read into the tables.
@@ -225,10 +240,11 @@ fn put_read(
     ranges: &[f64; sheet::RANGES],
     first: &mut [f64],
     second: &mut [f64],
+    to: Stdout,
     out: &mut [u8; 4096],
 ) -> usize {
     match read {
-        Sheet::Refused(cause) => put_refusal(cause, out, 0),
+        Sheet::Refused(cause) => put_refusal(cause, to, out, 0),
         Sheet::Read {
             points: n,
             curves: m,
@@ -241,19 +257,19 @@ fn put_read(
             let drawn = draw_tables(
                 points, curves, reals, parts, ranges, n, m, k, edge, options, first, second,
             );
-            put_whole(drawn, first, second, lo, hi, out)
+            put_whole(drawn, first, second, lo, hi, to, out)
         }
     }
 }
 
 // Writes the answer of `draw` to a sheet, drawn in these buffers, and every float of both: what a listing leaves out.
-fn put_both(text: &[u8], first: &mut [f64], second: &mut [f64]) {
+fn put_both(to: Stdout, text: &[u8], first: &mut [f64], second: &mut [f64]) {
     let mut points = [0.0f64; sheet::POINTS];
     let mut curves = [0u32; sheet::CURVES];
     let mut reals = [0.0f64; sheet::REALS];
     let mut parts = [0u32; sheet::PARTS];
     let mut ranges = [0.0f64; sheet::RANGES];
-    let mut out = io::buffer();
+    let mut out = [0u8; 4096];
     fill(first);
     fill(second);
     let read = sheet::read(
@@ -265,9 +281,9 @@ fn put_both(text: &[u8], first: &mut [f64], second: &mut [f64]) {
         &mut ranges,
     );
     let at = put_read(
-        read, &points, &curves, &reals, &parts, &ranges, first, second, &mut out,
+        read, &points, &curves, &reals, &parts, &ranges, first, second, to, &mut out,
     );
-    replay_text::flush(&out, at);
+    replay_text::flush(to, &out, at);
 }
 
 // A size that a buffer has.
@@ -278,28 +294,50 @@ fn at_most(n: usize) -> usize
 }
 
 // Writes the answer to a sheet, drawn in these buffers.
-fn put_answer(text: &[u8], first: &mut [f64], second: &mut [f64], out: &mut [u8], both: bool)
+fn put_answer(
+    to: Stdout,
+    text: &[u8],
+    first: &mut [f64],
+    second: &mut [f64],
+    out: &mut [u8],
+    both: bool,
+)
     requires { refusal_bytes + line_bytes * most ≤ length out.old }
 {
     if both {
-        put_both(text, first, second);
+        put_both(to, text, first, second);
         return;
     }
     let written = chain_answer::answer(text, first, second, out);
-    io::write_all(STDOUT_FILENO, &out[..written]);
+    let _ = to.write_all(&out[..written]);
 }
 
 // Writes the answer to a sheet, drawn in the first floats of both buffers.
-fn put_sheet(text: &[u8], first: &mut [f64], second: &mut [f64], out: &mut [u8], settings: Settings)
+fn put_sheet(
+    to: Stdout,
+    text: &[u8],
+    first: &mut [f64],
+    second: &mut [f64],
+    out: &mut [u8],
+    settings: Settings,
+)
     requires { (width * most ≤ length first.old) × (width * most ≤ length second.old) × (refusal_bytes + line_bytes * most ≤ length out.old) }
 {
     let n = at_most(settings.first);
     let m = at_most(settings.second);
-    put_answer(text, &mut first[..n], &mut second[..m], out, settings.both);
+    put_answer(
+        to,
+        text,
+        &mut first[..n],
+        &mut second[..m],
+        out,
+        settings.both,
+    );
 }
 
 // A part: a sheet, which is answered, or a setting.
 fn part(
+    to: Stdout,
     text: &[u8],
     first: &mut [f64; FLOATS],
     second: &mut [f64; FLOATS],
@@ -310,7 +348,7 @@ fn part(
     match kind {
         Kind::Setting(next) => next,
         Kind::Sheet => {
-            put_sheet(text, first, second, out, settings);
+            put_sheet(to, text, first, second, out, settings);
             settings
         }
     }
@@ -318,6 +356,7 @@ fn part(
 
 // The part that the first n bytes of the text are.
 fn part_of(
+    to: Stdout,
     text: &[u8],
     n: usize,
     first: &mut [f64; FLOATS],
@@ -328,13 +367,14 @@ fn part_of(
     if text.len() < n {
         return settings;
     }
-    part(&text[..n], first, second, out, settings)
+    part(to, &text[..n], first, second, out, settings)
 }
 
 // All of the input, part by part; its end ends the last. The loop counts its turns down, from a number that no run uses up,
 // since nothing says that an input ends.
-fn main() {
-    let mut chunk = io::large_buffer();
+fn main(rt: HostRuntime) {
+    let to = rt.stdout();
+    let mut chunk = [0u8; 65536];
     let mut text = [0u8; SIZE];
     let mut first = [0.0f64; FLOATS];
     let mut second = [0.0f64; FLOATS];
@@ -347,8 +387,9 @@ fn main() {
     let mut next = replay_text::no_part();
     let mut turns = u64::MAX;
     while 0 < turns {
-        next = replay_text::next_part(&mut text, &mut chunk, next, false);
+        next = replay_text::next_part(rt.stdin(), &mut text, &mut chunk, next, false);
         settings = part_of(
+            to,
             &text,
             next.bytes,
             &mut first,
@@ -359,7 +400,7 @@ fn main() {
         if !next.ended {
             break;
         }
-        io::write_all(STDOUT_FILENO, b"====\n");
+        let _ = to.write_all(b"====\n");
         turns -= 1;
     }
 }

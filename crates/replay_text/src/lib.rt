@@ -7,36 +7,44 @@ ghost use Rattle.std.specs.Float.Ieee.{to_bits};
 ghost use Rattle.text_format.specs.Format.{digits, decimal, width_up_to, hex16};
 ghost use Rattle.replay_text.specs.Own.Waiting.{waits, put_one, puts};
 
-use libc::{STDIN_FILENO, STDOUT_FILENO};
+use std::io::{Print, Read, Stdin, Stdout};
 
 // One byte.
-pub fn put_byte(out: &mut [u8; 4096], at: usize, b: u8) -> usize
+pub fn put_byte(to: Stdout, out: &mut [u8; 4096], at: usize, b: u8) -> usize
     ensures { waits out.new result ≡ put_one b (waits out.old at) }
 {
     if at < 4096 {
         out[at] = b;
         return at + 1;
     }
-    io::write_all(STDOUT_FILENO, out);
+    let _ = to.write_all(out);
     out[0] = b;
     1
 }
 
 // The bytes of w.
-pub fn put_word(out: &mut [u8; 4096], at: usize, w: &[u8]) -> usize
+pub fn put_word(to: Stdout, out: &mut [u8; 4096], at: usize, w: &[u8]) -> usize
     ensures { waits out.new result ≡ puts w.now (waits out.old at) }
 {
     let mut n = at;
     let mut i = 0usize;
     while i < w.len() {
-        n = put_byte(out, n, w[i]);
+        n = put_byte(to, out, n, w[i]);
         i += 1;
     }
     n
 }
 
 // The `left` digits of v, the first of which counts units of base^(left - 1).
-fn put_digits(out: &mut [u8; 4096], at: usize, v: u64, base: u64, left: usize, unit: u64) -> usize
+fn put_digits(
+    to: Stdout,
+    out: &mut [u8; 4096],
+    at: usize,
+    v: u64,
+    base: u64,
+    left: usize,
+    unit: u64,
+) -> usize
     requires { (1 < base) × (base ≤ 16) × (1 ≤ left) × (unit ≡ base ^ (left - 1)) × (v < base ^ left) }
     ensures { waits out.new result ≡ puts (digits base left v) (waits out.old at) }
 {
@@ -46,7 +54,7 @@ fn put_digits(out: &mut [u8; 4096], at: usize, v: u64, base: u64, left: usize, u
     let mut i = left;
     while 0 < i {
         i -= 1;
-        n = put_byte(out, n, text_format::char_of((rest / u) as u8));
+        n = put_byte(to, out, n, text_format::char_of((rest / u) as u8));
         rest = rest % u;
         u = u / base;
     }
@@ -54,11 +62,11 @@ fn put_digits(out: &mut [u8; 4096], at: usize, v: u64, base: u64, left: usize, u
 }
 
 // Sixteen hex digits, then the byte `end`.
-pub fn put_hex(out: &mut [u8; 4096], at: usize, v: u64, end: u8) -> usize
+pub fn put_hex(to: Stdout, out: &mut [u8; 4096], at: usize, v: u64, end: u8) -> usize
     ensures { waits out.new result ≡ puts (hex16.write v ++ (end ∷ [])) (waits out.old at) }
 {
-    let n = put_digits(out, at, v, 16, 16, 0x1000000000000000);
-    put_byte(out, n, end)
+    let n = put_digits(to, out, at, v, 16, 16, 0x1000000000000000);
+    put_byte(to, out, n, end)
 }
 
 // The bits of x, with one pattern for every NaN.
@@ -73,10 +81,10 @@ fn bits(x: f64) -> u64
 }
 
 // The bits of x, then the byte `end`.
-pub fn put_float(out: &mut [u8; 4096], at: usize, x: f64, end: u8) -> usize
+pub fn put_float(to: Stdout, out: &mut [u8; 4096], at: usize, x: f64, end: u8) -> usize
     ensures { waits out.new result ≡ puts (hex16.write (to_bits binary64 x) ++ (end ∷ [])) (waits out.old at) }
 {
-    put_hex(out, at, bits(x), end)
+    put_hex(to, out, at, bits(x), end)
 }
 
 // How many decimal digits n has, and what the first of them counts.
@@ -99,26 +107,26 @@ fn width_of(n: u64) -> Width
 }
 
 // A plain decimal, then the byte `end`.
-pub fn put_decimal(out: &mut [u8; 4096], at: usize, v: u64, end: u8) -> usize
+pub fn put_decimal(to: Stdout, out: &mut [u8; 4096], at: usize, v: u64, end: u8) -> usize
     ensures { waits out.new result ≡ puts (decimal v ++ (end ∷ [])) (waits out.old at) }
 {
     let w = width_of(v);
-    let n = put_digits(out, at, v, 10, w.digits, w.unit);
-    put_byte(out, n, end)
+    let n = put_digits(to, out, at, v, 10, w.digits, w.unit);
+    put_byte(to, out, n, end)
 }
 
 // Writes the first bytes of a buffer.
-fn write_first(out: &[u8], n: usize) {
+fn write_first(to: Stdout, out: &[u8], n: usize) {
     if n <= out.len() {
-        io::write_all(STDOUT_FILENO, &out[..n]);
+        let _ = to.write_all(&out[..n]);
     }
 }
 
 // Writes the bytes that wait: none do afterwards.
-pub fn flush(out: &[u8; 4096], at: usize) -> usize
+pub fn flush(to: Stdout, out: &[u8; 4096], at: usize) -> usize
     ensures { result ≡ 0 }
 {
-    write_first(out, at);
+    write_first(to, out, at);
     0
 }
 
@@ -152,14 +160,14 @@ pub fn no_part() -> Part
 }
 
 // The next chunk, where all of this one is taken. One without bytes is the input's end.
-fn refilled(chunk: &mut [u8], read: usize, taken: usize) -> Chunk
+fn refilled(mut from: Stdin, chunk: &mut [u8], read: usize, taken: usize) -> Chunk
     requires { read ≤ length chunk.old }
     ensures { result.read ≤ length chunk.old }
 {
     if taken < read {
         return Chunk { read, taken };
     }
-    let n = io::count(libc::read(STDIN_FILENO, chunk), chunk);
+    let n = from.read(chunk).unwrap_or(0);
     Chunk { read: n, taken: 0 }
 }
 
@@ -196,7 +204,7 @@ fn without_separator(n: usize) -> usize {
 
 // The part behind the last one, at the start of `text`. The loop counts its turns down, from a number that no run uses up, since
 // nothing says that an input ends.
-pub fn next_part(text: &mut [u8], chunk: &mut [u8], last: Part, exact: bool) -> Part
+pub fn next_part(from: Stdin, text: &mut [u8], chunk: &mut [u8], last: Part, exact: bool) -> Part
     requires { last.read ≤ length chunk.old }
     ensures { result.read ≤ length chunk.old }
 {
@@ -206,7 +214,7 @@ pub fn next_part(text: &mut [u8], chunk: &mut [u8], last: Part, exact: bool) -> 
     let mut taken = last.taken;
     let mut turns = u64::MAX;
     while 0 < turns {
-        let here = refilled(chunk, read, taken);
+        let here = refilled(from, chunk, read, taken);
         read = here.read;
         taken = here.taken;
         if read <= taken {

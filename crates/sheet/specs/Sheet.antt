@@ -2,7 +2,7 @@
 use Rattle.std.specs.Prelude.{List, [], ℕ, ◌*◌, length, take, Float}
 use Rattle.std.specs.Float.{binary64}
 use Rattle.std.specs.Float.Ieee.{of_bits}
-use Rattle.std.specs.Borrow.{Bor}
+use Rattle.std.specs.Borrow.{MutBor}
 use denote.Triple.Both.{Both}
 use Rattle.base_lists.specs.Result.{Result, refused, got}
 use Rattle.text_format.specs.Table.{fields}
@@ -13,7 +13,7 @@ use Rattle.sheet_row.specs.declared.RawEdge.{RawEdge}
 use Rattle.sheet_row.specs.declared.RawOptions.{RawOptions}
 use Rattle.sheet_tables.specs.Flattened.{flattened}
 use Rattle.math.specs.Math.{interval}
-use Rattle.brep.specs.Rows.{Tables, tables, lent}
+use Rattle.brep.specs.Rows.{Tables, tables}
 use Rattle.brep.specs.declared.Edge.{Edge}
 use Rattle.options.specs.declared.Options.{Options}
 use Rattle.options.specs.Options.{radians}
@@ -88,5 +88,5 @@ tables_after (refused cause) = stored no_tables
 tables_after (got raw) = stored (tables_of raw)
 
 -- the tables that a function was lent, as they are at its exit
-abbrev pub written : {A B C D E : Type 0} → Both A (Bor (List Float)) → Both B (Bor (List ℕ)) → Both C (Bor (List Float)) → Both D (Bor (List ℕ)) → Both E (Bor (List Float)) → Tables
-written points curves reals parts ranges = lent points.exit curves.exit reals.exit parts.exit ranges.exit
+abbrev pub written : {A B C D E : Type 0} → Both A (MutBor (List Float)) → Both B (MutBor (List ℕ)) → Both C (MutBor (List Float)) → Both D (MutBor (List ℕ)) → Both E (MutBor (List Float)) → Tables
+written points curves reals parts ranges = tables points.exit.now curves.exit.now reals.exit.now parts.exit.now ranges.exit.now

@@ -35,13 +35,13 @@ module _ (own : ℕ) (small : own < 2 ^ 64) where
   unfolding bits_or is_nan of_bits
   bits_back nan f = go (nan_bits binary64 own) refl
     where
-      is_nan : (y : Float) → is_nan y ≡ true → y ≡ nan
-      is_nan nan e = refl
-      is_nan (inf s) e = absurd (let z : ◌≡◌ {A = ℕ} 0 1 = cc in omega arith)
-      is_nan (fin s m k) e = absurd (let z : ◌≡◌ {A = ℕ} 0 1 = cc in omega arith)
+      is_nan_lem : (y : Float) → is_nan y ≡ true → y ≡ nan
+      is_nan_lem nan e = refl
+      is_nan_lem (inf s) e = absurd (let z : ◌≡◌ {A = ℕ} 0 1 = cc in omega arith)
+      is_nan_lem (fin s m k) e = absurd (let z : ◌≡◌ {A = ℕ} 0 1 = cc in omega arith)
 
       go : (b : Bool) → nan_bits binary64 own ≡ b → of_bits binary64 (cond b own quiet) ≡ nan
-      go true e = is_nan (of_bits binary64 own) (sym (nan_bits_is binary64 own) ∙ e)
+      go true e = is_nan_lem (of_bits binary64 own) (sym (nan_bits_is binary64 own) ∙ e)
       go false e = refl
   bits_back (inf s) f = of_bits-to_bits binary64 (inf s) f
   bits_back (fin s m e) f = of_bits-to_bits binary64 (fin s m e) f

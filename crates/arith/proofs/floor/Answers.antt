@@ -1,8 +1,9 @@
 -- `arith::floor` meets its contract: where the sum is whole, by how x compares with it; elsewhere by `floor_far`. Assumes nothing.
-use Rattle.std.proofs.Common.{◌∙◌, inl, inr}
+use Rattle.std.proofs.Common.{◌∙◌}
 use lib.Ieee.{of_bits}
 use Rattle.arith.proofs.Near.{floor_below, floor_above, floor_at}
 use Rattle.arith.proofs.floor.Goals as goal
+use Rattle.arith.proofs.floor.Goals.{then-n-x, else-n-x}
 
 pub returns-then-x-n : goal.returns-then-x-n
 unfolding of_bits
@@ -18,6 +19,6 @@ returns-else-x-n c =
     let a = d.if-s.true in
     let b = d.if-s-2.true in
     elim c.if-n-x.branch [
-      | inl w ↦ w.1 ∙ floor_above x a b w.0.taken
-      | inr w ↦ w.1 ∙ floor_at x a b c.if-x-n.false w.0.left
+      | then-n-x w ↦ w.most-is ∙ floor_above x a b w.if-n-x.true
+      | else-n-x w ↦ w.most-is ∙ floor_at x a b c.if-x-n.false w.if-n-x.false
     ]

@@ -9,7 +9,8 @@ pub truncating_f64_to_u64-n-requires : goal.truncating_f64_to_u64-n-requires
 unfolding of_bits
 truncating_f64_to_u64-n-requires c =
     let e = c.abs-size.ensures in
-    rw e (can_cut 52 (lit≤ tt) c.args.x (rw e at c.if-size.true))
+    let h = can_cut 52 (lit≤ tt) c.args.x (rw e at c.if-size.true) in
+    record { lower_bound = rw e h.0; upper_bound = rw e h.1 }
 
 pub int_to_float-f : goal.int_to_float-f
 unfolding of_bits

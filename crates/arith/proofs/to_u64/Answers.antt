@@ -6,7 +6,10 @@ use Rattle.arith.proofs.to_u64.Goals as goal
 
 pub truncating_f64_to_u64-requires : goal.truncating_f64_to_u64-requires
 unfolding of_bits neg
-truncating_f64_to_u64-requires c = (subst T (sym c.if-x.true) tt, subst T (sym c.if-x-2.true) tt)
+truncating_f64_to_u64-requires c = record {
+  lower_bound = subst T (sym c.if-x.true) tt;
+  upper_bound = subst T (sym c.if-x-2.true) tt;
+}
 
 pub returns-then-x : goal.returns-then-x
 unfolding of_bits neg

@@ -29,10 +29,10 @@ returns-then-r-rest c = λ t.
     let b1 = c in
     accepted b7.args.n b7.args.q b7.wrapping_sub_u64-r.result b5.wrapping_sub_u64-d.result
     b3.wrapping_sub_u64-e.result b1.wrapping_sub_u64-rest.result
-    b7.requires b7.wrapping_sub_u64-r.ensures c.if-r-ge-TWO_53.false
-    b5.wrapping_sub_u64-d.ensures c.if-d-ge-TWO_30.false
-    b3.wrapping_sub_u64-e.ensures c.if-e-ge-TWO_32.false
-    b1.wrapping_sub_u64-rest.ensures c.if-r-rest.true (leb→le b1.wrapping_sub_u64-rest.result (3 * b7.wrapping_sub_u64-r.result + 2) t)
+    b7.requires b7.wrapping_sub_u64-r.ensures.value c.if-r-ge-TWO_53.false
+    b5.wrapping_sub_u64-d.ensures.value c.if-d-ge-TWO_30.false
+    b3.wrapping_sub_u64-e.ensures.value c.if-e-ge-TWO_32.false
+    b1.wrapping_sub_u64-rest.ensures.value c.if-r-rest.true (leb→le b1.wrapping_sub_u64-rest.result (3 * b7.wrapping_sub_u64-r.result + 2) t)
 
 pub returns-else-r-rest : goal.returns-else-r-rest
 returns-else-r-rest c = λ t.

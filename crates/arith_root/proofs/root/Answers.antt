@@ -8,16 +8,7 @@ use Rattle.arith_root.specs.Root.{root_of}
 use Rattle.arith_root.specs.Ieee.{Units}
 use Rattle.arith_root.proofs.Cases.{nan_root, zero_root, neg_root, inf_root, left, pattern_range}
 use Rattle.arith_root.proofs.Ieee.{nearest_root, as_ieee}
-use Rattle.arith_root.proofs.root.Reads as reads
-use Rattle.arith_root.proofs.root.Lts as lts
-use Rattle.arith_root.proofs.positive.Reads as positive-reads
 use Rattle.arith_root.proofs.root.Goals as goal
-
-is_positive : (c : lts.Else4 (positive-reads.Asked, positive-reads.Learnt) reads.Pre reads.Post)
-    → T (positive c.args.x)
-unfolding of_bits div
-is_positive c = left c.args.x c.if-x.false c.if-x-2.false
-    c.if-x-3.false c.if-x-4.false
 
 no_nan : (x : Float) → T (positive x) → T (not (is_nan x))
 unfolding is_nan
@@ -53,15 +44,18 @@ unfolding of_bits div
 returns-then-x-4 c = let x = c.args.x in as_ieee x x (search rules) (inf_root x c.if-x-4.true)
 
 pub float_to_bits-x : goal.float_to_bits-x
-float_to_bits-x c = no_nan c.args.x (is_positive c)
+unfolding of_bits div
+float_to_bits-x c = no_nan c.args.x (left c.args.x c.if-x.false c.if-x-2.false c.if-x-3.false c.if-x-4.false)
 
 pub positive-requires : goal.positive-requires
-positive-requires c = pattern_range c.args.x (search rules) (is_positive c)
+unfolding of_bits div
+positive-requires c = pattern_range c.args.x (search rules) (left c.args.x c.if-x.false c.if-x-2.false c.if-x-3.false c.if-x-4.false)
 
 pub float_from_bits-result : goal.float_from_bits-result
+unfolding of_bits div
 float_from_bits-result c =
     let x = c.args.x in
-    no-nan-bits x c.positive.result (search rules) (is_positive c)
+    no-nan-bits x c.positive.result (search rules) (left c.args.x c.if-x.false c.if-x-2.false c.if-x-3.false c.if-x-4.false)
     (c.positive.ensures ∙ ap root_of (of_bits-to_bits binary64 x (search rules)))
 
 pub returns : goal.returns

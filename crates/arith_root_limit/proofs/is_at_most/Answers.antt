@@ -2,9 +2,6 @@
 use lib.Ieee.{le}
 use mathlib.Core.Path.{sym, ap}
 use borrow.Author.Rules.{rules}
-use Rattle.arith_root_limit.proofs.is_at_most.Reads as reads
-use Rattle.arith_root_limit.proofs.is_at_most.Lts as lts
-use Rattle.arith_root.proofs.root.Reads as root-reads
 use Rattle.arith_root_limit.proofs.is_at_most.Goals as goal
 
 pub returns-then-limit-s : goal.returns-then-limit-s

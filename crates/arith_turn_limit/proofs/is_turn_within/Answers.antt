@@ -1,9 +1,6 @@
 -- `arith_turn_limit::is_turn_within` meets its contract: at or below the cut the bound answers. Assumes nothing.
 use mathlib.Core.Path.{sym, ap}
 use lib.Ieee.{le}
-use Rattle.arith_turn_limit.proofs.is_turn_within.Reads as reads
-use Rattle.arith_turn_limit.proofs.is_turn_within.Lts as lts
-use Rattle.arith_trig.proofs.acos.Reads as acos-reads
 use Rattle.arith_turn_limit.proofs.is_turn_within.Goals as goal
 
 pub returns-then-square-cut : goal.returns-then-square-cut

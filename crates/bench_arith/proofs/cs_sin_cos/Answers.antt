@@ -6,4 +6,4 @@ use Rattle.bench_arith.proofs.cs_sin_cos.Goals as goal
 
 pub returns : goal.returns
 unfolding sin_cos_of
-returns c = (ap (λ (s : SinCos). s.sin) c.«sin-cos».ensures, ap (λ (s : SinCos). s.cos) c.«sin-cos».ensures)
+returns c = (ap (λ (s : SinCos). s.sin) c.sin_cos-both.ensures, ap (λ (s : SinCos). s.cos) c.sin_cos-both.ensures)

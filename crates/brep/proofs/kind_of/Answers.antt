@@ -2,6 +2,7 @@
 use Rattle.brep.specs.Rows.{kind_of}
 use borrow.Author.Tests.{ne_eqb}
 use native.Mathlib.Nat.{add-zero}
+use native.Mathlib.Omega.{arith}
 use Rattle.brep.proofs.kind_of.Goals as goal
 
 pub returns-in-1 : goal.returns-in-1
@@ -40,5 +41,4 @@ pub returns-in_default : goal.returns-in_default
 unfolding kind_of
 returns-in_default c =
     let k = c.args.kind in
-    let n = c.in_default.rest in
-    simp (ne_eqb k 1 n.0.0.0.0.0.0.0.1, ne_eqb k 2 n.0.0.0.0.0.0.1, ne_eqb k 3 n.0.0.0.0.0.1, ne_eqb k 4 n.0.0.0.0.1, ne_eqb k 5 n.0.0.0.1, ne_eqb k 6 n.0.0.1, ne_eqb k 7 n.0.1, ne_eqb k 8 n.1)
+    simp (ne_eqb k 1 (omega arith), ne_eqb k 2 (omega arith), ne_eqb k 3 (omega arith), ne_eqb k 4 (omega arith), ne_eqb k 5 (omega arith), ne_eqb k 6 (omega arith), ne_eqb k 7 (omega arith), ne_eqb k 8 (omega arith))

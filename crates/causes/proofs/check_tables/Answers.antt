@@ -27,4 +27,4 @@ returns-in-0 c = accepted _ (sym c.oversize.ensures ∙ c.if-oversize.false) (sy
 
 pub returns-in_default : goal.returns-in_default
 unfolding malformed_segment
-returns-in_default c = refused _ (sym c.oversize.ensures ∙ c.if-oversize.false) (sym c.unbounded_tables.ensures ∙ c.if-unbounded_tables.false) (rw (c.either.ensures, c.ragged-ragged.ensures, c.malformed_segments-segments.ensures) at c.if-either.false) c.rows_cause.ensures c.in_default.rest.1
+returns-in_default c = refused _ (sym c.oversize.ensures ∙ c.if-oversize.false) (sym c.unbounded_tables.ensures ∙ c.if-unbounded_tables.false) (rw (c.either.ensures, c.ragged-ragged.ensures, c.malformed_segments-segments.ensures) at c.if-either.false) c.rows_cause.ensures (omega arith)

@@ -1,6 +1,5 @@
 -- `causes_bounds::any_beyond` meets its contract. The invariant: none of the floats passed is beyond. Assumes nothing.
 use Rattle.causes_bounds.proofs.Laws.{clear_none, clear_more, clear_found, clear_all}
-use Rattle.causes_bounds.specs.Bounds.{beyond}
 use borrow.Author.Rules.{rules}
 use Rattle.causes_bounds.proofs.any_beyond.Goals as goal
 

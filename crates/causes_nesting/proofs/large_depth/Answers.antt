@@ -33,7 +33,7 @@ loop-n-preserved c =
       omega arith,
       deepest_all _ _ _ _ (l.n * 16 + 16) _ _ (omega arith) (deepest_block _ _ _ _ 16 (l.n * 16) _ _ _ _ (omega arith) l.invariant.1 t.ensures.0 c.larger-depth.ensures),
       t.ensures.1,
-      t.auto.1.1.0 ∙ l.invariant.3,
+      t.auto.blocks ∙ l.invariant.3,
     )
 
 pub shape_of-blocks : goal.shape_of-blocks

@@ -1,5 +1,6 @@
 -- `causes_nesting::row_depth` meets its contract: by the kind of its row. Assumes nothing.
 use mathlib.Core.Path.{sym, ◌∙◌}
+use native.Mathlib.Omega.{arith}
 use Rattle.causes_nesting.proofs.Depths.{trim_depth, composite_depth, other_depth}
 use Rattle.causes_nesting.proofs.row_depth.Goals as goal
 
@@ -13,4 +14,4 @@ pub returns-in-7 : goal.returns-in-7
 returns-in-7 c = (composite_depth _ _ _ _ c.int_at-kind.ensures c.int_at-first.ensures c.in-7.is c.int_at-count.ensures c.run_depth.ensures.0 c.one_deeper-in-7.ensures, c.run_depth.ensures.1)
 
 pub returns-in_default : goal.returns-in_default
-returns-in_default c = (other_depth _ _ _ _ c.int_at-kind.ensures c.int_at-first.ensures c.in_default.rest.0.1 c.in_default.rest.1, c.requires.0)
+returns-in_default c = (other_depth _ _ _ _ c.int_at-kind.ensures c.int_at-first.ensures (omega arith) (omega arith), c.requires.0)

@@ -13,7 +13,7 @@ pub overflow_cast-rows : goal.overflow_cast-rows
 overflow_cast-rows c = omega arith
 
 pub loop-row-init : goal.loop-row-init
-loop-row-init c = (search rules, gone_none _ _ _ _ (blocks_none _ _ _ _ _ c.requires.1.0.0 c.requires.1.1.0 c.requires.1.0.2 c.requires.1.1.1), refl, refl, refl)
+loop-row-init c = (search rules, gone_none _ _ _ _ (blocks_none _ _ _ _ _ c.requires.none_known.0 c.requires.none_known_2.0 c.requires.none_known.2 c.requires.none_known_2.1), refl, refl, refl)
 
 pub malformed_row-requires : goal.malformed_row-requires
 malformed_row-requires c = omega arith
@@ -31,7 +31,7 @@ pub returns-then-malformed_row : goal.returns-then-malformed_row
 returns-then-malformed_row c = gone_malformed _ _ _ _ _ _ c.loop-row.invariant.1 c.loop-row-test.true (sym c.malformed_row.ensures ∙ c.if-malformed_row.true)
 
 pub row_depth-depth-requires : goal.row_depth-depth-requires
-row_depth-depth-requires c = (gone_known _ _ _ _ _ _ c.loop-row.invariant.1 c.if-lowest-ne4.true, λ k. omega (arith, c.requires.1.0.1, c.loop-row.invariant.3, composite_inside _ _ (sym c.malformed_row.ensures ∙ c.if-malformed_row.false) k))
+row_depth-depth-requires c = (gone_known _ _ _ _ _ _ c.loop-row.invariant.1 c.if-lowest-ne4.true, λ k. omega (arith, c.requires.none_known.1, c.loop-row.invariant.3, composite_inside _ _ (sym c.malformed_row.ensures ∙ c.if-malformed_row.false) k))
 
 pub bounds-depths-row : goal.bounds-depths-row
 bounds-depths-row c = omega arith
@@ -46,19 +46,22 @@ pub loop-row-preserved : goal.loop-row-preserved
 loop-row-preserved c =
     let l = c.loop-row in
     let m = sym c.malformed_row.ensures ∙ c.if-malformed_row.false in
-    elim c.if-lowest-ne4.branch [ then-lowest-ne4 w ↦ (
-      omega arith,
-      rw (w.10, w.11, w.12, w.13) (gone_more _ _ _ _ _ _ l.invariant.1 w.if-lowest-ne4.true m (omega arith) _ _ w.4.ensures.1 _ w.4.ensures.0 _ w.9.ensures),
-      rw w.10 (simp length-set l.invariant.2),
-      rw w.11 (w.4.kept.1.1.1.0 ∙ l.invariant.3),
-      rw w.12 (w.4.kept.1.1.1.1.0 ∙ l.invariant.4),
-    ) | else-lowest-ne4 w ↦ (
-      omega arith,
-      rw (w.1, w.2, w.3, w.4) (gone_four _ _ _ _ _ _ l.invariant.1 w.if-lowest-ne4.false m),
-      rw w.1 l.invariant.2,
-      rw w.2 l.invariant.3,
-      rw w.3 l.invariant.4,
-    ) ]
+    elim c.if-lowest-ne4.branch [
+      | then-lowest-ne4 w ↦ (
+        omega arith,
+        rw (w.depths-is, w.blocks-is, w.larges-is, w.lowest-is) (gone_more _ _ _ _ _ _ l.invariant.1 w.if-lowest-ne4.true m (omega arith) _ _ w.row_depth-depth.ensures.1 _ w.row_depth-depth.ensures.0 _ w.cause_with-lowest.ensures),
+        rw w.depths-is (simp length-set l.invariant.2),
+        rw w.blocks-is (w.row_depth-depth.auto.blocks ∙ l.invariant.3),
+        rw w.larges-is (w.row_depth-depth.auto.larges ∙ l.invariant.4),
+      )
+      | else-lowest-ne4 w ↦ (
+        omega arith,
+        rw (w.depths-is, w.blocks-is, w.larges-is, w.lowest-is) (gone_four _ _ _ _ _ _ l.invariant.1 w.if-lowest-ne4.false m),
+        rw w.depths-is l.invariant.2,
+        rw w.blocks-is l.invariant.3,
+        rw w.larges-is l.invariant.4,
+      )
+    ]
 
 pub shape_of-depths : goal.shape_of-depths
 shape_of-depths c = c.loop-row.invariant.2

@@ -1,8 +1,6 @@
 -- `causes_nesting::run_depth` meets its contract. The invariant: depth is the largest of the first n segments of the run. Assumes nothing.
 use mathlib.Core.Path.{refl, ◌∙◌}
-use Prim.Native.Nat.{◌+◌}
 use native.Mathlib.Omega.{arith}
-use borrow.Author.Tests.{leb-true}
 use Rattle.causes_nesting.proofs.Depths.{deepest_none, deepest_more, deepest_block, deepest_all, blocks_small}
 use Rattle.causes_nesting.proofs.run_depth.Goals as goal
 
@@ -18,7 +16,7 @@ overflow_add-n c = omega (arith, c.requires.1, c.requires.0.few)
 pub large_depth-requires : goal.large_depth-requires
 large_depth-requires c =
     let l = c.loop-n in
-    let w = leb-true (l.n + 256) c.args.count c.if-n-count.true in
+    let w = c.if-n-count.true in
     (l.invariant.2, omega (arith, w, c.requires.1, c.requires.0.few, l.invariant.2.enough, l.invariant.3), omega (arith, w, c.requires.1, c.requires.0.few, l.invariant.3))
 
 pub overflow_add-n-then-n-count : goal.overflow_add-n-then-n-count
@@ -31,11 +29,11 @@ pub loop-n-preserved-then-n-count : goal.loop-n-preserved-then-n-count
 loop-n-preserved-then-n-count c =
     let l = c.loop-n in
     let t = c.large_depth in (
-      omega (arith, leb-true (l.n + 256) c.args.count c.if-n-count.true),
+      omega (arith, c.if-n-count.true),
       deepest_block _ _ _ _ 256 _ _ _ _ _ (omega arith) l.invariant.1 t.ensures.0 c.larger-depth.ensures,
       t.ensures.1,
-      t.auto.1.1.0 ∙ l.invariant.3,
-      t.auto.1.1.1.0 ∙ l.invariant.4,
+      t.auto.blocks ∙ l.invariant.3,
+      t.auto.larges ∙ l.invariant.4,
     )
 
 pub overflow_add-n-then-i-eq0-2 : goal.overflow_add-n-then-i-eq0-2
@@ -44,7 +42,7 @@ overflow_add-n-then-i-eq0-2 c = omega (arith, c.requires.1, c.requires.0.few)
 pub block_depth-requires : goal.block_depth-requires
 block_depth-requires c =
     let l = c.loop-n in
-    let w = leb-true (l.n + 16) c.args.count c.if-n-count-2.true in
+    let w = c.if-n-count-2.true in
     (l.invariant.2.small, omega (arith, w, c.requires.1, c.requires.0.few, l.invariant.3), l.invariant.2.few)
 
 pub overflow_add-n-then-n-count-2 : goal.overflow_add-n-then-n-count-2
@@ -57,10 +55,10 @@ pub loop-n-preserved-then-n-count-2 : goal.loop-n-preserved-then-n-count-2
 loop-n-preserved-then-n-count-2 c =
     let l = c.loop-n in
     let t = c.block_depth in (
-      omega (arith, leb-true (l.n + 16) c.args.count c.if-n-count-2.true),
+      omega (arith, c.if-n-count-2.true),
       deepest_block _ _ _ _ 16 _ _ _ _ _ (omega arith) l.invariant.1 t.ensures.0 c.larger-depth-then-n-count-2.ensures,
-      blocks_small l.invariant.2 _ t.auto.1.1.0 t.ensures.1,
-      t.auto.1.1.0 ∙ l.invariant.3,
+      blocks_small l.invariant.2 _ t.auto.blocks t.ensures.1,
+      t.auto.blocks ∙ l.invariant.3,
       l.invariant.4,
     )
 

@@ -27,16 +27,16 @@ pub returns-in-Refused : goal.returns-in-Refused
 returns-in-Refused c = let a = c.args in show_refusal a.lo a.hi a.drawn a.first.now a.second.now _ _ _ _ c.in-Refused.is c.write_refusal.ensures
 
 pub returns-in-AsDrawn : goal.returns-in-AsDrawn
-returns-in-AsDrawn c = let a = c.args in let k = c.drawn-in-Chain-1.given in show_chain a.lo a.hi a.drawn a.first.now a.second.now _ _ _ AsDrawn k.0.1.0 (k.1 ∙ ap (λ (w : Way). Chain w k.0.1.0) c.in-AsDrawn.is) c.write_chain.ensures
+returns-in-AsDrawn c = let a = c.args in let k = c.in-Chain in show_chain a.lo a.hi a.drawn a.first.now a.second.now _ _ _ AsDrawn k.n (k.is ∙ ap (λ (w : Way). Chain w k.n) c.in-AsDrawn.is) c.write_chain.ensures
 
 pub returns-in-Chord : goal.returns-in-Chord
-returns-in-Chord c = let a = c.args in let k = c.drawn-in-Chain-1.given in show_chain a.lo a.hi a.drawn a.first.now a.second.now _ _ _ Chord k.0.1.0 (k.1 ∙ ap (λ (w : Way). Chain w k.0.1.0) c.in-Chord.is) c.write_chain-in-Chord.ensures
+returns-in-Chord c = let a = c.args in let k = c.in-Chain in show_chain a.lo a.hi a.drawn a.first.now a.second.now _ _ _ Chord k.n (k.is ∙ ap (λ (w : Way). Chain w k.n) c.in-Chord.is) c.write_chain-in-Chord.ensures
 
 pub returns-in-Complement : goal.returns-in-Complement
-returns-in-Complement c = let a = c.args in let k = c.drawn-in-Chain-1.given in show_chain a.lo a.hi a.drawn a.first.now a.second.now _ _ _ Complement k.0.1.0 (k.1 ∙ ap (λ (w : Way). Chain w k.0.1.0) c.in-Complement.is) c.write_chain-in-Complement.ensures
+returns-in-Complement c = let a = c.args in let k = c.in-Chain in show_chain a.lo a.hi a.drawn a.first.now a.second.now _ _ _ Complement k.n (k.is ∙ ap (λ (w : Way). Chain w k.n) c.in-Complement.is) c.write_chain-in-Complement.ensures
 
 pub returns-in-ShortArc : goal.returns-in-ShortArc
-returns-in-ShortArc c = let a = c.args in let k = c.drawn-in-Chain-1.given in show_chain a.lo a.hi a.drawn a.first.now a.second.now _ _ _ ShortArc k.0.1.0 (k.1 ∙ ap (λ (w : Way). Chain w k.0.1.0) c.in-ShortArc.is) c.write_chain-in-ShortArc.ensures
+returns-in-ShortArc c = let a = c.args in let k = c.in-Chain in show_chain a.lo a.hi a.drawn a.first.now a.second.now _ _ _ ShortArc k.n (k.is ∙ ap (λ (w : Way). Chain w k.n) c.in-ShortArc.is) c.write_chain-in-ShortArc.ensures
 
 pub returns-in-Runaway : goal.returns-in-Runaway
-returns-in-Runaway c = let a = c.args in let k = c.drawn-in-Chain-1.given in show_chain a.lo a.hi a.drawn a.first.now a.second.now _ _ _ Runaway k.0.1.0 (k.1 ∙ ap (λ (w : Way). Chain w k.0.1.0) c.in-Runaway.is) c.write_chain-in-Runaway.ensures
+returns-in-Runaway c = let a = c.args in let k = c.in-Chain in show_chain a.lo a.hi a.drawn a.first.now a.second.now _ _ _ Runaway k.n (k.is ∙ ap (λ (w : Way). Chain w k.n) c.in-Runaway.is) c.write_chain-in-Runaway.ensures

@@ -1,5 +1,6 @@
 -- `curve::is_sampled` meets its contract. Assumes nothing.
 use mathlib.Core.Path.{refl, ◌∙◌}
+use borrow.Author.Rules.{rules}
 use Rattle.brep.proofs.ByKind.{at_line, at_circle, at_ellipse, at_parabola, at_polyline, at_composite, at_hyperbola}
 use Rattle.curve.specs.Eval.{is_sampled}
 use Rattle.curve_parameter.proofs.Under.{under_same, under_rest}
@@ -35,4 +36,4 @@ returns-in-8 c = at_hyperbola is_sampled _ _ c.int_at-kind.ensures c.in-8.is ref
 
 pub returns-in_default : goal.returns-in_default
 unfolding is_sampled
-returns-in_default c = under_rest is_sampled (λ b r. refl) _ _ c.under_trims.ensures c.int_at-kind.ensures c.in_default.rest
+returns-in_default c = under_rest is_sampled (λ b r. refl) _ _ c.under_trims.ensures c.int_at-kind.ensures (search rules)

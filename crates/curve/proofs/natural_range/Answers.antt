@@ -1,5 +1,6 @@
 -- `curve::natural_range` meets its contract. Assumes nothing.
 use mathlib.Core.Path.{refl, ◌∙◌}
+use borrow.Author.Rules.{rules}
 use Rattle.brep.proofs.ByKind.{at_line, at_circle, at_ellipse, at_parabola, at_polyline, at_trim, at_composite, at_hyperbola, at_unknown}
 use Rattle.curve.specs.Eval.{natural_range}
 use Rattle.curve.proofs.Laws.{polyline_range, nothing_range, composite_range}
@@ -39,4 +40,4 @@ returns-in-8 c = at_hyperbola natural_range _ _ c.int_at-kind.ensures c.in-8.is 
 
 pub returns-in_default : goal.returns-in_default
 unfolding natural_range
-returns-in_default c = nothing_range ∙ at_unknown natural_range _ _ c.int_at-kind.ensures c.in_default.rest
+returns-in_default c = nothing_range ∙ at_unknown natural_range _ _ c.int_at-kind.ensures (search rules)

@@ -1,5 +1,6 @@
 -- `curve::period` meets its contract. Assumes nothing.
 use mathlib.Core.Path.{refl, ◌∙◌}
+use borrow.Author.Rules.{rules}
 use Rattle.brep.proofs.ByKind.{at_line, at_circle, at_ellipse, at_parabola, at_polyline, at_composite, at_hyperbola}
 use Rattle.curve.specs.Eval.{period, closes}
 use Rattle.curve_parameter.proofs.Under.{under_same, under_rest}
@@ -35,4 +36,4 @@ returns-in-8 c = at_hyperbola period _ _ c.int_at-kind.ensures c.in-8.is refl re
 
 pub returns-in_default : goal.returns-in_default
 unfolding period closes
-returns-in_default c = under_rest period (λ b r. refl) _ _ c.under_trims.ensures c.int_at-kind.ensures c.in_default.rest
+returns-in_default c = under_rest period (λ b r. refl) _ _ c.under_trims.ensures c.int_at-kind.ensures (search rules)

@@ -1,11 +1,10 @@
 -- `curve_asks::run_may_ask` meets its contract. The loop's invariant: none of the segments gone through is risky, and those that are left decide it. Assumes nothing.
 use mathlib.Core.Path.{◌∙◌}
-use mathlib.Core.Logic.{⊎_elim}
 use Rattle.brep.specs.Rows.{tables}
 use Rattle.curve_asks.specs.Own.Risk.{some_hyperbola}
-use Rattle.curve_asks.proofs.Left.{left_start, left_found, quiet_calm, quiet_other, left_composite, left_other, left_end}
+use Rattle.curve_asks.proofs.Left.{Quiet, left_start, left_found, quiet_calm, quiet_other, left_composite, left_other, left_end}
 use Rattle.curve_asks.proofs.run_may_ask.Goals as goal
-use Rattle.curve_asks.proofs.run_may_ask.Goals.{else-kind-eq7, then-kind-eq7}
+use Rattle.curve_asks.proofs.run_may_ask.Goals.{else-kind-eq7, then-kind-eq7, else-kind-eq8-via-then-kind-eq8+else-is_wild, else-kind-eq8-via-else-kind-eq8}
 
 pub loop-i-init : goal.loop-i-init
 loop-i-init c points reals =
@@ -27,9 +26,14 @@ loop-i-preserved c points reals =
     let l = c.loop-i-test.true in
     let e = c.int_at-base.ensures in
     let k = c.kind_below-kind.ensures points reals a.parts.now a.ranges.now in
-    let q = ⊎_elim (λ w. quiet_calm T a.row a.first a.count i v l _ _ e k w.0.taken w.1.ensures w.2.left)
-    (λ w. quiet_other T a.row a.first a.count i v l _ _ e k w.left) c.else-kind-eq8.branch in
-    elim c.if-kind-eq7.branch [ then-kind-eq7 w ↦ rw w.1 (left_composite T a.row a.first a.count i v l _ _ e k q w.if-kind-eq7.true) | else-kind-eq7 w ↦ rw w.1 (left_other T a.row a.first a.count i v l _ _ e k q w.if-kind-eq7.false) ]
+    let q : Quiet T a.row a.first a.count c.int_at-base.result i = elim c.else-kind-eq8.branch [
+      | else-kind-eq8-via-then-kind-eq8+else-is_wild w ↦ quiet_calm T a.row a.first a.count i v l _ _ e k w.if-kind-eq8.true w.is_wild.ensures w.if-is_wild.false
+      | else-kind-eq8-via-else-kind-eq8 w ↦ quiet_other T a.row a.first a.count i v l _ _ e k w.if-kind-eq8.false
+    ] in
+    elim c.if-kind-eq7.branch [
+      | then-kind-eq7 w ↦ rw w.composite-is (left_composite T a.row a.first a.count i v l _ _ e k q w.if-kind-eq7.true)
+      | else-kind-eq7 w ↦ rw w.composite-is (left_other T a.row a.first a.count i v l _ _ e k q w.if-kind-eq7.false)
+    ]
 
 pub returns-then-composite : goal.returns-then-composite
 returns-then-composite c points reals =

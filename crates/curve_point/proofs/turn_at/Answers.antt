@@ -3,6 +3,7 @@ use Rattle.curve_point.specs.Own.Turn.{sin_cos_for}
 use Rattle.arith_exp.specs.Own.Hyperbolic.{hyperbolic_of}
 use borrow.Author.Tests.{ne_eqb}
 use mathlib.Core.Path.{sym}
+use native.Mathlib.Omega.{arith}
 use Rattle.curve_point.proofs.turn_at.Goals as goal
 
 pub returns-in-2 : goal.returns-in-2
@@ -19,4 +20,4 @@ returns-in-8 c = rw (sym c.int_at.ensures, c.in-8.is, c.cosh_sinh-h.ensures)
 
 pub returns-in_default : goal.returns-in_default
 unfolding sin_cos_for
-returns-in_default c = rw (sym c.int_at.ensures, ne_eqb _ 2 c.in_default.rest.0.0.1, ne_eqb _ 3 c.in_default.rest.0.1, ne_eqb _ 8 c.in_default.rest.1)
+returns-in_default c = rw (sym c.int_at.ensures, ne_eqb c.int_at.result 2 (omega arith), ne_eqb c.int_at.result 3 (omega arith), ne_eqb c.int_at.result 8 (omega arith))

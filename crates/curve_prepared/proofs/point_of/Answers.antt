@@ -1,32 +1,22 @@
 -- `curve_prepared::point_of` meets its contract. Assumes nothing.
 use mathlib.Core.Path.{◌≡◌, refl, sym, ◌∙◌}
-use mathlib.Core.Bool.{true}
-use mathlib.Core.List.{◌∷◌}
-use mathlib.Core.Logic.{⊎_elim}
-use Prim.Native.Nat.{ℕ, ◌<◌}
-use native.Mathlib.Omega.{arith}
-use denote.Enum.Declared.{tag_of}
-use types.Run.{OneOf}
+use mathlib.Core.Bool.{Bool, true}
 use Rattle.curve_prepared.specs.declared.Prepared.{Prepared}
 use Rattle.curve_prepared.specs.declared.Prepared.TheVariants.{Line, Round, Parabola, Other}
 use Rattle.curve_prepared.specs.Own.Prepared.{is_plain, prepared_point}
-use Rattle.curve_prepared.specs.contracts.Prepared.{the_type}
 use Rattle.curve_prepared.proofs.Laws.{point_by, plain_is}
 use Rattle.curve_prepared.proofs.point_of.Goals as goal
 
 -- every variant but the last
-plain : (r : Prepared) → OneOf (0 ∷ 1 ∷ 2 ∷ []) (tag_of the_type r) → is_plain r ≡ true
+plain : (r : Prepared) → ((closed : Bool) → r ≡ Other closed → ⊥) → is_plain r ≡ true
 unfolding is_plain
 plain (Line o d) h = refl
 plain (Round o x y a b) h = refl
 plain (Parabola o x y d) h = refl
-plain (Other closed) h = absurd (omega (arith, below 3 h))
-  where
-    below : (k : ℕ) → OneOf (0 ∷ 1 ∷ 2 ∷ []) k → k < 3
-    below k w = ⊎_elim (λ e. omega arith) (⊎_elim (λ e. omega arith) (λ e. omega arith)) w
+plain (Other closed) h = absurd (h closed refl)
 
 pub returns-in_default : goal.returns-in_default
-returns-in_default c = c.plain_point.ensures ∙ plain_is _ _ _ (plain _ c.in_default.keys2)
+returns-in_default c = c.plain_point.ensures ∙ plain_is _ _ _ (plain _ c.in_default.not-Other)
 
 pub other_point-requires : goal.other_point-requires
 other_point-requires c = sym c.in-Other.is ∙ c.requires

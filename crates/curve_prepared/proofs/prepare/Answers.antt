@@ -37,4 +37,4 @@ returns-in-8 c = at_hyperbola prepared_of _ _ c.int_at-kind.ensures c.in-8.is re
 
 pub returns-in_default : goal.returns-in_default
 unfolding prepared_of closes
-returns-in_default c = under_rest prepared_of (λ b r. refl) _ _ c.under_trims-r.ensures c.int_at-kind.ensures c.in_default.rest
+returns-in_default c = under_rest prepared_of (λ b r. refl) _ _ c.under_trims-r.ensures c.int_at-kind.ensures (search rules)

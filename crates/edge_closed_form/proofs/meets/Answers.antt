@@ -21,12 +21,12 @@ limit-at sag l e = ap (λ (x : Limit). x.at) e
 pub slice_bounds-params-end : goal.slice_bounds-params-end
 slice_bounds-params-end c =
     let st = c in
-    sym (length-take-le st.args.n st.args.out.now st.pre.0)
+    sym (length-take-le st.args.n st.args.out.now st.requires.0)
 
 pub worst_square-worst-requires : goal.worst_square-worst-requires
 worst_square-worst-requires c =
     let st = c in
-    (ap is_plain c.prepare-prepared.ensures ∙ st.pre.2, omega (arith, length-take-le st.args.n st.args.out.now st.pre.0, st.pre.1))
+    (ap is_plain c.prepare-prepared.ensures ∙ st.requires.2, omega (arith, length-take-le st.args.n st.args.out.now st.requires.0, st.requires.1))
 
 pub is_at_most-requires : goal.is_at_most-requires
 is_at_most-requires c = subst Stands (sym c.limit_of-limit.ensures) (stands c.args.sag)

@@ -77,14 +77,14 @@ loop-i-preserved c =
           ),
       inside,
       refl,
-      c.put.auto.0 ∙ l.invariant.4,
+      c.put.auto.chain ∙ l.invariant.4,
     )
 
 pub put-requires-2 : goal.put-requires-2
 put-requires-2 c = omega (arith, c.loop-i.invariant.2, c.loop-i.invariant.4, c.requires.1)
 
 pub shape_of-chain : goal.shape_of-chain
-shape_of-chain c = c.put-2.auto.0 ∙ c.loop-i.invariant.4
+shape_of-chain c = c.put-2.auto.chain ∙ c.loop-i.invariant.4
 
 pub returns : goal.returns
 returns c = λ (k : CurveTree) e.

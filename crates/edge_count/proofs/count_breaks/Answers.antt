@@ -16,71 +16,77 @@ use Rattle.edge_sample.proofs.Broken.{not_many, kept_room, kept_list}
 use Rattle.edge_count.proofs.Laws.{range_far, range_near}
 use Rattle.edge_count.proofs.count_breaks.Goals as goal
 
--- the curve that is read
-abbrev curve-of : tie.Start → CurveTree
-curve-of st =
-    let a = st.args in
-    tree (tables a.points.now a.curves.now a.reals.now a.parts.now a.ranges.now) a.row
-
--- the breaks stand at the array's start
-breaks-of : (f : tie.After-found) → let st = f in let out = f.curve_breaks-found.last.1.1.1.1.1.1.1.1.0 in let n = f.found.given.0.0 in
-    (n ≤ length out) × (take n out ≡ curve_breaks (curve-of st) st.args.range.lo st.args.range.hi)
-breaks-of f =
-    let st = f in
-    let a = st.args in
-    let s = some_found _ (curve-of st) a.range.lo a.range.hi f.curve_breaks-found.result _ f.curve_breaks-found.ensures.0 f.curve_breaks-found.ensures.1 f.breaks-2-1.given f.found.given.0.0 f.found.given.1 in
-    (part_room s, part s)
-
--- the knots fit what curve_breaks left of the array
-fits : (k : tie.After-breaks2) → length (curve_knots (curve-of k)) ≤ length k.curve_breaks-found.last.1.1.1.1.1.1.1.1.0
-fits k = omega (arith, k.pre.0, k.breaks2.given)
-
--- those that are kept stand at its start
-kept_of : (f : tie.After-kept) → let st = f in let out = f.kept_breaks-kept.last.1.1.1.1.1.1.1.1.1.0 in let m = f.kept.given.0.0 in
-    (m ≤ length out) × (take m out ≡ kept_breaks (curve-of st) st.args.range.lo st.args.range.hi st.args.r.sag)
-kept_of f =
-    let st = f in
-    let a = st.args in
-    let k = f.kept_breaks-kept in (
-      kept_room (curve-of st) a.range.lo a.range.hi a.r.sag _ k.result (fits f) k.ensures.0 _ _ refl k.ensures.1 _ f.kept.given.1 (f.breaks-5-1.given ∙ sym f.breaks-2-1.given),
-      kept_list (curve-of st) a.range.lo a.range.hi a.r.sag _ k.result (fits f) k.ensures.0 _ _ refl k.ensures.1 _ f.kept.given.1,
-    )
-
 pub returns-in_default : goal.returns-in_default
 returns-in_default c =
-    let st = c in
-    let a = st.args in
-    absurd (omega (arith, st.pre.0, exceeded (curve-of st) most_knots (curve_breaks (curve-of st) a.range.lo a.range.hi) (sym c.curve_breaks-found.ensures.0 ∙ c.in_default.is)))
+    let a = c.args in
+    let curve : CurveTree = tree (tables a.points.now a.curves.now a.reals.now a.parts.now a.ranges.now) a.row in
+    absurd (omega (arith, c.requires.0, exceeded curve most_knots (curve_breaks curve a.range.lo a.range.hi) (sym c.curve_breaks-found.ensures.0 ∙ c.in_default.is)))
 
+-- the breaks stand at the array's start
 pub slice_bounds-breaks-end : goal.slice_bounds-breaks-end
-slice_bounds-breaks-end c = (breaks-of c).0
+slice_bounds-breaks-end c =
+    let a = c.args in
+    let curve : CurveTree = tree (tables a.points.now a.curves.now a.reals.now a.parts.now a.ranges.now) a.row in
+    let found = c.curve_breaks-found in
+    let s = some_found _ curve a.range.lo a.range.hi found.result _ found.ensures.0 found.ensures.1 found.auto.out c.in-Count.n c.in-Count.is in
+    part_room s
 
 pub slice_bounds-thin_far-end : goal.slice_bounds-thin_far-end
-slice_bounds-thin_far-end c = sym (length-take-le _ _ (breaks-of c).0)
+slice_bounds-thin_far-end c =
+    let a = c.args in
+    let curve : CurveTree = tree (tables a.points.now a.curves.now a.reals.now a.parts.now a.ranges.now) a.row in
+    let found = c.curve_breaks-found in
+    let s = some_found _ curve a.range.lo a.range.hi found.result _ found.ensures.0 found.ensures.1 found.auto.out c.in-Count.n c.in-Count.is in
+    sym (length-take-le _ _ (part_room s))
 
 pub returns-then-thin_far : goal.returns-then-thin_far
 returns-then-thin_far c =
-    let st = c in
-    let a = st.args in
-    range_far a.room (curve-of st) a.range a.r (breaks-of c).1 c.thin_far.ensures c.if-thin_far.true
+    let a = c.args in
+    let curve : CurveTree = tree (tables a.points.now a.curves.now a.reals.now a.parts.now a.ranges.now) a.row in
+    let found = c.curve_breaks-found in
+    let s = some_found _ curve a.range.lo a.range.hi found.result _ found.ensures.0 found.ensures.1 found.auto.out c.in-Count.n c.in-Count.is in
+    range_far a.room curve a.range a.r (part s) c.thin_far.ensures c.if-thin_far.true
 
+-- the knots fit what curve_breaks left of the array
 pub returns-in_default-kept : goal.returns-in_default-kept
 returns-in_default-kept c =
-    let st = c in
-    let a = st.args in
-    absurd (not_many (curve-of st) a.range.lo a.range.hi a.r.sag _ c.kept_breaks-kept.result (fits c) c.kept_breaks-kept.ensures.0 c.in_default-kept.is)
+    let a = c.args in
+    let curve : CurveTree = tree (tables a.points.now a.curves.now a.reals.now a.parts.now a.ranges.now) a.row in
+    let k = c.kept_breaks-kept in
+    let fits : length (curve_knots curve) ≤ length c.curve_breaks-found.new.out = omega (arith, c.requires.0, c.curve_breaks-found.auto.out) in
+    absurd (not_many curve a.range.lo a.range.hi a.r.sag _ k.result fits k.ensures.0 c.in_default-kept.is)
 
+-- those that are kept stand at its start
 pub slice_bounds-breaks-end-2 : goal.slice_bounds-breaks-end-2
-slice_bounds-breaks-end-2 c = (kept_of c).0
+slice_bounds-breaks-end-2 c =
+    let a = c.args in
+    let curve : CurveTree = tree (tables a.points.now a.curves.now a.reals.now a.parts.now a.ranges.now) a.row in
+    let k = c.kept_breaks-kept in
+    let fits : length (curve_knots curve) ≤ length c.curve_breaks-found.new.out = omega (arith, c.requires.0, c.curve_breaks-found.auto.out) in
+    let same : length k.new.out ≡ length c.curve_breaks-found.new.out = omega (arith, k.auto.out, c.curve_breaks-found.auto.out) in
+    kept_room curve a.range.lo a.range.hi a.r.sag _ k.result fits k.ensures.0 _ _ refl k.ensures.1 _ c.in-Count-kept.is same
 
 pub slice_bounds-count_walk-end : goal.slice_bounds-count_walk-end
-slice_bounds-count_walk-end c = sym (length-take-le _ _ (kept_of c).0)
+slice_bounds-count_walk-end c =
+    let a = c.args in
+    let curve : CurveTree = tree (tables a.points.now a.curves.now a.reals.now a.parts.now a.ranges.now) a.row in
+    let k = c.kept_breaks-kept in
+    let fits : length (curve_knots curve) ≤ length c.curve_breaks-found.new.out = omega (arith, c.requires.0, c.curve_breaks-found.auto.out) in
+    let same : length k.new.out ≡ length c.curve_breaks-found.new.out = omega (arith, k.auto.out, c.curve_breaks-found.auto.out) in
+    sym (length-take-le _ _ (kept_room curve a.range.lo a.range.hi a.r.sag _ k.result fits k.ensures.0 _ _ refl k.ensures.1 _ c.in-Count-kept.is same))
 
 pub count_walk-requires : goal.count_walk-requires
-count_walk-requires c = ((kept_of c).1, c.pre.1)
+count_walk-requires c =
+    let a = c.args in
+    let curve : CurveTree = tree (tables a.points.now a.curves.now a.reals.now a.parts.now a.ranges.now) a.row in
+    let k = c.kept_breaks-kept in
+    let fits : length (curve_knots curve) ≤ length c.curve_breaks-found.new.out = omega (arith, c.requires.0, c.curve_breaks-found.auto.out) in
+    (kept_list curve a.range.lo a.range.hi a.r.sag _ k.result fits k.ensures.0 _ _ refl k.ensures.1 _ c.in-Count-kept.is, c.requires.1)
 
 pub returns : goal.returns
 returns c =
-    let st = c in
-    let a = st.args in
-    c.count_walk.ensures ∙ range_near a.room (curve-of st) a.range a.r (breaks-of c).1 c.thin_far.ensures c.if-thin_far.false
+    let a = c.args in
+    let curve : CurveTree = tree (tables a.points.now a.curves.now a.reals.now a.parts.now a.ranges.now) a.row in
+    let found = c.curve_breaks-found in
+    let s = some_found _ curve a.range.lo a.range.hi found.result _ found.ensures.0 found.ensures.1 found.auto.out c.in-Count.n c.in-Count.is in
+    c.count_walk.ensures ∙ range_near a.room curve a.range a.r (part s) c.thin_far.ensures c.if-thin_far.false

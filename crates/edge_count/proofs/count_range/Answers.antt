@@ -6,20 +6,16 @@ use Rattle.edge_sample.proofs.Broken.{no_breaks}
 use Rattle.edge_count.proofs.Laws.{range_plain}
 use Rattle.edge_count.proofs.count_range.Goals as goal
 
--- the curve that is read
-abbrev curve-of : tie.Start → CurveTree
-curve-of st =
-    let a = st.args in
-    tree (tables a.points.now a.curves.now a.reals.now a.parts.now a.ranges.now) a.row
-
 pub count_walk-requires : goal.count_walk-requires
 count_walk-requires c =
     let st = c in
     let a = st.args in
-    (no_breaks (curve-of st) a.range.lo a.range.hi a.r.sag (sym c.if-knot_count-eq0.true ∙ c.knot_count.ensures), st.pre.1)
+    let curve : CurveTree = tree (tables a.points.now a.curves.now a.reals.now a.parts.now a.ranges.now) a.row in
+    (no_breaks curve a.range.lo a.range.hi a.r.sag (sym c.if-knot_count-eq0.true ∙ c.knot_count.ensures), st.requires.1)
 
 pub returns-then-knot_count-eq0 : goal.returns-then-knot_count-eq0
 returns-then-knot_count-eq0 c =
     let st = c in
     let a = st.args in
-    c.count_walk.ensures ∙ range_plain a.room (curve-of st) a.range a.r (sym c.if-knot_count-eq0.true ∙ c.knot_count.ensures)
+    let curve : CurveTree = tree (tables a.points.now a.curves.now a.reals.now a.parts.now a.ranges.now) a.row in
+    c.count_walk.ensures ∙ range_plain a.room curve a.range a.r (sym c.if-knot_count-eq0.true ∙ c.knot_count.ensures)

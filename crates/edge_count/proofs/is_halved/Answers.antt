@@ -6,20 +6,16 @@ use Rattle.edge_subdivide.specs.Bisect.{within_budget}
 use Rattle.edge_count.proofs.Counting.{not_refused, is_halved}
 use Rattle.edge_count.proofs.is_halved.Goals as goal
 
--- the curve that is read
-abbrev curve-of : tie.Start → CurveTree
-curve-of st =
-    let a = st.args in
-    tree (tables a.points.now a.curves.now a.reals.now a.parts.now a.ranges.now) a.row
-
 pub returns-in_default : goal.returns-in_default
 returns-in_default c r e =
     let st = c in
     let a = st.args in
-    absurd (not_refused (within_budget (curve-of st) r) a.a.t a.b.t refl (c.subdivide-listed.ensures r e).listed c.in_default.is)
+    let curve : CurveTree = tree (tables a.points.now a.curves.now a.reals.now a.parts.now a.ranges.now) a.row in
+    absurd (not_refused (within_budget curve r) a.a.t a.b.t refl (c.subdivide-listed.ensures r e).listed c.in_default.is)
 
 pub returns : goal.returns
 returns c r e =
     let st = c in
     let a = st.args in
-    is_halved (within_budget (curve-of st) r) a.a.t a.b.t refl (c.subdivide-listed.ensures r e).listed c.in-Count.is
+    let curve : CurveTree = tree (tables a.points.now a.curves.now a.reals.now a.parts.now a.ranges.now) a.row in
+    is_halved (within_budget curve r) a.a.t a.b.t refl (c.subdivide-listed.ensures r e).listed c.in-Count.is

@@ -9,12 +9,6 @@ use Rattle.knots.specs.Knots.{deviation}
 use Rattle.edge_count.proofs.Thinning.{span_found, span_kept, span_skipped, none_found, sag_some, sag_none}
 use Rattle.edge_count.proofs.thin_far.Goals as goal
 
--- the curve that is read
-abbrev curve-of : tie.Start invariant-loop decreases-loop → CurveTree
-curve-of st =
-    let a = st.args in
-    tree (tables a.points.now a.curves.now a.reals.now a.parts.now a.ranges.now) a.row
-
 pub offset_bounds-breaks-i : goal.offset_bounds-breaks-i
 offset_bounds-breaks-i c = omega (arith, c.loop-i-test.true, c.well_formed.1.1.1.1.1.1.1.1.1.0.1)
 
@@ -22,8 +16,9 @@ pub returns-then-span_far : goal.returns-then-span_far
 returns-then-span_far c =
     let st = c in
     let a = st.args in
-    span_found (asks_far (curve-of st)) (deviation (point_at (curve-of st))) a.sag a.hi a.lo c.loop-i.start a.breaks.now c.loop-i.i c.loop-i.invariant c.loop-i-test.true _ c.next_of-next.ensures (c.span_far.ensures a.points.now a.reals.now) c.if-span_far.true
-    ∙ sag_some (asks_far (curve-of st)) (curve-of st) a.breaks.now a.lo a.hi a.sag c.if-sag.true
+    let curve : CurveTree = tree (tables a.points.now a.curves.now a.reals.now a.parts.now a.ranges.now) a.row in
+    span_found (asks_far curve) (deviation (point_at curve)) a.sag a.hi a.lo c.loop-i.start a.breaks.now c.loop-i.i c.loop-i.invariant c.loop-i-test.true _ c.next_of-next.ensures (c.span_far.ensures a.points.now a.reals.now) c.if-span_far.true
+    ∙ sag_some (asks_far curve) curve a.breaks.now a.lo a.hi a.sag c.if-sag.true
 
 pub overflow_add-i : goal.overflow_add-i
 overflow_add-i c = omega (arith, c.loop-i-test.true, c.well_formed.1.1.1.1.1.1.1.1.1.0.1)
@@ -32,22 +27,26 @@ pub loop-i-preserved-then-sag-d : goal.loop-i-preserved-then-sag-d
 loop-i-preserved-then-sag-d c =
     let st = c in
     let a = st.args in
-    span_kept (asks_far (curve-of st)) (deviation (point_at (curve-of st))) a.sag a.hi a.lo c.loop-i.start a.breaks.now c.loop-i.i c.loop-i.invariant c.loop-i-test.true _ c.next_of-next.ensures (c.span_far.ensures a.points.now a.reals.now) c.if-span_far.false c.deviation-d.ensures c.if-sag-d.true
+    let curve : CurveTree = tree (tables a.points.now a.curves.now a.reals.now a.parts.now a.ranges.now) a.row in
+    span_kept (asks_far curve) (deviation (point_at curve)) a.sag a.hi a.lo c.loop-i.start a.breaks.now c.loop-i.i c.loop-i.invariant c.loop-i-test.true _ c.next_of-next.ensures (c.span_far.ensures a.points.now a.reals.now) c.if-span_far.false c.deviation-d.ensures c.if-sag-d.true
 
 pub loop-i-preserved : goal.loop-i-preserved
 loop-i-preserved c =
     let st = c in
     let a = st.args in
-    span_skipped (asks_far (curve-of st)) (deviation (point_at (curve-of st))) a.sag a.hi a.lo c.loop-i.start a.breaks.now c.loop-i.i c.loop-i.invariant c.loop-i-test.true _ c.next_of-next.ensures (c.span_far.ensures a.points.now a.reals.now) c.if-span_far.false c.deviation-d.ensures c.if-sag-d.false
+    let curve : CurveTree = tree (tables a.points.now a.curves.now a.reals.now a.parts.now a.ranges.now) a.row in
+    span_skipped (asks_far curve) (deviation (point_at curve)) a.sag a.hi a.lo c.loop-i.start a.breaks.now c.loop-i.i c.loop-i.invariant c.loop-i-test.true _ c.next_of-next.ensures (c.span_far.ensures a.points.now a.reals.now) c.if-span_far.false c.deviation-d.ensures c.if-sag-d.false
 
 pub returns-after-loop-i : goal.returns-after-loop-i
 returns-after-loop-i c =
     let st = c in
     let a = st.args in
-    none_found (asks_far (curve-of st)) (deviation (point_at (curve-of st))) a.sag a.hi a.lo c.loop-i.start a.breaks.now c.loop-i.i c.loop-i.invariant c.loop-i-test.false ∙ sag_some (asks_far (curve-of st)) (curve-of st) a.breaks.now a.lo a.hi a.sag c.if-sag.true
+    let curve : CurveTree = tree (tables a.points.now a.curves.now a.reals.now a.parts.now a.ranges.now) a.row in
+    none_found (asks_far curve) (deviation (point_at curve)) a.sag a.hi a.lo c.loop-i.start a.breaks.now c.loop-i.i c.loop-i.invariant c.loop-i-test.false ∙ sag_some (asks_far curve) curve a.breaks.now a.lo a.hi a.sag c.if-sag.true
 
 pub returns-else-sag : goal.returns-else-sag
 returns-else-sag c =
     let st = c in
     let a = st.args in
-    sag_none (asks_far (curve-of st)) (curve-of st) a.breaks.now a.lo a.hi a.sag c.if-sag.false
+    let curve : CurveTree = tree (tables a.points.now a.curves.now a.reals.now a.parts.now a.ranges.now) a.row in
+    sag_none (asks_far curve) curve a.breaks.now a.lo a.hi a.sag c.if-sag.false

@@ -26,7 +26,7 @@ loop-i-preserved c =
     let p = c.sample_at-p.ensures in
     let far = c.is_apart.ensures in (
       refl,
-      elim c.if-is_apart.branch [ then-is_apart w ↦ rw (w.6, w.7, w.8) (kept_push _ _ _ l.invariant.1 within p far w.if-is_apart.true w.2.ensures) | else-is_apart w ↦ rw (w.1, w.2, w.3) (kept_pass _ _ _ l.invariant.1 within p far w.if-is_apart.false) ],
+      elim c.if-is_apart.branch [ then-is_apart w ↦ rw (w.chain-is, w.last-is, w.k-is) (kept_push _ _ _ l.invariant.1 within p far w.if-is_apart.true w.put.ensures) | else-is_apart w ↦ rw (w.chain-is, w.last-is, w.k-is) (kept_pass _ _ _ l.invariant.1 within p far w.if-is_apart.false) ],
     )
 
 pub shape_of-chain-then-floor : goal.shape_of-chain-then-floor

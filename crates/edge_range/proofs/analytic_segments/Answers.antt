@@ -1,5 +1,6 @@
 -- `edge_range::analytic_segments` meets its contract, at the row that the trims lead down to. Assumes nothing.
 use mathlib.Core.Path.{refl, ap, ◌∙◌}
+use native.Mathlib.Omega.{arith}
 use Rattle.brep.specs.Tree.{CurveTree}
 use Rattle.brep.proofs.ByKind.{at_line, at_circle, at_ellipse}
 use Rattle.curve.proofs.Under.{under_same}
@@ -28,4 +29,4 @@ unfolding analytic_segments
 returns-in-3 c = ap Segments c.segments_for_arc-in-3.ensures ∙ arc _ _ c.ellipse_radius-radius.ensures c.span-in-3.ensures ∙ at_ellipse (segments_at _ _) _ _ c.int_at-kind.ensures c.in-3.is refl c.float_at-semi_major.ensures c.float_at-semi_minor.ensures ∙ under_same (segments_at _ _) (λ b r. refl) _ _ c.under_trims-base.ensures
 
 pub returns-in_default : goal.returns-in_default
-returns-in_default c = unknown _ _ _ _ c.under_trims-base.ensures c.int_at-kind.ensures c.in_default.rest
+returns-in_default c = unknown _ _ _ _ c.under_trims-base.ensures c.int_at-kind.ensures (((tt, λ e. omega arith), λ e. omega arith), λ e. omega arith)

@@ -1,5 +1,6 @@
 -- `edge_range::has_no_domain` meets its contract, by the mode and the row's kind. Assumes nothing.
 use mathlib.Core.Path.{◌∙◌}
+use native.Mathlib.Omega.{arith}
 use Rattle.brep.specs.Rows.{tables}
 use Rattle.brep.specs.Tree.{tree}
 use Rattle.edge_range.proofs.Laws.{of_reference, of_parabola, of_hyperbola, of_another}
@@ -23,4 +24,4 @@ returns-in-8 c points reals parts ranges =
 pub returns-in_default : goal.returns-in_default
 returns-in_default c points reals parts ranges =
     let a = c.args in
-    of_another (tables points a.curves.now reals parts ranges) a.row c.int_at-kind.ensures a.range c.in-Strict.is c.in_default.rest.0.1 c.in_default.rest.1
+    of_another (tables points a.curves.now reals parts ranges) a.row c.int_at-kind.ensures a.range c.in-Strict.is (λ e. omega arith) (λ e. omega arith)

@@ -6,16 +6,11 @@ use Rattle.edge_subdivide.proofs.Laws.{own_tangent}
 use Rattle.curve_prepared.proofs.Laws.{own_point}
 use Rattle.edge_subdivide.proofs.end_at.Goals as goal
 
--- the curve that is read
-abbrev curve-of : tie.Start → CurveTree
-curve-of st =
-    let a = st.args in
-    tree (tables a.points.now a.curves.now a.reals.now a.parts.now a.ranges.now) a.row
-
 pub returns : goal.returns
 unfolding end_at
 returns c =
-    let st = c in
-    let p = own_point (curve-of st) st.args.t st.pre c.point_of-point.ensures in
-    let g = own_tangent (curve-of st) st.args.t st.pre c.derivative_of-slope.ensures c.try_normalized-tangent.ensures in
+    let a = c.args in
+    let curve : CurveTree = tree (tables a.points.now a.curves.now a.reals.now a.parts.now a.ranges.now) a.row in
+    let p = own_point curve a.t c.requires c.point_of-point.ensures in
+    let g = own_tangent curve a.t c.requires c.derivative_of-slope.ensures c.try_normalized-tangent.ensures in
     rw (p, g)

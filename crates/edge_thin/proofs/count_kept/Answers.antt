@@ -17,7 +17,7 @@ loop-i-preserved c =
     let a = c.args in
     let l = c.loop-i in
     let e = l.invariant.3 in
-    elim c.if-keep-i.branch [ then-keep-i w ↦ (omega arith, omega arith, refl, w.1 ∙ count_set a.keep.now l.i l.auto (omega arith) e w.if-keep-i.true) | else-keep-i w ↦ (omega arith, omega arith, refl, w.1 ∙ count_unset a.keep.now l.i l.auto (omega arith) e w.if-keep-i.false) ]
+    elim c.if-keep-i.branch [ then-keep-i w ↦ (omega arith, omega arith, refl, w.kept-is ∙ count_set a.keep.now l.i l.kept (omega arith) e w.if-keep-i.true) | else-keep-i w ↦ (omega arith, omega arith, refl, w.kept-is ∙ count_unset a.keep.now l.i l.kept (omega arith) e w.if-keep-i.false) ]
 
 pub returns : goal.returns
 returns c =

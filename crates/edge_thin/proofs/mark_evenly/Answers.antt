@@ -16,7 +16,7 @@ pub loop-i-init : goal.loop-i-init
 unfolding evens
 loop-i-init c =
     let w = c.args.want in
-    (search rules, refl, refl, elim c.if-want-gt1.branch [ then-want-gt1 v ↦ v.1 ∙ steps_many w v.if-want-gt1.true | else-want-gt1 v ↦ v.1 ∙ steps_one w v.if-want-gt1.false ], refl)
+    (search rules, refl, refl, elim c.if-want-gt1.branch [ then-want-gt1 v ↦ v.steps-is ∙ steps_many w v.if-want-gt1.true | else-want-gt1 v ↦ v.steps-is ∙ steps_one w v.if-want-gt1.false ], refl)
 
 pub overflow_mul-keep : goal.overflow_mul-keep
 overflow_mul-keep c =

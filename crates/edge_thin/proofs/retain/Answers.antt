@@ -18,19 +18,22 @@ loop-i-preserved c =
     let a = c.args in
     let l = c.loop-i in
     let inside : l.i < length a.keep.now = omega arith in
-    elim c.if-keep-i.branch [ then-keep-i w ↦ (
-      omega arith,
-      omega arith,
-      refl,
-      ap length (w.7 ∙ w.4.ensures) ∙ length-sets l.chain (width * l.k) (row w.2.result) ∙ l.invariant.3,
-      rw (w.7, w.8) (moved_push a.chain.now a.keep.now l.chain l.k l.i l.invariant.4 inside w.2.result _ l.invariant.0 w.if-keep-i.true w.2.ensures w.4.ensures),
-    ) | else-keep-i w ↦ (
-      omega arith,
-      omega arith,
-      refl,
-      ap length w.1 ∙ l.invariant.3,
-      rw (w.1, w.2) (moved_pass a.chain.now a.keep.now l.chain l.k l.i l.invariant.4 inside w.if-keep-i.false),
-    ) ]
+    elim c.if-keep-i.branch [
+      | then-keep-i w ↦ (
+        omega arith,
+        omega arith,
+        refl,
+        ap length (w.chain-is ∙ w.put.ensures) ∙ length-sets l.chain (width * l.k) (row w.sample_at-s.result) ∙ l.invariant.3,
+        rw (w.chain-is, w.k-is) (moved_push a.chain.now a.keep.now l.chain l.k l.i l.invariant.4 inside w.sample_at-s.result _ l.invariant.0 w.if-keep-i.true w.sample_at-s.ensures w.put.ensures),
+      )
+      | else-keep-i w ↦ (
+        omega arith,
+        omega arith,
+        refl,
+        ap length w.chain-is ∙ l.invariant.3,
+        rw (w.chain-is, w.k-is) (moved_pass a.chain.now a.keep.now l.chain l.k l.i l.invariant.4 inside w.if-keep-i.false),
+      )
+    ]
 
 pub shape_of-chain : goal.shape_of-chain
 shape_of-chain c = c.loop-i.invariant.3

@@ -4,10 +4,6 @@ use mathlib.Core.Path.{refl}
 use lib.ListN.{length}
 use Rattle.edge_thin.proofs.Ways.{said_refused, said_thinned}
 use borrow.Author.Rules.{rules}
-use Rattle.edge_thin.proofs.thin_with.Reads as reads
-use Rattle.edge_thin.proofs.thin_with.Lts as lts
-use Rattle.edge_thin.proofs.flag.Reads as flag-reads
-use Rattle.edge_thin.proofs.retain.Reads as retain-reads
 use Rattle.edge_thin.proofs.thin_with.Goals as goal
 
 pub returns-then-flag : goal.returns-then-flag

@@ -59,10 +59,9 @@ bounds-keep-w c =
     let h : l.a < length a.keep.now - 1 = omega arith in
     let g : length a.keep.now - 1 < length l.keep = omega arith in
     let f = c.next_kept-b.ensures in
-    let k = c.d-1.given in
     let e = c.decide-d.ensures in
     let s = span D l.invariant.3 h g f in
-    let i = split_inside D l.invariant.3 h g f e k.0.0 k.1 in omega arith
+    let i = split_inside D l.invariant.3 h g f e c.in-Split.w c.in-Split.is in omega arith
 
 pub loop-a-smaller : goal.loop-a-smaller
 loop-a-smaller c =
@@ -72,9 +71,8 @@ loop-a-smaller c =
     let h : l.a < length a.keep.now - 1 = omega arith in
     let g : length a.keep.now - 1 < length l.keep = omega arith in
     let f = c.next_kept-b.ensures in
-    let k = c.d-1.given in
     let e = c.decide-d.ensures in
-    let i = split_unset D l.invariant.3 h g f e k.0.0 k.1 in omega arith
+    let i = split_unset D l.invariant.3 h g f e c.in-Split.w c.in-Split.is in omega arith
 
 pub loop-a-preserved : goal.loop-a-preserved
 loop-a-preserved c =
@@ -84,9 +82,8 @@ loop-a-preserved c =
     let h : l.a < length a.keep.now - 1 = omega arith in
     let g : length a.keep.now - 1 < length l.keep = omega arith in
     let f = c.next_kept-b.ensures in
-    let k = c.d-1.given in
     let e = c.decide-d.ensures in
-    (length-set l.keep k.0.0 true ∙ l.invariant.0, length-set l.keep k.0.0 true ∙ l.invariant.1, l.invariant.2, split D l.invariant.3 h g f e k.0.0 k.1)
+    (length-set l.keep c.in-Split.w true ∙ l.invariant.0, length-set l.keep c.in-Split.w true ∙ l.invariant.1, l.invariant.2, split D l.invariant.3 h g f e c.in-Split.w c.in-Split.is)
 
 pub shape_of-keep-in-Refuse : goal.shape_of-keep-in-Refuse
 shape_of-keep-in-Refuse c = c.loop-a.invariant.0 ∙ simp length-set

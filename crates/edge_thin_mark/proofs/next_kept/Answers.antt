@@ -2,7 +2,6 @@
 use borrow.Author.Count.{below_more}
 use borrow.Author.Rules.{rules}
 use native.Mathlib.Omega.{arith}
-use mathlib.Core.Bool.{false}
 use Rattle.edge_thin_mark.proofs.next_kept.Goals as goal
 
 pub loop-i-init : goal.loop-i-init

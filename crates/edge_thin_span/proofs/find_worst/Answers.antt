@@ -23,7 +23,20 @@ loop-i-preserved c =
     let v = c.span_offset.ensures in
     let d = c.length_squared-d2.ensures in
     let t = c.is_below.ensures in
-    elim c.if-is_below.branch [ then-is_below w ↦ (omega arith, omega arith, l.invariant.2, rw (w.1, w.2) (worst_new (record_point a.chain.now) _ _ a.b _ l.at l.i (omega arith) l.invariant.2 q v d t w.if-is_below.true ∙ l.invariant.3)) | else-is_below w ↦ (omega arith, omega arith, l.invariant.2, rw (w.1, w.2) (worst_old (record_point a.chain.now) _ _ a.b _ l.at l.i (omega arith) l.invariant.2 q v d t w.if-is_below.false ∙ l.invariant.3)) ]
+    elim c.if-is_below.branch [
+      | then-is_below w ↦ (
+        omega arith,
+        omega arith,
+        l.invariant.2,
+        rw (w.far2-is, w.at-is) (worst_new (record_point a.chain.now) _ _ a.b _ l.at l.i (omega arith) l.invariant.2 q v d t w.if-is_below.true ∙ l.invariant.3),
+      )
+      | else-is_below w ↦ (
+        omega arith,
+        omega arith,
+        l.invariant.2,
+        rw (w.far2-is, w.at-is) (worst_old (record_point a.chain.now) _ _ a.b _ l.at l.i (omega arith) l.invariant.2 q v d t w.if-is_below.false ∙ l.invariant.3),
+      )
+    ]
 
 pub returns : goal.returns
 returns c =

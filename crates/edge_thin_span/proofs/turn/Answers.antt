@@ -5,14 +5,12 @@ use Rattle.edge_record.specs.Own.Stored.{record_point}
 use Rattle.edge_thin_span.proofs.Laws.{no_chord, no_first, no_last, turn_is}
 use Rattle.edge_thin_span.proofs.turn.Goals as goal
 
--- the direction of the chord
-chord-of : (t : tie.After-try-normalized) → let a = t.args in let p = record_point a.chain.now in t.try-normalized.result ≡ try_normalized (v_sub (p a.b) (p a.a))
-chord-of t = rw (t.try-normalized.ensures, t.sub.ensures, t.record_point.ensures, t.record_point-end.ensures)
-
 pub returns-in_default : goal.returns-in_default
 returns-in_default c =
     let a = c.args in
-    no_chord (record_point a.chain.now) a.a a.b c.try_normalized-axis.result (chord-of c) c.in_default.is
+    let p = record_point a.chain.now in
+    let chord : c.try_normalized-axis.result ≡ try_normalized (v_sub (p a.b) (p a.a)) = rw (c.try_normalized-axis.ensures, c.sub.ensures, c.record_point.ensures, c.record_point-end.ensures) in
+    no_chord p a.a a.b c.try_normalized-axis.result chord c.in_default.is
 
 pub returns-in_default-first : goal.returns-in_default-first
 returns-in_default-first c =
@@ -30,7 +28,5 @@ pub returns : goal.returns
 returns c =
     let a = c.args in
     let p = record_point a.chain.now in
-    let f = c.first-1.given in
-    let l = c.last-1.given in
-    let k = c.axis-1.given in
-    rw (c.angle_between.ensures, c.angle_between-2.ensures) (turn_is p a.a a.b f.0.0 l.0.0 k.0.0 (sym f.1 ∙ c.first_direction-first.ensures) (sym l.1 ∙ c.last_direction-last.ensures) (sym k.1 ∙ chord-of c))
+    let chord : c.try_normalized-axis.result ≡ try_normalized (v_sub (p a.b) (p a.a)) = rw (c.try_normalized-axis.ensures, c.sub.ensures, c.record_point.ensures, c.record_point-end.ensures) in
+    rw (c.angle_between.ensures, c.angle_between-2.ensures) (turn_is p a.a a.b c.in-Unit-first.f c.in-Unit-last.l c.in-Unit.chord (sym c.in-Unit-first.is ∙ c.first_direction-first.ensures) (sym c.in-Unit-last.is ∙ c.last_direction-last.ensures) (sym c.in-Unit.is ∙ chord))

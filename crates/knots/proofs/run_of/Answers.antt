@@ -1,5 +1,6 @@
 -- `knots::run_of` meets its contract: only a composite, under any trims, has knots. Assumes nothing.
 use mathlib.Core.Path.{refl, sym, ◌∙◌}
+use mathlib.Core.List.{[]}
 use Rattle.brep.specs.Rows.{tables}
 use Rattle.brep.proofs.ByKind.{at_composite}
 use Rattle.curve.proofs.Under.{under_same, under_none}

@@ -9,4 +9,4 @@ pub returns : goal.returns
 returns c =
     let st = c in
     let a = st.args in
-    rw c.worst_of.ensures (deviation_is (point_at (tree (tables a.points.now a.curves.now a.reals.now a.parts.now a.ranges.now) a.row)) a.a a.b st.pre c.point_at-pb.ensures c.point_at-p1.ensures c.point_at-p2.ensures c.point_at-p3.ensures)
+    rw c.worst_of.ensures (deviation_is (point_at (tree (tables a.points.now a.curves.now a.reals.now a.parts.now a.ranges.now) a.row)) a.a a.b st.requires c.point_at-pb.ensures c.point_at-p1.ensures c.point_at-p2.ensures c.point_at-p3.ensures)

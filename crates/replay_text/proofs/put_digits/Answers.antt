@@ -7,31 +7,25 @@ use Rattle.replay_text.specs.Own.Waiting.{waits, put_one, puts}
 use Rattle.replay_text.proofs.Places.{First, first}
 use Rattle.replay_text.proofs.put_digits.Goals as goal
 
-taken : (c : tie.In-loop invariant-loop decreases-loop) → First c.args.base c.requires.0 c.loop-i.i c.loop-i.rest c.loop-i.u
-taken c =
-    let l = c.loop-i in
-    let o : 1 ≤ l.i = omega arith in
-    first c.args.base c.requires.0 l.i l.rest l.u o (l.invariant.0 o) l.invariant.1
-
 pub loop-i-init : goal.loop-i-init
 loop-i-init c = ((λ o. c.requires.3), c.requires.4, refl)
 
 pub nonzero_div-rest : goal.nonzero_div-rest
-nonzero_div-rest c = (taken c).above
+nonzero_div-rest c = (first c.args.base c.requires.0 c.loop-i.i c.loop-i.rest c.loop-i.u (omega arith) (c.loop-i.invariant.0 (omega arith)) c.loop-i.invariant.1).above
 
 pub overflow_cast-rest : goal.overflow_cast-rest
-overflow_cast-rest c = let s = (taken c).small in omega arith
+overflow_cast-rest c = let s = (first c.args.base c.requires.0 c.loop-i.i c.loop-i.rest c.loop-i.u (omega arith) (c.loop-i.invariant.0 (omega arith)) c.loop-i.invariant.1).small in omega arith
 
 pub char_of-requires : goal.char_of-requires
-char_of-requires c = let s = (taken c).small in omega arith
+char_of-requires c = let s = (first c.args.base c.requires.0 c.loop-i.i c.loop-i.rest c.loop-i.u (omega arith) (c.loop-i.invariant.0 (omega arith)) c.loop-i.invariant.1).small in omega arith
 
 pub nonzero_rem-rest : goal.nonzero_rem-rest
-nonzero_rem-rest c = (taken c).above
+nonzero_rem-rest c = (first c.args.base c.requires.0 c.loop-i.i c.loop-i.rest c.loop-i.u (omega arith) (c.loop-i.invariant.0 (omega arith)) c.loop-i.invariant.1).above
 
 pub loop-i-preserved : goal.loop-i-preserved
 unfolding puts
 loop-i-preserved c =
-    let t = taken c in
+    let t = first c.args.base c.requires.0 c.loop-i.i c.loop-i.rest c.loop-i.u (omega arith) (c.loop-i.invariant.0 (omega arith)) c.loop-i.invariant.1 in
     let l = c.loop-i in
     let a = c.args in (
       t.next,

@@ -7,19 +7,15 @@ use borrow.Author.Rules.{rules}
 use Rattle.replay_text.proofs.Places.{wide, not_wider, grown}
 use Rattle.replay_text.proofs.width_of.Goals as goal
 
-few : (c : tie.In-loop invariant-loop decreases-loop) → c.loop-unit.digits < 20
-few c = let l = c.loop-unit in not_wider c.args.n l.digits l.unit l.invariant.0 l.invariant.2 (omega arith) (omega arith)
-
 pub loop-unit-init : goal.loop-unit-init
 loop-unit-init c = (search rules, search rules, refl, inl refl)
 
 pub loop-unit-smaller : goal.loop-unit-smaller
-loop-unit-smaller c = let f = few c in omega arith
+loop-unit-smaller c = let l = c.loop-unit in let f : l.digits < 20 = not_wider c.args.n l.digits l.unit l.invariant.0 l.invariant.2 (omega arith) (omega arith) in omega arith
 
 pub loop-unit-preserved : goal.loop-unit-preserved
 loop-unit-preserved c =
-    let f = few c in
-    let l = c.loop-unit in
+    let l = c.loop-unit in let f : l.digits < 20 = not_wider c.args.n l.digits l.unit l.invariant.0 l.invariant.2 (omega arith) (omega arith) in
     (omega arith, omega arith, grown l.digits l.unit l.invariant.0 l.invariant.2, inr (omega arith))
 
 pub returns : goal.returns

@@ -2,12 +2,23 @@
 use Rattle.sheet.specs.Sheet.{float_of}
 use Rattle.sheet_layout.specs.Padded.{padded}
 use Rattle.sheet.proofs.Parts.{cleared}
-use mathlib.Core.Path.{ap, ◌∙◌}
+use native.Mathlib.Omega.{arith}
+use Prim.Native.Nat.{◌*◌}
+use lib.ListN.{length}
+use Rattle.sheet_layout.specs.Layout.{sheet_points, sheet_curves, sheet_segments}
+use mathlib.Core.Path.{◌≡◌, ap, ◌∙◌}
+use mathlib.Core.List.{[]}
 use Rattle.sheet.proofs.clear.Goals as goal
 
 pub returns : goal.returns
 unfolding padded
 returns c =
-    cleared _ _ _ _ _ (c.clear_from.ensures ∙ ap (λ n. padded n (float_of 0) []) c.clear_from-arg-1.given.0.1) (c.clear_wholes.ensures ∙ ap (λ n. padded n 0 []) c.clear_wholes-arg-1.given.0.1)
-    (c.clear_from-2.ensures ∙ ap (λ n. padded n (float_of 0) []) c.clear_from-arg-2-1.given.0.1) (c.clear_wholes-2.ensures ∙ ap (λ n. padded n 0 []) c.clear_wholes-arg-2-1.given.0.1)
-    (c.clear_from-3.ensures ∙ ap (λ n. padded n (float_of 0) []) c.clear_from-arg-3-1.given.0.1)
+    let a = c.args in
+    let h1 : length a.points.now ≡ 3 * sheet_points = omega arith in
+    let h2 : length a.curves.now ≡ 3 * sheet_curves = omega arith in
+    let h3 : length a.reals.now ≡ 2 * sheet_curves = omega arith in
+    let h4 : length a.parts.now ≡ 2 * sheet_segments = omega arith in
+    let h5 : length a.ranges.now ≡ 2 * sheet_segments = omega arith in
+    cleared _ _ _ _ _ (c.clear_from.ensures ∙ ap (λ n. padded n (float_of 0) []) h1) (c.clear_wholes.ensures ∙ ap (λ n. padded n 0 []) h2)
+    (c.clear_from-2.ensures ∙ ap (λ n. padded n (float_of 0) []) h3) (c.clear_wholes-2.ensures ∙ ap (λ n. padded n 0 []) h4)
+    (c.clear_from-3.ensures ∙ ap (λ n. padded n (float_of 0) []) h5)

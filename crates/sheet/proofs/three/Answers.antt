@@ -15,20 +15,6 @@ use Rattle.sheet.proofs.Parts.{table_stored, parsed_no_tables, parsed_tables_lem
 use borrow.Author.Rules.{rules}
 use Rattle.sheet.proofs.three.Goals as goal
 
--- the points were read
-points-read : (c : tie.After-known-told)
-    → ReadList c.args.text.now ((table point_columns).read c.args.text.now) c.in-Got.n c.in-Got.p
-points-read c =
-    let k = c.n-1.given in
-    read_list c.args.text.now (table point_columns) points_law 0 k.0.0 k.0.1.0 (omega arith) (sym k.1 ∙ c.points.ensures.0)
-
--- and the curves behind them
-curves-read : (c : tie.After-known-told2)
-    → ReadList c.args.text.now ((table curve_columns).read (drop c.in-Got.p c.args.text.now)) c.in-Got-curves.m c.in-Got-curves.q
-curves-read c =
-    let k = c.m-1.given in
-    read_list c.args.text.now (table curve_columns) curves_law _ k.0.0 k.0.1.0 (points-read c).is.within (sym k.1 ∙ c.curves.ensures.0)
-
 pub returns-in_default : goal.returns-in_default
 returns-in_default c =
     let s = c.args.text.now in
@@ -37,25 +23,25 @@ returns-in_default c =
 
 pub curves-requires : goal.curves-requires
 curves-requires c =
-    let w = (points-read c).is.within in (w, search rules, search rules, search rules)
+    let l = read_list c.args.text.now (table point_columns) points_law 0 c.in-Got.n c.in-Got.p (omega arith) (sym c.in-Got.is ∙ c.points.ensures.0) in let w = l.is.within in (w, search rules, search rules, search rules)
 
 pub returns-in_default-curves : goal.returns-in_default-curves
 returns-in_default-curves c =
     let s = c.args.text.now in
-    let l = points-read c in
+    let l = read_list c.args.text.now (table point_columns) points_law 0 c.in-Got.n c.in-Got.p (omega arith) (sym c.in-Got.is ∙ c.points.ensures.0) in
     let none = read_no_list s _ (sym c.in_default-curves.is ∙ c.curves.ensures.0) in
     let no_more = then_bad_on s (table point_columns) (table curve_columns then table segment_columns) 0 l.list _ l.is (then_bad s (table curve_columns) (table segment_columns) c.in-Got.p none) in
     (parsed_no_tables s _ no_more, tables_stored_bad s _ _ no_more)
 
 pub segments-requires : goal.segments-requires
 segments-requires c =
-    let w = (curves-read c).is.within in (w, search rules, search rules, search rules)
+    let l = read_list c.args.text.now (table point_columns) points_law 0 c.in-Got.n c.in-Got.p (omega arith) (sym c.in-Got.is ∙ c.points.ensures.0) in let m = read_list c.args.text.now (table curve_columns) curves_law c.in-Got.p c.in-Got-curves.m c.in-Got-curves.q l.is.within (sym c.in-Got-curves.is ∙ c.curves.ensures.0) in let w = m.is.within in (w, search rules, search rules, search rules)
 
 pub returns-in_default-segments : goal.returns-in_default-segments
 returns-in_default-segments c =
     let s = c.args.text.now in
-    let l = points-read c in
-    let m = curves-read c in
+    let l = read_list c.args.text.now (table point_columns) points_law 0 c.in-Got.n c.in-Got.p (omega arith) (sym c.in-Got.is ∙ c.points.ensures.0) in
+    let m = read_list c.args.text.now (table curve_columns) curves_law c.in-Got.p c.in-Got-curves.m c.in-Got-curves.q l.is.within (sym c.in-Got-curves.is ∙ c.curves.ensures.0) in
     let none = read_no_list s _ (sym c.in_default-segments.is ∙ c.segments.ensures.0) in
     let no_more = then_bad_on s (table point_columns) (table curve_columns then table segment_columns) 0 l.list _ l.is (then_bad_on s (table curve_columns) (table segment_columns) c.in-Got.p m.list _ m.is none) in
     (parsed_no_tables s _ no_more, tables_stored_bad s _ _ no_more)
@@ -64,17 +50,17 @@ pub returns : goal.returns
 returns c =
     let a = c.args in
     let s = a.text.now in
-    let g = c.k-1.given in
-    let l = points-read c in
-    let m = curves-read c in
-    let k = read_list s (table segment_columns) segments_law _ g.0.0 g.0.1.0 m.is.within (sym g.1 ∙ c.segments.ensures.0) in
+    let g = c.in-Got-segments in
+    let l = read_list c.args.text.now (table point_columns) points_law 0 c.in-Got.n c.in-Got.p (omega arith) (sym c.in-Got.is ∙ c.points.ensures.0) in
+    let m = read_list c.args.text.now (table curve_columns) curves_law c.in-Got.p c.in-Got-curves.m c.in-Got-curves.q l.is.within (sym c.in-Got-curves.is ∙ c.curves.ensures.0) in
+    let k = read_list s (table segment_columns) segments_law _ g.k g.next m.is.within (sym g.is ∙ c.segments.ensures.0) in
     let r = then_read s (table point_columns) (table curve_columns then table segment_columns) 0 l.list _ l.is (m.list, k.list) _ (then_read s (table curve_columns) (table segment_columns) c.in-Got.p m.list _ m.is k.list _ k.is) in (
       parsed_tables_lem s _ l.list m.list k.list _ _ _ _ l.count m.count k.count r,
       tables_stored_parsed s _ (l.list, (m.list, k.list)) _ _ r.is
           (stored_is l.list m.list k.list _ _ _ _ _
-          (table_stored (flattened (floats_of (fields point_columns))) (float_of 0) (3 * sheet_points) _ l.list _ a.points.now _ c.points-arg-1.given.0.1 l.is.is c.points.ensures.1)
-          (table_stored (flattened (wholes_of (fields curve_columns))) 0 (3 * sheet_curves) _ m.list _ a.curves.now _ c.curves-arg-1.given.0.1 m.is.is c.curves.ensures.1)
-          (table_stored (flattened (floats_of (fields curve_columns))) (float_of 0) (2 * sheet_curves) _ m.list _ a.reals.now _ c.curves-arg-2-1.given.0.1 m.is.is c.curves.ensures.2)
-          (table_stored (flattened (wholes_of (fields segment_columns))) 0 (2 * sheet_segments) _ k.list _ a.parts.now _ c.segments-arg-1.given.0.1 k.is.is c.segments.ensures.1)
-          (table_stored (flattened (floats_of (fields segment_columns))) (float_of 0) (2 * sheet_segments) _ k.list _ a.ranges.now _ c.segments-arg-2-1.given.0.1 k.is.is c.segments.ensures.2)),
+          (table_stored (flattened (floats_of (fields point_columns))) (float_of 0) (3 * sheet_points) _ l.list _ a.points.now _ (omega arith) l.is.is c.points.ensures.1)
+          (table_stored (flattened (wholes_of (fields curve_columns))) 0 (3 * sheet_curves) _ m.list _ a.curves.now _ (omega arith) m.is.is c.curves.ensures.1)
+          (table_stored (flattened (floats_of (fields curve_columns))) (float_of 0) (2 * sheet_curves) _ m.list _ a.reals.now _ (omega arith) m.is.is c.curves.ensures.2)
+          (table_stored (flattened (wholes_of (fields segment_columns))) 0 (2 * sheet_segments) _ k.list _ a.parts.now _ (omega arith) k.is.is c.segments.ensures.1)
+          (table_stored (flattened (floats_of (fields segment_columns))) (float_of 0) (2 * sheet_segments) _ k.list _ a.ranges.now _ (omega arith) k.is.is c.segments.ensures.2)),
     )

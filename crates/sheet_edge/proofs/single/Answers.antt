@@ -9,21 +9,13 @@ use Rattle.text_format.proofs.Place.{Read, names_read, names_bad, before_bad, be
 use Rattle.sheet_layout.proofs.Rows.{parsed_no_row}
 use Rattle.sheet_edge.proofs.single.Goals as goal
 
--- the names were read
-named : (c : tie.After-known-told)
-    → Read c.args.s.now (expect c.args.names.now (tt {0}) (drop c.args.at c.args.s.now)) (tt {0}) c.in-Got.p
-named c =
-    let a = c.args in
-    let k = c.p-1.given in
-    names_read a.s.now a.names.now 0 a.at k.0.0 k.0.1.0 c.requires.0 (sym k.1 ∙ c.word.ensures)
-
 pub line-requires : goal.line-requires
-line-requires c = ((named c).within, c.requires.1)
+line-requires c = let a = c.args in ((names_read a.s.now a.names.now 0 a.at _ c.in-Got.p c.requires.0 (sym c.in-Got.is ∙ c.word.ensures)).within, c.requires.1)
 
 pub returns-in-Got : goal.returns-in-Got
 returns-in-Got c =
     let a = c.args in
-    let same = before_is a.s.now a.names.now (line (shape_of a.shape.now)) a.at c.in-Got.p (named c) in
+    let same = before_is a.s.now a.names.now (line (shape_of a.shape.now)) a.at c.in-Got.p (names_read a.s.now a.names.now 0 a.at _ c.in-Got.p c.requires.0 (sym c.in-Got.is ∙ c.word.ensures)) in
     c.line.ensures ∙ ap (parsed_row a.s.now) (sym same)
 
 pub returns-in-Bad : goal.returns-in-Bad

@@ -1,6 +1,6 @@
 -- `sheet_layout::cell` meets its contract. Assumes nothing.
 use mathlib.Core.Path.{sym, ap, ◌∙◌}
-use mathlib.Core.List.{◌∷◌}
+use mathlib.Core.List.{[], ◌∷◌}
 use lib.ListN.{drop}
 use Rattle.text_format.specs.Format.{one_of}
 use Rattle.text_format.specs.Own.Answers.{parsed_at}
@@ -9,14 +9,6 @@ use Rattle.sheet_layout.specs.Layout.{kinds}
 use Rattle.sheet_layout.proofs.Laws.{kinds_law}
 use Rattle.sheet_layout.proofs.Cells.{cell_f, cell_w, cell_l, cell_k}
 use Rattle.sheet_layout.proofs.cell.Goals as goal
-
--- the kind that was read
-kind-read : (c : tie.After-known-told)
-    → Read c.args.s.now ((one_of kinds).read (drop c.args.at c.args.s.now)) c.in-Got.k c.in-Got.p
-kind-read c =
-    let a = c.args in
-    let k = c.k-1.given in
-    read_at a.s.now (one_of kinds) kinds_law a.at k.0.0 k.0.1.0 c.requires (sym k.1 ∙ c.kind.ensures)
 
 pub returns-then-letter-eq102 : goal.returns-then-letter-eq102
 returns-then-letter-eq102 c =
@@ -35,13 +27,17 @@ returns-then-letter-eq108 c =
     ∙ ap (parsed_at a.s.now) (cell_l a.letter a.end (drop a.at a.s.now) c.if-letter-eq102.false c.if-letter-eq119.false c.if-letter-eq108.true)
 
 pub byte-requires : goal.byte-requires
-byte-requires c = (kind-read c).within
+byte-requires c =
+    let a = c.args in
+    let k = c.in-Got in
+    (read_at a.s.now (one_of kinds) kinds_law a.at k.k k.p c.requires (sym k.is ∙ c.kind.ensures)).within
 
 pub returns-in-Got : goal.returns-in-Got
 returns-in-Got c =
     let a = c.args in
-    let k = c.k-1.given in
-    let is = ending_is a.s.now (one_of kinds) (a.end ∷ []) a.at k.0.0 k.0.1.0 (kind-read c) in
+    let k = c.in-Got in
+    let r = read_at a.s.now (one_of kinds) kinds_law a.at k.k k.p c.requires (sym k.is ∙ c.kind.ensures) in
+    let is = ending_is a.s.now (one_of kinds) (a.end ∷ []) a.at k.k k.p r in
     let at-k = cell_k a.letter a.end (drop a.at a.s.now) c.if-letter-eq102.false c.if-letter-eq119.false c.if-letter-eq108.false in
     c.byte.ensures ∙ ap (parsed_at a.s.now) (sym is ∙ at-k)
 

@@ -1,10 +1,12 @@
 -- `sheet_layout::line` meets its contract. The loop's invariant: the numbers that were read, in front of what is left to be
 -- read at p, are the whole; and `numbers` has them, then zeros. Assumes nothing.
 use mathlib.Core.Path.{◌≡◌, refl, sym, ap, ◌∙◌}
-use Prim.Native.Nat.{◌+◌}
+use Prim.Native.Nat.{ℕ, ◌+◌}
+use mathlib.Core.List.{List}
 use native.Mathlib.Omega.{arith}
 use lib.ListN.{drop, get_or}
-use Rattle.text_format.specs.Table.{cell}
+use Rattle.text_format.specs.declared.Num.{Num}
+use Rattle.text_format.specs.Table.{cell, end_byte}
 use Rattle.text_format.specs.Own.Answers.{parsed_at}
 use Rattle.sheet_layout.specs.Padded.{padded}
 use Rattle.sheet_layout.specs.Own.Letters.{field_of}
@@ -16,12 +18,11 @@ use borrow.Author.Rules.{rules}
 use Rattle.sheet_layout.proofs.line.Goals as goal
 
 -- what the call of `cell` told of the column
-parsed-cell : (c : tie.After-cell invariant-loop decreases-loop)
-    → c.cell.result ≡ parsed_at c.args.s.now ((column c.args.s.now c.args.shape.now c.loop-i.i).read (drop c.loop-i.p c.args.s.now))
-parsed-cell c =
-    let a = c.args in
-    let l = c.loop-i in
-    c.cell.ensures ∙ ap (λ e. parsed_at a.s.now ((cell (field_of (get_or a.shape.now l.i 0)) e).read (drop l.p a.s.now))) c.end_of-end.ensures
+parsed-cell : (s shape : List ℕ) (i p e : ℕ) (n : Num)
+    → n ≡ parsed_at s ((cell (field_of (get_or shape i 0)) e).read (drop p s))
+    → e ≡ end_byte (drop (i + 1) shape)
+    → n ≡ parsed_at s ((column s shape i).read (drop p s))
+parsed-cell s shape i p e n n-is e-is = n-is ∙ ap (λ x. parsed_at s ((cell (field_of (get_or shape i 0)) x).read (drop p s))) e-is
 
 pub loop-i-init : goal.loop-i-init
 unfolding padded
@@ -34,7 +35,7 @@ unfolding padded
 returns-in_default c =
     let a = c.args in
     let l = c.loop-i in
-    let column-bad = read_bad a.s.now _ (sym c.in_default.is ∙ parsed-cell c) in
+    let column-bad = read_bad a.s.now _ (sym c.in_default.is ∙ parsed-cell a.s.now a.shape.now l.i l.p _ _ c.cell.ensures c.end_of-end.ensures) in
     parsed_no_row a.s.now _ (no_cell a.s.now a.shape.now a.at l.p l.i l.invariant.2 (omega arith) column-bad)
 
 pub loop-i-preserved : goal.loop-i-preserved
@@ -42,14 +43,14 @@ loop-i-preserved c =
     let a = c.args in
     let l = c.loop-i in
     let b = l.invariant.2 in
-    let k = c.v-1.given in
+    let k = c.in-Got in
     let law = letter_law (get_or a.shape.now l.i 0) (drop (l.i + 1) a.shape.now) in
-    let r = read_at a.s.now (column a.s.now a.shape.now l.i) law l.p k.0.0 k.0.1.0 l.invariant.0 (sym k.1 ∙ parsed-cell c) in
+    let r = read_at a.s.now (column a.s.now a.shape.now l.i) law l.p k.v k.q l.invariant.0 (sym k.is ∙ parsed-cell a.s.now a.shape.now l.i l.p _ _ c.cell.ensures c.end_of-end.ensures) in
     let e = b.count in (
       r.within,
       omega arith,
-      one_cell a.s.now a.shape.now a.at l.p l.i b (omega arith) k.0.0 k.0.1.0 r,
-      padded_more 9 0 l.numbers b.taken l.i k.0.0 (sym e) (omega arith) l.invariant.3,
+      one_cell a.s.now a.shape.now a.at l.p l.i b (omega arith) k.v k.q r,
+      padded_more 9 0 l.numbers b.taken l.i k.v (sym e) (omega arith) l.invariant.3,
     )
 
 pub returns : goal.returns

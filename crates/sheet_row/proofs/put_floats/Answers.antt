@@ -1,10 +1,11 @@
 -- `sheet_row::put_floats` meets its contract. The loop's invariant: the floats of the columns from i on are left to be
 -- written at k. Assumes nothing.
 use mathlib.Core.Path.{◌≡◌, sym, ap, ◌∙◌}
-use mathlib.Core.List.{◌∷◌, map}
-use Prim.Native.Nat.{◌+◌, ◌<◌}
+use mathlib.Core.List.{List, ◌∷◌, map}
+use Prim.Native.Nat.{ℕ, ◌+◌, ◌<◌, ◌≤◌}
+use Rattle.std.specs.Prelude.{Float}
 use native.Mathlib.Omega.{arith}
-use lib.ListN.{length, drop}
+use lib.ListN.{length, drop, get_or}
 use lib.Ieee.{binary64, of_bits}
 use Rattle.text_format.proofs.Buffer.{none_written, all_written, as_left, one_fits, one_written}
 use Rattle.sheet_layout.specs.Own.Letters.{shape_of}
@@ -14,18 +15,13 @@ use borrow.Author.Rules.{rules}
 use Rattle.sheet_row.proofs.put_floats.Goals as goal
 
 -- the float that is written is the next one
-one : (c : tie.After-float-of invariant-loop decreases-loop)
-    → floats_of (shape_of (drop c.loop-i.i c.args.shape.now)) (drop c.loop-i.i c.args.row.now)
-    ≡ c.float_of.result ∷ floats_of (shape_of (drop (c.loop-i.i + 1) c.args.shape.now)) (drop (c.loop-i.i + 1) c.args.row.now)
-one c =
-    let a = c.args in
-    let l = c.loop-i in
-    let next = is_chosen is_float a.shape.now a.row.now l.i (omega arith) (omega arith) (letter_float _ c.if-letter-eq102.true) in
+one : (shape row : List ℕ) (i : ℕ) (x : Float) → i < length shape → length shape ≤ length row
+    → get_or shape i 0 ≡ 102 → x ≡ of_bits binary64 (get_or row i 0)
+    → floats_of (shape_of (drop i shape)) (drop i row) ≡ x ∷ floats_of (shape_of (drop (i + 1) shape)) (drop (i + 1) row)
+one shape row i x h g e x-is =
+    let next = is_chosen is_float shape row i h (omega arith) (letter_float _ e) in
     ap (map (of_bits binary64)) next
-    ∙ ap (λ x. x ∷ floats_of (shape_of (drop (l.i + 1) a.shape.now)) (drop (l.i + 1) a.row.now)) (sym c.float_of.ensures)
-
-writes : (c : tie.After-float-of invariant-loop decreases-loop) → c.loop-i.k < length c.loop-i.out
-writes c = one_fits c.args.out.now c.args.at _ c.loop-i.out c.loop-i.k _ c.loop-i.invariant.1 _ _ (one c) c.requires.1
+    ∙ ap (λ (y : Float). y ∷ floats_of (shape_of (drop (i + 1) shape)) (drop (i + 1) row)) (sym x-is)
 
 pub loop-i-init : goal.loop-i-init
 loop-i-init c =
@@ -33,19 +29,19 @@ loop-i-init c =
     (search rules, none_written a.out.now a.at (floats_of (shape_of a.shape.now) a.row.now))
 
 pub offset_bounds-out-k : goal.offset_bounds-out-k
-offset_bounds-out-k c = let h = writes c in let r = c.loop-i.invariant.1.room in omega arith
+offset_bounds-out-k c = let a = c.args in let l = c.loop-i in let h : l.k < length l.out = one_fits a.out.now a.at _ l.out l.k _ l.invariant.1 _ _ (one a.shape.now a.row.now l.i c.float_of.result (omega arith) (omega arith) c.if-letter-eq102.true c.float_of.ensures) c.requires.1 in let r = c.loop-i.invariant.1.room in omega arith
 
 pub bounds-out-k : goal.bounds-out-k
-bounds-out-k c = writes c
+bounds-out-k c = let a = c.args in let l = c.loop-i in one_fits a.out.now a.at _ l.out l.k _ l.invariant.1 _ _ (one a.shape.now a.row.now l.i c.float_of.result (omega arith) (omega arith) c.if-letter-eq102.true c.float_of.ensures) c.requires.1
 
 pub overflow_add-k : goal.overflow_add-k
-overflow_add-k c = let h = writes c in let r = c.loop-i.invariant.1.room in omega arith
+overflow_add-k c = let a = c.args in let l = c.loop-i in let h : l.k < length l.out = one_fits a.out.now a.at _ l.out l.k _ l.invariant.1 _ _ (one a.shape.now a.row.now l.i c.float_of.result (omega arith) (omega arith) c.if-letter-eq102.true c.float_of.ensures) c.requires.1 in let r = c.loop-i.invariant.1.room in omega arith
 
 pub loop-i-preserved-then-letter-eq102 : goal.loop-i-preserved-then-letter-eq102
 loop-i-preserved-then-letter-eq102 c =
     let a = c.args in
     let l = c.loop-i in
-    (omega arith, one_written a.out.now a.at _ l.out l.k _ l.invariant.1 _ _ (one c))
+    (omega arith, one_written a.out.now a.at _ l.out l.k _ l.invariant.1 _ _ (one a.shape.now a.row.now l.i c.float_of.result (omega arith) (omega arith) c.if-letter-eq102.true c.float_of.ensures))
 
 pub loop-i-preserved : goal.loop-i-preserved
 loop-i-preserved c =

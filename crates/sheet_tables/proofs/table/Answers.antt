@@ -13,23 +13,15 @@ use Rattle.text_format.proofs.Place.{Read, parsed_no_list, names_read, names_bad
 use Rattle.sheet_tables.proofs.Stores.{all_cleared, stored_bad, stored_same}
 use Rattle.sheet_tables.proofs.table.Goals as goal
 
--- the names were read
-named : (c : tie.After-known-told)
-    → Read c.args.s.now (expect c.args.names.now (tt {0}) (drop c.args.at c.args.s.now)) (tt {0}) c.in-Got.p
-named c =
-    let a = c.args in
-    let k = c.p-1.given in
-    names_read a.s.now a.names.now 0 a.at k.0.0 k.0.1.0 c.requires.0 (sym k.1 ∙ c.word.ensures)
-
 pub rows-requires : goal.rows-requires
 rows-requires c =
-    ((named c).within, c.requires.1, c.requires.2)
+    let a = c.args in ((names_read a.s.now a.names.now 0 a.at _ c.in-Got.p c.requires.0 (sym c.in-Got.is ∙ c.word.ensures)).within, c.requires.1, c.requires.2)
 
 pub returns-in-Got : goal.returns-in-Got
 returns-in-Got c =
     let a = c.args in
     let q = (table_of a.names.now a.shape.now).read (drop a.at a.s.now) in
-    let same = sym (before_is a.s.now a.names.now (lines (line (shape_of a.shape.now))) a.at c.in-Got.p (named c)) in (
+    let same = sym (before_is a.s.now a.names.now (lines (line (shape_of a.shape.now))) a.at c.in-Got.p (names_read a.s.now a.names.now 0 a.at _ c.in-Got.p c.requires.0 (sym c.in-Got.is ∙ c.word.ensures))) in (
       c.rows.ensures.0 ∙ ap (parsed_list a.s.now) same,
       stored_same (flattened (wholes_of (shape_of a.shape.now))) 0 _ _ _ q same c.rows.ensures.1,
       stored_same (flattened (floats_of (shape_of a.shape.now))) (of_bits binary64 0) _ _ _ q same c.rows.ensures.2,

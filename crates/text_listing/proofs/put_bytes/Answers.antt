@@ -6,20 +6,14 @@ use Rattle.text_format.proofs.Buffer.{none_written, all_written, one_fits, one_w
 use Rattle.text_listing.proofs.Written.{next_byte}
 use Rattle.text_listing.proofs.put_bytes.Goals as goal
 
-writes : (c : tie.After-shared-slice-known invariant-loop decreases-loop) → c.loop-i.k < length c.loop-i.out
-writes c =
-    let a = c.args in
-    let l = c.loop-i in
-    one_fits a.out.now a.at a.w.now l.out l.k _ l.invariant.1 _ _ (next_byte a.w.now l.i (omega arith)) c.requires
-
 pub loop-i-init : goal.loop-i-init
 loop-i-init c = (omega arith, none_written c.args.out.now c.args.at c.args.w.now)
 
 pub bounds-out-k : goal.bounds-out-k
-bounds-out-k c = writes c
+bounds-out-k c = let a = c.args in let l = c.loop-i in one_fits a.out.now a.at a.w.now l.out l.k _ l.invariant.1 _ _ (next_byte a.w.now l.i (omega arith)) c.requires
 
 pub overflow_add-k : goal.overflow_add-k
-overflow_add-k c = let h = writes c in let r = c.loop-i.invariant.1.room in omega arith
+overflow_add-k c = let a = c.args in let l = c.loop-i in let h : l.k < length l.out = one_fits a.out.now a.at a.w.now l.out l.k _ l.invariant.1 _ _ (next_byte a.w.now l.i (omega arith)) c.requires in let r = c.loop-i.invariant.1.room in omega arith
 
 pub loop-i-preserved : goal.loop-i-preserved
 loop-i-preserved c =

@@ -10,21 +10,6 @@ use Rattle.text_format.proofs.Buffer.{none_written, all_written, one_fits, one_w
 use Rattle.text_listing.proofs.Written.{pow_some, digit_small, rest_small, digits_next, pow_next}
 use Rattle.text_listing.proofs.put_digits.Goals as goal
 
--- the byte that is written is the next digit
-one : (c : tie.After-char-of invariant-loop decreases-loop)
-    → digits c.args.base c.loop-left.false c.loop-left.n
-    ≡ c.char_of.result ∷ digits c.args.base (c.loop-left.false - 1) (c.loop-left.n % c.loop-left.pow)
-one c =
-    let l = c.loop-left in
-    digits_next c.args.base c.requires.0 l.pow l.n l.left (omega arith) (l.invariant.1 (omega arith)) c.char_of.result c.char_of.ensures
-
-writes : (c : tie.After-char-of invariant-loop decreases-loop) → c.loop-left.i < length c.loop-left.out
-writes c =
-    let a = c.args in
-    let l = c.loop-left in
-    let k = digits_length a.base a.count a.v in
-    one_fits a.out.now a.at _ l.out l.i _ l.invariant.2 _ _ (one c) (omega arith)
-
 pub loop-left-init : goal.loop-left-init
 loop-left-init c =
     let p = c.requires in
@@ -51,7 +36,7 @@ char_of-requires c =
     omega arith
 
 pub bounds-out-i : goal.bounds-out-i
-bounds-out-i c = writes c
+bounds-out-i c = let a = c.args in let l = c.loop-left in let k = digits_length a.base a.count a.v in one_fits a.out.now a.at _ l.out l.i _ l.invariant.2 _ _ (digits_next a.base c.requires.0 l.pow l.n l.left (omega arith) (l.invariant.1 (omega arith)) c.char_of.result c.char_of.ensures) (omega arith)
 
 pub nonzero_rem-n : goal.nonzero_rem-n
 nonzero_rem-n c =
@@ -60,7 +45,7 @@ nonzero_rem-n c =
     pow_some c.args.base p.0 l.pow l.n l.left (omega arith) (l.invariant.1 (omega arith))
 
 pub overflow_add-i : goal.overflow_add-i
-overflow_add-i c = let h = writes c in let r = c.loop-left.invariant.2.room in omega arith
+overflow_add-i c = let a = c.args in let l = c.loop-left in let h : l.i < length l.out = (let k = digits_length a.base a.count a.v in one_fits a.out.now a.at _ l.out l.i _ l.invariant.2 _ _ (digits_next a.base c.requires.0 l.pow l.n l.left (omega arith) (l.invariant.1 (omega arith)) c.char_of.result c.char_of.ensures) (omega arith)) in let r = c.loop-left.invariant.2.room in omega arith
 
 pub loop-left-preserved : goal.loop-left-preserved
 loop-left-preserved c =
@@ -70,7 +55,7 @@ loop-left-preserved c =
     let e = l.invariant.1 (omega arith) in (
       rest_small a.base p.0 l.pow l.n l.left (omega arith) e,
       (λ h. pow_next a.base p.0 l.pow l.n l.left (omega arith) e h),
-      one_written a.out.now a.at _ l.out l.i _ l.invariant.2 _ _ (one c),
+      one_written a.out.now a.at _ l.out l.i _ l.invariant.2 _ _ (digits_next a.base c.requires.0 l.pow l.n l.left (omega arith) (l.invariant.1 (omega arith)) c.char_of.result c.char_of.ensures),
     )
 
 pub shape_of-out : goal.shape_of-out

@@ -18,12 +18,12 @@ put_sample-at-requires c =
     let a = c.args in
     let l = c.loop-i in
     let w = lines_length a.first a.last a.n a.chain.now 0 (a.n - 0) in
-    let k = row_length c.own_of_lem.result c.sample_at.result in
-    let e = next_line a.first a.last a.n a.chain.now l.i c.own_of_lem.result c.sample_at.result (omega arith) c.own_of_lem.ensures c.sample_at.ensures in
-    let q = c.put_bytes-at.auto.1.0 in
+    let k = row_length c.own_of-own.result c.sample_at.result in
+    let e = next_line a.first a.last a.n a.chain.now l.i c.own_of-own.result c.sample_at.result (omega arith) c.own_of-own.ensures c.sample_at.ensures in
+    let q = c.put_bytes-at.auto.out in
     let r = c.put_bytes-at.ensures.0 in
     let f = c.requires.1 in
-    let h = some_fit _ c.put_bytes-at.result _ l.out l.at _ l.invariant.1 (line_of (row_of c.own_of_lem.result c.sample_at.result)) _ e (omega arith) in
+    let h = some_fit _ c.put_bytes-at.result _ l.out l.at _ l.invariant.1 (line_of (row_of c.own_of-own.result c.sample_at.result)) _ e (omega arith) in
     let g : l.at + line_bytes ≤ length l.out = omega arith in
     g
 
@@ -31,13 +31,13 @@ pub loop-i-preserved : goal.loop-i-preserved
 loop-i-preserved c =
     let a = c.args in
     let l = c.loop-i in
-    let k = row_length c.own_of_lem.result c.sample_at.result in
+    let k = row_length c.own_of-own.result c.sample_at.result in
     let r = c.put_sample-at.ensures.0 in
-    let e = next_line a.first a.last a.n a.chain.now l.i c.own_of_lem.result c.sample_at.result (omega arith) c.own_of_lem.ensures c.sample_at.ensures in
-    (omega arith, some_written _ _ _ l.out l.at _ l.invariant.1 (line_of (row_of c.own_of_lem.result c.sample_at.result)) _ _ _ e c.put_sample-at.ensures.1 (r ∙ ap (λ z. l.at + z) (sym k)))
+    let e = next_line a.first a.last a.n a.chain.now l.i c.own_of-own.result c.sample_at.result (omega arith) c.own_of-own.ensures c.sample_at.ensures in
+    (omega arith, some_written _ _ _ l.out l.at _ l.invariant.1 (line_of (row_of c.own_of-own.result c.sample_at.result)) _ _ _ e c.put_sample-at.ensures.1 (r ∙ ap (λ z. l.at + z) (sym k)))
 
 pub shape_of-out : goal.shape_of-out
-shape_of-out c = c.loop-i.invariant.1.room ∙ c.put_bytes-at.auto.1.0
+shape_of-out c = c.loop-i.invariant.1.room ∙ c.put_bytes-at.auto.out
 
 pub returns : goal.returns
 unfolding bytes

@@ -8,7 +8,7 @@ use Rattle.text_listing.proofs.Laws.{refusal_length, put_is}
 use Rattle.text_listing.proofs.write_refusal.Goals as goal
 
 pub shape_of-out : goal.shape_of-out
-shape_of-out c = simp length-set (c.put_digits.auto.1.1.1.1.0 ∙ c.put_bytes-at.auto.1.0)
+shape_of-out c = simp length-set (c.put_digits.auto.out ∙ c.put_bytes-at.auto.out)
 
 pub returns : goal.returns
 unfolding bytes
