@@ -1,10 +1,10 @@
 -- `replay_text::put_digits` meets its contract: what the digits that are left add to what waits stays the same. Assumes nothing.
 use mathlib.Core.Path.{◌≡◌, refl, sym, ap, ◌∙◌}
-use Prim.Native.Nat.{◌-◌, ◌%◌, ◌≤◌}
+use Prim.Native.Nat.{◌-◌, ◌%◌}
 use native.Mathlib.Omega.{arith}
 use Rattle.text_format.specs.Format.{digits}
 use Rattle.replay_text.specs.Own.Waiting.{waits, put_one, puts}
-use Rattle.replay_text.proofs.Places.{First, first}
+use Rattle.replay_text.proofs.Places.{first}
 use Rattle.replay_text.proofs.put_digits.Goals as goal
 
 pub loop-i-init : goal.loop-i-init

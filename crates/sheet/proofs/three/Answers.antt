@@ -2,13 +2,12 @@
 use mathlib.Core.Path.{sym, ◌∙◌}
 use Prim.Native.Nat.{◌*◌}
 use native.Mathlib.Omega.{arith}
-use lib.ListN.{drop}
 use Rattle.text_format.specs.Format.{◌then◌}
 use Rattle.text_format.specs.Table.{fields, table}
 use Rattle.sheet_layout.specs.Layout.{sheet_points, sheet_curves, sheet_segments, point_columns, curve_columns, segment_columns}
 use Rattle.sheet_layout.proofs.Laws.{points_law, curves_law, segments_law}
 use Rattle.sheet_row.specs.Rows.{floats_of, wholes_of}
-use Rattle.text_format.proofs.Place.{ReadList, read_list, read_no_list, then_bad, then_bad_on, then_read}
+use Rattle.text_format.proofs.Place.{read_list, read_no_list, then_bad, then_bad_on, then_read}
 use Rattle.sheet_tables.specs.Flattened.{flattened}
 use Rattle.sheet.specs.Sheet.{float_of}
 use Rattle.sheet.proofs.Parts.{table_stored, parsed_no_tables, parsed_tables_lem, tables_stored_bad, tables_stored_parsed, stored_is}

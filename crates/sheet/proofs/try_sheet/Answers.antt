@@ -1,10 +1,8 @@
 -- `sheet::try_sheet` meets its contract. Assumes nothing.
 use mathlib.Core.Path.{sym, ◌∙◌}
-use Prim.Native.Nat.{◌≤◌}
 use native.Mathlib.Omega.{arith}
-use lib.ListN.{length}
-use Rattle.sheet_layout.specs.Layout.{size, read_sheet}
-use Rattle.sheet.proofs.Parts.{TablesRead, read_tables, read_no_tables, tables_stored_is, EndsRead, read_ends, read_no_ends, too_long, no_tables_lem, no_ends, is_sheet, not_all, answer_no, answer_is, sheet_stored_no, sheet_stored_is}
+use Rattle.sheet_layout.specs.Layout.{read_sheet}
+use Rattle.sheet.proofs.Parts.{read_tables, read_no_tables, tables_stored_is, read_ends, read_no_ends, too_long, no_tables_lem, no_ends, is_sheet, not_all, answer_no, answer_is, sheet_stored_no, sheet_stored_is}
 use Rattle.sheet.proofs.try_sheet.Goals as goal
 
 pub returns-then-text-gt-SIZE : goal.returns-then-text-gt-SIZE

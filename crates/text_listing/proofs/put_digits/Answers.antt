@@ -1,7 +1,6 @@
 -- `text_listing::put_digits` meets its contract. The loop's invariant: the last `left` digits are still to be written. Assumes nothing.
 use mathlib.Core.Path.{◌≡◌, ap}
-use mathlib.Core.List.{◌∷◌}
-use Prim.Native.Nat.{◌-◌, ◌%◌, ◌<◌}
+use Prim.Native.Nat.{◌<◌}
 use native.Mathlib.Omega.{arith}
 use lib.ListN.{length}
 use Rattle.text_format.specs.Format.{digits}
