@@ -1,7 +1,7 @@
 -- The loop of thin_far: of what thin_breaks asks for, what is too far is in the rest of it. Assumes nothing.
 use mathlib.Core.Path.{◌≡◌, refl, sym, ap, ◌∙◌}
 use mathlib.Core.Bool.{Bool, true, false, ◌||◌}
-use mathlib.Core.List.{List, [], ◌∷◌}
+use mathlib.Core.List.{List, ◌∷◌}
 use Prim.Native.Nat.{ℕ, ◌+◌, ◌≤◌, ◌<◌}
 use native.Mathlib.Numerals.{add-one}
 use lib.ListN.{length, get_or, drop, drop_of_length-le}
@@ -11,7 +11,7 @@ use Rattle.arith.specs.Notation.{◌⊕◌, ◌⊖◌, ◌⊗◌, bits, half, pl
 use Rattle.brep.specs.Tree.{CurveTree}
 use Rattle.curve.specs.Eval.{point_at}
 use Rattle.knots_inside.specs.Thinned.{next_of}
-use Rattle.knots.specs.Knots.{deviation, curve_breaks}
+use Rattle.knots.specs.Knots.{deviation}
 use Rattle.knots_thin.specs.Thin.{deviation_asks, thin_asks, thinning_asks}
 use Rattle.edge_params.specs.Work.{some_far}
 use Rattle.edge_params.proofs.Asks.{some_far-++}

@@ -1,28 +1,23 @@
 -- The edge's and the options' line: the names and letters are the layout's, the numbers have their widths. Assumes nothing.
 use mathlib.Core.Path.{◌≡◌, refl, sym, ap, ◌∙◌}
-use mathlib.Core.Bool.{true, false}
 use mathlib.Core.List.{List, [], ◌∷◌, ◌++◌}
-use Prim.Native.Nat.{ℕ, zero, suc, ◌+◌, ◌-◌, ◌^◌, ◌<◌, ◌≤◌}
+use Prim.Native.Nat.{ℕ, zero, suc, ◌-◌, ◌^◌, ◌<◌, ◌≤◌}
 use native.Mathlib.Omega.{arith}
 use lib.ListN.{length, get_or, drop, replicate, length-drop}
 use Rattle.text_format.specs.Bytes.{bytes}
-use Rattle.text_format.specs.Format.{Format, Lawful, Parsed, bad, parsed, plain, ◌and◌, no_items as no_cells, ValidCons, ◌before◌}
-use Rattle.text_format.specs.Table.{Field, float, whole, word, fields, end_byte, names, cell, line, single}
+use Rattle.text_format.specs.Format.{Format, Lawful, Parsed, bad, parsed, ◌and◌, no_items as no_cells, ValidCons, ◌before◌}
+use Rattle.text_format.specs.Table.{Field, float, whole, fields, end_byte, names, cell, line, single}
 use Rattle.sheet_layout.specs.Layout.{edge_columns, option_columns}
 use Rattle.sheet_layout.specs.Padded.{padded}
 use Rattle.sheet_layout.specs.Own.Letters.{field_of}
-use Rattle.sheet_layout.proofs.Laws.{edge_law, options_law}
 use Rattle.sheet_row.specs.Own.Narrow.{Narrow}
 use Rattle.sheet_row.specs.Rows.{raw_edge_of, raw_options_of}
 use Rattle.sheet_row.specs.declared.RawEdge.{RawEdge}
 use Rattle.sheet_row.specs.declared.RawOptions.{RawOptions}
 use Rattle.text_format.proofs.Place.{Read, placed}
 use Rattle.sheet_edge.specs.Own.Answers.{single_of, parsed_as, parsed_edge, parsed_options, parsed_ends}
-use Rattle.sheet_edge.specs.declared.EdgeAt.{EdgeAt}
 use Rattle.sheet_edge.specs.declared.EdgeAt.TheVariants.{Edge, NoEdge}
-use Rattle.sheet_edge.specs.declared.OptionsAt.{OptionsAt}
 use Rattle.sheet_edge.specs.declared.OptionsAt.TheVariants.{Options, NoOptions}
-use Rattle.sheet_edge.specs.declared.Last.{Last}
 use Rattle.sheet_edge.specs.declared.Last.TheVariants.{Pair, NoPair}
 
 pub edge_same : single_of (bytes "curve start end sense lo hi tolerance low high\n") (bytes "wwwwfffww") ≡ single edge_columns

@@ -1,5 +1,5 @@
 -- A cell by its letter. Assumes nothing.
-use mathlib.Core.Path.{◌≡◌, refl}
+use mathlib.Core.Path.{◌≡◌}
 use mathlib.Core.List.{List, [], ◌∷◌}
 use Prim.Native.Nat.{ℕ, ◌-◌, ◌^◌}
 use borrow.Author.Tests.{eq-eqb, ne_eqb}

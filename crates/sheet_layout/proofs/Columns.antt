@@ -2,7 +2,7 @@
 use mathlib.Core.Path.{◌≡◌, refl, sym, ap, ◌∙◌}
 use mathlib.Core.Bool.{Bool, true, false, cond}
 use mathlib.Core.List.{List, [], ◌∷◌, ◌++◌, map, append-nil}
-use Prim.Native.Nat.{ℕ, suc, ◌+◌, ◌-◌, ◌^◌, ◌<◌, ◌≤◌}
+use Prim.Native.Nat.{ℕ, ◌+◌, ◌<◌, ◌≤◌}
 use native.Mathlib.Omega.{arith}
 use native.Mathlib.Numerals.{add-one}
 use lib.ListN.{length, get_or, drop, length-append, drop_of_length-le}
@@ -10,7 +10,7 @@ use lib.Seq.{drop-cons}
 use lib.Dec.{eqb}
 use Rattle.base_lists.specs.All.{All, none as All-none, more}
 use Rattle.text_format.specs.Format.{Parsed, bad, parsed, Format, Lawful, and_then, ◌and◌, no_items}
-use Rattle.text_format.specs.Table.{Field, float, whole, word, end_byte, cell, line}
+use Rattle.text_format.specs.Table.{float, end_byte, cell, line}
 use Rattle.text_format.proofs.Tables.{Good, end_byte_no_digit, cell_law, line_law}
 use Rattle.sheet_layout.specs.Layout.{u32, u64, kind}
 use Rattle.sheet_layout.specs.Own.Letters.{field_of, shape_of}

@@ -2,20 +2,20 @@
 use mathlib.Core.Path.{◌≡◌, refl, sym, ap, ◌∙◌}
 use mathlib.Core.Bool.{Bool, true, false, cond}
 use mathlib.Core.List.{List, [], ◌∷◌}
-use Prim.Native.Nat.{ℕ, ◌+◌, ◌*◌, ◌^◌, ◌<◌, ◌≤◌}
+use Prim.Native.Nat.{ℕ, ◌≤◌}
 use native.Mathlib.Omega.{arith}
 use lib.ListN.{length}
 use lib.Dec.{leb}
 use borrow.Author.Tests.{le-leb, leb-true}
 use Rattle.base_lists.specs.All.{All, none, more}
-use Rattle.base_lists.specs.Result.{Result, refused, got}
+use Rattle.base_lists.specs.Result.{refused, got}
 use Rattle.text_format.specs.Bytes.{bytes}
-use Rattle.text_format.specs.Format.{Format, Lawful, Parsed, bad, parsed, all, one_of, ◌ending◌, ◌then◌, whole_text}
-use Rattle.text_format.specs.Table.{Field, Column, fields, line, table, single}
-use Rattle.text_format.proofs.Laws.{Is, ending_law, then_law, as_law, whole_back, whole_was}
+use Rattle.text_format.specs.Format.{Lawful, Parsed, bad, parsed, all, one_of, ◌ending◌, whole_text}
+use Rattle.text_format.specs.Table.{fields, line, table, single}
+use Rattle.text_format.proofs.Laws.{ending_law, then_law, as_law, whole_back, whole_was}
 use Rattle.text_format.proofs.Words.{one_of-law}
 use Rattle.text_format.proofs.Lines.{NoLine}
-use Rattle.text_format.proofs.Tables.{Good, line_law, no_line, table_law, single_law}
+use Rattle.text_format.proofs.Tables.{Good, no_line, table_law, single_law}
 use Rattle.sheet_layout.specs.Layout.{kinds, u32, u64, kind, point_columns, curve_columns, segment_columns, edge_columns, option_columns, RawSheet, tables_format, ends, sheet, layout, Valid, size, read_sheet, Follows, Means}
 
 -- ---- what the columns hold

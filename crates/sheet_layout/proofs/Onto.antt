@@ -1,7 +1,6 @@
 -- A list that is read piece by piece: those that were read, in front of what is still to be read, are the whole. Assumes nothing.
 use mathlib.Core.Path.{◌≡◌, refl, ap}
 use mathlib.Core.List.{List, [], ◌∷◌, ◌++◌, append_assoc}
-use Prim.Native.Nat.{ℕ}
 use Rattle.text_format.specs.Format.{Parsed, bad, parsed, and_then}
 
 -- l in front of what is read

@@ -1,15 +1,11 @@
 -- So many places: numbers, then zeros. Assumes nothing.
-use mathlib.Core.Path.{◌≡◌, refl, sym, ap, ◌∙◌}
+use mathlib.Core.Path.{◌≡◌, sym, ap, ◌∙◌}
 use mathlib.Core.List.{List, [], ◌∷◌, ◌++◌, append_assoc}
 use Prim.Native.Nat.{ℕ, suc, ◌+◌, ◌-◌, ◌<◌, ◌≤◌}
 use native.Mathlib.Omega.{arith}
 use lib.ListN.{length, set, replicate, length-append, length-replicate}
-use lib.Seq.{sets, set_at, length-sets}
-use Rattle.text_format.specs.Format.{Parsed, bad, parsed}
-use Rattle.text_format.proofs.Place.{Read}
+use lib.Seq.{set_at}
 use Rattle.sheet_layout.specs.Padded.{padded}
-use Rattle.sheet_layout.specs.Own.Letters.{parsed_row}
-use Rattle.sheet_layout.specs.declared.Row.{Row}
 
 module _ {E : Type 0} (n : ℕ) (zero : E) where
   pub padded_length : (l : List E) → length l ≤ n → length (padded n zero l) ≡ n

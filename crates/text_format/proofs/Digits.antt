@@ -11,7 +11,7 @@ use native.Mathlib.Nat.{add-mul, mul-add, mul_assoc, mul_comm, mul_left_comm, mu
 use lib.ListN.{length}
 use lib.Dec.{ltb, leb, eqb}
 use borrow.Author.Tests.{ltb-true, ltb-false, lt-ltb, le-ltb, leb-true, leb-false, le-leb, eqb-true, eqb-false, eq-eqb, ne_eqb}
-use Rattle.text_format.specs.Format.{Parsed, bad, parsed, Format, Was, Lawful, when, expect, char_of, digit_of, digits, read_digits, hex16, width_up_to, decimal, read_decimal, read_plain, plain}
+use Rattle.text_format.specs.Format.{Parsed, parsed, Was, Lawful, when, expect, char_of, digit_of, digits, read_digits, hex16, width_up_to, decimal, read_decimal, read_plain, plain}
 use Rattle.text_format.proofs.Laws.{no_parsed, when_parsed, same_parsed, expect_back, expect_was}
 
 ruleset ring = (add-mul, mul-add, mul_assoc, mul_comm, mul_left_comm)

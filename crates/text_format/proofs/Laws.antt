@@ -8,7 +8,7 @@ use native.Mathlib.Omega.{arith}
 use lib.Dec.{eqb}
 use borrow.Author.Tests.{eqb-true, eq-eqb}
 use Rattle.base_lists.specs.Result.{Result, refused, got}
-use Rattle.text_format.specs.Format.{Parsed, bad, parsed, Format, Was, Lawful, when, and_then, or_else, expect, ◌ending◌, ◌before◌, ◌then◌, no_items, ValidCons, write_cons, ◌and◌, as_of, whole_text, all}
+use Rattle.text_format.specs.Format.{Parsed, bad, parsed, Format, Was, Lawful, when, and_then, expect, ◌ending◌, ◌before◌, ◌then◌, no_items, ValidCons, write_cons, ◌and◌, as_of, whole_text, all}
 
 -- ---- reading on
 pub no_parsed : {A : Type 0} {X : Type 0} (a : A) (rest : List ℕ) → bad ≡ parsed a rest → X

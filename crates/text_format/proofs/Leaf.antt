@@ -10,7 +10,7 @@ use lib.ListN.{length, get_or, drop, drop_of_length-le}
 use lib.Seq.{drop-cons}
 use lib.Dec.{leb}
 use borrow.Author.Tests.{leb-true, leb-false, lt-ltb, le-ltb, le-leb, lt-leb, eq-eqb, ne_eqb}
-use Rattle.text_format.specs.Format.{Parsed, bad, parsed, when, digit_of, read_digits, read_decimal, read_plain, expect}
+use Rattle.text_format.specs.Format.{bad, parsed, when, digit_of, read_digits, read_decimal, read_plain, expect}
 
 ruleset ring = (add-mul, mul-add, mul_assoc, mul_comm, mul_left_comm)
 

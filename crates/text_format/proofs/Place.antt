@@ -2,7 +2,7 @@
 use mathlib.Core.Path.{◌≡◌, refl, sym, ap, ◌∙◌}
 use mathlib.Core.Bool.{Bool, true, false}
 use mathlib.Core.List.{List, [], ◌∷◌, ◌++◌}
-use Prim.Native.Nat.{ℕ, ◌+◌, ◌-◌, ◌<◌, ◌≤◌}
+use Prim.Native.Nat.{ℕ, ◌+◌, ◌-◌, ◌≤◌}
 use native.Mathlib.Omega.{arith}
 use lib.ListN.{length, drop, length-drop, length-append}
 use lib.Seq.{drop-drop, drop-append_seam}
@@ -10,7 +10,6 @@ use lib.Dec.{eqb}
 use Rattle.text_format.specs.Format.{Parsed, bad, parsed, Format, Lawful, when, and_then, expect, ◌ending◌, ◌before◌, ◌then◌, as_of}
 use Rattle.text_format.proofs.Laws.{no_parsed, same_parsed, when_parsed, expect_was}
 use Rattle.text_format.specs.Own.Answers.{parsed_at, parsed_list}
-use Rattle.text_format.specs.declared.Num.{Num}
 use Rattle.text_format.specs.declared.Num.TheVariants.{Got, Bad}
 
 -- the answer Bad is no number

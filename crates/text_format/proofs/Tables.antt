@@ -1,13 +1,13 @@
 -- Tables are lawful, if their numbers are bounded and their words can be told apart. Assumes nothing.
-use mathlib.Core.Path.{◌≡◌, refl, sym, ap, ◌∙◌}
+use mathlib.Core.Path.{◌≡◌, refl, sym}
 use mathlib.Core.Bool.{Bool, true, false, cond}
 use mathlib.Core.List.{List, [], ◌∷◌}
-use Prim.Native.Nat.{ℕ, suc, ◌+◌, ◌^◌, ◌<◌, ◌≤◌}
+use Prim.Native.Nat.{ℕ, suc, ◌^◌, ◌<◌, ◌≤◌}
 use native.Mathlib.Omega.{arith}
 use lib.Dec.{eqb}
-use borrow.Author.Tests.{eqb-true, eqb-false, ne_eqb}
+use borrow.Author.Tests.{eqb-false, ne_eqb}
 use Rattle.base_lists.specs.All.{All, none as All-none, more}
-use Rattle.text_format.specs.Format.{Parsed, bad, parsed, Format, Lawful, when, and_then, or_else, expect, digit_of, hex16, plain, one_of, read_digits, read_plain, read_word, ◌ending◌, ◌before◌, ◌and◌, no_items, lines}
+use Rattle.text_format.specs.Format.{bad, Lawful, when, and_then, or_else, expect, digit_of, hex16, one_of, read_digits, read_plain, read_word, ◌ending◌, ◌and◌, lines}
 use Rattle.text_format.specs.Table.{Field, float, whole, word, Column, fields, end_byte, names, cell, line, table, single}
 use Rattle.text_format.proofs.Laws.{ending_law, before_law, and_law, none_law}
 use Rattle.text_format.proofs.Digits.{hex16_law, plain_law}

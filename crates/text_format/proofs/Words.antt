@@ -2,11 +2,11 @@
 use mathlib.Core.Path.{◌≡◌, refl, sym, ap, ◌∙◌}
 use mathlib.Core.Bool.{Bool, true, false, cond, ◌&&◌}
 use mathlib.Core.List.{List, [], ◌∷◌, ◌++◌}
-use Prim.Native.Nat.{ℕ, zero, suc, ◌+◌, ◌-◌, ◌<◌, ◌≤◌}
+use Prim.Native.Nat.{ℕ, zero, suc, ◌+◌, ◌-◌, ◌<◌}
 use native.Mathlib.Omega.{arith}
 use lib.ListN.{length, get_or}
 use lib.Dec.{eqb}
-use Rattle.text_format.specs.Format.{Parsed, bad, parsed, Format, Lawful, when, expect, or_else, read_word, one_of}
+use Rattle.text_format.specs.Format.{Parsed, bad, parsed, Lawful, when, expect, or_else, read_word, one_of}
 use Rattle.text_format.proofs.Laws.{no_parsed, same_parsed, expect_back, expect_was}
 
 abbrev pub differ : List ℕ → List ℕ → Bool

@@ -1,5 +1,5 @@
 -- Tables: a line of names, then lines of values in that order, one space between.
-use Rattle.std.specs.Prelude.{ℕ, ◌+◌, List, [], ◌∷◌, ◌++◌}
+use Rattle.std.specs.Prelude.{ℕ, List, [], ◌∷◌, ◌++◌}
 use Prim.Native.String.{String}
 use Rattle.text_format.specs.Bytes.{bytes}
 use Rattle.text_format.specs.Format.{Format, hex16, plain, one_of, ◌ending◌, ◌before◌, ◌and◌, no_items, lines}

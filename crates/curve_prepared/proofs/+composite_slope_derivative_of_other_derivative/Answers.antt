@@ -1,6 +1,5 @@
 -- `curve_prepared::composite_slope`, `curve_prepared::derivative_of` and `curve_prepared::other_derivative` meet their contracts. Assumes nothing.
 use mathlib.Core.Path.{refl, sym, ap, ◌∙◌}
-use Rattle.math.specs.declared.Vec3.{Vec3}
 use Rattle.math.specs.Math.{v_scale}
 use Rattle.brep.specs.Tree.{CurveTree}
 use Rattle.brep.proofs.Laws.{at_lower, at_high}
@@ -62,20 +61,17 @@ other_derivative-composite_slope-requires t c =
 pub other_derivative-returns-in-5 : goal.other_derivative-returns-in-5
 unfolding derivative_at
 other_derivative-returns-in-5 t c =
-    let d : CurveTree → Vec3 = λ k. derivative_at k c.args.t in
-    c.polyline_at-spot.ensures.1 ∙ at_polyline d _ _ c.int_at-kind.ensures c.in-5.is c.int_at-first.ensures c.int_at-count.ensures ∙ under_same d (λ b r. refl) _ _ c.under_trims-r.ensures
+    c.polyline_at-spot.ensures.1 ∙ at_polyline (λ (k : CurveTree). derivative_at k c.args.t) _ _ c.int_at-kind.ensures c.in-5.is c.int_at-first.ensures c.int_at-count.ensures ∙ under_same (λ (k : CurveTree). derivative_at k c.args.t) (λ b r. refl) _ _ c.under_trims-r.ensures
 
 pub other_derivative-returns-in-7 : goal.other_derivative-returns-in-7
 unfolding derivative_at
 other_derivative-returns-in-7 t c =
-    let d : CurveTree → Vec3 = λ k. derivative_at k c.args.t in
-    c.composite_slope.ensures ∙ at_composite d _ _ c.int_at-kind.ensures c.in-7.is c.int_at-first-in-7.ensures c.int_at-count-in-7.ensures ∙ under_same d (λ b r. refl) _ _ c.under_trims-r.ensures
+    c.composite_slope.ensures ∙ at_composite (λ (k : CurveTree). derivative_at k c.args.t) _ _ c.int_at-kind.ensures c.in-7.is c.int_at-first-in-7.ensures c.int_at-count-in-7.ensures ∙ under_same (λ (k : CurveTree). derivative_at k c.args.t) (λ b r. refl) _ _ c.under_trims-r.ensures
 
 pub other_derivative-returns-in-8 : goal.other_derivative-returns-in-8
 unfolding derivative_at hyperbola_slope
 other_derivative-returns-in-8 t c =
-    let d : CurveTree → Vec3 = λ k. derivative_at k c.args.t in
-    c.hyperbola_slope.ensures ∙ at_hyperbola d _ _ c.int_at-kind.ensures c.in-8.is refl refl refl ∙ under_same d (λ b r. refl) _ _ c.under_trims-r.ensures
+    c.hyperbola_slope.ensures ∙ at_hyperbola (λ (k : CurveTree). derivative_at k c.args.t) _ _ c.int_at-kind.ensures c.in-8.is refl refl refl ∙ under_same (λ (k : CurveTree). derivative_at k c.args.t) (λ b r. refl) _ _ c.under_trims-r.ensures
 
 pub other_derivative-returns-in_default : goal.other_derivative-returns-in_default
 other_derivative-returns-in_default t c = no_slope _ _ c.under_trims-r.ensures c.int_at-kind.ensures c.requires (search rules) _

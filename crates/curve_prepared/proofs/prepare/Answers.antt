@@ -4,6 +4,7 @@ use Rattle.curve_parameter.specs.Run.{closes}
 use Rattle.curve_prepared.specs.declared.Prepared.TheVariants.{Other}
 use Rattle.curve_parameter.proofs.Under.{under_same, under_rest}
 use Rattle.brep.proofs.ByKind.{at_line, at_circle, at_ellipse, at_parabola, at_polyline, at_composite, at_hyperbola}
+use borrow.Author.Rules.{rules}
 use mathlib.Core.Path.{refl, ap, ◌∙◌}
 use Rattle.curve_prepared.proofs.prepare.Goals as goal
 

@@ -3,14 +3,13 @@
 use mathlib.Core.Path.{◌≡◌, refl, sym, ◌∙◌}
 use Prim.Native.Nat.{◌≤◌}
 use native.Mathlib.Omega.{arith}
-use lib.ListN.{length, take}
+use lib.ListN.{length}
 use lib.Seq.{length-take-le}
 use Rattle.brep.specs.Rows.{tables}
 use Rattle.brep.specs.Tree.{CurveTree, tree}
 use Rattle.knots_sort.specs.Own.Sortable.{most_knots}
 use Rattle.knots.specs.Knots.{curve_knots, curve_breaks}
 use Rattle.knots.proofs.Answers.{exceeded}
-use Rattle.knots_thin.specs.Thin.{kept_breaks}
 use Rattle.knots_thin.proofs.Kept.{some_found, part_room, part}
 use Rattle.edge_sample.proofs.Broken.{not_many, kept_room, kept_list}
 use Rattle.edge_count.proofs.Laws.{range_far, range_near}

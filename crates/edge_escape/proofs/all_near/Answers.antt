@@ -1,6 +1,5 @@
 -- `edge_escape::all_near` meets its contract. The invariant: for any limit that the square's root is within, the records from i on answer as the whole chain does. Assumes nothing.
 use mathlib.Core.Path.{refl, sym, ◌∙◌}
-use mathlib.Core.Bool.{true}
 use native.Mathlib.Omega.{arith}
 use lib.Ieee.{Float}
 use Rattle.arith.proofs.Cmp.{holds}

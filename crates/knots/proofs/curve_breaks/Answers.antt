@@ -2,7 +2,7 @@
 use native.Mathlib.Omega.{arith}
 use mathlib.Core.Path.{sym}
 use Rattle.brep.specs.Rows.{tables}
-use Rattle.brep.specs.Tree.{CurveTree, tree}
+use Rattle.brep.specs.Tree.{tree}
 use Rattle.knots.proofs.Answers.{Stored, stored, no_breaks, part_room, part_length, clear_room, some_breaks}
 use Rattle.knots.proofs.curve_breaks.Goals as goal
 

@@ -1,10 +1,9 @@
 -- `knots_sort::merge_sort` meets its contract: the halves are sorted, each shorter than the whole, and the sorted list of both is the two merged.
 -- Assumes nothing.
-use borrow.Author.Rules.{rules}
 use native.Mathlib.Omega.{arith}
 use mathlib.Core.Path.{sym, ap, ◌∙◌, subst}
 use mathlib.Core.List.{List}
-use Prim.Native.Nat.{ℕ, ◌/◌, ◌<◌}
+use Prim.Native.Nat.{◌/◌}
 use lib.ListN.{length, length-drop}
 use lib.Seq.{length-take-le}
 use lib.Ieee.{Float}

@@ -3,6 +3,7 @@ use mathlib.Core.List.{List}
 use Prim.Native.Nat.{ℕ}
 use native.Mathlib.Omega.{arith}
 use Rattle.text_format.specs.Bytes.{bytes}
+use Rattle.text_format.specs.Format.{◌before◌}
 use Rattle.text_format.specs.Table.{fields, line}
 use Rattle.sheet_layout.specs.Own.Letters.{field_of, shape_of}
 use Rattle.sheet_layout.proofs.Columns.{shape_law}
@@ -19,4 +20,4 @@ raw_options_of-requires c =
     let called = c.line-row in
     let s = c.args.text.now in
     let r = row_read s (line (shape_of shape)) (shape_law shape) 0 called.result (omega arith) called.ensures c.if-row.true in
-    rw r.numbers-are (options_narrow r.list ((shape_law shape).was _ r.list _ r.is.is).right)
+    rw r.numbers_are (options_narrow r.list ((shape_law shape).was _ r.list _ r.is.is).right)

@@ -3,7 +3,7 @@ use native.Mathlib.Omega.{arith}
 use Rattle.replay.proofs.name_at.Goals as goal
 
 pub overflow_cast-v : goal.overflow_cast-v
-overflow_cast-v c = omega (arith, c.shared_slice_known-1.given c.loop-v.p)
+overflow_cast-v c = omega (arith, c.type_inv.text c.loop-v.p)
 
 pub overflow_add-v : goal.overflow_add-v
-overflow_add-v c = omega (arith, c.shared_slice_known-1.given c.loop-v.p)
+overflow_add-v c = omega (arith, c.type_inv.text c.loop-v.p)

@@ -8,7 +8,7 @@ use Rattle.replay_chain.proofs.main.Given as goal
 
 abbrev pub invariant-loop-turns : goal.invariant-loop-turns
 invariant-loop-turns l =
-    (65536 ≡ length l.text) × (size + 5 ≡ length l.first) × (l.turns.read ≤ 65536)
+    (65536 ≡ length l.chunk) × (size + 5 ≡ length l.text) × (l.next.read ≤ 65536)
 
 abbrev pub decreases-loop-turns : goal.decreases-loop-turns
-decreases-loop-turns l = turns
+decreases-loop-turns l = l.turns

@@ -9,9 +9,8 @@ use Rattle.text_format.specs.Bytes.{bytes}
 use Rattle.text_format.specs.Table.{single}
 use Rattle.sheet_layout.specs.Layout.{edge_columns}
 use Rattle.sheet_layout.specs.Own.Letters.{parsed_row}
-use Rattle.sheet_row.specs.Rows.{raw_edge_of}
 use Rattle.sheet_layout.proofs.Laws.{edge_law}
-use Rattle.sheet_layout.proofs.Rows.{RowRead, row_read, no_row_read}
+use Rattle.sheet_layout.proofs.Rows.{row_read, no_row_read}
 use Rattle.sheet_edge.specs.declared.EdgeAt.TheVariants.{Edge}
 use Rattle.sheet_edge.proofs.Singles.{edge_same, edge_narrow, parsed_edge_lem, parsed_no_edge}
 use Rattle.sheet_edge.proofs.edge.Goals as goal

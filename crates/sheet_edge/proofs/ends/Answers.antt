@@ -1,13 +1,12 @@
 -- `sheet_edge::ends` meets its contract. Assumes nothing.
 use mathlib.Core.Path.{sym, ◌∙◌}
 use mathlib.Core.List.{[], ◌∷◌}
-use lib.ListN.{drop}
 use Rattle.text_format.specs.Format.{◌ending◌}
 use Rattle.text_format.specs.Table.{single}
 use Rattle.sheet_layout.specs.Layout.{edge_columns, option_columns}
 use Rattle.sheet_layout.proofs.Laws.{edge_law, options_law}
-use Rattle.text_format.proofs.Place.{Read, ending_bad, ending_none, ending_read, then_bad, then_bad_on, then_read}
-use Rattle.sheet_edge.proofs.Singles.{EdgeRead, read_edge, read_no_edge, read_options, read_no_options, parsed_ends_lem, parsed_no_ends}
+use Rattle.text_format.proofs.Place.{ending_bad, ending_none, ending_read, then_bad, then_bad_on, then_read}
+use Rattle.sheet_edge.proofs.Singles.{read_edge, read_no_edge, read_options, read_no_options, parsed_ends_lem, parsed_no_ends}
 use Rattle.sheet_edge.proofs.ends.Goals as goal
 
 pub returns-in_default : goal.returns-in_default

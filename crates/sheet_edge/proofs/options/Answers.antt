@@ -9,9 +9,8 @@ use Rattle.text_format.specs.Bytes.{bytes}
 use Rattle.text_format.specs.Table.{single}
 use Rattle.sheet_layout.specs.Layout.{option_columns}
 use Rattle.sheet_layout.specs.Own.Letters.{parsed_row}
-use Rattle.sheet_row.specs.Rows.{raw_options_of}
 use Rattle.sheet_layout.proofs.Laws.{options_law}
-use Rattle.sheet_layout.proofs.Rows.{RowRead, row_read, no_row_read}
+use Rattle.sheet_layout.proofs.Rows.{row_read, no_row_read}
 use Rattle.sheet_edge.specs.declared.OptionsAt.TheVariants.{Options}
 use Rattle.sheet_edge.proofs.Singles.{options_same, options_narrow, parsed_options_lem, parsed_no_options}
 use Rattle.sheet_edge.proofs.options.Goals as goal

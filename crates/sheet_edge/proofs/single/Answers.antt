@@ -1,11 +1,9 @@
 -- `sheet_edge::single` meets its contract. Assumes nothing.
 use mathlib.Core.Path.{sym, ap, ◌∙◌}
-use lib.ListN.{drop}
-use Rattle.text_format.specs.Format.{expect}
 use Rattle.text_format.specs.Table.{line}
 use Rattle.sheet_layout.specs.Padded.{padded}
 use Rattle.sheet_layout.specs.Own.Letters.{shape_of, parsed_row}
-use Rattle.text_format.proofs.Place.{Read, names_read, names_bad, before_bad, before_is}
+use Rattle.text_format.proofs.Place.{names_read, names_bad, before_bad, before_is}
 use Rattle.sheet_layout.proofs.Rows.{parsed_no_row}
 use Rattle.sheet_edge.proofs.single.Goals as goal
 

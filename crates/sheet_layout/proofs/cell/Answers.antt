@@ -4,7 +4,7 @@ use mathlib.Core.List.{[], ◌∷◌}
 use lib.ListN.{drop}
 use Rattle.text_format.specs.Format.{one_of}
 use Rattle.text_format.specs.Own.Answers.{parsed_at}
-use Rattle.text_format.proofs.Place.{Read, parsed_bad, read_at, read_bad, ending_is, ending_bad}
+use Rattle.text_format.proofs.Place.{parsed_bad, read_at, read_bad, ending_is, ending_bad}
 use Rattle.sheet_layout.specs.Layout.{kinds}
 use Rattle.sheet_layout.proofs.Laws.{kinds_law}
 use Rattle.sheet_layout.proofs.Cells.{cell_f, cell_w, cell_l, cell_k}

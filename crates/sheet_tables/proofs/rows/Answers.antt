@@ -1,6 +1,6 @@
 -- `sheet_tables::rows` meets its contract. The loop's invariant is `Rows`: the rows that were read, in front of what is left
 -- to be read at p, are the whole; the tables hold them, and have room for more. Assumes nothing.
-use mathlib.Core.Path.{◌≡◌, sym, ◌∙◌}
+use mathlib.Core.Path.{◌≡◌, sym}
 use mathlib.Core.Bool.{true}
 use mathlib.Core.List.{List}
 use Prim.Native.Nat.{ℕ, ◌+◌, ◌<◌, ◌≤◌}
@@ -14,7 +14,7 @@ use Rattle.sheet_row.specs.Rows.{floats_of, wholes_of}
 use Rattle.sheet_tables.specs.Flattened.{flattened}
 use Rattle.text_format.proofs.Place.{Read, parsed_list_lem, parsed_no_list}
 use Rattle.sheet_layout.proofs.Columns.{shape_law}
-use Rattle.sheet_layout.proofs.Rows.{RowRead, row_read, no_row_read}
+use Rattle.sheet_layout.proofs.Rows.{row_read, no_row_read}
 use Rattle.sheet_tables.proofs.Stores.{cleared_behind, all_cleared, stored_bad, stored_parsed}
 use Rattle.sheet_layout.specs.Layout.{size}
 use Rattle.sheet_layout.specs.declared.Row.{Row}

@@ -2,14 +2,14 @@
 use mathlib.Core.Path.{refl, sym, ap, ◌∙◌}
 use lib.ListN.{drop}
 use lib.Ieee.{binary64, of_bits}
-use Rattle.text_format.specs.Format.{expect, lines}
+use Rattle.text_format.specs.Format.{lines}
 use Rattle.text_format.specs.Table.{line}
 use Rattle.text_format.specs.Own.Answers.{parsed_list}
 use Rattle.sheet_layout.specs.Own.Letters.{shape_of}
 use Rattle.sheet_row.specs.Rows.{floats_of, wholes_of}
 use Rattle.sheet_tables.specs.Flattened.{flattened}
 use Rattle.sheet_tables.specs.Own.Answers.{table_of}
-use Rattle.text_format.proofs.Place.{Read, parsed_no_list, names_read, names_bad, before_bad, before_is}
+use Rattle.text_format.proofs.Place.{parsed_no_list, names_read, names_bad, before_bad, before_is}
 use Rattle.sheet_tables.proofs.Stores.{all_cleared, stored_bad, stored_same}
 use Rattle.sheet_tables.proofs.table.Goals as goal
 
