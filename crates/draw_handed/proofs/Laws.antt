@@ -5,7 +5,7 @@ use mathlib.Core.List.{List, [], ◌∷◌}
 use Prim.Native.Nat.{ℕ, ◌*◌}
 use lib.ListN.{length, take}
 use lib.Ieee.{Float}
-use denote.Ref.{Bor}
+use denote.Ref.{Bor, MutBor}
 use Rattle.base_lists.specs.Result.{Result, refused, got}
 use Rattle.base_lists.specs.Room.{filled}
 use Rattle.base_lists.proofs.Filled.{filled_front}
@@ -61,7 +61,7 @@ module _ (t : Tables) (e : Edge) (o : Options) (first second : List Float) (answ
   own_outcome = rw (← h.answered, ← h.first_holds, ← h.second_holds) h
 
 -- ---- drawn_chain
-module _ (t : Tables) (e : Edge) (o : Options) (first second : Bor (List Float)) (answer : Drawn) (f s : Bor (List Float)) (h : Outcome t e o first.now second.now answer f.now s.now) where
+module _ (t : Tables) (e : Edge) (o : Options) (first second : MutBor (List Float)) (answer : Drawn) (f s : Bor (List Float)) (h : Outcome t e o first.now second.now answer f.now s.now) where
   pub hands_back : (part : Bor (List Float)) (x : Codes) → f.ref_ptr ≡ first.ref_ptr → s.ref_ptr ≡ second.ref_ptr
       → part.now ≡ take (chain_floats answer) (cond (lies_in_first answer) f.now s.now) → part.ref_ptr ≡ cond (lies_in_first answer) f.ref_ptr s.ref_ptr → x ≡ codes_of answer
       → Handed t e o first second x.refusal x.way x.count (part ∷ f ∷ s ∷ [])

@@ -1,6 +1,6 @@
 -- A drawing that hands its chain back as a part of a lent buffer, with both buffers and the answer's numbers. Definitions only.
 use Rattle.std.specs.Prelude.{◌≡◌, cond, List, [], ◌∷◌, map, ℕ, length, Float}
-use Rattle.std.specs.Borrow.{Bor}
+use Rattle.std.specs.Borrow.{Bor, MutBor}
 use Rattle.base_lists.specs.Result.{Result, refused, got}
 use Rattle.brep.specs.declared.Edge.{Edge}
 use Rattle.brep.specs.Rows.{Tables}
@@ -16,7 +16,7 @@ chain_of (refused n) = []
 chain_of (got g) = flat g.chain
 
 -- what drawing D, into buffers first and second, hands back: the chain, the first buffer and the second, and the answer's three numbers
-pub record HandedBy (D : Result Got) (first second : Bor (List Float)) (refusal way count : ℕ) (parts : List (Bor (List Float))) : Type 0 where
+pub record HandedBy (D : Result Got) (first second : MutBor (List Float)) (refusal way count : ℕ) (parts : List (Bor (List Float))) : Type 0 where
   -- every float of all three
   pub hold : map (λ x. x.now) parts ≡ chain_of D ∷ first_after first.now D ∷ second_after second.now D ∷ []
   -- nothing is copied: each begins where its buffer does
@@ -26,7 +26,7 @@ pub record HandedBy (D : Result Got) (first second : Bor (List Float)) (refusal 
   pub its_count : count ≡ (codes_of (answer_of D)).count
 
 -- that of the entry point, with all that `draw` promises of its answer and buffers
-pub record Handed (T : Tables) (e : Edge) (o : Options) (first second : Bor (List Float)) (refusal way count : ℕ) (parts : List (Bor (List Float))) : Type 0 where
+pub record Handed (T : Tables) (e : Edge) (o : Options) (first second : MutBor (List Float)) (refusal way count : ℕ) (parts : List (Bor (List Float))) : Type 0 where
   pub handed : HandedBy (drawn T e o (length first.now) (length second.now)) first second refusal way count parts
   pub outcome :
       let D = drawn T e o (length first.now) (length second.now) in
