@@ -12,21 +12,21 @@ pub repair_runaway-requires : goal.repair_runaway-requires
 repair_runaway-requires c =
     let a = c.args in
     let T = lent a.points a.curves a.reals a.parts a.ranges in
+    -- the chain that was drawn
+    let k = counts T a.edge a.r a.first.now a.second.now c.requires.0 c.requires.1 c.discretise_usable-counted.ensures _ c.in-Count.is in
     let p = c.requires in
-    let k = counts T a.edge a.r a.first.now a.second.now p.0 p.1 c.discretise_usable-counted.ensures _ c.in-Count.is in
     (k.first_enough, k.second_enough, p.2, p.3, k.fits, k.alone, k.clear, ap in_first c.first_way-way.ensures ∙ first_in_first _)
 
 pub returns-in-Refused : goal.returns-in-Refused
 returns-in-Refused c =
     let a = c.args in
     let T = lent a.points a.curves a.reals a.parts a.ranges in
-    let p = c.requires in
-    not_drawn T a.edge a.r a.first.now a.second.now p.0 p.1 c.discretise_usable-counted.ensures _ c.in-Refused.is
+    not_drawn T a.edge a.r a.first.now a.second.now c.requires.0 c.requires.1 c.discretise_usable-counted.ensures _ c.in-Refused.is
 
 pub returns-in-Count : goal.returns-in-Count
 returns-in-Count c =
     let a = c.args in
     let T = lent a.points a.curves a.reals a.parts a.ranges in
-    let p = c.requires in
-    let k = counts T a.edge a.r a.first.now a.second.now p.0 p.1 c.discretise_usable-counted.ensures _ c.in-Count.is in
-    drawn_on T a.edge a.r a.first.now a.second.now p.0 p.1 c.discretise_usable-counted.ensures _ k _ (c.first_way-way.ensures ∙ ap first_way p.4) c.repair_runaway.ensures
+    -- the chain that was drawn
+    let k = counts T a.edge a.r a.first.now a.second.now c.requires.0 c.requires.1 c.discretise_usable-counted.ensures _ c.in-Count.is in
+    drawn_on T a.edge a.r a.first.now a.second.now c.requires.0 c.requires.1 c.discretise_usable-counted.ensures _ k _ (c.first_way-way.ensures ∙ ap first_way c.requires.4) c.repair_runaway.ensures
