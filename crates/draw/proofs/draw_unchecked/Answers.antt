@@ -25,7 +25,7 @@ returns-then-draw_straight c =
     let T = lent a.points a.curves a.reals a.parts a.ranges in
     -- what `draw_straight` answered, and what it left of the buffers
     let told : StraightInto (in_buffers T a.edge a.options (length a.first.now) (length a.second.now)) a.first.now a.second.now c.draw_straight.result c.draw_straight.new.first c.draw_straight.new.second =
-        c.draw_straight.ensures a.reals.now a.parts.now a.ranges.now c.usable_range-usable.ensures in
+    c.draw_straight.ensures a.reals.now a.parts.now a.ranges.now c.usable_range-usable.ensures in
     told.chain c.if-draw_straight.true
 
 pub drawn_in-requires : goal.drawn_in-requires
@@ -34,7 +34,7 @@ drawn_in-requires c =
     let T = lent a.points a.curves a.reals a.parts a.ranges in
     -- what `draw_straight` answered, and what it left of the buffers
     let told : StraightInto (in_buffers T a.edge a.options (length a.first.now) (length a.second.now)) a.first.now a.second.now c.draw_straight.result c.draw_straight.new.first c.draw_straight.new.second =
-        c.draw_straight.ensures a.reals.now a.parts.now a.ranges.now c.usable_range-usable.ensures in
+    c.draw_straight.ensures a.reals.now a.parts.now a.ranges.now c.usable_range-usable.ensures in
     let left = c.if-draw_straight.false in (
       omega (arith, ap length (told.kept_first left), c.if-first-lt-SHORTEST.false),
       omega (arith, ap length (told.kept_second left), c.if-second-lt-SHORTEST.false),
@@ -49,7 +49,7 @@ returns c =
     let T = lent a.points a.curves a.reals a.parts a.ranges in
     -- what `draw_straight` answered, and what it left of the buffers
     let told : StraightInto (in_buffers T a.edge a.options (length a.first.now) (length a.second.now)) a.first.now a.second.now c.draw_straight.result c.draw_straight.new.first c.draw_straight.new.second =
-        c.draw_straight.ensures a.reals.now a.parts.now a.ranges.now c.usable_range-usable.ensures in
+    c.draw_straight.ensures a.reals.now a.parts.now a.ranges.now c.usable_range-usable.ensures in
     let left = c.if-draw_straight.false in
     in_buffers_lem T a.edge a.options a.first.now a.second.now
     (neither_short (length a.first.now) (length a.second.now) c.if-first-lt-SHORTEST.false c.if-second-lt-SHORTEST.false)

@@ -12,8 +12,8 @@ returns-then-in_reach c points reals parts ranges =
     let a = c.args in
     -- the row's kind is a hyperbola's
     let hyperbola : true ≡ is_hyperbola (tree (tables points a.curves.now reals parts ranges) a.row) =
-        sym (eq-eqb c.int_at.result 8 c.if-int_at-eq8.true)
-        ∙ hyperbola_by_kind (tables points a.curves.now reals parts ranges) a.row c.under_trims-r.ensures c.int_at.ensures in
+    sym (eq-eqb c.int_at.result 8 c.if-int_at-eq8.true)
+    ∙ hyperbola_by_kind (tables points a.curves.now reals parts ranges) a.row c.under_trims-r.ensures c.int_at.ensures in
     let n : true ≡ in_reach a.range.lo = sym c.if-in_reach.true ∙ c.in_reach.ensures in
     rw (← hyperbola, ← n) c.in_reach-then-in_reach.ensures
 
@@ -22,8 +22,8 @@ returns-else-in_reach c points reals parts ranges =
     let a = c.args in
     -- the row's kind is a hyperbola's
     let hyperbola : true ≡ is_hyperbola (tree (tables points a.curves.now reals parts ranges) a.row) =
-        sym (eq-eqb c.int_at.result 8 c.if-int_at-eq8.true)
-        ∙ hyperbola_by_kind (tables points a.curves.now reals parts ranges) a.row c.under_trims-r.ensures c.int_at.ensures in
+    sym (eq-eqb c.int_at.result 8 c.if-int_at-eq8.true)
+    ∙ hyperbola_by_kind (tables points a.curves.now reals parts ranges) a.row c.under_trims-r.ensures c.int_at.ensures in
     let n : false ≡ in_reach a.range.lo = sym c.if-in_reach.false ∙ c.in_reach.ensures in
     c.if-in_reach.false ∙ rw (← hyperbola, ← n)
 

@@ -15,16 +15,18 @@ pub returns-then-far_at : goal.returns-then-far_at
 returns-then-far_at c points reals =
     -- what far_at answers, of step number i
     let looked : c.far_at.result ≡ asks_far (tree (tables points c.args.curves.now reals c.args.parts.now c.args.ranges.now) c.args.row) (step_at c.args.range c.args.n c.loop-i.i) =
-        rw (c.at-t.ensures, c.nearest_u64_to_f64.ensures) at (c.far_at.ensures points reals) in
+    rw (c.at-t.ensures, c.nearest_u64_to_f64.ensures) at (c.far_at.ensures points reals) in
     evenly_found _ _ _ c.loop-i.i (omega arith) (sym looked ∙ c.if-far_at.true)
 
 pub loop-i-preserved : goal.loop-i-preserved
 loop-i-preserved c =
-    let l = c.loop-i in
-    (omega arith, λ (points reals : List Float).
-    let looked : c.far_at.result ≡ asks_far (tree (tables points c.args.curves.now reals c.args.parts.now c.args.ranges.now) c.args.row) (step_at c.args.range c.args.n c.loop-i.i) =
-        rw (c.at-t.ensures, c.nearest_u64_to_f64.ensures) at (c.far_at.ensures points reals) in
-    rw add-one (steps_passed _ _ _ l.i (l.invariant.1 points reals) (sym looked ∙ c.if-far_at.false)))
+    let l = c.loop-i in (
+      omega arith,
+      λ (points reals : List Float).
+          let looked : c.far_at.result ≡ asks_far (tree (tables points c.args.curves.now reals c.args.parts.now c.args.ranges.now) c.args.row) (step_at c.args.range c.args.n c.loop-i.i) =
+          rw (c.at-t.ensures, c.nearest_u64_to_f64.ensures) at (c.far_at.ensures points reals) in
+          rw add-one (steps_passed _ _ _ l.i (l.invariant.1 points reals) (sym looked ∙ c.if-far_at.false)),
+    )
 
 pub returns : goal.returns
 returns c points reals =

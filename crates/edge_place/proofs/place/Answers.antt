@@ -14,8 +14,8 @@ returns c =
     let T = lent a.points a.curves a.reals a.parts a.ranges in
     -- the chain with the curve's points, known or not
     let held : c.if-not-known.chain ≡ sets a.chain.now 0 (flat (located (edge_curve T a.edge) a.params.now)) =
-        elim c.if-not-known.branch [
-          | then-not-known w ↦ w.chain-is ∙ w.locate.ensures
-          | else-not-known w ↦ held_known T a.edge a.params.now a.chain.now c.requires.1 (c.requires.2 w.if-not-known.false) w.chain-is
-        ] in
+    elim c.if-not-known.branch [
+      | then-not-known w ↦ w.chain-is ∙ w.locate.ensures
+      | else-not-known w ↦ held_known T a.edge a.params.now a.chain.now c.requires.1 (c.requires.2 w.if-not-known.false) w.chain-is
+    ] in
     placed_by T a.edge a.params.now a.chain.now c.requires.1 _ _ _ held c.orient.ensures c.pin_ends.ensures
