@@ -15,7 +15,7 @@ use Rattle.math.specs.declared.Interval.{Interval}
 use Rattle.math.specs.Math.{v_zero, y_dir, vec}
 use Rattle.brep.specs.Tree.{CurveTree, analytic, line, circle, ellipse, parabola, hyperbola, polyline, trimmed, composite, Segments, none, segment}
 use Rattle.curve.specs.Eval.{point_at, natural_range, closes, polyline_parameter, index_in, run_length, clamped_to, segment_index, segment_local}
-use Rattle.curve_iso.specs.Iso.{Expr, value, one, two, exact, rounded, rounded_vector, iso_line, rust_line, iso_circle, rust_circle, iso_ellipse, rust_ellipse, iso_parabola, rust_parabola, iso_hyperbola, rust_hyperbola, iso_polyline, iso_polyline_from_one, rust_polyline, iso_segment, rust_segment, cross_part, ◌+◌ as ◌plus◌}
+use Rattle.curve_iso.specs.Iso.{Expr, value, one, two, exact, rounded, rounded_vector, iso_line, rust_line, iso_circle, rust_circle, iso_ellipse, rust_ellipse, iso_parabola, rust_parabola, iso_hyperbola, rust_hyperbola, iso_polyline, iso_polyline_from_one, rust_polyline, iso_segment, rust_segment, cross_part, ◌⊞◌}
 
 -- a and b mean the same in a commutative ring
 abbrev pub Same {ℓ} : {A : Type ℓ} → CommRing A → Expr A → Expr A → Type ℓ
@@ -25,8 +25,8 @@ Same K a b = exact K a ≡ exact K b
 pub record NumbersFollow {ℓ} : Type (ℓ + 1) where
   pub is_one : rounded one ≡ count 1
   pub is_two : rounded two ≡ count 2
-  pub exact : {A : Type ℓ} (K : CommRing A) → Same K two (one plus one)
-  pub rounded : rounded two ≡ rounded (one plus one)
+  pub exact : {A : Type ℓ} (K : CommRing A) → Same K two (one ⊞ one)
+  pub rounded : rounded two ≡ rounded (one ⊞ one)
 
 -- the placement's y is the cross product of its third direction and its first, each component rounded in the Rust's order
 pub record PlacementFollows : Type 0 where
@@ -80,7 +80,7 @@ pub record Holds (n i : ℕ) (u : Float) : Type 0 where
 pub record PolylineFollows {ℓ} : Type (ℓ + 1) where
   -- with the points numbered from 0, and from 1
   pub exact : {A : Type ℓ} (K : CommRing A) (P next i u : Expr A) → Same K (rust_polyline P next i u) (iso_polyline P next i u)
-  pub exact_from_one : {A : Type ℓ} (K : CommRing A) (P next i u : Expr A) → Same K (rust_polyline P next i u) (iso_polyline_from_one P next (i plus one) u)
+  pub exact_from_one : {A : Type ℓ} (K : CommRing A) (P next i u : Expr A) → Same K (rust_polyline P next i u) (iso_polyline_from_one P next (i ⊞ one) u)
   -- u is t wrapped or clamped, and i the segment taken
   pub rounded : (ps : List Vec3) (t : Float) → 2 ≤ length ps → let u = polyline_parameter ps t in let i = index_in (length ps - 2) u in
       point_at (polyline ps) t ≡ rounded_vector (λ part. rust_polyline (part (get_or ps i v_zero)) (part (get_or ps (i + 1) v_zero)) (value (count i)) (value u))
