@@ -8,8 +8,8 @@ use Rattle.edge_asks.specs.declared.Told.TheVariants.{Clear, Refused}
 
 -- what is asked for before a range is sampled: edge_extent's probes before an edge is first drawn, else nothing
 abbrev pub asked_first : Bool → Usable → List Float
-asked_first true usable = probes usable
-asked_first false usable = []
+asked_first true used = probes used
+asked_first false used = []
 
 -- the list that sampling makes where nothing is too far, or the refusal that comes first
 abbrev pub told_of : Told → Result (List Float) → Result (List Float)
