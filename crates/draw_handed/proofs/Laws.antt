@@ -1,5 +1,5 @@
 -- The part of a buffer that holds a chain, and what is handed back with it. Assumes nothing.
-use mathlib.Core.Path.{◌≡◌, refl, sym, ap, subst, ◌∙◌}
+use mathlib.Core.Path.{◌≡◌, refl, sym, ap, ◌∙◌}
 use mathlib.Core.Bool.{Bool, true, false, cond}
 use mathlib.Core.List.{List, [], ◌∷◌}
 use Prim.Native.Nat.{ℕ, ◌*◌}
@@ -22,7 +22,7 @@ use Rattle.draw_spec.specs.Repair.{Got}
 use Rattle.draw_spec.specs.Draw.{drawn, answer_of, in_first, lies_in_first, chain_floats, first_after, second_after, Outcome}
 use Rattle.ffi_numbers.specs.declared.Codes.{Codes}
 use Rattle.ffi_numbers.specs.Numbers.{codes_of}
-use Rattle.draw_handed.specs.Handed.{chain_of, HandedBy, Handed}
+use Rattle.draw_handed.specs.Handed.{chain_of, Handed}
 
 -- ---- chain_of: the part of the buffer that holds the chain
 module _ {A : Type 0} (d : Drawn) (way : Way) (n : ℕ) (is : d ≡ Chain way n) (b : Bool) (lies : b ≡ in_first way) where

@@ -1,6 +1,5 @@
 -- `edge_asks::is_near_hyperbola` meets its contract. Assumes nothing.
-use Rattle.std.proofs.Common.{◌≡◌, ℕ, true, false, List, sym, ◌∙◌, eq-eqb, ne_eqb}
-use lib.Ieee.{Float}
+use Rattle.std.proofs.Common.{◌≡◌, true, false, sym, ◌∙◌, eq-eqb, ne_eqb}
 use Rattle.brep.specs.Rows.{tables}
 use Rattle.brep.specs.Tree.{tree}
 use Rattle.curve_asks.specs.Own.Risk.{in_reach, is_hyperbola}

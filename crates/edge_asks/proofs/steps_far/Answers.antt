@@ -1,5 +1,5 @@
 -- `edge_asks::steps_far` meets its contract. The loop's invariant: none of the first i steps is too far. Assumes nothing.
-use Rattle.std.proofs.Common.{◌≡◌, suc, false, List, sym, ◌∙◌, add-one, arith}
+use Rattle.std.proofs.Common.{◌≡◌, suc, List, sym, ◌∙◌, add-one, arith}
 use lib.Ieee.{Float}
 use Rattle.brep.specs.Rows.{tables}
 use Rattle.brep.specs.Tree.{tree}

@@ -4,8 +4,6 @@ use lib.Ieee.{Float, le}
 use Rattle.arith_root.specs.Root.{root_of}
 use Rattle.brep.specs.Tree.{CurveTree}
 use Rattle.options.specs.Options.{resolve, sag_for}
-use Rattle.curve_prepared.specs.declared.Prepared.TheVariants.{Line}
-use Rattle.curve_prepared.specs.Own.Prepared.{prepared_of}
 use Rattle.edge_closed_form.specs.Own.Worst.{miss_square}
 use Rattle.edge_segment.proofs.Sag.{sag_above, root_within}
 use Rattle.edge_segment.proofs.Laws.{line_miss, miss_within, larger_taken, larger_left}
