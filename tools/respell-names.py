@@ -20,7 +20,7 @@ DECLARED = re.compile(
 # fields and parameters of a module, bound in brackets
 BOUND = re.compile(r"[({]([^\s(){}.;,@\"«»\[\]]+(?: [^\s(){}.;,@\"«»\[\]:]+)*) :")
 CAMEL = re.compile(r"[a-z]+[a-z0-9]*(?:[A-Z]|-.*[a-z0-9][A-Z])")
-OF_A_FUNCTION = re.compile(r"crates/[^/]+/proofs/.*/Proof\.antt$")
+OF_A_FUNCTION = re.compile(r"crates/[^/]+/proofs/.*/(?:Proof|Answers|Invariants)\.antt$")
 
 
 def files(*ends):
