@@ -128,18 +128,23 @@ cut_above (fin true m e) h k l =
     never (sym (ap (λ (a : ℕ). eqb (a % down e) 0) (minus_zero m e l) ∙ eq-eqb (0 % down e) 0 (zero-mod (down e))) ∙ not_whole true m e h k)
 
 -- the same, with |x| and its whole part as the function has them
-module _ (x a : Float) (n : ℕ) (p : a ≡ abs_of x) (q : n ≡ to_unsigned 64 a) (h : lt a high ≡ true) where
+pub record Cut (x a : Float) (n : ℕ) : Type 0 where
+  pub size : a ≡ abs_of x
+  pub cut : n ≡ to_unsigned 64 a
+  pub small : lt a high ≡ true
+
+module _ {x a : Float} {n : ℕ} (c : Cut x a n) where
   pub far_small : n < 2 ^ 52
-  far_small = rw (q, p) (small_cut x (rw p at h))
+  far_small = rw (c.cut, c.size) (small_cut x (rw c.size at c.small))
 
   pub far_whole : eq (of_int binary64 (pos n)) a ≡ true → x ≡ floor_of x
-  far_whole k = cut_whole x (rw p at h) (rw (q, p) at k)
+  far_whole k = cut_whole x (rw c.size at c.small) (rw (c.cut, c.size) at k)
 
   pub far_below : eq (of_int binary64 (pos n)) a ≡ false → lt x zero_f ≡ true → neg (of_int binary64 (pos (n + 1))) ≡ floor_of x
-  far_below k l = rw (q, p) (cut_below x (rw p at h) (rw (q, p) at k) l)
+  far_below k l = rw (c.cut, c.size) (cut_below x (rw c.size at c.small) (rw (c.cut, c.size) at k) l)
 
   pub far_above : eq (of_int binary64 (pos n)) a ≡ false → lt x zero_f ≡ false → of_int binary64 (pos n) ≡ floor_of x
-  far_above k l = rw (q, p) (cut_above x (rw p at h) (rw (q, p) at k) l)
+  far_above k l = rw (c.cut, c.size) (cut_above x (rw c.size at c.small) (rw (c.cut, c.size) at k) l)
 
 pub as_float : (n : ℕ) → n ≤ 2 ^ 53 → T (in_float binary64 (pos n))
 unfolding in_float

@@ -1,4 +1,5 @@
 pub mod Notation
 pub mod Pick
 pub mod Floor
+pub mod Periods
 pub mod Constants

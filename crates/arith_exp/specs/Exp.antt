@@ -3,8 +3,8 @@
 -- infinity above 1023. No answer of drawing rests on a t beyond 100 in magnitude: within it k is within 145 of 0, and 2^k exact (Claims).
 use Rattle.std.specs.Prelude.{List, [], ◌∷◌, ℕ, ◌*◌, ◌^◌, min, Float}
 use Rattle.std.specs.Float.Ieee.{neg, to_unsigned}
-use Rattle.arith.specs.Floor.{floor_of}
 use Rattle.arith.specs.Notation.{◌⊕◌, ◌⊖◌, ◌⊗◌, ◌⊘◌, bits, count, half, one}
+use Rattle.arith.specs.Periods.{periods, left_over}
 
 -- 1 / ln 2, and ln 2 in two parts
 abbrev pub per_doubling : Float
@@ -18,11 +18,11 @@ ln2_low = bits 0x3DEA39EF35793C76
 
 -- k: how often 1 is doubled on the way to e^t, to the nearest
 abbrev pub doublings : Float → Float
-doublings t = floor_of (t ⊗ per_doubling ⊕ half)
+doublings t = periods t per_doubling
 
 -- r: what is left of t after k times ln 2
 abbrev pub exp_reduced : Float → Float → Float
-exp_reduced t k = t ⊖ k ⊗ ln2_high ⊖ k ⊗ ln2_low
+exp_reduced t k = left_over t k ln2_high ln2_low
 
 -- one step of the series: 1 + (r / d) * w
 abbrev pub exp_step : Float → Float → Float → Float

@@ -1,51 +1,39 @@
 #![tactic(auto)]
 // e^t, cosh and sinh in fixed steps.
 ghost use Rattle.std.specs.Prelude.{◌≡◌};
-ghost use Rattle.arith_exp.specs.Exp.{doublings, exp_reduced, exp_step, series, power_of_two, exp_of};
+ghost use Rattle.std.specs.List.{fold};
+ghost use Rattle.arith.specs.Notation.{one};
+ghost use Rattle.arith_exp.specs.Exp.{exp_step, power_of_two, exp_of};
 ghost use Rattle.arith_exp.specs.Own.Hyperbolic.{hyperbolic_of};
 
-// The hyperbolic cosine and sine of one number.
+// 1 / ln 2, and ln 2 in two parts.
+const PER_DOUBLING: f64 = 1.4426950408889634;
+
+const LN2_HIGH: f64 = 0.6931471803691238;
+
+const LN2_LOW: f64 = 1.9082149292705877e-10;
+
+// What the terms of the series are divided by.
+const DIVISORS: [f64; 16] = [
+    16.0, 15.0, 14.0, 13.0, 12.0, 11.0, 10.0, 9.0, 8.0, 7.0, 6.0, 5.0, 4.0, 3.0, 2.0, 1.0,
+];
+
+// The hyperbolic cosine and sine of one number. One type with arith_trig's SinCos would call a sinh a sine.
 #[derive(Clone, Copy)]
 pub struct Hyperbolic {
     pub cosh: f64,
     pub sinh: f64,
 }
 
-// k, how often 1 is doubled on the way to e^t, to the nearest.
-fn doublings(t: f64) -> f64
-    ensures { result ≡ doublings t }
+// e^r of an r at most half of ln 2 from 0: for each divisor d in turn, w becomes 1 + r / d * w, from 1.
+fn series(r: f64, divisors: &[f64]) -> f64
+    ensures { result ≡ fold (λ w d. exp_step r d w) one divisors.now }
 {
-    arith::floor(t * 1.4426950408889634 + 0.5)
-}
-
-// r, what is left of t after k times ln 2, which is in two parts.
-fn reduced(t: f64, k: f64) -> f64
-    ensures { result ≡ exp_reduced t k }
-{
-    t - k * 0.6931471803691238 - k * 1.9082149292705877e-10
-}
-
-// Four steps of the series: for a, b, c and d in turn, w becomes 1 + r / a * w.
-fn steps(r: f64, w: f64, a: f64, b: f64, c: f64, d: f64) -> f64
-    ensures { result ≡ exp_step r d (exp_step r c (exp_step r b (exp_step r a w))) }
-{
-    let first = 1.0 + r / a * w;
-    let second = 1.0 + r / b * first;
-    let third = 1.0 + r / c * second;
-    1.0 + r / d * third
-}
-
-// e^r of an r at most half of ln 2 from 0.
-fn series(r: f64) -> f64
-    ensures { result ≡ series r }
-{
-    let a = steps(r, 1.0, 16.0, 15.0, 14.0, 13.0);
-    let b = steps(r, a, 12.0, 11.0, 10.0, 9.0);
-    let c = steps(r, b, 8.0, 7.0, 6.0, 5.0);
-    steps(r, c, 4.0, 3.0, 2.0, 1.0)
+    divisors.iter().fold(1.0, |w, d| 1.0 + r / *d * w)
 }
 
 // 2^k of a whole k: the exponent's field alone. 0 from -1023 down, the infinity from 1024 up.
+// With n.min(2047) in place of the branch e^t takes 141 instructions, not 139.
 fn power(k: f64) -> f64
     ensures { result ≡ power_of_two k }
 {
@@ -60,11 +48,12 @@ fn power(k: f64) -> f64
 pub fn exp(t: f64) -> f64
     ensures { result ≡ exp_of t }
 {
-    let k = doublings(t);
-    series(reduced(t, k)) * power(k)
+    let k = arith::periods(t, PER_DOUBLING);
+    series(arith::left_over(t, k, LN2_HIGH, LN2_LOW), &DIVISORS) * power(k)
 }
 
 // Both, with e^t and e^-t worked out once.
+#[tactic(auto, unfolding(crate::specs::Own::Hyperbolic::hyperbolic_of, crate::specs::Exp::cosh_of, crate::specs::Exp::sinh_of))]
 pub fn cosh_sinh(t: f64) -> Hyperbolic
     ensures { result ≡ hyperbolic_of t }
 {

@@ -105,7 +105,7 @@ unfolding root_of
 root_zero = refl
 
 -- what has a root is not below zero
-rooted : (x : Float) → T (number (root_of x)) → T (le zero_f x)
+pub rooted : (x : Float) → T (number (root_of x)) → T (le zero_f x)
 unfolding root_of le
 rooted nan h = absurd h
 rooted (inf true) h = absurd h

@@ -10,10 +10,10 @@ use Rattle.arith_order.proofs.Laws.{refuted, number_left, number_right, le_trans
 use Rattle.arith.proofs.Cmp.{holds}
 use Rattle.arith.specs.Notation.{◌⊗◌, plus_zero}
 use Rattle.arith_root.specs.Root.{root_of}
-use Rattle.arith_root.proofs.Laws.{root_over, root_reflects}
+use Rattle.arith_root.proofs.Laws.{rooted, root_over, root_reflects}
 use Rattle.arith_root.proofs.Squares.{square_low, root_under_square, root_over_square}
 use Rattle.arith_root.proofs.Apart.{apart}
-use Rattle.arith_root_limit.specs.Own.Limit.{cut_if, square_if, a_little_less, a_little_more, limit_of, Stands}
+use Rattle.arith_root_limit.specs.Own.Limit.{cut_if, square_if, a_little_less, a_little_more, low_cut, high_cut, Stands}
 
 -- a test of a root, and of what it is
 pub root_at_most : {d e : Float} (limit : Float) → d ≡ e → le d limit ≡ true → le e limit ≡ true
@@ -70,16 +70,27 @@ module _ (k s : Float) (F : T (fits binary64 k)) (G : T (fits binary64 s)) where
       go true false e h = absurd (number_left nan s (lt→le nan s h))
       go false b e h = absurd (number_left nan s (lt→le nan s h))
 
--- a limit's own cuts stand
-pub stands : (at : Float) → Stands (limit_of at)
-unfolding limit_of
+-- a limit's cuts stand
+pub stands : (at : Float) → Stands at
+unfolding low_cut high_cut
 stands at = record {
-  low_stands = λ (s : Float) (G : T (fits binary64 s)) (z : le plus_zero s ≡ true) (h : lt s (limit_of at).low ≡ true).
+  low_stands = λ (s : Float) (G : T (fits binary64 s)) (z : le plus_zero s ≡ true) (h : lt s (low_cut at) ≡ true).
       let k = at ⊗ a_little_less in
       let t = below_square k s (mul-fits binary64 at a_little_less) G (le k at) (zero_low s z) (holds h) in
       is_true (le (root_of s) at) (le_trans (root_of s) k at t.1 (holds t.0));
-  high_stands = λ (s : Float) (G : T (fits binary64 s)) (h : lt (limit_of at).high s ≡ true).
+  high_stands = λ (s : Float) (G : T (fits binary64 s)) (h : lt (high_cut at) s ≡ true).
       let k = at ⊗ a_little_more in
       let t = above_square k s (mul-fits binary64 at a_little_more) G (lt at k) (holds h) in
-      refuted (le (root_of s) at) (lt→nle at (root_of s) (lt_le_trans at k (root_of s) (holds t.0) t.3));
+      is_true (lt at (root_of s)) (lt_le_trans at k (root_of s) (holds t.0) t.3);
 }
+
+-- so what is below the low cut has no root above the limit, also where it is below zero and has none
+pub low_not_above : (at s : Float) → T (fits binary64 s) → lt s (low_cut at) ≡ true → false ≡ lt at (root_of s)
+unfolding of_bits
+low_not_above at s F h = sym (refuted (lt at (root_of s)) (λ (t : T (lt at (root_of s))).
+    let z = rooted s (number_right at (root_of s) (lt→le at (root_of s) t)) in
+    lt→nle at (root_of s) t (holds ((stands at).low_stands s F (is_true (le plus_zero s) z) h))))
+
+-- and what is above the high one none within it
+pub high_not_within : (at s : Float) → T (fits binary64 s) → lt (high_cut at) s ≡ true → false ≡ le (root_of s) at
+high_not_within at s F h = sym (refuted (le (root_of s) at) (lt→nle at (root_of s) (holds ((stands at).high_stands s F h))))

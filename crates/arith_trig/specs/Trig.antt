@@ -6,8 +6,8 @@
 use Rattle.std.specs.Prelude.{ℕ, zero, suc, ◌-◌, ◌*◌, ◌/◌, ◌%◌, true, false, cond, List, [], ◌∷◌, Float}
 use Rattle.std.specs.Float.{nan, inf, fin}
 use Rattle.std.specs.Float.Ieee.{up, down, eq, lt, neg}
-use Rattle.arith.specs.Floor.{floor_of}
-use Rattle.arith.specs.Notation.{◌⊕◌, ◌⊖◌, ◌⊗◌, ◌⊘◌, bits, count, plus_zero, half, one}
+use Rattle.arith.specs.Notation.{◌⊕◌, ◌⊖◌, ◌⊗◌, ◌⊘◌, bits, count, plus_zero, one}
+use Rattle.arith.specs.Periods.{periods, left_over}
 use Rattle.arith_root.specs.Root.{root_of}
 
 -- 2 / π, and π / 2 in two parts
@@ -26,11 +26,11 @@ pi = bits 0x400921FB54442D18
 
 -- k: the quarter turns in t, to the nearest
 abbrev pub turns : Float → Float
-turns t = floor_of (t ⊗ two_over_pi ⊕ half)
+turns t = periods t two_over_pi
 
 -- r: what is left of t after k quarter turns
 abbrev pub reduced : Float → Float → Float
-reduced t k = t ⊖ k ⊗ half_pi_high ⊖ k ⊗ half_pi_low
+reduced t k = left_over t k half_pi_high half_pi_low
 
 -- k mod 4 of a whole k, from 0 to 3 for a k below zero too; 0 where k is NaN or an infinity
 unfoldable pub quarter : Float → ℕ

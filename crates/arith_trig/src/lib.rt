@@ -1,9 +1,27 @@
 #![tactic(auto)]
 // sin, cos and acos in fixed steps.
-ghost use Rattle.std.specs.Prelude.{◌≡◌, ◌<◌, [], ◌∷◌};
-ghost use Rattle.arith.specs.Notation.{one};
+ghost use Rattle.std.specs.Prelude.{◌≡◌, ◌<◌};
+ghost use Rattle.std.specs.List.{fold};
+ghost use Rattle.arith.specs.Notation.{◌⊖◌, ◌⊗◌, ◌⊘◌, one};
 ghost use Rattle.arith_trig.specs.Own.SinCos.{sin_cos_of};
-ghost use Rattle.arith_trig.specs.Trig.{turns, reduced, quarter, step, horner_steps, sin_by, cos_by, sin_of, cos_of, halved, arc_of, angle_of, acos_by, acos_of};
+ghost use Rattle.arith_trig.specs.Trig.{quarter, step, sin_by, cos_by, sin_of, cos_of, halved, arc_of, angle_of, acos_by, acos_of};
+
+use std::f64::consts::PI;
+
+// 2 / π, and π / 2 in two parts.
+const TWO_OVER_PI: f64 = 0.6366197723675814;
+
+const HALF_PI_HIGH: f64 = 1.5707963267341256;
+
+const HALF_PI_LOW: f64 = 6.077100506506192e-11;
+
+// What the terms of the series are divided by. Of an r at most an eighth turn from 0, the sine is r times the first series of r * r, and
+// the cosine is the second.
+const SIN_DIVISORS: [f64; 8] = [272.0, 210.0, 156.0, 110.0, 72.0, 42.0, 20.0, 6.0];
+
+const COS_DIVISORS: [f64; 8] = [240.0, 182.0, 132.0, 90.0, 56.0, 30.0, 12.0, 2.0];
+
+const ARC_DIVISORS: [f64; 7] = [13.0, 11.0, 9.0, 7.0, 5.0, 3.0, 1.0];
 
 // The sine and the cosine of one angle.
 #[derive(Clone, Copy)]
@@ -41,44 +59,11 @@ fn quarter_far(k: f64) -> u64
     }
 }
 
-// k, the quarter turns in t, to the nearest.
-fn turns(t: f64) -> f64
-    ensures { result ≡ turns t }
+// A series: for each divisor d in turn, w becomes 1 - z / d * w, from 1.
+fn series(z: f64, divisors: &[f64]) -> f64
+    ensures { result ≡ fold (λ w d. step z d w) one divisors.now }
 {
-    arith::floor(t * 0.6366197723675814 + 0.5)
-}
-
-// r, what is left of t after k quarter turns. π / 2 is in two parts.
-fn reduced(t: f64, k: f64) -> f64
-    ensures { result ≡ reduced t k }
-{
-    t - k * 1.5707963267341256 - k * 6.077100506506192e-11
-}
-
-// Four steps of a series: for a, b, c and d in turn, w becomes 1 - z / a * w.
-fn steps(z: f64, w: f64, a: f64, b: f64, c: f64, d: f64) -> f64
-    ensures { result ≡ step z d (step z c (step z b (step z a w))) }
-{
-    let first = 1.0 - z / a * w;
-    let second = 1.0 - z / b * first;
-    let third = 1.0 - z / c * second;
-    1.0 - z / d * third
-}
-
-// The sine of an r at most an eighth turn from 0, less its factor r; z is r * r.
-fn sin_series(z: f64) -> f64
-    ensures { result ≡ horner_steps z one (272 ∷ 210 ∷ 156 ∷ 110 ∷ 72 ∷ 42 ∷ 20 ∷ 6 ∷ []) }
-{
-    let w = steps(z, 1.0, 272.0, 210.0, 156.0, 110.0);
-    steps(z, w, 72.0, 42.0, 20.0, 6.0)
-}
-
-// The cosine of such an r.
-fn cos_series(z: f64) -> f64
-    ensures { result ≡ horner_steps z one (240 ∷ 182 ∷ 132 ∷ 90 ∷ 56 ∷ 30 ∷ 12 ∷ 2 ∷ []) }
-{
-    let w = steps(z, 1.0, 240.0, 182.0, 132.0, 90.0);
-    steps(z, w, 56.0, 30.0, 12.0, 2.0)
+    divisors.iter().fold(1.0, |w, d| 1.0 - z / *d * w)
 }
 
 // Both of t, from r and from q, which is k mod 4. The sine is S, C, -S, -C by q, and the cosine is
@@ -90,7 +75,7 @@ fn both(r: f64, q: u64) -> SinCos
     ensures { (result.sin ≡ sin_by q r) × (result.cos ≡ cos_by q r) }
 {
     let z = r * r;
-    let series = [sin_series(z), cos_series(z)];
+    let series = [series(z, &SIN_DIVISORS), series(z, &COS_DIVISORS)];
     let factor = [r, 1.0, -r, -1.0];
     let i = q as usize;
     let j = (i + 1) % 4;
@@ -104,11 +89,15 @@ fn both(r: f64, q: u64) -> SinCos
 pub fn sin_cos(t: f64) -> SinCos
     ensures { result ≡ sin_cos_of t }
 {
-    let k = turns(t);
-    both(reduced(t, k), quarter(k))
+    let k = arith::periods(t, TWO_OVER_PI);
+    both(
+        arith::left_over(t, k, HALF_PI_HIGH, HALF_PI_LOW),
+        quarter(k),
+    )
 }
 
 // The sine of t, by the fixed steps.
+#[tactic(auto, unfolding(crate::specs::Own::SinCos::sin_cos_of))]
 pub fn sin(t: f64) -> f64
     ensures { result ≡ sin_of t }
 {
@@ -116,6 +105,7 @@ pub fn sin(t: f64) -> f64
 }
 
 // The cosine of t, by the fixed steps.
+#[tactic(auto, unfolding(crate::specs::Own::SinCos::sin_cos_of))]
 pub fn cos(t: f64) -> f64
     ensures { result ≡ cos_of t }
 {
@@ -123,29 +113,29 @@ pub fn cos(t: f64) -> f64
 }
 
 // y becomes y / (1 + root(1 + y * y)): the tangent of half the angle.
+#[tactic(auto, unfolding(crate::specs::Trig::halved))]
 fn halved(y: f64) -> f64
     ensures { result ≡ halved y }
 {
     y / (1.0 + arith_root::root(1.0 + y * y))
 }
 
+// A series: for each divisor d in turn, v becomes 1 / d - z * v, from the first.
+fn summed(z: f64, first: f64, divisors: &[f64]) -> f64
+    ensures { result ≡ fold (λ v d. one ⊘ d ⊖ z ⊗ v) first divisors.now }
+{
+    divisors.iter().fold(first, |v, d| 1.0 / *d - z * v)
+}
+
 // Sixteen times the angle whose tangent is y.
 fn arc(y: f64) -> f64
     ensures { result ≡ arc_of y }
 {
-    let z = y * y;
-    let mut v = 1.0 / 15.0;
-    v = 1.0 / 13.0 - z * v;
-    v = 1.0 / 11.0 - z * v;
-    v = 1.0 / 9.0 - z * v;
-    v = 1.0 / 7.0 - z * v;
-    v = 1.0 / 5.0 - z * v;
-    v = 1.0 / 3.0 - z * v;
-    v = 1.0 / 1.0 - z * v;
-    16.0 * (y * v)
+    16.0 * (y * summed(y * y, 1.0 / 15.0, &ARC_DIVISORS))
 }
 
 // Twice the angle whose tangent is y, by an eighth of the angle.
+#[tactic(auto, unfolding(crate::specs::Trig::angle_of))]
 fn angle(y: f64) -> f64
     ensures { result ≡ angle_of y }
 {
@@ -153,24 +143,26 @@ fn angle(y: f64) -> f64
 }
 
 // The angle whose half has the tangent y, by 1 / y where y is above 1.
+#[tactic(auto, unfolding(crate::specs::Trig::acos_by))]
 fn acos_by(y: f64) -> f64
     ensures { result ≡ acos_by y }
 {
     if 1.0 < y {
-        3.141592653589793 - angle(1.0 / y)
+        PI - angle(1.0 / y)
     } else {
         angle(y)
     }
 }
 
 // The angle from 0 to π whose cosine is a; NaN where there is none.
+#[tactic(auto, unfolding(crate::specs::Trig::acos_of))]
 pub fn acos(a: f64) -> f64
     ensures { result ≡ acos_of a }
 {
     if a == 1.0 {
         0.0
     } else if a == -1.0 {
-        3.141592653589793
+        PI
     } else {
         acos_by(arith_root::root((1.0 - a) / (1.0 + a)))
     }

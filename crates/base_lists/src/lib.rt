@@ -1,16 +1,20 @@
 #![tactic(auto)]
-// Lists in order, sublists and buffers: definitions in specs/, laws in proofs/. The one function clears a buffer's rest.
+// Lists in order, sublists and buffers: definitions in specs/, laws in proofs/. The functions fill a buffer's rest.
 ghost use Rattle.std.specs.Prelude.{◌≡◌, ◌≤◌, length, take};
-ghost use Rattle.base_lists.specs.Room.{filled};
+ghost use Rattle.base_lists.specs.Room.{filled, padded};
+
+// The value in every element from number `from` on.
+pub fn fill_from<T: Copy>(a: &mut [T], from: usize, value: T)
+    requires { from ≤ length a.old }
+    ensures { a.new ≡ padded (length a.old) value (take from a.old) }
+{
+    a[from..].fill_with(|| value);
+}
 
 // +0.0 in every float from number `from` on.
 pub fn clear_from(a: &mut [f64], from: usize)
     requires { from ≤ length a.old }
     ensures { a.new ≡ filled (length a.old) (take from a.old) }
 {
-    let mut i = from;
-    while i < a.len() {
-        a[i] = 0.0;
-        i += 1;
-    }
+    fill_from(a, from, 0.0);
 }

@@ -13,6 +13,7 @@ pub extern "C" fn cs_root(x: f64) -> f64
 }
 
 // Sine and cosine, for timing.
+#[tactic(auto, unfolding(arith_trig::specs::Own::SinCos::sin_cos_of))]
 #[unsafe(no_mangle)]
 pub extern "C" fn cs_sin_cos(t: f64, sin: &mut f64, cos: &mut f64)
     ensures { (sin.new ≡ sin_of t) × (cos.new ≡ cos_of t) }

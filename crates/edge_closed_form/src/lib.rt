@@ -14,6 +14,7 @@ ghost use Rattle.edge_closed_form.specs.Miss.{worst_miss};
 ghost use Rattle.edge_closed_form.specs.Located.{located};
 ghost use Rattle.edge_closed_form.specs.Own.Worst.{miss_square, larger_of, Alike};
 
+use arith_root_limit::Limit;
 use curve_prepared::Prepared;
 use edge_record::Sample;
 use math::Vec3;
@@ -93,6 +94,5 @@ pub fn meets(
     let prepared = curve_prepared::prepare(points, curves, reals, parts, ranges, row);
     // The largest of the roots is the root of the largest.
     let worst = worst_square(prepared, params, chain);
-    let limit = arith_root_limit::limit_of(sag);
-    arith_root_limit::is_at_most(worst, limit)
+    Limit::new(sag).is_root_within(worst)
 }

@@ -46,14 +46,14 @@ fn is_halved(
     ranges: &[f64],
     row: u32,
     prepared: Prepared,
-    l: Limits,
+    l: &Limits,
     a: End,
     b: End,
 ) -> bool
-    requires { (prepared ≡ prepared_of (tree (lent points curves reals parts ranges) row)) × OfOptions l
+    requires { (prepared ≡ prepared_of (tree (lent points curves reals parts ranges) row)) × OfOptions l.now
         × (a ≡ end_at (tree (lent points curves reals parts ranges) row) a.t)
         × (b ≡ end_at (tree (lent points curves reals parts ranges) row) b.t) }
-    ensures { (r : Resolved) → l ≡ limits_of r → result ≡ not (within_budget (tree (given points curves reals parts ranges) row) r a.t b.t) }
+    ensures { (r : Resolved) → l.now ≡ limits_of r → result ≡ not (within_budget (tree (given points curves reals parts ranges) row) r a.t b.t) }
 {
     let mut list = [0.0; 1];
     let mut chain = [0.0; edge_record::WIDTH];
@@ -76,19 +76,19 @@ fn count_subdivided(
     ranges: &[f64],
     row: u32,
     prepared: Prepared,
-    l: Limits,
+    l: &Limits,
     a: End,
     b: End,
     depth: u32,
     room: usize,
     k: usize,
 ) -> Counted
-    requires { (prepared ≡ prepared_of (tree (lent points curves reals parts ranges) row)) × OfOptions l
+    requires { (prepared ≡ prepared_of (tree (lent points curves reals parts ranges) row)) × OfOptions l.now
         × (a ≡ end_at (tree (lent points curves reals parts ranges) row) a.t)
         × (b ≡ end_at (tree (lent points curves reals parts ranges) row) b.t)
         × (asks_far (tree (lent points curves reals parts ranges) row) a.t ≡ false)
         × (asks_far (tree (lent points curves reals parts ranges) row) b.t ≡ false) }
-    ensures { (r : Resolved) → l ≡ limits_of r
+    ensures { (r : Resolved) → l.now ≡ limits_of r
         → count_said result ≡ counted (asks_far (tree (given points curves reals parts ranges) row)) room k
         (subdividing (within_budget (tree (given points curves reals parts ranges) row) r) depth a.t b.t) }
 {
@@ -153,13 +153,13 @@ fn count_span(
     prepared: Prepared,
     range: Interval,
     r: Resolved,
-    limits: Limits,
+    limits: &Limits,
     left: End,
     right: End,
     room: usize,
     k: usize,
 ) -> Counted
-    requires { (prepared ≡ prepared_of (tree (lent points curves reals parts ranges) row)) × (limits ≡ limits_of r)
+    requires { (prepared ≡ prepared_of (tree (lent points curves reals parts ranges) row)) × (limits.now ≡ limits_of r)
         × (left ≡ end_at (tree (lent points curves reals parts ranges) row) left.t) × (right ≡ end_at (tree (lent points curves reals parts ranges) row) right.t) × (0 < r.depth) }
     ensures { count_said result ≡ counted (asks_far (tree (given points curves reals parts ranges) row)) room k
         (subdividing (within_budget (tree (given points curves reals parts ranges) row) r) r.depth left.t right.t ++ map adds (unless_hi range right.t)) }
@@ -213,7 +213,7 @@ fn count_walk(
         let b = edge_sample::stop_at(range, breaks, i);
         let right = edge_subdivide::end_at(points, curves, reals, parts, ranges, row, prepared, b);
         let stepped = count_span(
-            points, curves, reals, parts, ranges, row, prepared, range, r, limits, left, right,
+            points, curves, reals, parts, ranges, row, prepared, range, r, &limits, left, right,
             room, k,
         );
         let Counted::Count(n) = stepped else {

@@ -10,6 +10,7 @@ ghost use Rattle.edge_record.specs.Chain.{width, samples};
 ghost use Rattle.draw_spec.specs.Repair.{escape_limit, escapes, reaches, sweep_at, nearest};
 ghost use Rattle.edge_escape.specs.Own.Best.{measured, nearer_of};
 
+use arith_root_limit::Limit;
 use brep::Edge;
 use math::{Aabb, Interval, Vec3};
 use options::Resolved;
@@ -89,13 +90,11 @@ pub fn escapes(reference: Aabb, r: Resolved, chain: &[f64], n: usize) -> bool
     if is_near(reference, r, chain, n) {
         return false;
     }
-    let limit = reference.diagonal() + r.sag * 16.0;
+    let limit = Limit::new(reference.diagonal() + r.sag * 16.0);
     let centre = reference.centre();
-    let cut = limit * limit;
-    let has_cut = arith_root::root(cut) <= limit;
     for i in 0..n {
         let p = edge_record::record_point(chain, i);
-        if arith_root_limit::is_above(p.sub(centre).length_squared(), limit, cut, has_cut) {
+        if limit.is_root_above(p.sub(centre).length_squared()) {
             return true;
         }
     }
@@ -107,13 +106,10 @@ pub fn reaches(edge: Edge, r: Resolved, p: Vec3, chain: &[f64], n: usize) -> boo
     requires { width * n ≤ length chain.now }
     ensures { result ≡ reaches edge r p (samples n chain.now) }
 {
-    let limit = arith::max(r.sag, edge.tolerance * 10.0);
-    // A little above the square, so that the cut's root is above the limit.
-    let cut = limit * limit * arith_root_limit::A_LITTLE_MORE;
-    let has_cut = limit < arith_root::root(cut);
+    let limit = Limit::new(arith::max(r.sag, edge.tolerance * 10.0));
     for i in 0..n {
         let q = edge_record::record_point(chain, i);
-        if arith_root_limit::is_within(q.sub(p).length_squared(), limit, cut, has_cut) {
+        if limit.is_root_within(q.sub(p).length_squared()) {
             return true;
         }
     }

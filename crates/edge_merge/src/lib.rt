@@ -2,12 +2,12 @@
 // The merge block of `discretise`: points of a chain that lie too near the one before them go.
 ghost use Rattle.std.specs.Prelude.{◌≡◌, true, cond, ◌&&◌, ◌*◌, ◌-◌, ◌≤◌, length, ltb};
 ghost use Rattle.std.specs.Float.Ieee.{lt, le};
-ghost use Rattle.arith_root.specs.Root.{root_of};
 ghost use Rattle.math.specs.Math.{distance};
 ghost use Rattle.edge_record.specs.Own.Stored.{ChainStored};
 ghost use Rattle.edge_record.specs.Chain.{width, samples};
 ghost use Rattle.edge_merge.specs.Merge.{merge_floor, merged};
 
+use arith_root_limit::Limit;
 use math::Vec3;
 
 // How far apart two points of a chain may be and still count as one: in the edge's tolerance, and in the sag.
@@ -25,12 +25,11 @@ pub fn merge_floor(tolerance: f64, sag: f64) -> f64
     )
 }
 
-// Whether two points are further apart than the floor. A cut whose root is above the floor spares most roots.
-fn is_apart(p: Vec3, q: Vec3, floor: f64, cut: f64, has_cut: bool) -> bool
-    requires { has_cut ≡ true → lt floor (root_of cut) ≡ true }
+// Whether two points are further apart than the floor. Its cuts spare most roots.
+fn is_apart(p: Vec3, q: Vec3, floor: Limit) -> bool
     ensures { result ≡ lt floor (distance p q) }
 {
-    arith_root_limit::is_over(p.sub(q).length_squared(), floor, cut, has_cut)
+    floor.is_root_above(p.sub(q).length_squared())
 }
 
 // How many of the k records kept stay before the end. Where the end is too close to the last of them, that one goes, unless it is the only
@@ -56,14 +55,12 @@ pub fn merge(chain: &mut [f64], n: usize, floor: f64) -> usize
         return n;
     }
     if floor > 0.0 {
-        // A little above the square, so that the cut's root is above the floor.
-        let cut = floor * floor * arith_root_limit::A_LITTLE_MORE;
-        let has_cut = floor < arith_root::root(cut);
+        let limit = Limit::new(floor);
         let mut last = edge_record::record_point(chain, 0);
         let mut k = 1usize;
         for i in 1..n - 1 {
             let p = edge_record::sample_at(chain, i);
-            if is_apart(p.point, last, floor, cut, has_cut) {
+            if is_apart(p.point, last, limit) {
                 edge_record::put(chain, k, p);
                 last = p.point;
                 k += 1;

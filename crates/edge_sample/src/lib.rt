@@ -53,14 +53,14 @@ fn step(
     prepared: Prepared,
     range: Interval,
     r: Resolved,
-    limits: Limits,
+    limits: &Limits,
     left: End,
     right: End,
     out: &mut [f64],
     chain: &mut [f64],
     k: usize,
 ) -> Listed
-    requires { (prepared ≡ prepared_of (tree (lent points curves reals parts ranges) row)) × (limits ≡ limits_of r)
+    requires { (prepared ≡ prepared_of (tree (lent points curves reals parts ranges) row)) × (limits.now ≡ limits_of r)
         × (left ≡ end_at (tree (lent points curves reals parts ranges) row) left.t) × (right ≡ end_at (tree (lent points curves reals parts ranges) row) right.t) × Room out.old chain.old k }
     ensures { ListRecorded (tree (given points curves reals parts ranges) row) out.old chain.old k (subdivided (within_budget (tree (given points curves reals parts ranges) row) r) r.depth left.t right.t ++ unless_hi range right.t) result out.new chain.new }
 {
@@ -111,7 +111,7 @@ fn walk(
         let b = stop_at(range, breaks, i);
         let right = edge_subdivide::end_at(points, curves, reals, parts, ranges, row, prepared, b);
         let stepped = step(
-            points, curves, reals, parts, ranges, row, prepared, range, r, limits, left, right,
+            points, curves, reals, parts, ranges, row, prepared, range, r, &limits, left, right,
             out, chain, k,
         );
         let Listed::Count(n) = stepped else {

@@ -8,8 +8,6 @@ use lib.Ieee.{Float, of_bits, le, eq, neg}
 use Rattle.arith.specs.Notation.{plus_zero, one}
 use Rattle.arith.specs.Pick.{clamp_of}
 use Rattle.arith_root.specs.Root.{root_of}
-use Rattle.arith_root_limit.specs.declared.Limit.{Limit}
-use Rattle.arith_root_limit.specs.Own.Limit.{limit_of}
 use Rattle.arith_trig.specs.Trig.{acos_of}
 use Rattle.math_chord.specs.Chord.{bisection_offset, bisection_distance}
 use Rattle.math.specs.declared.Vec3.{Vec3}
@@ -45,14 +43,14 @@ module _ (c : CurveTree) (t : Float) {prepared : Prepared} (R : prepared ≡ pre
   own_tangent D G = G ∙ ap try_normalized (D ∙ ap (λ (x : Prepared). prepared_derivative x c t) R ∙ prepared_derivative_lem c t)
 
 -- ---- the sag, by its square: what is_within works out and compares
-pub sag_within : (pa pb pm chord offset : Vec3) (len s sag : Float) (limit : Limit) → chord ≡ v_sub pb pa → len ≡ v_length chord
-    → offset ≡ bisection_offset pa chord len pm → s ≡ v_length_squared offset → limit ≡ limit_of sag → le (root_of s) limit.at ≡ le (sag_of pa pb pm) sag
-unfolding sag_of bisection_distance v_length limit_of
+pub sag_within : (pa pb pm chord offset : Vec3) (len s sag limit : Float) → chord ≡ v_sub pb pa → len ≡ v_length chord
+    → offset ≡ bisection_offset pa chord len pm → s ≡ v_length_squared offset → limit ≡ sag → le (root_of s) limit ≡ le (sag_of pa pb pm) sag
+unfolding sag_of bisection_distance v_length
 sag_within pa pb pm chord offset len s sag limit C L O S E = rw (S, O, L, C, E)
 
 -- ---- the limits, one by one
 module _ (r : Resolved) (l : Limits) (e : l ≡ limits_of r) where
-  pub sag_limit : l.sag ≡ limit_of r.sag
+  pub sag_limit : l.sag ≡ r.sag
   unfolding limits_of
   sag_limit = ap (λ (x : Limits). x.sag) e
 

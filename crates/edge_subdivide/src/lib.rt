@@ -50,7 +50,7 @@ enum Split {
 pub fn limits_of(r: Resolved) -> Limits
     ensures { result ≡ limits_of r }
 {
-    let sag = arith_root_limit::limit_of(r.sag);
+    let sag = Limit::new(r.sag);
     let turn = arith_turn_limit::turn_cut(r.angle);
     let over = arith_turn_limit::over_cut(r.angle);
     let angle = r.angle;
@@ -98,9 +98,9 @@ fn turn_cosine(a: Direction, b: Direction) -> f64
 }
 
 // Whether the span from a to b, whose middle has the point pm, is within budget. The sag is compared by its square.
-fn is_within(l: Limits, a: End, b: End, pm: Vec3) -> bool
-    requires { OfOptions l }
-    ensures { (r : Resolved) → l ≡ limits_of r → result ≡ is_within r a b pm }
+fn is_within(l: &Limits, a: End, b: End, pm: Vec3) -> bool
+    requires { OfOptions l.now }
+    ensures { (r : Resolved) → l.now ≡ limits_of r → result ≡ is_within r a b pm }
 {
     let ta = a.tangent;
     let tb = b.tangent;
@@ -113,7 +113,7 @@ fn is_within(l: Limits, a: End, b: End, pm: Vec3) -> bool
     let len = chord.length();
     let offset = math_chord::bisection_offset(a.point, chord, len, pm);
     let sag = l.sag;
-    if arith_root_limit::is_at_most(offset.length_squared(), sag) {
+    if sag.is_root_within(offset.length_squared()) {
         return arith_turn_limit::is_turn_within(cosine, l.angle, l.turn);
     }
     false
@@ -128,12 +128,12 @@ fn split_of(
     ranges: &[f64],
     row: u32,
     prepared: Prepared,
-    l: Limits,
+    l: &Limits,
     a: End,
     b: End,
 ) -> Split
-    requires { (prepared ≡ prepared_of (tree (lent points curves reals parts ranges) row)) × OfOptions l }
-    ensures { (r : Resolved) → l ≡ limits_of r → result ≡ split_of (tree (given points curves reals parts ranges) row) r a b }
+    requires { (prepared ≡ prepared_of (tree (lent points curves reals parts ranges) row)) × OfOptions l.now }
+    ensures { (r : Resolved) → l.now ≡ limits_of r → result ≡ split_of (tree (given points curves reals parts ranges) row) r a b }
 {
     let t = 0.5 * (a.t + b.t);
     let point = curve_prepared::point_of(prepared, points, curves, reals, parts, ranges, row, t);
@@ -175,7 +175,7 @@ pub fn subdivide(
     ranges: &[f64],
     row: u32,
     prepared: Prepared,
-    l: Limits,
+    l: &Limits,
     a: End,
     b: End,
     depth: u32,
@@ -183,10 +183,10 @@ pub fn subdivide(
     chain: &mut [f64],
     k: usize,
 ) -> Listed
-    requires { (prepared ≡ prepared_of (tree (lent points curves reals parts ranges) row)) × OfOptions l
+    requires { (prepared ≡ prepared_of (tree (lent points curves reals parts ranges) row)) × OfOptions l.now
         × (a ≡ end_at (tree (lent points curves reals parts ranges) row) a.t)
         × (b ≡ end_at (tree (lent points curves reals parts ranges) row) b.t) × Room out.old chain.old k }
-    ensures { (r : Resolved) → l ≡ limits_of r
+    ensures { (r : Resolved) → l.now ≡ limits_of r
         → ListRecorded (tree (given points curves reals parts ranges) row) out.old chain.old k
         (subdivided (within_budget (tree (given points curves reals parts ranges) row) r) depth a.t b.t)
         result out.new chain.new }

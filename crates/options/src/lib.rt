@@ -1,16 +1,16 @@
 #![tactic(auto)]
 // Tessellation tolerances: options.rs.
-ghost use Rattle.std.specs.Prelude.{◌≡◌, true, min, max};
+ghost use Rattle.std.specs.Prelude.{◌≡◌, true};
 ghost use Rattle.arith.specs.Pick.{min_of};
-ghost use Rattle.options.specs.Options.{radians, degrees, is_clamped, preset, default_options, draft_options, fine_options};
+ghost use Rattle.options.specs.Options.{radians, degrees, is_clamped, default_options, draft_options, fine_options};
 ghost use Rattle.options.specs.Options.{has_scale, absolute_deflection, resolved_model, resolved_relative, resolve};
 ghost use Rattle.options.specs.Options.{is_relative_to, sag_for, for_extent, step_by_sag, angle_step, segments_for_arc};
 
-const MIN_POSITIVE: f64 = 2.2250738585072014e-308;
+use std::f64::consts::PI;
 
 const LEAST_ANGLE: f64 = 1e-4;
 
-const LARGEST_ANGLE: f64 = 3.141592653589793;
+const LARGEST_ANGLE: f64 = PI;
 
 const LEAST_STEP: f64 = 1e-3;
 
@@ -31,7 +31,7 @@ impl Angle {
     pub fn degrees(x: f64) -> Angle
         ensures { result ≡ degrees x }
     {
-        Angle(x * 0.017453292519943295)
+        Angle(x.to_radians())
     }
 
     // As a number of radians.
@@ -42,6 +42,7 @@ impl Angle {
     }
 
     // Whether resolving changes the angle, as it does with 8 that was meant as degrees: a caller can warn.
+    #[tactic(auto, unfolding(crate::specs::Options::is_clamped))]
     pub fn is_clamped(self) -> bool
         ensures { result ≡ is_clamped self }
     {
@@ -63,7 +64,7 @@ pub struct Options {
     // the largest step of its parameter, 1e-3 at least, and no tangent is looked at, unless these even steps miss the sag: then it is
     // bisected too.
     pub angle: Angle,
-    // 0 or 1.
+    // 0 or 1. Not a bool: the C interface hands in a number, and the check of options has to see one that is neither.
     pub relative: u32,
     // The least number of segments before points are merged; a chord has one. 0 counts as 1. Where halving gives fewer, so many even
     // steps of the parameter are drawn instead, and these are not tested.
@@ -94,39 +95,45 @@ pub struct Resolved {
     pub depth: u32,
 }
 
-impl Options {
-    fn preset(deflection: f64, angle: Angle) -> Options
-        ensures { result ≡ preset deflection angle }
+impl Default for Options {
+    ghost is_default = { λ o. o ≡ default_options };
+
+    // The Rust's own options: 0.0004 of the scale, and 8 degrees.
+    fn default() -> Options
+        ensures { result ≡ default_options }
     {
         Options {
-            deflection,
-            angle,
+            deflection: 0.0004,
+            angle: Angle::degrees(8.0),
             relative: 1,
             segments: 1,
             depth: 12,
             scale: 0.0,
         }
     }
+}
 
-    // The Rust's own options: 0.0004 of the scale, and 8 degrees.
-    pub fn default() -> Options
-        ensures { result ≡ default_options }
-    {
-        Options::preset(0.0004, Angle::degrees(8.0))
-    }
-
+impl Options {
     // For a quick preview.
     pub fn draft() -> Options
         ensures { result ≡ draft_options }
     {
-        Options::preset(0.01, Angle::degrees(35.0))
+        Options {
+            deflection: 0.01,
+            angle: Angle::degrees(35.0),
+            ..Options::default()
+        }
     }
 
     // For close inspection.
     pub fn fine() -> Options
         ensures { result ≡ fine_options }
     {
-        Options::preset(0.0001, Angle::degrees(4.0))
+        Options {
+            deflection: 0.0001,
+            angle: Angle::degrees(4.0),
+            ..Options::default()
+        }
     }
 
     // A scale that is finite and above zero.
@@ -147,6 +154,7 @@ impl Options {
         }
     }
 
+    #[tactic(auto, unfolding(crate::specs::Options::resolved_model))]
     fn resolved_model(self) -> f64
         ensures { result ≡ resolved_model self }
     {
@@ -154,6 +162,7 @@ impl Options {
     }
 
     // Doubled, because `sag_for` halves it again for a feature of the model's size.
+    #[tactic(auto, unfolding(crate::specs::Options::resolved_relative))]
     fn resolved_relative(self) -> f64
         ensures { result ≡ resolved_relative self }
     {
@@ -165,35 +174,18 @@ impl Options {
     }
 
     // Options::resolve: against the scale, angle and depth clamped, at least one segment.
+    #[tactic(auto, unfolding(crate::specs::Options::resolve, crate::specs::Options::resolved_sag))]
     pub fn resolve(self) -> Resolved
         ensures { result ≡ resolve self }
     {
         Resolved {
-            sag: arith::max(self.distance(), MIN_POSITIVE),
+            sag: arith::max(self.distance(), f64::MIN_POSITIVE),
             model: self.resolved_model(),
             relative: self.resolved_relative(),
             angle: arith::clamp(self.angle.0, LEAST_ANGLE, LARGEST_ANGLE),
-            segments: larger(self.segments, 1),
-            depth: clamp_depth(self.depth),
+            segments: self.segments.max(1),
+            depth: self.depth.clamp(1, 24),
         }
-    }
-}
-
-fn larger(a: u64, b: u64) -> u64
-    ensures { result ≡ max a b }
-{
-    if a < b { b } else { a }
-}
-
-fn clamp_depth(d: u32) -> u32
-    ensures { result ≡ min (max d 1) 24 }
-{
-    if d < 1 {
-        1
-    } else if 24 < d {
-        24
-    } else {
-        d
     }
 }
 
@@ -206,6 +198,7 @@ impl Resolved {
     }
 
     // Resolved::sag_for: the sag for an edge of this extent.
+    #[tactic(auto, unfolding(crate::specs::Options::sag_for))]
     pub fn sag_for(self, extent: f64) -> f64
         ensures { result ≡ sag_for self extent }
     {
@@ -217,16 +210,13 @@ impl Resolved {
     }
 
     // Resolved::for_extent: the sag changes, and nothing else.
+    #[tactic(auto, unfolding(crate::specs::Options::for_extent))]
     pub fn for_extent(self, extent: f64) -> Resolved
         ensures { result ≡ for_extent self extent }
     {
         Resolved {
             sag: self.sag_for(extent),
-            model: self.model,
-            relative: self.relative,
-            angle: self.angle,
-            segments: self.segments,
-            depth: self.depth,
+            ..self
         }
     }
 
@@ -253,6 +243,7 @@ impl Resolved {
     }
 
     // Resolved::angle_step_for_radius: the largest step on a circle of this radius that sag and angle allow.
+    #[tactic(auto, unfolding(crate::specs::Options::angle_step))]
     pub fn angle_step_for_radius(self, radius: f64) -> f64
         ensures { result ≡ angle_step self radius }
     {
@@ -265,11 +256,12 @@ impl Resolved {
     }
 
     // Resolved::segments_for_arc: how many such steps an arc of `total` radians takes.
+    #[tactic(auto, unfolding(crate::specs::Options::segments_for_arc))]
     pub fn segments_for_arc(self, radius: f64, total: f64) -> u64
         ensures { result ≡ segments_for_arc self radius total }
     {
         let step = self.angle_step_for_radius(radius);
         let n = arith::to_u64(arith::ceil(arith::abs(total) / step));
-        larger(larger(n, self.segments), 1)
+        n.max(self.segments).max(1)
     }
 }

@@ -7,18 +7,12 @@ use Rattle.arith.proofs.floor.Goals.{then-n-x, else-n-x}
 
 pub returns-then-x-n : goal.returns-then-x-n
 unfolding of_bits
-returns-then-x-n c =
-    let d = c in
-    floor_below d.args.x d.if-s.true d.if-s-2.true c.if-x-n.true
+returns-then-x-n c = floor_below c.args.x c.if-s.true c.if-s-2.true c.if-x-n.true
 
 pub returns-else-x-n : goal.returns-else-x-n
 unfolding of_bits
 returns-else-x-n c =
-    let d = c in
-    let x = d.args.x in
-    let a = d.if-s.true in
-    let b = d.if-s-2.true in
     elim c.if-n-x.branch [
-      | then-n-x w ↦ w.most-is ∙ floor_above x a b w.if-n-x.true
-      | else-n-x w ↦ w.most-is ∙ floor_at x a b c.if-x-n.false w.if-n-x.false
+      | then-n-x w ↦ w.most-is ∙ floor_above c.args.x c.if-s.true c.if-s-2.true w.if-n-x.true
+      | else-n-x w ↦ w.most-is ∙ floor_at c.args.x c.if-s.true c.if-s-2.true c.if-x-n.false w.if-n-x.false
     ]

@@ -1,22 +1,8 @@
--- `exp::exp` meets its contract: k and r are those of the definition. Assumes nothing.
-use borrow.Author.Rules.{rules}
-use Rattle.arith_exp.specs.Exp.{exp_of}
+-- `arith_exp::exp` meets its contract: k, r and the steps of the series are those of the definition. Assumes nothing.
+use lib.Ieee.{of_bits, of_int}
+use Rattle.arith_exp.specs.Exp.{exp_of, series, exp_steps}
 use Rattle.arith_exp.proofs.exp.Goals as goal
 
-pub doublings-k-requires : goal.doublings-k-requires
-doublings-k-requires c = search rules
-
-pub reduced-requires : goal.reduced-requires
-reduced-requires c = search rules
-
-pub series-requires : goal.series-requires
-series-requires c = search rules
-
-pub power-requires : goal.power-requires
-power-requires c = search rules
-
 pub returns : goal.returns
-unfolding exp_of
-returns c =
-    let d = c in
-    rw (c.power.ensures, c.series.ensures, d.reduced.ensures, d.doublings-k.ensures)
+unfolding exp_of series exp_steps of_bits of_int
+returns c = rw (c.power.ensures, c.series.ensures, c.left_over.ensures, c.periods-k.ensures)

@@ -1,10 +1,9 @@
 -- A limit for roots, with a cut on either side of it. Definitions only.
-use Rattle.std.specs.Prelude.{◌≡◌, Bool, true, false, cond, T, Float}
+use Rattle.std.specs.Prelude.{◌≡◌, Bool, true, cond, T, Float}
 use Rattle.std.specs.Float.{nan, binary64}
 use Rattle.std.specs.Float.Ieee.{fits, lt, le}
 use Rattle.arith.specs.Notation.{◌⊗◌, bits, plus_zero}
 use Rattle.arith_root.specs.Root.{root_of}
-use Rattle.arith_root_limit.specs.declared.Limit.{Limit}
 
 -- a cut that serves, or a NaN, with which no comparison holds
 abbrev pub cut_if : Bool → Float → Float
@@ -22,15 +21,14 @@ a_little_less = bits 0x3FEFFFFDE7210BE9
 abbrev pub square_if : Bool → Float → Float
 square_if serves x = cut_if (lt plus_zero x) (cut_if serves (x ⊗ x))
 
--- the limit with its cuts, the squares of numbers that stand on their sides of it
-unfoldable pub limit_of : Float → Limit
-limit_of at = record {
-  at = at;
-  low = square_if (le (at ⊗ a_little_less) at) (at ⊗ a_little_less);
-  high = square_if (lt at (at ⊗ a_little_more)) (at ⊗ a_little_more);
-}
+-- the cuts of a limit, the squares of numbers that stand on their sides of it
+unfoldable pub low_cut : Float → Float
+low_cut at = square_if (le (at ⊗ a_little_less) at) (at ⊗ a_little_less)
 
--- what is below the low cut has a root within the limit, and what is above the high one has none
-pub record Stands (l : Limit) : Type 0 where
-  pub low_stands : (s : Float) → T (fits binary64 s) → le plus_zero s ≡ true → lt s l.low ≡ true → le (root_of s) l.at ≡ true
-  pub high_stands : (s : Float) → T (fits binary64 s) → lt l.high s ≡ true → le (root_of s) l.at ≡ false
+unfoldable pub high_cut : Float → Float
+high_cut at = square_if (lt at (at ⊗ a_little_more)) (at ⊗ a_little_more)
+
+-- what is below the low cut has a root within the limit, and what is above the high one has a root above it
+pub record Stands (at : Float) : Type 0 where
+  pub low_stands : (s : Float) → T (fits binary64 s) → le plus_zero s ≡ true → lt s (low_cut at) ≡ true → le (root_of s) at ≡ true
+  pub high_stands : (s : Float) → T (fits binary64 s) → lt (high_cut at) s ≡ true → lt at (root_of s) ≡ true

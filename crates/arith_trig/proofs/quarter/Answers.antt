@@ -3,10 +3,6 @@ use lib.Ieee.{of_bits}
 use Rattle.arith_trig.proofs.LastBits.{no_nan, quarter_near}
 use Rattle.arith_trig.proofs.quarter.Goals as goal
 
-pub float_to_bits-result : goal.float_to_bits-result
-unfolding of_bits
-float_to_bits-result c = no_nan c.args.k c.if-s.true c.if-s-2.true
-
 pub returns-then-s-k : goal.returns-then-s-k
 unfolding of_bits
 returns-then-s-k c = quarter_near c.args.k c.if-s.true c.if-s-2.true c.if-s-k.true

@@ -13,22 +13,17 @@ truncating_f64_to_u64-n-requires c =
     let h = can_cut 64 (lit≤ tt) c.args.k (rw e at c.if-size.true) in
     record { lower_bound = rw e h.0; upper_bound = rw e h.1 }
 
-pub overflow_sub-result : goal.overflow_sub-result
-overflow_sub-result c = omega arith
-
 pub returns-then-k : goal.returns-then-k
 unfolding of_bits
 returns-then-k c =
-    let d = c in
-    let e = d.abs-size.ensures in
-    rw (c.truncating_f64_to_u64-n.ensures, e) (of_below d.args.k (rw e at c.if-size.true) c.if-k.true)
+    let e = c.abs-size.ensures in
+    rw (c.truncating_f64_to_u64-n.ensures, e) (of_below c.args.k (rw e at c.if-size.true) c.if-k.true)
 
 pub returns-else-k : goal.returns-else-k
 unfolding of_bits
 returns-else-k c =
-    let d = c in
-    let e = d.abs-size.ensures in
-    rw (c.truncating_f64_to_u64-n.ensures, e) (of_other d.args.k (rw e at c.if-size.true) c.if-k.false)
+    let e = c.abs-size.ensures in
+    rw (c.truncating_f64_to_u64-n.ensures, e) (of_other c.args.k (rw e at c.if-size.true) c.if-k.false)
 
 pub returns-else-size : goal.returns-else-size
 unfolding of_bits

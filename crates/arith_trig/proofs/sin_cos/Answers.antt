@@ -5,11 +5,10 @@ use Rattle.arith_trig.proofs.Modulo.{below_four}
 use Rattle.arith_trig.proofs.sin_cos.Goals as goal
 
 pub both-requires : goal.both-requires
-both-requires c = rw c.quarter.ensures (below_four c.turns-k.result)
+both-requires c = rw c.quarter.ensures (below_four c.periods-k.result)
 
 pub returns : goal.returns
 unfolding sin_cos_of sin_of cos_of
 returns c =
-    let d = c in
-    let p = rw (c.quarter.ensures, d.reduced.ensures, d.turns-k.ensures) at c.both.ensures in
+    let p = rw (c.quarter.ensures, c.left_over.ensures, c.periods-k.ensures) at c.both.ensures in
     λ i. record { sin = p.0 i; cos = p.1 i }

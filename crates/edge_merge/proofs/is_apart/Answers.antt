@@ -4,4 +4,4 @@ use Rattle.edge_merge.proofs.is_apart.Goals as goal
 
 pub returns : goal.returns
 unfolding v_length
-returns c = rw (c.is_over.ensures, c.length_squared.ensures, c.sub.ensures)
+returns c = rw (c.is_root_above.ensures, c.length_squared.ensures, c.sub.ensures)

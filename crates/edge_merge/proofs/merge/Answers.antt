@@ -4,7 +4,6 @@ use mathlib.Core.Path.{refl, ap, ◌∙◌}
 use Prim.Native.Nat.{◌*◌}
 use lib.ListN.{length}
 use lib.Seq.{length-sets}
-use Rattle.arith_root_limit.proofs.Roots.{root_beyond}
 use Rattle.edge_record.specs.Chain.{width, row}
 use Rattle.edge_merge.proofs.Loop.{kept_first_lem, kept_push, kept_pass, as_it_was, no_floor, few, ended}
 use Rattle.edge_merge.proofs.merge.Goals as goal
@@ -16,15 +15,12 @@ returns-then-n-le2 c = as_it_was _ _ _ (few _ _ _ c.if-n-le2.true)
 pub loop-i-init : goal.loop-i-init
 loop-i-init c = (refl, kept_first_lem _ _ _ c.if-n-le2.false _ c.record_point-last.ensures)
 
-pub is_apart-requires : goal.is_apart-requires
-is_apart-requires c = root_beyond _ c.root.ensures.0
-
 pub loop-i-preserved : goal.loop-i-preserved
 loop-i-preserved c =
     let l = c.loop-i in
     let within = c.loop-i-test.true in
     let p = c.sample_at-p.ensures in
-    let far = c.is_apart.ensures in (
+    let far = rw c.new-limit.ensures at c.is_apart.ensures in (
       refl,
       elim c.if-is_apart.branch [ then-is_apart w ↦ rw (w.chain-is, w.last-is, w.k-is) (kept_push _ _ _ l.invariant.1 within p far w.if-is_apart.true w.put.ensures) | else-is_apart w ↦ rw (w.chain-is, w.last-is, w.k-is) (kept_pass _ _ _ l.invariant.1 within p far w.if-is_apart.false) ],
     )

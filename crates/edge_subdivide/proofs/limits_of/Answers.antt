@@ -4,4 +4,4 @@ use Rattle.edge_subdivide.proofs.limits_of.Goals as goal
 
 pub returns : goal.returns
 unfolding limits_of
-returns c = rw (c.over_cut-over.ensures, c.turn_cut-turn.ensures, c.limit_of-sag.ensures)
+returns c = rw (c.over_cut-over.ensures, c.turn_cut-turn.ensures, c.new-sag.ensures)

@@ -3,7 +3,6 @@ use Rattle.std.specs.Prelude.{◌≡◌, true, false}
 use Rattle.brep.specs.Tree.{CurveTree}
 use Rattle.curve.specs.Eval.{point_at}
 use Rattle.options.specs.declared.Resolved.{Resolved}
-use Rattle.arith_root_limit.specs.Own.Limit.{limit_of}
 use Rattle.arith_turn_limit.specs.Own.Limit.{turn_cut, over_cut}
 use Rattle.edge_params.specs.Params.{midpoint}
 use Rattle.edge_subdivide.specs.declared.End.{End}
@@ -22,7 +21,7 @@ split_of c r a b =
 
 -- the limits with their cuts
 unfoldable pub limits_of : Resolved → Limits
-limits_of r = record { sag = limit_of r.sag; angle = r.angle; turn = turn_cut r.angle; over = over_cut r.angle }
+limits_of r = record { sag = r.sag; angle = r.angle; turn = turn_cut r.angle; over = over_cut r.angle }
 
 -- limits that were worked out of options
 pub record OfOptions (l : Limits) : Type 0 where

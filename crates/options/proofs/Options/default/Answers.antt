@@ -1,5 +1,0 @@
--- `options::Options::default` meets its contract. Assumes nothing.
-use Rattle.options.proofs.Options.default.Goals as goal
-
-pub returns : goal.returns
-returns c = rw (c.preset.ensures, c.degrees.ensures)

@@ -1,5 +1,0 @@
--- `options::Options::fine` meets its contract. Assumes nothing.
-use Rattle.options.proofs.Options.fine.Goals as goal
-
-pub returns : goal.returns
-returns c = rw (c.preset.ensures, c.degrees.ensures)
