@@ -6,13 +6,13 @@ use Prim.Native.Nat.{ℕ, zero, suc, ◌-◌, ◌<◌}
 use native.Mathlib.Omega.{arith}
 use lib.ListN.{set, replicate}
 use lib.Ieee.{Float}
-use Rattle.base_lists.specs.Result.{each, both}
 use Rattle.math.specs.declared.Vec3.{Vec3}
 use Rattle.edge_thin_span.specs.declared.Decision.{Decision}
 use Rattle.edge_thin_span.specs.declared.Decision.TheVariants.{Leave, Split, Refuse}
 use Rattle.edge_thin_span.specs.Span.{decision}
 use Rattle.edge_thin_span.proofs.Laws.{inside, decision_same}
 use Rattle.edge_thin_mark.specs.Spans.{by_split, kept_in, marks, flagged}
+use Rattle.refusal.specs.Answer.{each, both}
 
 module _ (p q : ℕ → Vec3) (tolerance angle : Float) (n : ℕ) (same : (j : ℕ) → j < n → p j ≡ q j) where
   kept_same : (m a b : ℕ) → a < n → b < n → kept_in (decision p tolerance angle) m a b ≡ kept_in (decision q tolerance angle) m a b

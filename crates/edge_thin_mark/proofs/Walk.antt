@@ -1,5 +1,6 @@
 -- The walk of `mark`: what is still to be found is what the spans between the set flags give, from a on. No decision is looked into.
 -- Assumes nothing.
+use Rattle.std.specs.Prelude.{Err, Ok}
 use mathlib.Core.Path.{◌≡◌, refl, sym, ap, subst, ◌∙◌}
 use mathlib.Core.Bool.{Bool, true, false}
 use mathlib.Core.Logic.{⊎_elim}
@@ -11,30 +12,31 @@ use lib.Dec.{leb}
 use lib.ListN.{length, get_or, set, replicate, length-set, get_or-replicate}
 use lib.Seq.{get_or-set_same, get_or-set_other}
 use borrow.Author.Tests.{leb-true, leb-false}
-use Rattle.base_lists.specs.Result.{Result, refused, got, each, both}
 use Rattle.edge_thin_span.specs.declared.Decision.{Decision}
 use Rattle.edge_thin_span.specs.declared.Decision.TheVariants.{Leave, Split, Refuse}
 use Rattle.edge_thin_mark.specs.Own.Flags.{FirstKept}
 use Rattle.edge_thin_mark.specs.Spans.{by_split, kept_in, kept, marks}
+use Rattle.refusal.specs.Answer.{Answer, each, both}
+use Rattle.refusal.specs.declared.Refusal.TheVariants.{Endless}
 
 -- ---- answers put together
-none_left : (r : Result (List ℕ)) → both ◌++◌ (got []) r ≡ r
-none_left (refused k) = refl
-none_left (got l) = refl
+none_left : (r : Answer (List ℕ)) → both ◌++◌ (Ok []) r ≡ r
+none_left (Err k) = refl
+none_left (Ok l) = refl
 
-none_right : (r : Result (List ℕ)) → both ◌++◌ r (got []) ≡ r
-none_right (refused k) = refl
-none_right (got l) = ap got (append-nil l)
+none_right : (r : Answer (List ℕ)) → both ◌++◌ r (Ok []) ≡ r
+none_right (Err k) = refl
+none_right (Ok l) = ap Ok (append-nil l)
 
-regroup : (w : ℕ) (x y z : Result (List ℕ)) → both ◌++◌ (both (λ l r. w ∷ l ++ r) x y) z ≡ each (λ l. w ∷ l) (both ◌++◌ x (both ◌++◌ y z))
-regroup w (refused k) y z = refl
-regroup w (got l) (refused k) z = refl
-regroup w (got l) (got r) (refused k) = refl
-regroup w (got l) (got r) (got s) = ap (λ (t : List ℕ). got (w ∷ t)) (append_assoc l r s)
+regroup : (w : ℕ) (x y z : Answer (List ℕ)) → both ◌++◌ (both (λ l r. w ∷ l ++ r) x y) z ≡ each (λ l. w ∷ l) (both ◌++◌ x (both ◌++◌ y z))
+regroup w (Err k) y z = refl
+regroup w (Ok l) (Err k) z = refl
+regroup w (Ok l) (Ok r) (Err k) = refl
+regroup w (Ok l) (Ok r) (Ok s) = ap (λ (t : List ℕ). Ok (w ∷ t)) (append_assoc l r s)
 
-marks_first : (keep : List Bool) (w : ℕ) (r : Result (List ℕ)) → each (marks keep) (each (λ l. w ∷ l) r) ≡ each (marks (set keep w true)) r
-marks_first keep w (refused k) = refl
-marks_first keep w (got l) = refl
+marks_first : (keep : List Bool) (w : ℕ) (r : Answer (List ℕ)) → each (marks keep) (each (λ l. w ∷ l) r) ≡ each (marks (set keep w true)) r
+marks_first keep w (Err k) = refl
+marks_first keep w (Ok l) = refl
 
 -- ---- how many flags are not set
 abbrev pub unset : List Bool → ℕ
@@ -143,17 +145,17 @@ module _ (decide : ℕ → ℕ → Decision) (D : Splits decide) where
 -- ---- the walk
 module _ (decide : ℕ → ℕ → Decision) where
   -- what is to be found between a and the last end
-  abbrev pub pending : ℕ → List ℕ → Result (List ℕ)
-  pending a [] = got []
+  abbrev pub pending : ℕ → List ℕ → Answer (List ℕ)
+  pending a [] = Ok []
   pending a (b ∷ e) = both ◌++◌ (kept decide a b) (pending b e)
 
   -- where the walk stands, on its way to `goal`
-  pub record Standing (last : ℕ) (goal : Result (List Bool)) (keep : List Bool) (a : ℕ) : Type 0 where
+  pub record Standing (last : ℕ) (goal : Answer (List Bool)) (keep : List Bool) (a : ℕ) : Type 0 where
     pub ends : List ℕ
     pub spans : Ends keep last a ends
     pub rest : each (marks keep) (pending a ends) ≡ goal
 
-module _ {decide : ℕ → ℕ → Decision} (D : Splits decide) {last : ℕ} {goal : Result (List Bool)} where
+module _ {decide : ℕ → ℕ → Decision} (D : Splits decide) {last : ℕ} {goal : Answer (List Bool)} where
   pub begin : (k : List Bool) → 0 < last → last < length k → k ≡ replicate (length k) false → each (marks (set (set k 0 true) last true)) (kept decide 0 last) ≡ goal
       → Standing decide last goal (set (set k 0 true) last true) 0
   begin k h g e q = record {
@@ -169,10 +171,10 @@ module _ {decide : ℕ → ℕ → Decision} (D : Splits decide) {last : ℕ} {g
     rest = ap (each (marks (set (set k 0 true) last true))) (none_right (kept decide 0 last)) ∙ q;
   }
 
-  pub done : {keep : List Bool} {a : ℕ} → last ≤ a → Standing decide last goal keep a → got keep ≡ goal
+  pub done : {keep : List Bool} {a : ℕ} → last ≤ a → Standing decide last goal keep a → Ok keep ≡ goal
   done {keep} {a} h s = go s.spans s.rest
     where
-      go : {e : List ℕ} → Ends keep last a e → each (marks keep) (pending decide a e) ≡ goal → got keep ≡ goal
+      go : {e : List ℕ} → Ends keep last a e → each (marks keep) (pending decide a e) ≡ goal → Ok keep ≡ goal
       go (stop e) r = r
       go (more u c t x) r = absurd (let l = ends_le x in omega arith)
 
@@ -184,8 +186,8 @@ module _ {decide : ℕ → ℕ → Decision} (D : Splits decide) {last : ℕ} {g
     here = ap (λ (e : List ℕ). each (marks keep) (pending decide a e)) (sym t.is) ∙ s.rest
 
     -- of what the span at a gives
-    span_gives : {r : Result (List ℕ)} → kept decide a b ≡ r → each (marks keep) (both ◌++◌ r (pending decide b t.tail)) ≡ goal
-    span_gives k = ap (λ (r : Result (List ℕ)). each (marks keep) (both ◌++◌ r (pending decide b t.tail))) (sym k) ∙ here
+    span_gives : {r : Answer (List ℕ)} → kept decide a b ≡ r → each (marks keep) (both ◌++◌ r (pending decide b t.tail)) ≡ goal
+    span_gives k = ap (λ (r : Answer (List ℕ)). each (marks keep) (both ◌++◌ r (pending decide b t.tail))) (sym k) ∙ here
 
     pub span : (a < b) × (b ≤ last)
     span = (t.ahead, ends_le t.after)
@@ -194,11 +196,11 @@ module _ {decide : ℕ → ℕ → Decision} (D : Splits decide) {last : ℕ} {g
     module _ {d : Decision} (made : d ≡ decide a b) where
       pub leave : d ≡ Leave → Standing decide last goal keep b
       leave e =
-          let k : kept decide a b ≡ got [] = unroll decide D a b t.ahead ∙ rw (sym made ∙ e) in
+          let k : kept decide a b ≡ Ok [] = unroll decide D a b t.ahead ∙ rw (sym made ∙ e) in
           record { ends = t.tail; spans = t.after; rest = ap (each (marks keep)) (sym (none_left (pending decide b t.tail))) ∙ span_gives k }
 
-      pub refuse : d ≡ Refuse → refused 9 ≡ goal
-      refuse e = let k : kept decide a b ≡ refused 9 = unroll decide D a b t.ahead ∙ rw (sym made ∙ e) in span_gives k
+      pub refuse : d ≡ Refuse → Err Endless ≡ goal
+      refuse e = let k : kept decide a b ≡ Err Endless = unroll decide D a b t.ahead ∙ rw (sym made ∙ e) in span_gives k
 
       module _ (w : ℕ) (e : d ≡ Split w) where
         pub split_inside : (a < w) × (w < b)

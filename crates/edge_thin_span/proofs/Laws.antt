@@ -1,4 +1,5 @@
 -- The turn and the decision by the code's tests, and what the walk over the spans asks of a decision. Assumes nothing.
+use Rattle.std.specs.Prelude.{Option, Some, None}
 use mathlib.Core.Path.{◌≡◌, refl, sym, ap, ◌∙◌}
 use mathlib.Core.Bool.{Bool, true, false, cond, ◌||◌}
 use mathlib.Core.Logic.{◌⊎◌, inl, inr, ⊎_elim}
@@ -9,8 +10,6 @@ use lib.Ieee.{Float, lt}
 use borrow.Author.Tests.{le-leb, lt-leb, leb-false, eqb-false, eq-eqb, ne_eqb}
 use Rattle.arith.specs.Notation.{◌⊕◌, plus_zero}
 use Rattle.math.specs.declared.Vec3.{Vec3}
-use Rattle.math.specs.declared.Direction.{Direction}
-use Rattle.math.specs.declared.Direction.TheVariants.{Unit, Nothing}
 use Rattle.math.specs.Math.{v_sub, v_length_squared, try_normalized, angle_between}
 use Rattle.math_chord.specs.Chord.{span_distance}
 use Rattle.edge_thin_span.specs.declared.Worst.{Worst}
@@ -37,37 +36,37 @@ worst_in points pa axis (suc n) i a w g h =
     rw (sym q) (worst_in points pa axis n (suc i) a _ (omega arith) (worse_in a i w (span_distance pa axis (v_length_squared axis) (points i)) g h))
 
 -- ---- the turn by the code's tests
-module _ (points : ℕ → Vec3) (a b : ℕ) (d : Direction) where
-  abbrev chord_direction : Direction
+module _ (points : ℕ → Vec3) (a b : ℕ) (d : Option Vec3) where
+  abbrev chord_direction : Option Vec3
   chord_direction = try_normalized (v_sub (points b) (points a))
 
-  pub no_chord : d ≡ chord_direction → d ≡ Nothing → plus_zero ≡ span_turn points a b
+  pub no_chord : d ≡ chord_direction → d ≡ None → plus_zero ≡ span_turn points a b
   unfolding span_turn
   no_chord e t = sym (rw (sym e ∙ t) (go (first_in (directions points (b - a) a)) (last_in (directions points (b - a) a))))
     where
-      go : (f l : Direction) → turn_by f l Nothing ≡ plus_zero
-      go (Unit f) (Unit l) = refl
-      go (Unit f) Nothing = refl
-      go Nothing l = refl
+      go : (f l : Option Vec3) → turn_by f l None ≡ plus_zero
+      go (Some f) (Some l) = refl
+      go (Some f) None = refl
+      go None l = refl
 
-  pub no_first : d ≡ first_in (directions points (b - a) a) → d ≡ Nothing → plus_zero ≡ span_turn points a b
+  pub no_first : d ≡ first_in (directions points (b - a) a) → d ≡ None → plus_zero ≡ span_turn points a b
   unfolding span_turn
-  no_first e t = sym (ap (λ (x : Direction). turn_by x (last_in (directions points (b - a) a)) chord_direction) (sym e ∙ t))
+  no_first e t = sym (ap (λ (x : Option Vec3). turn_by x (last_in (directions points (b - a) a)) chord_direction) (sym e ∙ t))
 
-  pub no_last : d ≡ last_in (directions points (b - a) a) → d ≡ Nothing → plus_zero ≡ span_turn points a b
+  pub no_last : d ≡ last_in (directions points (b - a) a) → d ≡ None → plus_zero ≡ span_turn points a b
   unfolding span_turn
-  no_last e t = sym (ap (λ (x : Direction). turn_by (first_in (directions points (b - a) a)) x chord_direction) (sym e ∙ t) ∙ go (first_in (directions points (b - a) a)))
+  no_last e t = sym (ap (λ (x : Option Vec3). turn_by (first_in (directions points (b - a) a)) x chord_direction) (sym e ∙ t) ∙ go (first_in (directions points (b - a) a)))
     where
-      go : (f : Direction) → turn_by f Nothing chord_direction ≡ plus_zero
-      go (Unit f) = refl
-      go Nothing = refl
+      go : (f : Option Vec3) → turn_by f None chord_direction ≡ plus_zero
+      go (Some f) = refl
+      go None = refl
 
-pub turn_is : (points : ℕ → Vec3) (a b : ℕ) (f l chord : Vec3) → Unit f ≡ first_in (directions points (b - a) a) → Unit l ≡ last_in (directions points (b - a) a)
-    → Unit chord ≡ try_normalized (v_sub (points b) (points a)) → angle_between f chord ⊕ angle_between chord l ≡ span_turn points a b
+pub turn_is : (points : ℕ → Vec3) (a b : ℕ) (f l chord : Vec3) → Some f ≡ first_in (directions points (b - a) a) → Some l ≡ last_in (directions points (b - a) a)
+    → Some chord ≡ try_normalized (v_sub (points b) (points a)) → angle_between f chord ⊕ angle_between chord l ≡ span_turn points a b
 unfolding span_turn
 turn_is points a b f l chord x y z =
-    ap (λ (d : Direction). turn_by d (Unit l) (Unit chord)) x
-    ∙ ap (λ (d : Direction). turn_by (first_in (directions points (b - a) a)) d (Unit chord)) y
+    ap (λ (d : Option Vec3). turn_by d (Some l) (Some chord)) x
+    ∙ ap (λ (d : Option Vec3). turn_by (first_in (directions points (b - a) a)) d (Some chord)) y
     ∙ ap (turn_by (first_in (directions points (b - a) a)) (last_in (directions points (b - a) a))) z
 
 -- ---- the decision

@@ -8,7 +8,7 @@ ghost use Rattle.edge_record.specs.Own.Stored.{record_point};
 ghost use Rattle.edge_record.specs.Chain.{width};
 ghost use Rattle.edge_thin_span.specs.Span.{worst_of, directions, first_in, last_in, span_turn, decision};
 
-use math::{Direction, Vec3};
+use math::Vec3;
 
 // The largest distance of a span's points to its chord, and the index of its point.
 #[derive(Clone, Copy)]
@@ -55,7 +55,7 @@ fn find_worst(chain: &[f64], a: usize, b: usize) -> Worst
 }
 
 // The direction of the segment from point i to the next.
-fn direction(chain: &[f64], i: usize) -> Direction
+fn direction(chain: &[f64], i: usize) -> Option<Vec3>
     requires { width * (i + 1) + width ≤ length chain.now }
     ensures { result ≡ try_normalized (v_sub (record_point chain.now (i + 1)) (record_point chain.now i)) }
 {
@@ -65,23 +65,23 @@ fn direction(chain: &[f64], i: usize) -> Direction
 }
 
 // The first direction of a span's segments: forwards from its start to the first segment that has one.
-fn first_direction(chain: &[f64], a: usize, b: usize) -> Direction
+fn first_direction(chain: &[f64], a: usize, b: usize) -> Option<Vec3>
     requires { (a < b) × (width * b + width ≤ length chain.now) }
     ensures { result ≡ first_in (directions (record_point chain.now) (b - a) a) }
 {
     let mut i = a;
     while i < b {
         let d = direction(chain, i);
-        if let Direction::Unit(_) = d {
+        if let Some(_) = d {
             return d;
         }
         i += 1;
     }
-    Direction::Nothing
+    None
 }
 
 // The last: backwards from its end.
-fn last_direction(chain: &[f64], a: usize, b: usize) -> Direction
+fn last_direction(chain: &[f64], a: usize, b: usize) -> Option<Vec3>
     requires { (a < b) × (width * b + width ≤ length chain.now) }
     ensures { result ≡ last_in (directions (record_point chain.now) (b - a) a) }
 {
@@ -89,11 +89,11 @@ fn last_direction(chain: &[f64], a: usize, b: usize) -> Direction
     while a < i {
         i -= 1;
         let d = direction(chain, i);
-        if let Direction::Unit(_) = d {
+        if let Some(_) = d {
             return d;
         }
     }
-    Direction::Nothing
+    None
 }
 
 // The angle between two unit vectors.
@@ -112,15 +112,15 @@ fn turn(chain: &[f64], a: usize, b: usize) -> f64
     let axis = end
         .sub(edge_record::record_point(chain, a))
         .try_normalized();
-    let Direction::Unit(chord) = axis else {
+    let Some(chord) = axis else {
         return 0.0;
     };
     let first = first_direction(chain, a, b);
-    let Direction::Unit(f) = first else {
+    let Some(f) = first else {
         return 0.0;
     };
     let last = last_direction(chain, a, b);
-    let Direction::Unit(l) = last else {
+    let Some(l) = last else {
         return 0.0;
     };
     angle_between(f, chord) + angle_between(chord, l)

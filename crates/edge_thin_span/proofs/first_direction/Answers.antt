@@ -11,12 +11,12 @@ use Rattle.edge_thin_span.proofs.first_direction.Goals as goal
 pub loop-i-init : goal.loop-i-init
 loop-i-init c = (search rules, search rules, refl)
 
-pub returns-in-Unit : goal.returns-in-Unit
-returns-in-Unit c =
+pub returns-in-Some : goal.returns-in-Some
+returns-in-Some c =
     let a = c.args in
     let l = c.loop-i in
     let d = c.direction-d in
-    first_here (record_point a.chain.now) l.i a.b d.result c.in-Unit.field-0 (omega arith) d.ensures c.in-Unit.is ∙ l.invariant.2
+    first_here (record_point a.chain.now) l.i a.b d.result c.in-Some.field-0 (omega arith) d.ensures c.in-Some.is ∙ l.invariant.2
 
 pub loop-i-preserved : goal.loop-i-preserved
 loop-i-preserved c =

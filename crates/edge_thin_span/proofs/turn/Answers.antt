@@ -29,4 +29,4 @@ returns c =
     let a = c.args in
     let p = record_point a.chain.now in
     let chord : c.try_normalized-axis.result ≡ try_normalized (v_sub (p a.b) (p a.a)) = rw (c.try_normalized-axis.ensures, c.sub.ensures, c.record_point.ensures, c.record_point-end.ensures) in
-    rw (c.angle_between.ensures, c.angle_between-2.ensures) (turn_is p a.a a.b c.in-Unit-first.f c.in-Unit-last.l c.in-Unit.chord (sym c.in-Unit-first.is ∙ c.first_direction-first.ensures) (sym c.in-Unit-last.is ∙ c.last_direction-last.ensures) (sym c.in-Unit.is ∙ chord))
+    rw (c.angle_between.ensures, c.angle_between-2.ensures) (turn_is p a.a a.b c.in-Some-first.f c.in-Some-last.l c.in-Some.chord (sym c.in-Some-first.is ∙ c.first_direction-first.ensures) (sym c.in-Some-last.is ∙ c.last_direction-last.ensures) (sym c.in-Some.is ∙ chord))
