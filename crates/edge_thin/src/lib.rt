@@ -3,14 +3,15 @@
 ghost use Rattle.std.specs.Prelude.{◌≡◌, true, false, ◌*◌, ◌<◌, ◌≤◌, min, length, replicate};
 ghost use Rattle.std.specs.Float.Ieee.{lt};
 ghost use Rattle.arith.specs.Notation.{plus_zero};
-ghost use Rattle.base_lists.specs.Result.{each};
 ghost use Rattle.edge_record.specs.Own.Stored.{record_point, counted_of, after, ChainStored};
 ghost use Rattle.edge_record.specs.Chain.{width, most, samples};
 ghost use Rattle.edge_thin_mark.specs.Own.Flags.{flags};
 ghost use Rattle.edge_thin_mark.specs.Spans.{marks, flagged};
 ghost use Rattle.edge_thin.specs.Thin.{flag_count, evens, with_floor, retained_by, thinned};
+ghost use Rattle.refusal.specs.Answer.{each};
 
-use edge_record::Counted;
+use refusal::Refusal;
+
 
 // How many flags are set.
 fn count_kept(keep: &[bool]) -> usize
@@ -89,28 +90,28 @@ fn thin_with(
     angle: f64,
     floor: usize,
     keep: &mut [bool],
-) -> Counted
+) -> Result<usize, Refusal>
     requires { (2 < length keep.old) × (length keep.old ≤ most) × (width * length keep.old ≤ length chain.old) × (keep.old ≡ replicate (length keep.old) false) × (lt plus_zero tolerance ≡ true) }
     ensures { (result ≡ counted_of (thinned tolerance angle floor (samples (length keep.old) chain.old)))
         × (chain.new ≡ after chain.old (thinned tolerance angle floor (samples (length keep.old) chain.old))) }
 {
     if flag(chain, tolerance, angle, floor, keep) {
-        return Counted::Count(retain(chain, keep));
+        return Ok(retain(chain, keep));
     }
-    Counted::Refused(9)
+    Err(Refusal::Endless)
 }
 
 // Thins the first n records in place. A short chain needs few flags, which are cleared at each call.
-pub fn thin(chain: &mut [f64], n: usize, tolerance: f64, angle: f64, floor: usize) -> Counted
+pub fn thin(chain: &mut [f64], n: usize, tolerance: f64, angle: f64, floor: usize) -> Result<usize, Refusal>
     requires { (n ≤ most) × (width * n ≤ length chain.old) }
     ensures { (result ≡ counted_of (thinned tolerance angle floor (samples n chain.old)))
         × (chain.new ≡ after chain.old (thinned tolerance angle floor (samples n chain.old))) }
 {
     if n < 3 {
-        return Counted::Count(n);
+        return Ok(n);
     }
     if !(tolerance > 0.0) {
-        return Counted::Count(n);
+        return Ok(n);
     }
     if n <= 128 {
         let mut few = [false; 128];

@@ -1,4 +1,5 @@
 -- `flagged` and `thinned` agree with the Rust's loop and with the whole of its `thin`. Assumes nothing.
+use Rattle.std.specs.Prelude.{Err, Ok}
 use mathlib.Core.Path.{◌≡◌, refl, sym, ap, subst}
 use mathlib.Core.Bool.{Bool, true, false, cond, not, ◌||◌}
 use mathlib.Core.Logic.{◌⊎◌, inl, inr, ⊎_elim}
@@ -10,7 +11,6 @@ use lib.Ieee.{Float, lt}
 use lib.ListN.{length, set}
 use borrow.Author.Tests.{ltb-true, ltb-false}
 use Rattle.arith.specs.Notation.{plus_zero}
-use Rattle.base_lists.specs.Result.{Result, refused, got, each, both}
 use Rattle.math.specs.declared.Vec3.{Vec3}
 use Rattle.edge_record.specs.declared.Sample.{Sample}
 use Rattle.edge_record.specs.Chain.{sample_point}
@@ -28,6 +28,8 @@ use Rattle.edge_thin_loop.proofs.Marks.{marks_both}
 use Rattle.edge_thin_loop.proofs.Turns.{one_turn, then, either, over, for_ever}
 use Rattle.edge_thin_loop.proofs.Agree.{Account, ends, stuck, agree}
 use Rattle.edge_thin_loop.proofs.Within.{within}
+use Rattle.refusal.specs.Answer.{Answer, each, both}
+use Rattle.refusal.specs.declared.Refusal.TheVariants.{Endless}
 
 module _ (points : ℕ → Vec3) (tolerance angle : Float) where
   abbrev decide : ℕ → ℕ → Decision
@@ -58,7 +60,7 @@ module _ (points : ℕ → Vec3) (tolerance angle : Float) where
       before q = let o = ap (λ (s : State). s.stack) (over points tolerance angle q refl) in let z : ◌≡◌ {A = ℕ} 0 1 = cc in omega arith
 
   -- ---- what comes of a span, whatever lies under it
-  abbrev Comes : ℕ → ℕ → Result (List ℕ) → Type 0
+  abbrev Comes : ℕ → ℕ → Answer (List ℕ) → Type 0
   Comes a b =
       Account (λ (l : List ℕ). (stack : List (ℕ × ℕ)) (keep : List Bool) → Goes (state ((a, b) ∷ stack) keep) (state stack (marks keep l)))
       ((stack : List (ℕ × ℕ)) (keep : List Bool) → Sticks (state ((a, b) ∷ stack) keep))
@@ -66,10 +68,10 @@ module _ (points : ℕ → Vec3) (tolerance angle : Float) where
   later : {s t : State} → Goes s t → Sticks t → Sticks s
   later p c = record { a = c.a; b = c.b; stack = c.stack; keep = c.keep; reached = then points tolerance angle p c.reached; endless = c.endless }
 
-  left : (a b : ℕ) → decide a b ≡ Leave → Comes a b (got [])
+  left : (a b : ℕ) → decide a b ≡ Leave → Comes a b (Ok [])
   left a b d = ends (λ stack keep. one_turn points tolerance angle a b stack keep d)
 
-  parts : (a b w : ℕ) → decide a b ≡ Split w → {x y : Result (List ℕ)} → Comes a w x → Comes w b y → Comes a b (both (λ l r. w ∷ l ++ r) x y)
+  parts : (a b w : ℕ) → decide a b ≡ Split w → {x y : Answer (List ℕ)} → Comes a w x → Comes w b y → Comes a b (both (λ l r. w ∷ l ++ r) x y)
   parts a b w d = go
     where
       -- the span is taken, and the second part lies over the first
@@ -77,10 +79,10 @@ module _ (points : ℕ → Vec3) (tolerance angle : Float) where
       taken stack keep = one_turn points tolerance angle a b stack keep d
 
       -- the second part comes to an endless span
-      second : ((stack : List (ℕ × ℕ)) (keep : List Bool) → Sticks (state ((w, b) ∷ stack) keep)) → Comes a b (refused 9)
+      second : ((stack : List (ℕ × ℕ)) (keep : List Bool) → Sticks (state ((w, b) ∷ stack) keep)) → Comes a b (Err Endless)
       second g = stuck (λ stack keep. later (taken stack keep) (g ((a, w) ∷ stack) (set keep w true)))
 
-      go : {x y : Result (List ℕ)} → Comes a w x → Comes w b y → Comes a b (both (λ l r. w ∷ l ++ r) x y)
+      go : {x y : Answer (List ℕ)} → Comes a w x → Comes w b y → Comes a b (both (λ l r. w ∷ l ++ r) x y)
       go (ends {x = l} f) (ends {x = r} g) =
           ends (λ stack keep. subst (λ (k : List Bool). Goes (state ((a, b) ∷ stack) keep) (state stack k)) (marks_both l r (set keep w true))
           (then points tolerance angle (taken stack keep)
@@ -105,14 +107,14 @@ module _ (points : ℕ → Vec3) (tolerance angle : Float) where
       go (Split w) d f g = parts a b w d (f w d) (g w d)
 
   -- ---- the whole loop
-  abbrev Runs : ℕ → Result (List Bool) → Type 0
+  abbrev Runs : ℕ → Answer (List Bool) → Type 0
   Runs n = Account (LoopEnds points tolerance angle n) (Sticks (begun n))
 
   runs : (n : ℕ) → Runs n (flagged points tolerance angle n)
   unfolding flagged
   runs n = go (comes (n - 1 - 0) 0 (n - 1) (omega arith))
     where
-      go : {x : Result (List ℕ)} → Comes 0 (n - 1) x → Runs n (each (marks (begun n).keep) x)
+      go : {x : Answer (List ℕ)} → Comes 0 (n - 1) x → Runs n (each (marks (begun n).keep) x)
       go (ends f) = ends (f [] (begun n).keep)
       go (stuck f) = stuck (f [] (begun n).keep)
 
@@ -141,20 +143,20 @@ module _ (tolerance angle : Float) (floor : ℕ) (chain : List Sample) where
   no_return c l (early h) = apart h c.three c.above
   no_return c l (late {keep = k} three above p) = no_end (sample_point chain) tolerance angle c.reaches k p
 
-  abbrev Thinning : Result (List Sample) → Type 0
+  abbrev Thinning : Answer (List Sample) → Type 0
   Thinning = Account (Returns tolerance angle floor chain) (ThinEndless tolerance angle chain)
 
   thinning : Thinning (thinned tolerance angle floor chain)
   unfolding thinned
   thinning = go (ltb (length chain) 3) (lt plus_zero tolerance) refl refl
     where
-      by_flags : 3 ≤ length chain → lt plus_zero tolerance ≡ true → {r : Result (List Bool)} → Runs (sample_point chain) tolerance angle (length chain) r
+      by_flags : 3 ≤ length chain → lt plus_zero tolerance ≡ true → {r : Answer (List Bool)} → Runs (sample_point chain) tolerance angle (length chain) r
           → Thinning (each (λ keep. retained_by (with_floor floor keep) chain) r)
       by_flags three above (ends p) = ends (late three above p)
       by_flags three above (stuck c) = stuck (record { three = three; above = above; reaches = c })
 
       go : (x y : Bool) → ltb (length chain) 3 ≡ x → lt plus_zero tolerance ≡ y
-          → Thinning (cond (x || not y) (got chain) (each (λ keep. retained_by (with_floor floor keep) chain) (flagged (sample_point chain) tolerance angle (length chain))))
+          → Thinning (cond (x || not y) (Ok chain) (each (λ keep. retained_by (with_floor floor keep) chain) (flagged (sample_point chain) tolerance angle (length chain))))
       go true y p q = ends (early (inl (ltb-true (length chain) 3 p)))
       go false false p q = ends (early (inr q))
       go false true p q = by_flags (ltb-false (length chain) 3 p) q (runs (sample_point chain) tolerance angle (length chain))

@@ -14,7 +14,7 @@ use Rattle.edge_thin_span.specs.declared.Decision.TheVariants.{Leave, Split, Ref
 use Rattle.edge_thin_span.specs.Span.{worst_from, worst_of, span_turn, decision}
 use Rattle.edge_thin_span.proofs.Loops.{worst_is}
 use Rattle.edge_thin_span.proofs.Laws.{refuses}
-use Rattle.edge_thin_loop.specs.Endless.{distance_in, Endless}
+use Rattle.edge_thin_loop.specs.Endless.{distance_in, EndlessSpan}
 
 -- ---- the search for the worst point, from i on
 module _ (points : ℕ → Vec3) (pa axis : Vec3) (a : ℕ) where
@@ -68,16 +68,16 @@ module _ (points : ℕ → Vec3) (tolerance angle : Float) (a b : ℕ) where
   unfolding worst_of
   at_start wide f = none_worse points (points a) (v_sub (points b) (points a)) a (b - (a + 1)) (a + 1) plus_zero a (λ j h k. f j (omega arith) (omega arith))
 
-  pub endless_refused : Endless points tolerance angle a b → decision points tolerance angle a b ≡ Refuse
+  pub endless_refused : EndlessSpan points tolerance angle a b → decision points tolerance angle a b ≡ Refuse
   endless_refused e = sym (refuses points tolerance angle a b e.inside (sym (at_start e.inside e.none)) refl e.splits refl)
 
-  pub refused_endless : decision points tolerance angle a b ≡ Refuse → Endless points tolerance angle a b
+  pub refused_endless : decision points tolerance angle a b ≡ Refuse → EndlessSpan points tolerance angle a b
   unfolding decision
   refused_endless =
       go (leb b (a + 1)) (lt tolerance (worst_of points a b).distance || lt angle (span_turn points a b)) (eqb (worst_of points a b).index a) refl refl refl
     where
       go : (x y z : Bool) → leb b (a + 1) ≡ x → lt tolerance (worst_of points a b).distance || lt angle (span_turn points a b) ≡ y → eqb (worst_of points a b).index a ≡ z
-          → cond x Leave (cond y (cond z Refuse (Split (worst_of points a b).index)) Leave) ≡ Refuse → Endless points tolerance angle a b
+          → cond x Leave (cond y (cond z Refuse (Split (worst_of points a b).index)) Leave) ≡ Refuse → EndlessSpan points tolerance angle a b
       go true y z p q r e = absurd (let k : ◌≡◌ {A = ℕ} 0 1 = cc in omega arith)
       go false false z p q r e = absurd (let k : ◌≡◌ {A = ℕ} 0 1 = cc in omega arith)
       go false true false p q r e = absurd (let k : ◌≡◌ {A = ℕ} 0 1 = cc in omega arith)
