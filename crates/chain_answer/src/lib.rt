@@ -10,9 +10,10 @@ ghost use Rattle.chain_answer.specs.Own.Shown.{shown};
 ghost use Rattle.chain_answer.specs.Printed.{Prints, program_prints};
 ghost use Rattle.chain_answer.specs.Own.ReadTables.{WasRead, SomeText};
 
-use brep::Edge;
+use brep::{Edge, LentTables};
 use draw_spec::{Drawn, Way};
 use options::Options;
+use refusal::Refusal;
 use sheet::Sheet;
 
 // The most bytes that the program reads of its input: one more than a sheet may have, so that an input that is too long shows.
@@ -29,13 +30,13 @@ pub const BYTES: usize = text_listing::REFUSAL_BYTES + text_listing::FLOAT_BYTES
 
 // The listing of an answer, whose chain lies in the first buffer or in the second. `lo` and `hi` are the bits of the edge's
 // range: a NaN parameter is a copy of one of them.
-fn show(drawn: Drawn, first: &[f64], second: &[f64], lo: u64, hi: u64, out: &mut [u8]) -> usize
+fn show(drawn: Result<Drawn, Refusal>, first: &[f64], second: &[f64], lo: u64, hi: u64, out: &mut [u8]) -> usize
     requires { (chain_floats drawn ≤ length first.now) × (chain_floats drawn ≤ length second.now) × (refusal_bytes + float_bytes * chain_floats drawn ≤ length out.old) }
     ensures { Put (shown lo hi drawn (chain_in first.now second.now drawn)) out.old result out.new }
 {
     match drawn {
-        Drawn::Refused(n) => text_listing::write_refusal(n, out),
-        Drawn::Chain(way, n) => match way {
+        Err(n) => text_listing::write_refusal(n, out),
+        Ok(Drawn { way, count: n }) => match way {
             Way::AsDrawn => text_listing::write_chain(first, n, lo, hi, out),
             Way::Chord => text_listing::write_chain(first, n, lo, hi, out),
             Way::Complement => text_listing::write_chain(second, n, lo, hi, out),
@@ -47,11 +48,7 @@ fn show(drawn: Drawn, first: &[f64], second: &[f64], lo: u64, hi: u64, out: &mut
 
 // Draws the edge of a sheet whose tables are the leading rows of those lent: n points, m curves, k segments.
 pub fn draw_rows(
-    points: &[f64],
-    curves: &[u32],
-    reals: &[f64],
-    parts: &[u32],
-    ranges: &[f64],
+    tables: &LentTables<'_>,
     n: usize,
     m: usize,
     k: usize,
@@ -59,20 +56,20 @@ pub fn draw_rows(
     options: Options,
     first: &mut [f64],
     second: &mut [f64],
-) -> Drawn
-    requires { (3 * n ≤ length points.now) × (3 * m ≤ length curves.now) × (2 * m ≤ length reals.now) × (2 * k ≤ length parts.now) × (2 * k ≤ length ranges.now) }
-    ensures { Outcome (leading n m k (given points curves reals parts ranges)) edge options first.old second.old result first.new second.new }
+) -> Result<Drawn, Refusal>
+    requires { (3 * n ≤ length tables.now.points.now) × (3 * m ≤ length tables.now.curves.now) × (2 * m ≤ length tables.now.reals.now) × (2 * k ≤ length tables.now.parts.now) × (2 * k ≤ length tables.now.ranges.now) }
+    ensures { Outcome (leading n m k (lent tables.now)) edge options first.old second.old result first.new second.new }
 {
     let n3 = 3 * n;
     let m3 = 3 * m;
     let m2 = 2 * m;
     let k2 = 2 * k;
     draw::draw(
-        &points[..n3],
-        &curves[..m3],
-        &reals[..m2],
-        &parts[..k2],
-        &ranges[..k2],
+        &tables.points[..n3],
+        &tables.curves[..m3],
+        &tables.reals[..m2],
+        &tables.parts[..k2],
+        &tables.ranges[..k2],
         edge,
         options,
         first,

@@ -1,4 +1,5 @@
 -- The examples of the scope hold, by computation. Assumes nothing.
+use Rattle.std.specs.Prelude.{Some, Err, Ok}
 use mathlib.Core.Path.{◌≡◌, refl, ap, ◌∙◌}
 use mathlib.Core.Bool.{Bool, cond}
 use mathlib.Core.List.{List, []}
@@ -8,7 +9,6 @@ use lib.ListN.{length}
 use borrow.Author.Tests.{lt-leb}
 use lib.Ieee as ieee
 use lib.Ieee.{Float}
-use Rattle.base_lists.specs.Result.{Result, refused, got}
 use Rattle.base_lists.specs.Room.{filled}
 use Rattle.base_lists.specs.All.{none, more}
 use Rattle.arith.specs.Floor as arith-floor
@@ -56,7 +56,6 @@ use Rattle.arith.specs.Constants.{hundredth}
 use Rattle.brep.specs.declared.Edge.{Edge}
 use Rattle.brep.specs.Rows.{Tables}
 use Rattle.options.specs.declared.Resolved.{Resolved}
-use Rattle.edge_range.specs.declared.Usable.TheVariants.{Range}
 use Rattle.edge_range.specs.Usable.{usable_range}
 use Rattle.edge_sample.specs.Sample.{sampled}
 use Rattle.edge_thin.specs.Thin.{thinned}
@@ -68,9 +67,13 @@ use Rattle.draw_examples.specs.Examples.{Leaves, DrawsChain, RefusesLate, NeverR
 use Rattle.draw_examples.specs.Examples as examples
 use Rattle.edge_thin_loop.proofs.Laws.{thins}
 use Rattle.draw_examples.proofs.Sweep.{runs_away}
+use Rattle.refusal.specs.Answer.{Answer}
+use Rattle.refusal.specs.declared.Refusal.TheVariants.{Endless}
+use Rattle.refusal.specs.declared.Refusal.{Refusal}
+use Rattle.refusal.specs.Refusal.{number_of}
 
 -- ---- the buffers of a chain, and of a refusal above 7
-draws_chain : (d : Result Got) (way : Way) (chain : List Sample) → d ≡ got (by way chain) → DrawsChain d way chain
+draws_chain : (d : Answer Got) (way : Way) (chain : List Sample) → d ≡ Ok (by way chain) → DrawsChain d way chain
 unfolding first_after second_after
 draws_chain d way chain e = record {
   gets = e;
@@ -80,7 +83,7 @@ draws_chain d way chain e = record {
   };
 }
 
-refuses_late : (d : Result Got) (n : ℕ) → 7 < n → d ≡ refused n → RefusesLate d n
+refuses_late : (d : Answer Got) (n : Refusal) → 7 < number_of n → d ≡ Err n → RefusesLate d n
 unfolding first_after second_after
 refuses_late d n h e = record {
   number = e;
@@ -94,8 +97,8 @@ refuses_late d n h e = record {
     cleared entry = ap (λ (b : Bool). cond b entry (filled (length entry) [])) (lt-leb n 7 h)
 
 -- where our thinning refuses, the Rust's never returns
-never_returns : (T : Tables) (e : Edge) (r : Resolved) (params : List Float) → usable_range (edge_curve T e) e.range ≡ Range e.range
-    → (sampled (edge_curve T e) e.range r).end ≡ got params → thinned (r.sag ⊗ hundredth) r.angle (r.segments + 1) (placed T e params) ≡ refused 9
+never_returns : (T : Tables) (e : Edge) (r : Resolved) (params : List Float) → usable_range (edge_curve T e) e.range ≡ Some e.range
+    → (sampled (edge_curve T e) e.range r).end ≡ Ok params → thinned (r.sag ⊗ hundredth) r.angle (r.segments + 1) (placed T e params) ≡ Err Endless
     → NeverReturns T e r params
 never_returns T e r params u s t = record { usable = u; comes_to = s; never = (thins _ _ _ _).never.0 t }
 

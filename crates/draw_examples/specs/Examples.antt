@@ -1,7 +1,6 @@
 -- The examples of the scope that are proved, as one list under one claim. Definitions only.
-use Rattle.std.specs.Prelude.{◌≡◌, false, cond, List, [], ◌∷◌, ℕ, ◌+◌, ◌*◌, ◌^◌, length, Float}
+use Rattle.std.specs.Prelude.{◌≡◌, false, cond, List, [], ◌∷◌, ℕ, ◌+◌, ◌*◌, ◌^◌, length, Float, Some, Err, Ok}
 use Rattle.std.specs.Float.Ieee.{eq, neg}
-use Rattle.base_lists.specs.Result.{Result, refused, got}
 use Rattle.base_lists.specs.All.{All}
 use Rattle.base_lists.specs.Room.{filled}
 use Rattle.arith.specs.Notation.{◌⊗◌, plus_zero, half, one, two, count}
@@ -21,13 +20,13 @@ use Rattle.edge_record.specs.Chain.{flat}
 use Rattle.edge_merge.specs.Merge.{merge_floor}
 use Rattle.edge_sample.specs.Sample.{sampled}
 use Rattle.edge_thin_loop.specs.Loop.{Returns}
-use Rattle.edge_range.specs.declared.Usable.TheVariants.{Range}
 use Rattle.edge_range.specs.Usable.{usable_range}
 use Rattle.draw_spec.specs.declared.Way.{Way}
 use Rattle.draw_spec.specs.declared.Way.TheVariants.{AsDrawn, Chord, Runaway}
 use Rattle.draw_spec.specs.Edge.{edge_curve, placed}
 use Rattle.draw_spec.specs.Repair.{Got, by}
 use Rattle.draw_spec.specs.Draw.{program_floats, local_options, drawn, in_first, first_after, second_after}
+use Rattle.refusal.specs.Answer.{Answer}
 
 -- what an example says
 pub data Example : Type 0 where
@@ -49,31 +48,31 @@ pub data Example : Type 0 where
   never : Tables → Edge → Options → List Float → Example
 
 -- what is drawn into two buffers of 2,048 points, whatever they held: these floats from the start of the first and of the second, and +0.0 behind them
-pub record Leaves (d : Result Got) (one two : List Float) : Type 0 where
+pub record Leaves (d : Answer Got) (one two : List Float) : Type 0 where
   pub in_first : (first : List Float) → length first ≡ program_floats → first_after first d ≡ filled program_floats one
   pub in_second : (second : List Float) → length second ≡ program_floats → second_after second d ≡ filled program_floats two
 
 -- a chain that is got this way, in its buffer
-pub record DrawsChain (d : Result Got) (way : Way) (chain : List Sample) : Type 0 where
-  pub gets : d ≡ got (by way chain)
+pub record DrawsChain (d : Answer Got) (way : Way) (chain : List Sample) : Type 0 where
+  pub gets : d ≡ Ok (by way chain)
   pub buffers : Leaves d (cond (in_first way) (flat chain) []) (cond (in_first way) [] (flat chain))
 
 -- a refusal with this number, which leaves both buffers all +0.0
-pub record RefusesLate (d : Result Got) (n : ℕ) : Type 0 where
-  pub number : d ≡ refused n
+pub record RefusesLate (d : Answer Got) (n : ℕ) : Type 0 where
+  pub number : d ≡ Err n
   pub buffers : Leaves d [] []
 
 -- sampling the edge's range comes to these parameters, and `thin` over the chain that is placed at them never returns
 pub record NeverReturns (T : Tables) (e : Edge) (r : Resolved) (params : List Float) : Type 0 where
-  pub usable : usable_range (edge_curve T e) e.range ≡ Range e.range
-  pub comes_to : (sampled (edge_curve T e) e.range r).end ≡ got params
+  pub usable : usable_range (edge_curve T e) e.range ≡ Some e.range
+  pub comes_to : (sampled (edge_curve T e) e.range r).end ≡ Ok params
   pub never : (l : List Sample) → Returns (r.sag ⊗ hundredth) r.angle (r.segments + 1) (placed T e params) l → ⊥
 
 -- an example holds of the definitions
 unfoldable pub ExampleHolds : Example → Type 0
 ExampleHolds (sag o extent s) = (for_extent (resolve o) extent).sag ≡ s
 ExampleHolds (floor T e o f) = merge_floor e.tolerance (local_options T e o).sag ≡ f
-ExampleHolds (usable T range used) = usable_range (tree T 0) range ≡ Range used
+ExampleHolds (usable T range used) = usable_range (tree T 0) range ≡ Some used
 ExampleHolds (point T t p) = point_at (tree T 0) t ≡ p
 ExampleHolds (differ a b) = eq a b ≡ false
 ExampleHolds (draws T e o way chain) = DrawsChain (drawn T e o program_floats program_floats) way chain

@@ -1,5 +1,6 @@
 -- What is known of a curve of accepted tables: how far the ends of its own range and its period lie from 0, and that its knots
 -- are binary64 floats. Assumes nothing.
+use Rattle.std.specs.Prelude.{Some, None}
 use mathlib.Core.Path.{◌≡◌, refl, subst}
 use mathlib.Core.Bool.{Bool, true, false, cond, ◌&&◌}
 use mathlib.Core.List.{List, [], ◌∷◌}
@@ -31,7 +32,6 @@ use Rattle.causes_form.specs.Forms.{point_count, curve_count, segment_count, tar
 use Rattle.options.specs.declared.Options.{Options}
 use Rattle.causes.proofs.Checked.{Bounded, Checked}
 use Rattle.draw_spec.specs.Own.Binary.{AllBinary64}
-use Rattle.curve.specs.declared.Repeats.TheVariants.{Every, Never}
 use Rattle.curve.specs.Eval.{tau, natural_range, closes, every_span, period}
 use Rattle.curve.proofs.Laws.{count_segments}
 use Rattle.knots.specs.Knots.{segment_knots, curve_knots}
@@ -114,20 +114,20 @@ parabola_reach = record { low = (tt, tt); low_fits = tt; high = (tt, tt); high_f
 -- ---- what sampling and repair ask of a curve
 pub record Tame (c : CurveTree) : Type 0 where
   pub own : Reach (natural_range c)
-  pub every : (p : Float) → period c ≡ Every p → Size 40 p
+  pub every : (p : Float) → period c ≡ Some p → Size 40 p
   pub knots : All (λ k. T (fits binary64 k)) (curve_knots c)
 
-no_period : (p : Float) → Never ≡ Every p → Size 40 p
+no_period : (p : Float) → None ≡ Some p → Size 40 p
 no_period p e = absurd (let z : ◌≡◌ {A = ℕ} 0 1 = cc in omega arith)
 
-turn_period : (p : Float) → Every tau ≡ Every p → Size 40 p
+turn_period : (p : Float) → Some tau ≡ Some p → Size 40 p
 turn_period p e = let q : tau ≡ p = cc in subst (Size 40) q facts.turn
 
-span_period : (span p : Float) → Size 40 span → every_span span ≡ Every p → Size 40 p
+span_period : (span p : Float) → Size 40 span → every_span span ≡ Some p → Size 40 p
 unfolding every_span
 span_period span p s = go (lt plus_zero span && finite span)
   where
-    go : (b : Bool) → cond b (Every span) Never ≡ Every p → Size 40 p
+    go : (b : Bool) → cond b (Some span) None ≡ Some p → Size 40 p
     go true e = let q : span ≡ p = cc in subst (Size 40) q s
     go false e = no_period p e
 
@@ -135,7 +135,7 @@ polyline_tame : (ps : List Vec3) → length ps - 1 ≤ most_points → Tame (pol
 unfolding natural_range period curve_knots span_of
 polyline_tame ps h = record { own = count_reach (length ps - 1) h; every = λ p. go p (closes ps); knots = none }
   where
-    go : (p : Float) (b : Bool) → cond b (every_span (span_of (interval plus_zero (count (length ps - 1))))) Never ≡ Every p → Size 40 p
+    go : (p : Float) (b : Bool) → cond b (every_span (span_of (interval plus_zero (count (length ps - 1))))) None ≡ Some p → Size 40 p
     go p true e =
         span_period (count (length ps - 1) ⊖ plus_zero) p
         (size_grows 17 40 (count (length ps - 1) ⊖ plus_zero) (omega arith)

@@ -1,4 +1,5 @@
 -- The probes, one after the other. Assumes nothing.
+use Rattle.std.specs.Prelude.{Option}
 use mathlib.Core.Path.{◌≡◌, refl, sym, ap, ◌∙◌}
 use mathlib.Core.Bool.{Bool, true, false, cond, ◌||◌}
 use Prim.Native.Nat.{ℕ, suc, ◌+◌, ◌≤◌}
@@ -20,7 +21,6 @@ use Rattle.brep.specs.Tree.{CurveTree}
 use Rattle.curve_prepared.specs.declared.Prepared.{Prepared}
 use Rattle.curve_prepared.specs.Own.Prepared.{prepared_of, prepared_point}
 use Rattle.curve_prepared.proofs.Laws.{point_by, prepared_point_lem}
-use Rattle.edge_range.specs.declared.Usable.{Usable}
 use Rattle.edge_range.specs.Usable.{usable_range}
 use Rattle.draw_spec.specs.Edge.{edge_curve, edge_start, edge_end, probed, extent_box, edge_extent}
 
@@ -37,7 +37,7 @@ module _ (c : CurveTree) (range : Interval) (b : Aabb) (i : ℕ) {found : Aabb} 
 
 -- edge_extent, step by step
 module _ (T : Tables) (edge : Edge) where
-  pub longest_side : {p q : Vec3} {b₀ b₁ b₂ b : Aabb} {found : Usable} {size : Vec3} {m r : Float} → p ≡ edge_start T edge → q ≡ edge_end T edge → b₀ ≡ empty_box → b₁ ≡ add_point b₀ p → b₂ ≡ add_point b₁ q → found ≡ usable_range (edge_curve T edge) edge.range → b ≡ extent_box (edge_curve T edge) found b₂ → size ≡ box_size b → m ≡ max_of size.x size.y → r ≡ max_of m size.z → r ≡ edge_extent T edge
+  pub longest_side : {p q : Vec3} {b₀ b₁ b₂ b : Aabb} {found : Option Interval} {size : Vec3} {m r : Float} → p ≡ edge_start T edge → q ≡ edge_end T edge → b₀ ≡ empty_box → b₁ ≡ add_point b₀ p → b₂ ≡ add_point b₁ q → found ≡ usable_range (edge_curve T edge) edge.range → b ≡ extent_box (edge_curve T edge) found b₂ → size ≡ box_size b → m ≡ max_of size.x size.y → r ≡ max_of m size.z → r ≡ edge_extent T edge
   unfolding edge_extent
   longest_side ep eq e₀ e₁ e₂ ef eb es em er = rw (er, em, es, eb, ef, e₂, e₁, e₀, eq, ep)
 

@@ -1,4 +1,5 @@
 -- The walk over the stops: what is held, then what the rest of the walk pushes, is the whole. Assumes nothing.
+use Rattle.std.specs.Prelude.{Option, ℕ, Some, None}
 use mathlib.Core.Path.{◌≡◌, refl, sym, ap, subst, ◌∙◌}
 use mathlib.Core.Bool.{Bool, true, false}
 use mathlib.Core.List.{List, [], ◌∷◌, ◌++◌, append_assoc}
@@ -11,8 +12,6 @@ use Rattle.brep.specs.Tree.{CurveTree}
 use Rattle.options.specs.declared.Resolved.{Resolved}
 use Rattle.edge_params.specs.Params.{breaks_along, unless_hi}
 use Rattle.edge_params.specs.Own.Bisected.{subdivided, walked, through, bisected}
-use Rattle.edge_params.specs.declared.Listed.{Listed}
-use Rattle.edge_params.specs.declared.Listed.TheVariants.{Count, Refused}
 use Rattle.edge_params.proofs.Written.{written_length}
 use Rattle.knots_thin.specs.Thin.{kept_breaks}
 use Rattle.edge_record.specs.Chain.{width}
@@ -60,31 +59,31 @@ module _ (c : CurveTree) (range : Interval) (r : Resolved) where
     pub last : left.t ≡ get_or (range.lo ∷ stops range breaks) i nan
     pub begun : Room out₁ chain₁ k₁
     pub front : List Float
-    pub held : ListRecorded c out₁ chain₁ k₁ front (Count k) out chain
+    pub held : ListRecorded c out₁ chain₁ k₁ front (Some k) out chain
     pub all : front ++ onwards left.t (drop i (stops range breaks)) ≡ onwards range.lo (stops range breaks)
 
   module _ (breaks : List Float) where
     -- range.lo, and what is written behind it
     module _ (B : breaks ≡ kept_breaks c range.lo range.hi r.sag) {out₀ chain₀ : List Float} (room : Room out₀ chain₀ 0) (low : End) (L : low ≡ end_at c range.lo)
-        {w₁ : Listed} {out₁ chain₁ : List Float} (h : ListRecorded c out₀ chain₀ 0 (low.t ∷ []) w₁ out₁ chain₁) where
+        {w₁ : Option ℕ} {out₁ chain₁ : List Float} (h : ListRecorded c out₀ chain₀ 0 (low.t ∷ []) w₁ out₁ chain₁) where
       whole : low.t ∷ onwards range.lo (stops range breaks) ≡ bisected (sampler c range r) range
       unfolding onwards through breaks_along stops sampler
       whole =
           ap (λ (t : Float). t ∷ onwards range.lo (stops range breaks)) (end_t c range.lo low L)
           ∙ ap (λ (bs : List Float). range.lo ∷ onwards range.lo (stops range bs)) B
 
-      pub low_refused : w₁ ≡ Refused → ListRecorded c out₀ chain₀ 0 (bisected (sampler c range r) range) Refused out₁ chain₁
+      pub low_refused : w₁ ≡ None → ListRecorded c out₀ chain₀ 0 (bisected (sampler c range r) range) None out₁ chain₁
       low_refused e =
-          subst (λ (l : List Float). ListRecorded c out₀ chain₀ 0 l Refused out₁ chain₁) whole
+          subst (λ (l : List Float). ListRecorded c out₀ chain₀ 0 l None out₁ chain₁) whole
           (recorded_refused c room h e (onwards range.lo (stops range breaks)))
 
-      pub low_then : {k₁ : ℕ} → w₁ ≡ Count k₁ → {w : Listed} {out chain : List Float} → ListRecorded c out₁ chain₁ k₁ (onwards range.lo (stops range breaks)) w out chain
+      pub low_then : {k₁ : ℕ} → w₁ ≡ Some k₁ → {w : Option ℕ} {out chain : List Float} → ListRecorded c out₁ chain₁ k₁ (onwards range.lo (stops range breaks)) w out chain
           → ListRecorded c out₀ chain₀ 0 (bisected (sampler c range r) range) w out chain
       low_then e {w} {out} {chain} g =
           subst (λ (l : List Float). ListRecorded c out₀ chain₀ 0 l w out chain) whole
           (recorded_then c room h e (onwards range.lo (stops range breaks)) g)
 
-      pub walking_start : {k₁ : ℕ} → w₁ ≡ Count k₁ → Walking breaks out₁ chain₁ k₁ out₁ chain₁ low k₁ 0
+      pub walking_start : {k₁ : ℕ} → w₁ ≡ Some k₁ → Walking breaks out₁ chain₁ k₁ out₁ chain₁ low k₁ 0
       walking_start e = record {
         own = end_own c range.lo low L;
         last = end_t c range.lo low L;
@@ -106,7 +105,7 @@ module _ (c : CurveTree) (range : Interval) (r : Resolved) where
 
       -- one stop more
       module _ (h : i ≤ length breaks) (b : Float) (is : b ≡ get_or (stops range breaks) i nan) (right : End) (own : right ≡ end_at c b)
-          {w : Listed} {out' chain' : List Float} (g : ListRecorded c out chain k (span left.t right.t) w out' chain') where
+          {w : Option ℕ} {out' chain' : List Float} (g : ListRecorded c out chain k (span left.t right.t) w out' chain') where
         rest : List Float
         rest = onwards right.t (drop (i + 1) (stops range breaks))
 
@@ -127,23 +126,23 @@ module _ (c : CurveTree) (range : Interval) (r : Resolved) where
         joined : ListRecorded c out₁ chain₁ k₁ (s.front ++ span left.t right.t) w out' chain'
         joined = recorded_then c s.begun s.held refl (span left.t right.t) g
 
-        pub walking_refused : w ≡ Refused → ListRecorded c out₁ chain₁ k₁ (onwards range.lo (stops range breaks)) Refused out' chain'
+        pub walking_refused : w ≡ None → ListRecorded c out₁ chain₁ k₁ (onwards range.lo (stops range breaks)) None out' chain'
         walking_refused e =
-            subst (λ (l : List Float). ListRecorded c out₁ chain₁ k₁ l Refused out' chain') more (recorded_refused c s.begun joined e rest)
+            subst (λ (l : List Float). ListRecorded c out₁ chain₁ k₁ l None out' chain') more (recorded_refused c s.begun joined e rest)
 
-        pub walking_next : (n : ℕ) → w ≡ Count n → Walking breaks out₁ chain₁ k₁ out' chain' right n (i + 1)
+        pub walking_next : (n : ℕ) → w ≡ Some n → Walking breaks out₁ chain₁ k₁ out' chain' right n (i + 1)
         unfolding rest
         walking_next n e = record {
           own = end_own c b right own;
           last = here ∙ ap (λ (j : ℕ). get_or (range.lo ∷ stops range breaks) j nan) (sym (add-one i));
           begun = s.begun;
           front = s.front ++ span left.t right.t;
-          held = subst (λ (q : Listed). ListRecorded c out₁ chain₁ k₁ (s.front ++ span left.t right.t) q out' chain') e joined;
+          held = subst (λ (q : Option ℕ). ListRecorded c out₁ chain₁ k₁ (s.front ++ span left.t right.t) q out' chain') e joined;
           all = more;
         }
 
       -- range.hi
-      pub walking_done : i ≡ length breaks + 1 → {w : Listed} {out' chain' : List Float} → ListRecorded c out chain k (left.t ∷ []) w out' chain'
+      pub walking_done : i ≡ length breaks + 1 → {w : Option ℕ} {out' chain' : List Float} → ListRecorded c out chain k (left.t ∷ []) w out' chain'
           → ListRecorded c out₁ chain₁ k₁ (onwards range.lo (stops range breaks)) w out' chain'
       walking_done e {w} {out'} {chain'} g =
           subst (λ (l : List Float). ListRecorded c out₁ chain₁ k₁ l w out' chain') done

@@ -37,9 +37,9 @@ returns-then-draw_segment c = λ (reals : List Float) (parts : List ℕ) (ranges
     let T = tables a.points.now a.curves.now reals parts ranges in
     let line = told_line (prepared_of (edge_curve T a.edge)) (sym (c.line_under-line.ensures reals parts ranges) ∙ c.in-Line.is) in
     -- what `draw_segment` answered, and what it left of the first buffer
-    let told : SegmentInto T a.edge (for_extent (resolve a.options) (edge_extent T a.edge)) c.in-Range.range a.first.now c.draw_segment.result c.draw_segment.new.chain =
+    let told : SegmentInto T a.edge (for_extent (resolve a.options) (edge_extent T a.edge)) c.in-Some.range a.first.now c.draw_segment.result c.draw_segment.new.chain =
     c.draw_segment.ensures T c.point-start.ensures c.point-end.ensures line (edge_extent T a.edge) in
-    straight T a.edge a.options a.first.now a.second.now c.requires.0 c.requires.1 _ (sym u ∙ c.in-Range.is) line
+    straight T a.edge a.options a.first.now a.second.now c.requires.0 c.requires.1 _ (sym u ∙ c.in-Some.is) line
     c.point-start.ensures c.point-end.ensures told c.if-draw_segment.true
     (c.stays_between.ensures c.if-stays_between.true) c.clear_from.ensures
 
@@ -49,7 +49,7 @@ returns-else-draw_segment c = λ (reals : List Float) (parts : List ℕ) (ranges
     let T = tables a.points.now a.curves.now reals parts ranges in
     let line = told_line (prepared_of (edge_curve T a.edge)) (sym (c.line_under-line.ensures reals parts ranges) ∙ c.in-Line.is) in
     -- what `draw_segment` answered, and what it left of the first buffer
-    let told : SegmentInto T a.edge (for_extent (resolve a.options) (edge_extent T a.edge)) c.in-Range.range a.first.now c.draw_segment.result c.draw_segment.new.chain =
+    let told : SegmentInto T a.edge (for_extent (resolve a.options) (edge_extent T a.edge)) c.in-Some.range a.first.now c.draw_segment.result c.draw_segment.new.chain =
     c.draw_segment.ensures T c.point-start.ensures c.point-end.ensures line (edge_extent T a.edge) in
     not_straight _ a.first.now a.second.now (told.kept c.if-draw_segment.false) refl
 

@@ -12,7 +12,7 @@ use Rattle.draw.proofs.draw_unchecked.Goals.{then-first-lt-SHORTEST-via-then-fir
 pub returns-then-first-lt-SHORTEST : goal.returns-then-first-lt-SHORTEST
 returns-then-first-lt-SHORTEST c =
     let a = c.args in
-    let T = lent a.points a.curves a.reals a.parts a.ranges in
+    let T = lent a.tables.now in
     too_short_lem T a.edge a.options a.first.now a.second.now
     (elim c.then-first-lt-SHORTEST.branch [
       | then-first-lt-SHORTEST-via-then-first-lt-SHORTEST x ↦ first_short (length a.first.now) (length a.second.now) x.if-first-lt-SHORTEST.true
@@ -22,7 +22,7 @@ returns-then-first-lt-SHORTEST c =
 pub returns-then-draw_straight : goal.returns-then-draw_straight
 returns-then-draw_straight c =
     let a = c.args in
-    let T = lent a.points a.curves a.reals a.parts a.ranges in
+    let T = lent a.tables.now in
     -- what `draw_straight` answered, and what it left of the buffers
     let told : StraightInto (in_buffers T a.edge a.options (length a.first.now) (length a.second.now)) a.first.now a.second.now c.draw_straight.result c.draw_straight.new.first c.draw_straight.new.second =
     c.draw_straight.ensures a.reals.now a.parts.now a.ranges.now c.usable_range-usable.ensures in
@@ -31,7 +31,7 @@ returns-then-draw_straight c =
 pub drawn_in-requires : goal.drawn_in-requires
 drawn_in-requires c =
     let a = c.args in
-    let T = lent a.points a.curves a.reals a.parts a.ranges in
+    let T = lent a.tables.now in
     -- what `draw_straight` answered, and what it left of the buffers
     let told : StraightInto (in_buffers T a.edge a.options (length a.first.now) (length a.second.now)) a.first.now a.second.now c.draw_straight.result c.draw_straight.new.first c.draw_straight.new.second =
     c.draw_straight.ensures a.reals.now a.parts.now a.ranges.now c.usable_range-usable.ensures in
@@ -46,7 +46,7 @@ drawn_in-requires c =
 pub returns : goal.returns
 returns c =
     let a = c.args in
-    let T = lent a.points a.curves a.reals a.parts a.ranges in
+    let T = lent a.tables.now in
     -- what `draw_straight` answered, and what it left of the buffers
     let told : StraightInto (in_buffers T a.edge a.options (length a.first.now) (length a.second.now)) a.first.now a.second.now c.draw_straight.result c.draw_straight.new.first c.draw_straight.new.second =
     c.draw_straight.ensures a.reals.now a.parts.now a.ranges.now c.usable_range-usable.ensures in

@@ -25,5 +25,5 @@ pub returns : goal.returns
 unfolding local_options
 returns c =
     let a = c.args in
-    let x = edge_extent (lent a.points a.curves a.reals a.parts a.ranges) a.edge in
+    let x = edge_extent (lent a.tables.now) a.edge in
     unchanged c.resolve-r.result x c.if-r.false ∙ ap (λ (r : Resolved). for_extent r x) c.resolve-r.ensures

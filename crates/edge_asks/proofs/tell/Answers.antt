@@ -1,4 +1,5 @@
 -- `edge_asks::tell` meets its contract. Assumes nothing.
+use Rattle.std.specs.Prelude.{Some, None}
 use Rattle.std.proofs.Common.{◌≡◌, ℕ, Bool, false, sym, ◌∙◌, arith, rules}
 use lib.Ieee.{Float}
 use Rattle.math.specs.declared.Interval.{Interval}
@@ -7,8 +8,6 @@ use Rattle.brep.specs.Rows.{lent}
 use Rattle.brep.specs.Tree.{CurveTree, tree}
 use Rattle.curve_asks.specs.Asks.{asks_far}
 use Rattle.edge_params.specs.Work.{some_far, asking, within}
-use Rattle.edge_params.specs.declared.Closed.TheVariants.{Unknown}
-use Rattle.edge_range.specs.declared.Usable.TheVariants.{Range}
 use Rattle.edge_range.specs.Usable.{analytic_segments}
 use Rattle.edge_sample.specs.Sample.{sampler}
 use Rattle.edge_sample.proofs.Settled.{bisected_long}
@@ -24,34 +23,34 @@ use Rattle.edge_asks.proofs.tell.Goals.{then-r-lt2-via-then-r-lt2, then-r-lt2-vi
 
 -- the way out where the curve asks for nothing that is too far
 never : (room : ℕ) (k : CurveTree) (range : Interval) (r : Resolved) (first : Bool) → ((t : Float) → asks_far k t ≡ false)
-    → within room (asking (asks_far k) (asked_first first (Range range)) (listed k range r)) ≡ sampled_in room k range r
+    → within room (asking (asks_far k) (asked_first first (Some range)) (listed k range r)) ≡ sampled_in room k range r
 never room k range r first h = told_near room k range r _ (some_far-never (asks_far k) h _) (listed_never room k range r h)
 
 pub returns-then-never_asks : goal.returns-then-never_asks
 returns-then-never_asks c =
     let a = c.args in
-    let k = tree (lent a.points a.curves a.reals a.parts a.ranges) a.row in
+    let k = tree (lent a.tables.now) a.row in
     never a.room k a.range a.r a.probes_first (c.never_asks.ensures.1 a.points.now a.reals.now a.parts.now a.ranges.now c.if-never_asks.true)
 
 pub returns-then-not-may_ask : goal.returns-then-not-may_ask
 returns-then-not-may_ask c =
     let a = c.args in
-    let k = tree (lent a.points a.curves a.reals a.parts a.ranges) a.row in
+    let k = tree (lent a.tables.now) a.row in
     never a.room k a.range a.r a.probes_first ((c.may_ask.ensures a.points.now a.reals.now).1 c.if-not-may_ask.true)
 
 pub returns-then-probes_far : goal.returns-then-probes_far
 returns-then-probes_far c =
     let a = c.args in
-    let k = tree (lent a.points a.curves a.reals a.parts a.ranges) a.row in
+    let k = tree (lent a.tables.now) a.row in
     told_far a.room k a.range a.r _ (sym (c.probes_far.ensures a.points.now a.reals.now) ∙ c.if-probes_far.true)
 
 -- in the following, `near`: none of the probes is too far, and `formless`: a curve that may ask has no closed form
 pub returns-then-r-lt2 : goal.returns-then-r-lt2
 returns-then-r-lt2 c =
     let a = c.args in
-    let k = tree (lent a.points a.curves a.reals a.parts a.ranges) a.row in
-    let near : some_far (asks_far k) (asked_first a.probes_first (Range a.range)) ≡ false = sym (c.probes_far.ensures a.points.now a.reals.now) ∙ c.if-probes_far.false in
-    let formless : analytic_segments k a.range a.r ≡ Unknown = may_open _ k (sym (c.may_ask.ensures a.points.now a.reals.now).0 ∙ c.if-not-may_ask.false) a.range a.r in
+    let k = tree (lent a.tables.now) a.row in
+    let near : some_far (asks_far k) (asked_first a.probes_first (Some a.range)) ≡ false = sym (c.probes_far.ensures a.points.now a.reals.now) ∙ c.if-probes_far.false in
+    let formless : analytic_segments k a.range a.r ≡ None = may_open _ k (sym (c.may_ask.ensures a.points.now a.reals.now).0 ∙ c.if-not-may_ask.false) a.range a.r in
     let is = sym (c.is_near_hyperbola.ensures a.points.now a.reals.now a.parts.now a.ranges.now) ∙ c.if-is_near_hyperbola.true in
     told_near a.room k a.range a.r _ near
     (clear_told a.room k a.range a.r formless (near_clear k a.range a.r (search (rules, c.well_formed.1.1.1.1.1.1.0)) (search (rules, c.well_formed.1.1.1.1.1.1.0)) is) c.requires.1
@@ -64,12 +63,12 @@ returns-then-r-lt2 c =
 pub tell_by_count-requires : goal.tell_by_count-requires
 tell_by_count-requires c =
     let a = c.args in
-    let k = tree (lent a.points a.curves a.reals a.parts a.ranges) a.row in
+    let k = tree (lent a.tables.now) a.row in
     let p = c.requires in
     (p.0, p.1, p.2, may_open _ k (sym (c.may_ask.ensures a.points.now a.reals.now).0 ∙ c.if-not-may_ask.false) a.range a.r)
 
 pub returns : goal.returns
 returns c =
     let a = c.args in
-    let k = tree (lent a.points a.curves a.reals a.parts a.ranges) a.row in
+    let k = tree (lent a.tables.now) a.row in
     told_near a.room k a.range a.r _ (sym (c.probes_far.ensures a.points.now a.reals.now) ∙ c.if-probes_far.false) c.tell_by_count.ensures

@@ -10,21 +10,21 @@ use Rattle.edge_asks.proofs.tell_by_count.Goals.{else-n-r-via-then-n-r+else-floo
 pub returns-then-floor_far : goal.returns-then-floor_far
 returns-then-floor_far c =
     let a = c.args in
-    let k = tree (lent a.points a.curves a.reals a.parts a.ranges) a.row in
-    floor_told a.room k a.range a.r c.requires.3 _ (counted_told a.room k a.range a.r c.requires.3 _ (sym c.count_range-counted.ensures ∙ ap count_said c.in-Count.is)) (omega (arith, c.if-n-r.true))
+    let k = tree (lent a.tables.now) a.row in
+    floor_told a.room k a.range a.r c.requires.3 _ (counted_told a.room k a.range a.r c.requires.3 _ (sym c.count_range-counted.ensures ∙ ap count_said c.in-Ok.is)) (omega (arith, c.if-n-r.true))
     (sym (c.floor_far.ensures a.points.now a.reals.now) ∙ c.if-floor_far.true)
 
-pub returns-in-Refused : goal.returns-in-Refused
-returns-in-Refused c =
+pub returns-in-Err : goal.returns-in-Err
+returns-in-Err c =
     let a = c.args in
-    let k = tree (lent a.points a.curves a.reals a.parts a.ranges) a.row in
-    refused_told a.room k a.range a.r c.requires.3 _ (sym c.count_range-counted.ensures ∙ ap count_said c.in-Refused.is)
+    let k = tree (lent a.tables.now) a.row in
+    refused_told a.room k a.range a.r c.requires.3 _ (sym c.count_range-counted.ensures ∙ ap count_said c.in-Err.is)
 
 pub returns-else-n-r : goal.returns-else-n-r
 returns-else-n-r c =
     let a = c.args in
-    let k = tree (lent a.points a.curves a.reals a.parts a.ranges) a.row in
-    let f = counted_told a.room k a.range a.r c.requires.3 _ (sym c.count_range-counted.ensures ∙ ap count_said c.in-Count.is) in
+    let k = tree (lent a.tables.now) a.row in
+    let f = counted_told a.room k a.range a.r c.requires.3 _ (sym c.count_range-counted.ensures ∙ ap count_said c.in-Ok.is) in
     clear_told a.room k a.range a.r c.requires.3 f.clear c.requires.1
     (λ few.
     elim c.else-n-r.branch [

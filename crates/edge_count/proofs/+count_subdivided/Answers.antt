@@ -12,26 +12,26 @@ use Rattle.edge_count.proofs.+count_subdivided.Goals as goal
 pub returns-then-depth-eq0 : goal.returns-then-depth-eq0
 returns-then-depth-eq0 t c r e =
     let a = c.args in
-    let curve : CurveTree = tree (lent a.points a.curves a.reals a.parts a.ranges) a.row in
+    let curve : CurveTree = tree (lent a.tables.now) a.row in
     out_end curve r a.depth a.a a.b c.requires.4 c.requires.5 a.room a.k c.if-depth-eq0.true
 
 pub returns-then-far_at : goal.returns-then-far_at
 returns-then-far_at t c r e =
     let a = c.args in
-    let curve : CurveTree = tree (lent a.points a.curves a.reals a.parts a.ranges) a.row in
+    let curve : CurveTree = tree (lent a.tables.now) a.row in
     out_far curve r a.depth a.a a.b c.requires.4 c.requires.5 a.room a.k c.if-depth-eq0.false (c.far_at.ensures a.points.now a.reals.now) c.if-far_at.true
 
 pub returns-then-not-is_halved : goal.returns-then-not-is_halved
 returns-then-not-is_halved t c r e =
     let a = c.args in
-    let curve : CurveTree = tree (lent a.points a.curves a.reals a.parts a.ranges) a.row in
+    let curve : CurveTree = tree (lent a.tables.now) a.row in
     out_within curve r a.depth a.a a.b c.requires.4 c.requires.5 a.room a.k c.if-depth-eq0.false (c.far_at.ensures a.points.now a.reals.now) c.if-far_at.false (c.is_halved.ensures r e) (ap not c.if-not-is_halved.true)
 
 -- where the span is split: its middle is the curve's (`own`) and not too far (`near`), and its count that of its halves (`both`)
 pub count_subdivided-before-requires : goal.count_subdivided-before-requires
 count_subdivided-before-requires t c =
     let a = c.args in
-    let curve : CurveTree = tree (lent a.points a.curves a.reals a.parts a.ranges) a.row in
+    let curve : CurveTree = tree (lent a.tables.now) a.row in
     let x = midpoint a.a.t a.b.t in
     let m = c.end_at-m in
     let own = end_own curve x m.result m.ensures in
@@ -42,22 +42,22 @@ count_subdivided-before-requires t c =
 pub returns-in_default : goal.returns-in_default
 returns-in_default t c r e =
     let a = c.args in
-    let curve : CurveTree = tree (lent a.points a.curves a.reals a.parts a.ranges) a.row in
+    let curve : CurveTree = tree (lent a.tables.now) a.row in
     let both = halves curve r a.depth a.a a.b c.requires.4 c.requires.5 a.room a.k c.if-depth-eq0.false (c.far_at.ensures a.points.now a.reals.now) c.if-far_at.false (c.is_halved.ensures r e) (ap not c.if-not-is_halved.false) c.end_at-m.result c.end_at-m.ensures in
     stands (c.count_subdivided-before.ensures r e) _ c.in_default.is ∙ both
 
 pub returns-in_default-pushed : goal.returns-in_default-pushed
 returns-in_default-pushed t c r e =
     let a = c.args in
-    let curve : CurveTree = tree (lent a.points a.curves a.reals a.parts a.ranges) a.row in
+    let curve : CurveTree = tree (lent a.tables.now) a.row in
     let both = halves curve r a.depth a.a a.b c.requires.4 c.requires.5 a.room a.k c.if-depth-eq0.false (c.far_at.ensures a.points.now a.reals.now) c.if-far_at.false (c.is_halved.ensures r e) (ap not c.if-not-is_halved.false) c.end_at-m.result c.end_at-m.ensures in
     stands (c.count_one-pushed.ensures _ _) _ c.in_default-pushed.is
-    ∙ goes_on (c.count_subdivided-before.ensures r e) _ c.in-Count.is ∙ both
+    ∙ goes_on (c.count_subdivided-before.ensures r e) _ c.in-Ok.is ∙ both
 
 pub count_subdivided-requires : goal.count_subdivided-requires
 count_subdivided-requires t c =
     let a = c.args in
-    let curve : CurveTree = tree (lent a.points a.curves a.reals a.parts a.ranges) a.row in
+    let curve : CurveTree = tree (lent a.tables.now) a.row in
     let x = midpoint a.a.t a.b.t in
     let m = c.end_at-m in
     let own = end_own curve x m.result m.ensures in
@@ -68,7 +68,7 @@ count_subdivided-requires t c =
 pub returns : goal.returns
 returns t c r e =
     let a = c.args in
-    let curve : CurveTree = tree (lent a.points a.curves a.reals a.parts a.ranges) a.row in
+    let curve : CurveTree = tree (lent a.tables.now) a.row in
     let both = halves curve r a.depth a.a a.b c.requires.4 c.requires.5 a.room a.k c.if-depth-eq0.false (c.far_at.ensures a.points.now a.reals.now) c.if-far_at.false (c.is_halved.ensures r e) (ap not c.if-not-is_halved.false) c.end_at-m.result c.end_at-m.ensures in
-    c.count_subdivided.ensures r e ∙ goes_on (c.count_one-pushed.ensures _ _) _ c.in-Count-pushed.is
-    ∙ goes_on (c.count_subdivided-before.ensures r e) _ c.in-Count.is ∙ both
+    c.count_subdivided.ensures r e ∙ goes_on (c.count_one-pushed.ensures _ _) _ c.in-Ok-pushed.is
+    ∙ goes_on (c.count_subdivided-before.ensures r e) _ c.in-Ok.is ∙ both

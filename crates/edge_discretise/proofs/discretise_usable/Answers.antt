@@ -10,7 +10,7 @@ use Rattle.edge_discretise.proofs.discretise_usable.Goals as goal
 pub returns-in_default : goal.returns-in_default
 returns-in_default c =
     let a = c.args in
-    let z = into_chord (room_of (length a.chain.now) (length a.scratch.now)) (lent a.points a.curves a.reals a.parts a.ranges) a.edge a.probes_first a.r (length a.chain.now) _ c.requires.4 c.in_default.is refl c.chord.ensures in
+    let z = into_chord (room_of (length a.chain.now) (length a.scratch.now)) (lent a.tables.now) a.edge a.probes_first a.r (length a.chain.now) _ c.requires.4 c.in_default.is refl c.chord.ensures in
     record { drawn = z; cleared = c.clear_from.ensures }
 
 -- in the following, `l`: the part of scratch that is lent
@@ -44,7 +44,7 @@ returns c =
     let d = c.draw_range-drawn in
     record {
       drawn =
-          into_range (room_of (length a.chain.now) (length a.scratch.now)) (lent a.points a.curves a.reals a.parts a.ranges) a.edge a.probes_first a.r (length a.chain.now) _ c.requires.4 _ _ c.in-Range.is
+          into_range (room_of (length a.chain.now) (length a.scratch.now)) (lent a.tables.now) a.edge a.probes_first a.r (length a.chain.now) _ c.requires.4 _ _ c.in-Some.is
           (l.size ∙ n.ensures) d.ensures.0;
       cleared = cleared_whole n.result d.new.scratch a.scratch.now l.inside d.ensures.1 c.clear_from-2.ensures;
     }

@@ -12,17 +12,17 @@ draw_sampled-requires c =
     let st = c in
     let t = c.tell-told in
     let p = st.requires in
-    (p.0, p.1, p.2, (clear (lent st.args.points st.args.curves st.args.reals st.args.parts st.args.ranges) st.args.edge st.args.r st.args.range (length st.args.scratch.now) _ t.result t.ensures c.in-Clear.is).1)
+    (p.0, p.1, p.2, (clear (lent st.args.tables.now) st.args.edge st.args.r st.args.range (length st.args.scratch.now) _ t.result t.ensures c.in-Ok.is).1)
 
-pub returns-in-Refused : goal.returns-in-Refused
-returns-in-Refused c =
+pub returns-in-Err : goal.returns-in-Err
+returns-in-Err c =
     let st = c in
     let t = c.tell-told in
-    (into_told (lent st.args.points st.args.curves st.args.reals st.args.parts st.args.ranges) st.args.edge st.args.r st.args.range (length st.args.scratch.now) _ t.result t.ensures c.in-Refused.cause (length st.args.chain.now) _ c.in-Refused.is c.clear_from.ensures, c.clear_from-in-Refused.ensures)
+    (into_told (lent st.args.tables.now) st.args.edge st.args.r st.args.range (length st.args.scratch.now) _ t.result t.ensures c.in-Err.cause (length st.args.chain.now) _ c.in-Err.is c.clear_from.ensures, c.clear_from-in-Err.ensures)
 
-pub returns-in-Clear : goal.returns-in-Clear
-returns-in-Clear c =
+pub returns-in-Ok : goal.returns-in-Ok
+returns-in-Ok c =
     let st = c in
     let t = c.tell-told in
     let d = c.draw_sampled.ensures in
-    (into_clear (lent st.args.points st.args.curves st.args.reals st.args.parts st.args.ranges) st.args.edge st.args.r st.args.range (length st.args.scratch.now) _ t.result t.ensures c.in-Clear.is d.0, d.1)
+    (into_clear (lent st.args.tables.now) st.args.edge st.args.r st.args.range (length st.args.scratch.now) _ t.result t.ensures c.in-Ok.is d.0, d.1)

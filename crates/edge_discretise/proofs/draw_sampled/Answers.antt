@@ -20,7 +20,7 @@ sample_params-sampled-requires c = (c.requires.2, records_room c.args.scratch.no
 pub returns-in_default : goal.returns-in_default
 returns-in_default c =
     let a = c.args in
-    let T = lent a.points a.curves a.reals a.parts a.ranges in
+    let T = lent a.tables.now in
     let wide = width * length a.scratch.now in
     let sampling = sampled_in (length a.scratch.now) (edge_curve T a.edge) a.range a.r in
     let left = c.sample_params-sampled.new.chain in
@@ -32,25 +32,25 @@ returns-in_default c =
 pub slice_bounds-params-end : goal.slice_bounds-params-end
 slice_bounds-params-end c =
     let a = c.args in
-    let T = lent a.points a.curves a.reals a.parts a.ranges in
+    let T = lent a.tables.now in
     let t = c.sample_params-sampled in
-    let s = sampling_some (length a.scratch.now) (edge_curve T a.edge) a.range a.r t.result.listed c.in-Count.n _ t.ensures.0 c.in-Count.is in
+    let s = sampling_some (length a.scratch.now) (edge_curve T a.edge) a.range a.r t.result.listed c.in-Ok.n _ t.ensures.0 c.in-Ok.is in
     part_room s
 
 pub slice_bounds-params-end-2 : goal.slice_bounds-params-end-2
 slice_bounds-params-end-2 c =
     let a = c.args in
-    let T = lent a.points a.curves a.reals a.parts a.ranges in
+    let T = lent a.tables.now in
     let t = c.sample_params-sampled in
-    let s = sampling_some (length a.scratch.now) (edge_curve T a.edge) a.range a.r t.result.listed c.in-Count.n _ t.ensures.0 c.in-Count.is in
+    let s = sampling_some (length a.scratch.now) (edge_curve T a.edge) a.range a.r t.result.listed c.in-Ok.n _ t.ensures.0 c.in-Ok.is in
     sym (part_length s)
 
 pub place-requires : goal.place-requires
 place-requires c =
     let a = c.args in
-    let T = lent a.points a.curves a.reals a.parts a.ranges in
+    let T = lent a.tables.now in
     let t = c.sample_params-sampled in
-    let s = sampling_some (length a.scratch.now) (edge_curve T a.edge) a.range a.r t.result.listed c.in-Count.n _ t.ensures.0 c.in-Count.is in
+    let s = sampling_some (length a.scratch.now) (edge_curve T a.edge) a.range a.r t.result.listed c.in-Ok.n _ t.ensures.0 c.in-Ok.is in
     let wide = width * length a.scratch.now in (
       omega (arith, s.two, part_length s),
       omega (arith, s.fits, part_length s, c.requires.1, whole_length wide t.new.chain a.chain.now t.auto.chain),
@@ -60,33 +60,33 @@ place-requires c =
 pub slice_bounds-used-end : goal.slice_bounds-used-end
 slice_bounds-used-end c =
     let a = c.args in
-    let T = lent a.points a.curves a.reals a.parts a.ranges in
+    let T = lent a.tables.now in
     let t = c.sample_params-sampled in
-    let s = sampling_some (length a.scratch.now) (edge_curve T a.edge) a.range a.r t.result.listed c.in-Count.n _ t.ensures.0 c.in-Count.is in
+    let s = sampling_some (length a.scratch.now) (edge_curve T a.edge) a.range a.r t.result.listed c.in-Ok.n _ t.ensures.0 c.in-Ok.is in
     part_room s
 
 pub slice_bounds-used-end-2 : goal.slice_bounds-used-end-2
 slice_bounds-used-end-2 c =
     let a = c.args in
-    let T = lent a.points a.curves a.reals a.parts a.ranges in
+    let T = lent a.tables.now in
     let t = c.sample_params-sampled in
-    let s = sampling_some (length a.scratch.now) (edge_curve T a.edge) a.range a.r t.result.listed c.in-Count.n _ t.ensures.0 c.in-Count.is in
+    let s = sampling_some (length a.scratch.now) (edge_curve T a.edge) a.range a.r t.result.listed c.in-Ok.n _ t.ensures.0 c.in-Ok.is in
     sym (part_length s)
 
 pub clear_from-requires-2 : goal.clear_from-requires-2
 clear_from-requires-2 c =
     let a = c.args in
-    let T = lent a.points a.curves a.reals a.parts a.ranges in
+    let T = lent a.tables.now in
     let t = c.sample_params-sampled in
-    let s = sampling_some (length a.scratch.now) (edge_curve T a.edge) a.range a.r t.result.listed c.in-Count.n _ t.ensures.0 c.in-Count.is in
+    let s = sampling_some (length a.scratch.now) (edge_curve T a.edge) a.range a.r t.result.listed c.in-Ok.n _ t.ensures.0 c.in-Ok.is in
     omega (arith, part_length s)
 
 pub finish-requires : goal.finish-requires
 finish-requires c =
     let a = c.args in
-    let T = lent a.points a.curves a.reals a.parts a.ranges in
+    let T = lent a.tables.now in
     let t = c.sample_params-sampled in
-    let s = sampling_some (length a.scratch.now) (edge_curve T a.edge) a.range a.r t.result.listed c.in-Count.n _ t.ensures.0 c.in-Count.is in
+    let s = sampling_some (length a.scratch.now) (edge_curve T a.edge) a.range a.r t.result.listed c.in-Ok.n _ t.ensures.0 c.in-Ok.is in
     let wide = width * length a.scratch.now in
     let long = whole_length wide t.new.chain a.chain.now t.auto.chain in
     (s.two, omega (arith, s.fits, c.requires.0), placed_room T a.edge a.r a.range s (t.new.chain ++ drop wide a.chain.now) _ (omega (arith, s.fits, c.requires.1, long)) c.place.ensures)
@@ -94,9 +94,9 @@ finish-requires c =
 pub returns : goal.returns
 returns c =
     let a = c.args in
-    let T = lent a.points a.curves a.reals a.parts a.ranges in
+    let T = lent a.tables.now in
     let t = c.sample_params-sampled in
-    let s = sampling_some (length a.scratch.now) (edge_curve T a.edge) a.range a.r t.result.listed c.in-Count.n _ t.ensures.0 c.in-Count.is in
+    let s = sampling_some (length a.scratch.now) (edge_curve T a.edge) a.range a.r t.result.listed c.in-Ok.n _ t.ensures.0 c.in-Ok.is in
     let wide = width * length a.scratch.now in
     let long = whole_length wide t.new.chain a.chain.now t.auto.chain in (
       into_as long (into_some T a.edge a.r a.range s (t.new.chain ++ drop wide a.chain.now) _ (omega (arith, s.fits, c.requires.1, long)) c.place.ensures c.requires.3 _ _ c.finish.ensures),

@@ -1,7 +1,7 @@
 -- `locate` meets its contract. The loop's invariant: the chain holds the curve's points at the first i parameters. Assumes nothing.
 use mathlib.Core.Path.{refl, ◌∙◌}
 use native.Mathlib.Omega.{arith}
-use Rattle.brep.specs.Rows.{tables}
+use Rattle.brep.specs.Rows.{tables, lent}
 use Rattle.brep.specs.Tree.{tree}
 use Rattle.curve_prepared.proofs.Laws.{own_point}
 use Rattle.edge_closed_form.proofs.Located.{written_none, written_more, written_all}
@@ -11,7 +11,7 @@ pub loop-i-init : goal.loop-i-init
 loop-i-init c =
     let st = c in
     let a = c.args in
-    let T = tree (tables a.points.now a.curves.now a.reals.now a.parts.now a.ranges.now) a.row in
+    let T = tree (lent a.tables.now) a.row in
     (omega arith, refl, written_none T st.args.chain.now st.args.params.now st.args.chain.now refl)
 
 pub point_of-point-requires : goal.point_of-point-requires
@@ -27,7 +27,7 @@ pub loop-i-preserved : goal.loop-i-preserved
 loop-i-preserved c =
     let st = c in
     let a = c.args in
-    let T = tree (tables a.points.now a.curves.now a.reals.now a.parts.now a.ranges.now) a.row in
+    let T = tree (lent a.tables.now) a.row in
     let l = c.loop-i in (
       omega arith,
       c.put.auto.chain ∙ l.invariant.1,
@@ -42,6 +42,6 @@ pub returns : goal.returns
 returns c =
     let st = c in
     let a = c.args in
-    let T = tree (tables a.points.now a.curves.now a.reals.now a.parts.now a.ranges.now) a.row in
+    let T = tree (lent a.tables.now) a.row in
     let l = c.loop-i in
     written_all T st.args.chain.now st.args.params.now l.chain l.i c.loop-i-test.false l.invariant.2

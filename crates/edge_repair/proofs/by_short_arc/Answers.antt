@@ -11,7 +11,7 @@ use Rattle.edge_repair.proofs.by_short_arc.Goals as goal
 pub returns-then-sweep_far : goal.returns-then-sweep_far
 returns-then-sweep_far c =
     let a = c.args in
-    let T = lent a.points a.curves a.reals a.parts a.ranges in
+    let T = lent a.tables.now in
     redrawn_cleared (by_short_arc T a.edge a.r) a.first.now a.second.now 11 (omega arith) c.clear_from.ensures c.clear_from-then-sweep_far.ensures
     (short_far T a.edge a.r (room_of (length a.first.now) (length a.second.now)) c.natural_range-natural.ensures (c.sweep_far.ensures a.points.now a.reals.now) c.if-sweep_far.true)
 
@@ -21,6 +21,6 @@ try_short_arc-requires c = let p = c.requires in (p.0, p.1, p.2, p.3, c.natural_
 pub returns : goal.returns
 returns c =
     let a = c.args in
-    let T = lent a.points a.curves a.reals a.parts a.ranges in
+    let T = lent a.tables.now in
     redrawn_is c.try_short_arc.ensures (by_short_arc T a.edge a.r)
     (short_tried T a.edge a.r (room_of (length a.first.now) (length a.second.now)) c.natural_range-natural.ensures (c.sweep_far.ensures a.points.now a.reals.now) c.if-sweep_far.false)

@@ -10,4 +10,4 @@ pub returns : goal.returns
 returns c =
     let s = c in
     let a = s.args in
-    redrawn_chain (lent a.points a.curves a.reals a.parts a.ranges) _ _ a.r s.requires.0 s.requires.1 c.with_range-d.ensures c.discretise.ensures
+    redrawn_chain (lent a.tables.now) _ _ a.r s.requires.0 s.requires.1 c.with_range-d.ensures c.discretise.ensures

@@ -1,6 +1,6 @@
 -- `edge_sample::step` meets its contract. Assumes nothing.
 use mathlib.Core.Path.{sym}
-use Rattle.brep.specs.Rows.{tables}
+use Rattle.brep.specs.Rows.{tables, lent}
 use Rattle.brep.specs.Tree.{CurveTree, tree}
 use Rattle.edge_subdivide.proofs.Recorded.{recorded_none, recorded_one, recorded_room, recorded_refused, recorded_then}
 use Rattle.edge_sample.proofs.Walking.{not_hi, is_hi}
@@ -14,27 +14,27 @@ subdivide-inside-requires c =
 pub returns-in_default : goal.returns-in_default
 returns-in_default c =
     let st = c in
-    let curve : CurveTree = tree (tables st.args.points.now st.args.curves.now st.args.reals.now st.args.parts.now st.args.ranges.now) st.args.row in
+    let curve : CurveTree = tree (lent st.args.tables.now) st.args.row in
     recorded_refused curve st.requires.4 (c.subdivide-inside.ensures st.args.r st.requires.1) c.in_default.is _
 
 pub push_end-requires : goal.push_end-requires
 push_end-requires c =
     let st = c in
-    let curve : CurveTree = tree (tables st.args.points.now st.args.curves.now st.args.reals.now st.args.parts.now st.args.ranges.now) st.args.row in
-    recorded_room curve st.requires.4 (c.subdivide-inside.ensures st.args.r st.requires.1) c.in-Count.is
+    let curve : CurveTree = tree (lent st.args.tables.now) st.args.row in
+    recorded_room curve st.requires.4 (c.subdivide-inside.ensures st.args.r st.requires.1) c.in-Some.is
 
 pub returns-then-right-range : goal.returns-then-right-range
 returns-then-right-range c =
     let st = c in
-    let curve : CurveTree = tree (tables st.args.points.now st.args.curves.now st.args.reals.now st.args.parts.now st.args.ranges.now) st.args.row in
-    recorded_then curve st.requires.4 (c.subdivide-inside.ensures st.args.r st.requires.1) c.in-Count.is _ (rw
+    let curve : CurveTree = tree (lent st.args.tables.now) st.args.row in
+    recorded_then curve st.requires.4 (c.subdivide-inside.ensures st.args.r st.requires.1) c.in-Some.is _ (rw
     (sym (not_hi st.args.range st.args.right.t c.if-right-range.true))
     (recorded_one curve st.args.right st.requires.3 c.push_end.ensures))
 
 pub returns : goal.returns
 returns c =
     let st = c in
-    let curve : CurveTree = tree (tables st.args.points.now st.args.curves.now st.args.reals.now st.args.parts.now st.args.ranges.now) st.args.row in
-    let e = c.in-Count.is in
+    let curve : CurveTree = tree (lent st.args.tables.now) st.args.row in
+    let e = c.in-Some.is in
     recorded_then curve st.requires.4 (c.subdivide-inside.ensures st.args.r st.requires.1) e _ (rw (sym (is_hi st.args.range st.args.right.t c.if-right-range.false))
     (recorded_none curve (recorded_room curve st.requires.4 (c.subdivide-inside.ensures st.args.r st.requires.1) e)))

@@ -2,10 +2,10 @@
 use Rattle.ffi_numbers.specs.Numbers.{cause_of}
 use Rattle.ffi_numbers.proofs.cause_of.Goals as goal
 
-pub returns-in-Accepted : goal.returns-in-Accepted
+pub returns-in-Ok : goal.returns-in-Ok
 unfolding cause_of
-returns-in-Accepted c = cc
+returns-in-Ok c = cc
 
-pub returns-in-Refused : goal.returns-in-Refused
+pub returns-in-Err : goal.returns-in-Err
 unfolding cause_of
-returns-in-Refused c = cc
+returns-in-Err c = cc

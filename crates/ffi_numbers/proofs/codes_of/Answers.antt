@@ -2,10 +2,10 @@
 use Rattle.ffi_numbers.specs.Numbers.{codes_of}
 use Rattle.ffi_numbers.proofs.codes_of.Goals as goal
 
-pub returns-in-Refused : goal.returns-in-Refused
+pub returns-in-Err : goal.returns-in-Err
 unfolding codes_of
-returns-in-Refused c = rw c.in-Refused.is
+returns-in-Err c = rw c.in-Err.is
 
-pub returns-in-Chain : goal.returns-in-Chain
+pub returns-in-Ok : goal.returns-in-Ok
 unfolding codes_of
-returns-in-Chain c = rw (c.in-Chain.is, c.number_of.ensures)
+returns-in-Ok c = rw (c.in-Ok.is, c.number_of.ensures)

@@ -2,10 +2,10 @@
 use Rattle.ffi_numbers.specs.Numbers.{passed}
 use Rattle.ffi_numbers.proofs.has_passed.Goals as goal
 
-pub returns-in-Point : goal.returns-in-Point
+pub returns-in-Some : goal.returns-in-Some
 unfolding passed
-returns-in-Point c = cc
+returns-in-Some c = cc
 
-pub returns-in-Done : goal.returns-in-Done
+pub returns-in-None : goal.returns-in-None
 unfolding passed
-returns-in-Done c = cc
+returns-in-None c = cc

@@ -2,10 +2,10 @@
 use Rattle.ffi_numbers.specs.Numbers.{point_after}
 use Rattle.ffi_numbers.proofs.point_after.Goals as goal
 
-pub returns-in-Point : goal.returns-in-Point
+pub returns-in-Some : goal.returns-in-Some
 unfolding point_after
-returns-in-Point c = rw c.in-Point.is
+returns-in-Some c = rw c.in-Some.is
 
-pub returns-in-Done : goal.returns-in-Done
+pub returns-in-None : goal.returns-in-None
 unfolding point_after
-returns-in-Done c = rw c.in-Done.is
+returns-in-None c = rw c.in-None.is
