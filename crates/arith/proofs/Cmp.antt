@@ -52,38 +52,29 @@ swapped : (t o : Bool) (a b : Float) → o ≡ not t → cond (t || false) a b �
 swapped true o a b e = rw e
 swapped false o a b e = rw e
 
-abbrev Picked : (Float → Float → Bool) → (Float → Float → Bool) → Float → Float → Type 0
-Picked may first a b = cond (may a b || is_nan b) a b ≡ cond (first a b || is_nan a) b a
-
-low : (a b : Float) → Picked le (λ a b. lt b a) a b
+pub min_same : (a b : Float) → cond (le a b || is_nan b) a b ≡ min_of a b
 unfolding le lt is_nan
-low nan nan = refl
-low nan (inf t) = refl
-low nan (fin t n d) = refl
-low (inf s) nan = refl
-low (fin s m e) nan = refl
-low (inf s) (inf t) = swapped _ _ (inf s) (inf t) (turned (inf s) (inf t) tt tt)
-low (inf s) (fin t n d) = swapped _ _ (inf s) (fin t n d) (turned (inf s) (fin t n d) tt tt)
-low (fin s m e) (inf t) = swapped _ _ (fin s m e) (inf t) (turned (fin s m e) (inf t) tt tt)
-low (fin s m e) (fin t n d) = swapped _ _ (fin s m e) (fin t n d) (turned (fin s m e) (fin t n d) tt tt)
+min_same nan nan = refl
+min_same nan (inf t) = refl
+min_same nan (fin t n d) = refl
+min_same (inf s) nan = refl
+min_same (fin s m e) nan = refl
+min_same (inf s) (inf t) = swapped _ _ (inf s) (inf t) (turned (inf s) (inf t) tt tt)
+min_same (inf s) (fin t n d) = swapped _ _ (inf s) (fin t n d) (turned (inf s) (fin t n d) tt tt)
+min_same (fin s m e) (inf t) = swapped _ _ (fin s m e) (inf t) (turned (fin s m e) (inf t) tt tt)
+min_same (fin s m e) (fin t n d) = swapped _ _ (fin s m e) (fin t n d) (turned (fin s m e) (fin t n d) tt tt)
 
-high : (a b : Float) → Picked (λ a b. le b a) lt a b
+pub max_same : (a b : Float) → cond (le b a || is_nan b) a b ≡ max_of a b
 unfolding le lt is_nan
-high nan nan = refl
-high nan (inf t) = refl
-high nan (fin t n d) = refl
-high (inf s) nan = refl
-high (fin s m e) nan = refl
-high (inf s) (inf t) = swapped _ _ (inf s) (inf t) (turned (inf t) (inf s) tt tt)
-high (inf s) (fin t n d) = swapped _ _ (inf s) (fin t n d) (turned (fin t n d) (inf s) tt tt)
-high (fin s m e) (inf t) = swapped _ _ (fin s m e) (inf t) (turned (inf t) (fin s m e) tt tt)
-high (fin s m e) (fin t n d) = swapped _ _ (fin s m e) (fin t n d) (turned (fin t n d) (fin s m e) tt tt)
-
-pub min_same : (a b : Float) → cond (le a b || ne b b) a b ≡ min_of a b
-min_same a b = rw (ne_self b) (low a b)
-
-pub max_same : (a b : Float) → cond (le b a || ne b b) a b ≡ max_of a b
-max_same a b = rw (ne_self b) (high a b)
+max_same nan nan = refl
+max_same nan (inf t) = refl
+max_same nan (fin t n d) = refl
+max_same (inf s) nan = refl
+max_same (fin s m e) nan = refl
+max_same (inf s) (inf t) = swapped _ _ (inf s) (inf t) (turned (inf t) (inf s) tt tt)
+max_same (inf s) (fin t n d) = swapped _ _ (inf s) (fin t n d) (turned (fin t n d) (inf s) tt tt)
+max_same (fin s m e) (inf t) = swapped _ _ (fin s m e) (inf t) (turned (inf t) (fin s m e) tt tt)
+max_same (fin s m e) (fin t n d) = swapped _ _ (fin s m e) (fin t n d) (turned (fin t n d) (fin s m e) tt tt)
 
 -- ---- `x < 0.0` tells the sign of an x that is not 0
 pub not_minus : (m : ℕ) (e : ℤ) → lt (fin false m e) zero_f ≡ true → ⊥

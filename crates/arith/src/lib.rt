@@ -1,5 +1,5 @@
 #![tactic(auto)]
-// The functions of f64 that Rattle has no primitive for, for every float.
+// Functions of f64, each with its answer fixed bit for bit for every float.
 ghost use Rattle.std.specs.Prelude.{◌≡◌, false};
 ghost use Rattle.std.specs.Float.Ieee.Scale.{finite};
 ghost use Rattle.std.specs.Float.Ieee.{to_unsigned};
@@ -44,7 +44,7 @@ pub fn abs(x: f64) -> f64
 pub fn min(a: f64, b: f64) -> f64
     ensures { result ≡ min_of a b }
 {
-    if (a <= b) | (b != b) { a } else { b }
+    if (a <= b) | b.is_nan() { a } else { b }
 }
 
 // f64::max, with the same choice at equal operands and at a NaN, and for the same reason not the library's.
@@ -52,7 +52,7 @@ pub fn min(a: f64, b: f64) -> f64
 pub fn max(a: f64, b: f64) -> f64
     ensures { result ≡ max_of a b }
 {
-    if (b <= a) | (b != b) { a } else { b }
+    if (b <= a) | b.is_nan() { a } else { b }
 }
 
 // f64::clamp, without its panic: only what is strictly below lower or above upper changes, so a

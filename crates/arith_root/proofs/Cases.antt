@@ -1,20 +1,21 @@
 -- What the tests at the head of `root` find, and what they leave: a positive finite float, whose pattern is above 0 and below the
 -- infinity's. Assumes nothing.
-use Rattle.std.proofs.Common.{◌≡◌, ℕ, zero, suc, ◌+◌, ◌-◌, ◌*◌, ◌/◌, ◌^◌, ◌<◌, ◌≤◌, true, false, ◌&&◌, ◌||◌, T, eqb, ltb, ℤ, sym, refl, ap, ◌∙◌, subst, inl, inr, true≢false, zero-lt-suc, div-lt_iff_lt-mul, eq-zero-or-pos, mul-lt-mul_of_pos_right, mul-pos, mul_right_comm, arith, eqb→eq, ltb→lt, lt→ltb, pow_pos}
+use Rattle.std.proofs.Common.{◌≡◌, ℕ, zero, suc, ◌+◌, ◌-◌, ◌*◌, ◌/◌, ◌^◌, ◌<◌, ◌≤◌, true, false, ◌&&◌, ◌||◌, T, eqb, ltb, ℤ, sym, refl, ◌∙◌, subst, inl, inr, true≢false, zero-lt-suc, div-lt_iff_lt-mul, eq-zero-or-pos, mul-lt-mul_of_pos_right, mul-pos, mul_right_comm, arith, eqb→eq, ltb→lt, lt→ltb, pow_pos}
 use mathlib.Core.Bool.{beq}
-use lib.Ieee.{Float, nan, inf, fin, binary64, up, down, of_bits, to_bits, fits, ne, eq, lt, size}
+use lib.Ieee.{Float, nan, inf, fin, binary64, up, down, of_bits, to_bits, fits, is_nan, eq, lt, size}
 use lib.Ieee.Bits.{is_true, of_bits-to_bits}
 use lib.Ieee.Fits.{up_pos, down_pos, and_l, and_i, eq→eqb, kept-lt}
 use lib.Ieee.Digits.{size-le}
-use lib.Ieee.Compare.{differs_from_itself}
 use lib.Ieee.Positive.{positive}
 use Rattle.arith_order.proofs.Middle.{parts}
 use Rattle.arith_order.proofs.Signed.{zero_f}
 use Rattle.arith_root.specs.Root.{root_of}
 
-pub nan_root : (x : Float) → ne x x ≡ true → x ≡ root_of x
-unfolding root_of
-nan_root x h = let e = differs_from_itself x (subst T (sym h) tt) in e ∙ ap root_of (sym e)
+pub nan_root : (x : Float) → is_nan x ≡ true → x ≡ root_of x
+unfolding root_of is_nan
+nan_root nan h = refl
+nan_root (inf s) h = absurd (true≢false (sym h))
+nan_root (fin s m e) h = absurd (true≢false (sym h))
 
 pub zero_root : (x : Float) → eq x zero_f ≡ true → x ≡ root_of x
 unfolding root_of eq
@@ -52,8 +53,8 @@ inf_root (inf false) h = refl
 inf_root (fin s m e) h = absurd (true≢false (sym h))
 
 -- ---- what is left
-pub left : (x : Float) → ne x x ≡ false → eq x zero_f ≡ false → lt x zero_f ≡ false → eq x (inf false) ≡ false → T (positive x)
-unfolding ne eq lt
+pub left : (x : Float) → is_nan x ≡ false → eq x zero_f ≡ false → lt x zero_f ≡ false → eq x (inf false) ≡ false → T (positive x)
+unfolding is_nan eq lt
 left nan a b c d = absurd (true≢false a)
 left (inf true) a b c d = absurd (true≢false c)
 left (inf false) a b c d = absurd (true≢false d)

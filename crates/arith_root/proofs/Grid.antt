@@ -151,9 +151,6 @@ below_square : (b N q : ℕ) → N + suc b ≤ suc b * suc b → q * q < N + q �
 below_square b N q h k l = omega (arith, simp suc-mul at (mul-le-mul_right q l), simp suc-mul at h, mul-le-mul_left b l)
 
 module _ (M z : ℕ) (lo : 2 ^ 52 ≤ M) (hi : M < 2 ^ 53) where
-  pub doubled : (0 < M * (2 - z % 2)) × (M * (2 - z % 2) < 2 ^ 54)
-  doubled = let h = under_range M z lo hi in (omega arith, omega arith)
-
   -- the root's digits: 53 of them
   pub q_range : (2 ^ 52 ≤ near_root (under M z)) × (near_root (under M z) < 2 ^ 53)
   q_range = let h = under_range M z lo hi in let g = nearest (under M z) (omega arith) (omega arith) in

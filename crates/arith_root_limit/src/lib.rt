@@ -16,7 +16,7 @@ const A_LITTLE_LESS: f64 = 0.999999;
 
 // A limit for roots, for many comparisons with it. What is below the low cut has a root within the limit, and what is above the high one
 // has a root above it.
-// A cut that does not serve is a NaN, with which no comparison holds: with an Option, 2,000 tests take 28,267 instructions, not 22,803.
+// A cut that does not serve is a NaN: no comparison holds with it, so that none has to ask first whether there is one, as with an Option.
 #[derive(Clone, Copy)]
 pub struct Limit {
     at: f64,
@@ -62,15 +62,15 @@ impl Limit {
         arith_root::root(s) > self.at
     }
 
-    // Whether the root of s is at most the limit. The root is taken only where s lies between the cuts, or is below zero.
+    // Whether the root of s is at most the limit. The root is taken only where s lies between the cuts; below zero there is none.
     pub fn is_root_within(self, s: f64) -> bool
         ensures { result ≡ le (root_of s) self }
     {
         if self.high < s {
             return false;
         }
-        if 0.0 <= s && s < self.low {
-            return true;
+        if s < self.low {
+            return 0.0 <= s;
         }
         arith_root::root(s) <= self.at
     }

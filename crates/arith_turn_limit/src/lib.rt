@@ -1,10 +1,13 @@
 #![tactic(auto)]
 // An angle compared with a limit by its cosine, mostly without the arc cosine: no angle is above twice the tangent of its half, and
 // where it is small it is not far below it either.
-ghost use Rattle.std.specs.Prelude.{◌≡◌};
+ghost use Rattle.std.specs.Prelude.{◌≡◌, true, false, Float};
 ghost use Rattle.std.specs.Float.Ieee.{le};
+ghost use Rattle.std.proofs.Common.{sym};
 ghost use Rattle.arith_trig.specs.Trig.{acos_of};
-ghost use Rattle.arith_turn_limit.specs.Own.Limit.{turn_cut, Serves, least_turn, fine_turn, over_cut, is_over, is_double_over};
+ghost use Rattle.arith_turn_limit.specs.Own.Limit.{turn_cut, Serves, turn_by, least_turn, fine_turn, over_cut, is_over, is_double_over};
+
+use std::marker::Model;
 
 // The cut for a limit, for many comparisons with one limit: the square of the tangent that half the limit is taken for.
 pub fn turn_cut(limit: f64) -> f64
@@ -59,21 +62,41 @@ const LEAST_SERIES: f64 = 0.9995;
 
 const FINE_SERIES: f64 = 0.9999;
 
+// The least turn at a tangent y: three halvings that divide by at most these, and a series of what is left that is at least this.
+fn turn_by(y: f64, first: f64, second: f64, third: f64, series: f64) -> f64
+    ensures { result ≡ turn_by y first second third series }
+{
+    16.0 * (y / first / second / third * series)
+}
+
 // What no angle is below whose half has a tangent from y to a quarter.
 fn least_turn(y: f64) -> f64
     ensures { result ≡ least_turn y }
 {
-    16.0 * (y / FIRST_DIVISOR / SECOND_DIVISOR / THIRD_DIVISOR * LEAST_SERIES)
+    turn_by(
+        y,
+        FIRST_DIVISOR,
+        SECOND_DIVISOR,
+        THIRD_DIVISOR,
+        LEAST_SERIES,
+    )
 }
 
 // And from y to an eighth.
 fn fine_turn(y: f64) -> f64
     ensures { result ≡ fine_turn y }
 {
-    16.0 * (y / SECOND_DIVISOR / THIRD_DIVISOR / FOURTH_DIVISOR * FINE_SERIES)
+    turn_by(
+        y,
+        SECOND_DIVISOR,
+        THIRD_DIVISOR,
+        FOURTH_DIVISOR,
+        FINE_SERIES,
+    )
 }
 
 // The cut above which an angle is above the limit: the square of a tangent so large that the turn at it is above the limit.
+#[tactic(auto, unfolding(crate::specs::Own::Limit::over_cut))]
 pub fn over_cut(limit: f64) -> f64
     ensures { result ≡ over_cut limit }
 {
@@ -94,6 +117,55 @@ pub fn is_turn_over(a: f64, cut: f64) -> bool
     ensures { result ≡ is_over a cut }
 {
     cut < (1.0 - a) / (1.0 + a)
+}
+
+// A limit for angles with its cuts, for many comparisons with it. A cut that does not serve is a NaN and no None, for the reason that
+// stands at arith_root_limit's Limit.
+#[derive(Clone, Copy)]
+pub struct TurnLimit {
+    at: f64,
+    within: f64,
+    over: f64,
+}
+
+// A clause sees the limit alone.
+impl Model for TurnLimit {
+    ghost Value = { Float };
+
+    ghost view = { λ l. l.at };
+
+    ghost invariant = { λ l. (l.within ≡ turn_cut l.at) × (l.over ≡ over_cut l.at) };
+
+    ghost inverse = { λ at. record { at = at; within = turn_cut at; over = over_cut at } };
+
+    ghost inverse_ok = { λ a h. λ i. record { at = a.at; within = sym h.0 i; over = sym h.1 i } };
+}
+
+impl TurnLimit {
+    pub fn new(at: f64) -> TurnLimit
+        ensures { result ≡ at }
+    {
+        TurnLimit {
+            at,
+            within: turn_cut(at),
+            over: over_cut(at),
+        }
+    }
+
+    // Whether the angle whose cosine is a is at most the limit.
+    pub fn is_within(self, a: f64) -> bool
+        ensures { result ≡ le (acos_of a) self }
+    {
+        is_turn_within(a, self.at, self.within)
+    }
+
+    // Whether the angle whose cosine is a is surely above the limit, with no arc cosine taken.
+    pub fn is_over(self, a: f64) -> bool
+        ensures exact { result ≡ is_over a (over_cut self) }
+        ensures above { result ≡ true → le (acos_of a) self ≡ false }
+    {
+        is_turn_over(a, self.over)
+    }
 }
 
 // A little above a quarter: twice the least turn at a tangent y is 3.9174 y, and 1 / 3.9174 is 0.2553.

@@ -8,6 +8,8 @@ ghost use Rattle.brep.specs.Rows.{given};
 ghost use Rattle.brep.specs.Tree.{tree};
 ghost use Rattle.curve.specs.Eval.{point_at};
 
+use brep::LentTables;
+
 // A point of a row's curve.
 #[unsafe(no_mangle)]
 pub extern "C" fn cs_point_at(
@@ -24,7 +26,14 @@ pub extern "C" fn cs_point_at(
 )
     ensures { (x.new ≡ (point_at (tree (given points curves reals parts ranges) row) t).x) × (y.new ≡ (point_at (tree (given points curves reals parts ranges) row) t).y) × (z.new ≡ (point_at (tree (given points curves reals parts ranges) row) t).z) }
 {
-    let p = curve::point_at(points, curves, reals, parts, ranges, row, t);
+    let tables = LentTables {
+        points,
+        curves,
+        reals,
+        parts,
+        ranges,
+    };
+    let p = curve::point_at(&tables, row, t);
     *x = p.x;
     *y = p.y;
     *z = p.z;

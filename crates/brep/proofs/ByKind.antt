@@ -1,19 +1,23 @@
 -- A row by its kind's number, for callers that read a row's numbers one by one. Assumes nothing.
 use mathlib.Core.Path.{◌≡◌, refl, sym, ◌∙◌, subst}
-use mathlib.Core.Bool.{Bool, true, false, cond}
 use mathlib.Core.List.{List, []}
 use Prim.Native.Nat.{ℕ, ◌+◌, ◌*◌}
 use lib.ListN.{get_or}
-use lib.Dec.{eqb}
 use lib.Ieee.{Float, nan}
-use borrow.Author.Tests.{eqb-true, ne_eqb}
+use borrow.Author.Tests.{ne_eqb}
 use Rattle.math.specs.declared.Vec3.{Vec3}
 use Rattle.math.specs.Math.{interval}
 use Rattle.brep.specs.declared.Curve.{Curve}
 use Rattle.brep.specs.declared.Curve.TheVariants.{Line, Circle, Ellipse, Parabola, Polyline, Trimmed, Composite, Hyperbola}
+use Rattle.std.specs.Prelude.{Option, Some, None}
+use Rattle.brep.specs.declared.Kind.{Kind}
+use Rattle.brep.specs.declared.Kind.TheVariants as kinds
+use Rattle.brep.specs.Kind.{number_of, kind_numbered, kind_at}
 use Rattle.brep.specs.Rows.{Tables, point_of, frame_of, kind_of, curve_of}
 use Rattle.brep.specs.Tree.{Analytic, CurveTree, analytic, line, circle, ellipse, parabola, hyperbola, polyline, trimmed, composite, run, segments, row_in, grown, below, tree}
 use Rattle.brep.proofs.Laws.{at_row}
+pub use Rattle.brep.proofs.Numbered.{Unknown}
+use Rattle.brep.proofs.Numbered.{numbered}
 
 -- a row's five numbers
 abbrev pub row_kind : Tables → ℕ → ℕ
@@ -31,11 +35,6 @@ row_p T row = get_or T.reals (row * 2) nan
 abbrev pub row_q : Tables → ℕ → Float
 row_q T row = get_or T.reals (row * 2 + 1) nan
 
--- none of the eight numbers, as a match's last arm has it
-abbrev pub Unknown : ℕ → Type 0
-Unknown k =
-    (((((((Unit {0} × (k ≡ 1 → ⊥)) × (k ≡ 2 → ⊥)) × (k ≡ 3 → ⊥)) × (k ≡ 4 → ⊥)) × (k ≡ 5 → ⊥)) × (k ≡ 6 → ⊥)) × (k ≡ 7 → ⊥)) × (k ≡ 8 → ⊥)
-
 -- none of them, or a trim's
 abbrev pub UnknownOrTrim : ℕ → Type 0
 UnknownOrTrim k = ((((((Unit {0} × (k ≡ 1 → ⊥)) × (k ≡ 2 → ⊥)) × (k ≡ 3 → ⊥)) × (k ≡ 4 → ⊥)) × (k ≡ 5 → ⊥)) × (k ≡ 7 → ⊥)) × (k ≡ 8 → ⊥)
@@ -47,40 +46,40 @@ not_trim_unknown n m = (((n.0.0, m), n.0.1), n.1)
 -- THE LAW OF KINDS: what a row is, by its kind's number
 module _ (T : Tables) (row : ℕ) where
   pub row_line : row_kind T row ≡ 1 → Line (point_of T.points (row_first T row)) (point_of T.points (row_first T row + 1)) ≡ row_in T row
-  unfolding curve_of kind_of
+  unfolding curve_of kind_of kind_numbered
   row_line k = simp k
 
   pub row_circle : row_kind T row ≡ 2 → Circle (frame_of T.points (row_first T row)) (row_p T row) ≡ row_in T row
-  unfolding curve_of kind_of
+  unfolding curve_of kind_of kind_numbered
   row_circle k = simp k
 
   pub row_ellipse : row_kind T row ≡ 3 → Ellipse (frame_of T.points (row_first T row)) (row_p T row) (row_q T row) ≡ row_in T row
-  unfolding curve_of kind_of
+  unfolding curve_of kind_of kind_numbered
   row_ellipse k = simp k
 
   pub row_parabola : row_kind T row ≡ 4 → Parabola (frame_of T.points (row_first T row)) (row_p T row) ≡ row_in T row
-  unfolding curve_of kind_of
+  unfolding curve_of kind_of kind_numbered
   row_parabola k = simp k
 
   pub row_polyline : row_kind T row ≡ 5 → Polyline (row_first T row) (row_count T row) ≡ row_in T row
-  unfolding curve_of kind_of
+  unfolding curve_of kind_of kind_numbered
   row_polyline k = simp k
 
   pub row_trim : row_kind T row ≡ 6 → Trimmed (row_first T row) (interval (row_p T row) (row_q T row)) ≡ row_in T row
-  unfolding curve_of kind_of
+  unfolding curve_of kind_of kind_numbered
   row_trim k = simp k
 
   pub row_composite : row_kind T row ≡ 7 → Composite (row_first T row) (row_count T row) ≡ row_in T row
-  unfolding curve_of kind_of
+  unfolding curve_of kind_of kind_numbered
   row_composite k = simp k
 
   pub row_hyperbola : row_kind T row ≡ 8 → Hyperbola (frame_of T.points (row_first T row)) (row_p T row) (row_q T row) ≡ row_in T row
-  unfolding curve_of kind_of
+  unfolding curve_of kind_of kind_numbered
   row_hyperbola k = simp k
 
   -- any other number
   pub row_unknown : Unknown (row_kind T row) → Polyline (row_first T row) 0 ≡ row_in T row
-  unfolding curve_of kind_of
+  unfolding curve_of kind_of kind_numbered
   row_unknown n =
       let k = row_kind T row in
       simp (ne_eqb k 1 n.0.0.0.0.0.0.0.1, ne_eqb k 2 n.0.0.0.0.0.0.1, ne_eqb k 3 n.0.0.0.0.0.1, ne_eqb k 4 n.0.0.0.0.1, ne_eqb k 5 n.0.0.0.1, ne_eqb k 6 n.0.0.1, ne_eqb k 7 n.0.1, ne_eqb k 8 n.1)
@@ -97,43 +96,55 @@ kind_number (Composite first count) = 7
 kind_number (Hyperbola frame major minor) = 8
 
 module _ (T : Tables) (row : ℕ) where
-  -- one test of a row's number
-  test : (Q : Curve → Type 0) (k : ℕ) {x y : Curve} → (row_kind T row ≡ k → Q x) → Q y → Q (cond (eqb (row_kind T row) k) x y)
-  test Q k {x} {y} h l = go (eqb (row_kind T row) k) refl
+  -- the curve of each kind
+  abbrev pub curve_by : Option Kind → Curve
+  curve_by kind = kind_of T.points kind (row_first T row) (row_count T row) (row_p T row) (row_q T row)
+
+  -- what is so of a row's curve by each kind that it may have, and by none, is so of it
+  pub by_kind : (P : Curve → Type 0) → ((kind : Kind) → row_kind T row ≡ number_of kind → P (curve_by (Some kind))) → P (curve_by None) → P (row_in T row)
+  unfolding curve_of
+  by_kind P each none = go (kind_at T.curves row) refl
     where
-      go : (b : Bool) → eqb (row_kind T row) k ≡ b → Q (cond b x y)
-      go true e = h (eqb-true (row_kind T row) k e)
-      go false e = l
+      go : (kind : Option Kind) → kind ≡ kind_at T.curves row → P (curve_by kind)
+      go (Some kind) e = each kind (numbered e)
+      go None e = none
 
   -- the number of a row that is read as any kind but a polyline, which stands for unknown numbers too
   pub number : {c : Curve} → row_in T row ≡ c → (kind_number c ≡ 5 → ⊥) → row_kind T row ≡ kind_number c
-  unfolding curve_of kind_of
+  unfolding kind_of
   number e =
       let Q : Curve → Type 0 = λ c. (kind_number c ≡ 5 → ⊥) → row_kind T row ≡ kind_number c in
       subst Q e
-      (test Q 1 (λ k h. k)
-      (test Q 2 (λ k h. k)
-      (test Q 3 (λ k h. k)
-      (test Q 4 (λ k h. k)
-      (test Q 5 (λ k h. k)
-      (test Q 6 (λ k h. k)
-      (test Q 7 (λ k h. k)
-      (test Q 8 (λ k h. k) (λ h. absurd (h refl))))))))))
+      (by_kind Q
+      (elim [
+        | kinds.Line ↦ λ k h. k
+        | kinds.Circle ↦ λ k h. k
+        | kinds.Ellipse ↦ λ k h. k
+        | kinds.Parabola ↦ λ k h. k
+        | kinds.Polyline ↦ λ k h. k
+        | kinds.Trimmed ↦ λ k h. k
+        | kinds.Composite ↦ λ k h. k
+        | kinds.Hyperbola ↦ λ k h. k
+      ])
+      (λ h. absurd (h refl)))
 
   -- a row that is no trim and no composite: what is so of every analytic curve and of every polyline is so of it, whatever f gives
   pub row_leaf : (f : ℕ → CurveTree) (P : CurveTree → Type 0) → ((c : Analytic) → P (analytic c)) → ((ps : List Vec3) → P (polyline ps))
       → (row_kind T row ≡ 6 → ⊥) → (row_kind T row ≡ 7 → ⊥) → P (grown T f (row_in T row))
-  unfolding curve_of kind_of grown
+  unfolding kind_of grown
   row_leaf f P a p m n =
-      let Q : Curve → Type 0 = λ c. P (grown T f c) in
-      test Q 1 (λ k. a _)
-      (test Q 2 (λ k. a _)
-      (test Q 3 (λ k. a _)
-      (test Q 4 (λ k. a _)
-      (test Q 5 (λ k. p _)
-      (test Q 6 (λ k. absurd (m k))
-      (test Q 7 (λ k. absurd (n k))
-      (test Q 8 (λ k. a _) (p _))))))))
+      by_kind (λ c. P (grown T f c))
+      (elim [
+        | kinds.Line ↦ λ k. a _
+        | kinds.Circle ↦ λ k. a _
+        | kinds.Ellipse ↦ λ k. a _
+        | kinds.Parabola ↦ λ k. a _
+        | kinds.Polyline ↦ λ k. p _
+        | kinds.Trimmed ↦ λ k. absurd (m k)
+        | kinds.Composite ↦ λ k. absurd (n k)
+        | kinds.Hyperbola ↦ λ k. a _
+      ])
+      (p _)
 
 -- how an evaluator F uses it: at a row whose numbers are kind, first, count, p and q
 module _ {A : Type 0} (F : CurveTree → A) (T : Tables) (row : ℕ) {kind : ℕ} (e : kind ≡ row_kind T row) where

@@ -9,6 +9,7 @@ use lib.Ieee.{Float, nan, fin}
 use Rattle.math.specs.declared.Vec3.{Vec3}
 use Rattle.math.specs.declared.Frame.{Frame}
 use Rattle.math.specs.Math.{vec, interval}
+use Rattle.brep.specs.Kind.{kind_numbered}
 use Rattle.brep.specs.Rows.{Tables, tables, point_of, frame_of, segment_of, kind_of, curve_of}
 use Rattle.brep.specs.Tree.{CurveTree, analytic, line, circle, ellipse, parabola, hyperbola, polyline, trimmed, composite, none, segment, run, segments, grown, below, tree}
 
@@ -94,5 +95,5 @@ abbrev read : ℕ → CurveTree
 read = tree drawing
 
 reading : read 0 ∷ read 1 ∷ read 2 ∷ read 3 ∷ read 4 ∷ read 5 ∷ read 6 ∷ read 7 ∷ read 8 ∷ read 9 ∷ read 10 ∷ read 11 ∷ read 12 ∷ [] ≡ trees
-unfolding drawing trees tree below grown segments run curve_of kind_of frame_of point_of segment_of
+unfolding drawing trees tree below grown segments run curve_of kind_of kind_numbered frame_of point_of segment_of
 reading = refl

@@ -1,14 +1,18 @@
 -- The tables, and what a row of each says. What lies past a table's end is NaN or 0. Definitions only.
-use Rattle.std.specs.Prelude.{cond, not, List, ℕ, ◌+◌, ◌*◌, get_or, eqb, Float}
+use Rattle.std.specs.Prelude.{not, List, ℕ, ◌+◌, ◌*◌, get_or, eqb, Float, Option, Some, None}
 use Rattle.std.specs.Borrow.{Bor}
 use denote.Triple.Both.{Both}
 use Rattle.std.specs.Float.{nan}
 use Rattle.math.specs.declared.Vec3.{Vec3}
 use Rattle.math.specs.declared.Frame.{Frame}
 use Rattle.math.specs.Math.{vec, interval}
+use Rattle.brep.specs.declared.LentTables.{LentTables}
+use Rattle.brep.specs.declared.Kind.{Kind}
+use Rattle.brep.specs.declared.Kind.TheVariants as kinds
 use Rattle.brep.specs.declared.Segment.{Segment}
 use Rattle.brep.specs.declared.Curve.{Curve}
 use Rattle.brep.specs.declared.Curve.TheVariants.{Line, Circle, Ellipse, Parabola, Polyline, Trimmed, Composite, Hyperbola}
+use Rattle.brep.specs.Kind.{kind_at}
 
 -- the tables of a drawing: points (x y z), curve rows (kind first count, and p q), segments (curve sense, and lo hi)
 pub record Tables : Type 0 where
@@ -23,13 +27,14 @@ abbrev pub tables : List Float → List ℕ → List Float → List ℕ → List
 tables points curves reals parts ranges =
     record { points = points; curves = curves; reals = reals; parts = parts; ranges = ranges }
 
--- the tables as they are lent to a function
-abbrev pub lent : Bor (List Float) → Bor (List ℕ) → Bor (List Float) → Bor (List ℕ) → Bor (List Float) → Tables
-lent points curves reals parts ranges = tables points.now curves.now reals.now parts.now ranges.now
+-- the tables that lent slices hold
+abbrev pub lent : LentTables → Tables
+lent slices = tables slices.points.now slices.curves.now slices.reals.now slices.parts.now slices.ranges.now
 
--- the tables that a function was given, as they were at its entry
+-- the tables of five slices that a function was given, as they were at its entry
 abbrev pub given : {A B C D E : Type 0} → Both (Bor (List Float)) A → Both (Bor (List ℕ)) B → Both (Bor (List Float)) C → Both (Bor (List ℕ)) D → Both (Bor (List Float)) E → Tables
-given points curves reals parts ranges = lent points.entry curves.entry reals.entry parts.entry ranges.entry
+given points curves reals parts ranges =
+    tables points.entry.now curves.entry.now reals.entry.now parts.entry.now ranges.entry.now
 
 -- point i: solid.vertex(i)
 unfoldable pub point_of : List Float → ℕ → Vec3
@@ -60,25 +65,20 @@ most_rows = 4096
 abbrev pub most_segments : ℕ
 most_segments = 4096
 
--- the kinds are 1 to 8
-abbrev pub last_kind : ℕ
-last_kind = 8
-
--- a row's numbers as one of the eight kinds; an unknown kind is the empty polyline
-unfoldable pub kind_of : List Float → ℕ → ℕ → ℕ → Float → Float → Curve
-kind_of points kind first count p q =
-    cond (eqb kind 1) (Line (point_of points first) (point_of points (first + 1)))
-    (cond (eqb kind 2) (Circle (frame_of points first) p)
-    (cond (eqb kind 3) (Ellipse (frame_of points first) p q)
-    (cond (eqb kind 4) (Parabola (frame_of points first) p)
-    (cond (eqb kind 5) (Polyline first count)
-    (cond (eqb kind 6) (Trimmed first (interval p q))
-    (cond (eqb kind 7) (Composite first count)
-    (cond (eqb kind 8) (Hyperbola (frame_of points first) p q)
-    (Polyline first 0))))))))
+-- a row's numbers as a curve of its kind; of an unknown kind, the empty polyline
+unfoldable pub kind_of : List Float → Option Kind → ℕ → ℕ → Float → Float → Curve
+kind_of points (Some kinds.Line) first count p q = Line (point_of points first) (point_of points (first + 1))
+kind_of points (Some kinds.Circle) first count p q = Circle (frame_of points first) p
+kind_of points (Some kinds.Ellipse) first count p q = Ellipse (frame_of points first) p q
+kind_of points (Some kinds.Parabola) first count p q = Parabola (frame_of points first) p
+kind_of points (Some kinds.Polyline) first count p q = Polyline first count
+kind_of points (Some kinds.Trimmed) first count p q = Trimmed first (interval p q)
+kind_of points (Some kinds.Composite) first count p q = Composite first count
+kind_of points (Some kinds.Hyperbola) first count p q = Hyperbola (frame_of points first) p q
+kind_of points None first count p q = Polyline first 0
 
 -- curve row i
 unfoldable pub curve_of : List Float → List ℕ → List Float → ℕ → Curve
 curve_of points curves reals i =
-    kind_of points (get_or curves (i * 3) 0) (get_or curves (i * 3 + 1) 0) (get_or curves (i * 3 + 2) 0)
+    kind_of points (kind_at curves i) (get_or curves (i * 3 + 1) 0) (get_or curves (i * 3 + 2) 0)
     (get_or reals (i * 2) nan) (get_or reals (i * 2 + 1) nan)

@@ -3,12 +3,10 @@
 // Readers are total: past a table's end a float is NaN and a whole number 0.
 ghost use Rattle.std.specs.Prelude.{◌≡◌, ◌+◌, get_or};
 ghost use Rattle.std.specs.Float.{nan};
+ghost use Rattle.brep.specs.Kind.{kind_numbered, kind_at};
 ghost use Rattle.brep.specs.Rows.{point_of, frame_of, segment_of, kind_of, curve_of};
 
 use math::{Frame, Interval, Vec3};
-
-// The kinds of curve rows are 1 to this.
-pub const LAST_KIND: u32 = 8;
 
 // The largest tables: so many points, curve rows and segments.
 pub const MOST_POINTS: usize = 65536;
@@ -17,9 +15,42 @@ pub const MOST_ROWS: usize = 4096;
 
 pub const MOST_SEGMENTS: usize = 4096;
 
+// The kinds of curves, under the numbers that curve rows have for them.
+#[derive(Clone, Copy, Debug, PartialEq, Eq)]
+pub enum Kind {
+    Line = 1,
+    Circle = 2,
+    Ellipse = 3,
+    Parabola = 4,
+    Polyline = 5,
+    Trimmed = 6,
+    Composite = 7,
+    Hyperbola = 8,
+}
+
+impl Kind {
+    // The kind of a number. Any other number than 1 to 8 is that of none.
+    #[tactic(auto, unfolding(crate::specs::Kind::kind_numbered))]
+    pub fn of(number: u32) -> Option<Kind>
+        ensures { result ≡ kind_numbered number }
+    {
+        match number {
+            1 => Some(Kind::Line),
+            2 => Some(Kind::Circle),
+            3 => Some(Kind::Ellipse),
+            4 => Some(Kind::Parabola),
+            5 => Some(Kind::Polyline),
+            6 => Some(Kind::Trimmed),
+            7 => Some(Kind::Composite),
+            8 => Some(Kind::Hyperbola),
+            _ => None,
+        }
+    }
+}
+
 // A curve row by value. Where the Rust boxes a curve or owns a Vec, there is a row or a run of rows: a trim's base is a
 // curve row, a polyline's points are a run of the points, a composite's segments a run of the segments.
-#[derive(Clone, Copy)]
+#[derive(Clone, Copy, Debug)]
 pub enum Curve {
     Line {
         origin: Vec3,
@@ -57,8 +88,18 @@ pub enum Curve {
     },
 }
 
+// The tables of a drawing, as they are lent: points, curve rows (whole numbers, and floats), segments (whole numbers, and floats).
+#[derive(Clone, Copy, Debug)]
+pub struct LentTables<'a> {
+    pub points: &'a [f64],
+    pub curves: &'a [u32],
+    pub reals: &'a [f64],
+    pub parts: &'a [u32],
+    pub ranges: &'a [f64],
+}
+
 // CompositeSegment: a curve row, the part of it that is run through, and whether that is in its own direction.
-#[derive(Clone, Copy)]
+#[derive(Clone, Copy, Debug)]
 pub struct Segment {
     pub curve: u32,
     pub range: Interval,
@@ -67,7 +108,7 @@ pub struct Segment {
 
 // An edge, with the two points that are its box's least and greatest corners. The sense is the number as it was handed
 // in, so that one that is neither 0 nor 1 can be turned away.
-#[derive(Clone, Copy)]
+#[derive(Clone, Copy, Debug)]
 pub struct Edge {
     pub curve: u32,
     pub start: u32,
@@ -79,21 +120,29 @@ pub struct Edge {
     pub high: u32,
 }
 
+// An entry of a table; past its end, what stands for none.
+fn at_or<T: Copy>(s: &[T], i: usize, none: T) -> T
+    ensures { result ≡ get_or s.now i none }
+{
+    s.get(i).copied().unwrap_or(none)
+}
+
 // A whole number of a table; 0 past its end.
 pub fn int_at(s: &[u32], i: usize) -> u32
     ensures { result ≡ get_or s.now i 0 }
 {
-    if i < s.len() { s[i] } else { 0 }
+    at_or(s, i, 0)
 }
 
 // A float of a table; NaN past its end.
 pub fn float_at(s: &[f64], i: usize) -> f64
     ensures { result ≡ get_or s.now i nan }
 {
-    if i < s.len() { s[i] } else { arith::nan() }
+    at_or(s, i, f64::NAN)
 }
 
 // A point that is not whole: each coordinate by its own test.
+#[tactic(auto, unfolding(crate::specs::Rows::point_of))]
 fn point_past_end(points: &[f64], first: u32, i: u32) -> Vec3
     ensures { result ≡ point_of points.now (first + i) }
 {
@@ -106,6 +155,7 @@ fn point_past_end(points: &[f64], first: u32, i: u32) -> Vec3
 }
 
 // Point number i of the run that starts at first. One test where the point is whole.
+#[tactic(auto, unfolding(crate::specs::Rows::point_of))]
 pub fn point_in(points: &[f64], first: u32, i: u32) -> Vec3
     ensures { result ≡ point_of points.now (first + i) }
 {
@@ -128,6 +178,7 @@ pub fn point(points: &[f64], i: u32) -> Vec3
 }
 
 // The frame whose origin, axis and ref_dir are the points from first on, as they are.
+#[tactic(auto, unfolding(crate::specs::Rows::frame_of))]
 pub fn frame_at(points: &[f64], first: u32) -> Frame
     ensures { result ≡ frame_of points.now first }
 {
@@ -139,6 +190,7 @@ pub fn frame_at(points: &[f64], first: u32) -> Frame
 }
 
 // Segment number i of the run that starts at first.
+#[tactic(auto, unfolding(crate::specs::Rows::segment_of))]
 pub fn segment_at(parts: &[u32], ranges: &[f64], first: u32, i: u32) -> Segment
     ensures { result ≡ segment_of parts.now ranges.now (first + i) }
 {
@@ -154,49 +206,58 @@ pub fn segment_at(parts: &[u32], ranges: &[f64], first: u32, i: u32) -> Segment
     }
 }
 
-// A row's numbers as one of the kinds; an unknown kind is the empty polyline.
-fn kind_of(points: &[f64], kind: u32, first: u32, count: u32, p: f64, q: f64) -> Curve
+// The kind of a curve row; none where its number is no kind's.
+pub fn kind_at(curves: &[u32], row: u32) -> Option<Kind>
+    ensures { result ≡ kind_at curves.now row }
+{
+    Kind::of(int_at(curves, row as usize * 3))
+}
+
+// A row's numbers as a curve of its kind; of an unknown kind, the empty polyline.
+#[tactic(auto, unfolding(crate::specs::Rows::kind_of))]
+fn kind_of(points: &[f64], kind: Option<Kind>, first: u32, count: u32, p: f64, q: f64) -> Curve
     ensures { result ≡ kind_of points.now kind first count p q }
 {
     match kind {
-        1 => Curve::Line {
+        Some(Kind::Line) => Curve::Line {
             origin: point_in(points, first, 0),
             direction: point_in(points, first, 1),
         },
-        2 => Curve::Circle {
+        Some(Kind::Circle) => Curve::Circle {
             frame: frame_at(points, first),
             radius: p,
         },
-        3 => Curve::Ellipse {
+        Some(Kind::Ellipse) => Curve::Ellipse {
             frame: frame_at(points, first),
             semi_major: p,
             semi_minor: q,
         },
-        4 => Curve::Parabola {
+        Some(Kind::Parabola) => Curve::Parabola {
             frame: frame_at(points, first),
             focal_dist: p,
         },
-        5 => Curve::Polyline { first, count },
-        6 => Curve::Trimmed {
+        Some(Kind::Polyline) => Curve::Polyline { first, count },
+        Some(Kind::Trimmed) => Curve::Trimmed {
             base: first,
             range: Interval { lo: p, hi: q },
         },
-        7 => Curve::Composite { first, count },
-        8 => Curve::Hyperbola {
+        Some(Kind::Composite) => Curve::Composite { first, count },
+        Some(Kind::Hyperbola) => Curve::Hyperbola {
             frame: frame_at(points, first),
             semi_major: p,
             semi_minor: q,
         },
-        _ => Curve::Polyline { first, count: 0 },
+        None => Curve::Polyline { first, count: 0 },
     }
 }
 
 // Curve row number row.
+#[tactic(auto, unfolding(crate::specs::Rows::curve_of))]
 pub fn row_at(points: &[f64], curves: &[u32], reals: &[f64], row: u32) -> Curve
     ensures { result ≡ curve_of points.now curves.now reals.now row }
 {
     let at = row as usize * 3;
-    let kind = int_at(curves, at);
+    let kind = kind_at(curves, row);
     let first = int_at(curves, at + 1);
     let count = int_at(curves, at + 2);
     let p = float_at(reals, row as usize * 2);

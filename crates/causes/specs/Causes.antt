@@ -1,13 +1,13 @@
 -- When an edge is turned away: causes 1 to 6 of the scope's table, each a predicate of its own, in order. Definitions only.
-use Rattle.std.specs.Prelude.{Bool, cond, ◌||◌, ℕ, ◌*◌, length, ltb, leb}
+use Rattle.std.specs.Prelude.{Bool, cond, ◌||◌, ℕ, ◌*◌, length, ltb, leb, ⊤, Ok, Err}
 use Rattle.brep.specs.declared.Edge.{Edge}
 use Rattle.brep.specs.Rows.{Tables, most_points, most_rows, most_segments}
 pub use Rattle.causes_nesting.specs.Nest.{unordered, too_deep}
 use Rattle.options.specs.declared.Options.{Options}
 use Rattle.causes_bounds.specs.Bounds.{unbounded_tables, unbounded_edge, unbounded}
 use Rattle.causes_form.specs.Forms.{point_count, curve_count, ill_formed_tables, ill_formed_edge, ill_formed}
-use Rattle.causes.specs.declared.Verdict.{Verdict}
-use Rattle.causes.specs.declared.Verdict.TheVariants.{Accepted, Refused}
+use Rattle.refusal.specs.Answer.{Answer}
+use Rattle.refusal.specs.declared.Refusal.TheVariants.{Oversize, Unbounded, IllFormed, Unordered, TooDeep, Missing}
 
 -- 1: a table above its size: 65,536 points, 4,096 rows, 4,096 segments
 unfoldable pub oversize : Tables → Bool
@@ -29,30 +29,30 @@ unfoldable pub missing : Tables → Edge → Bool
 missing T e = missing_from (point_count T) (curve_count T) e
 
 -- the lowest that applies
-unfoldable pub verdict : Tables → Edge → Options → Verdict
+unfoldable pub verdict : Tables → Edge → Options → Answer ⊤
 verdict T e o =
-    cond (oversize T) (Refused 1)
-    (cond (unbounded T.points T.reals T.ranges e o) (Refused 2)
-    (cond (ill_formed T e o) (Refused 3)
-    (cond (unordered T) (Refused 4)
-    (cond (too_deep T) (Refused 5)
-    (cond (missing T e) (Refused 6)
-    Accepted)))))
+    cond (oversize T) (Err Oversize)
+    (cond (unbounded T.points T.reals T.ranges e o) (Err Unbounded)
+    (cond (ill_formed T e o) (Err IllFormed)
+    (cond (unordered T) (Err Unordered)
+    (cond (too_deep T) (Err TooDeep)
+    (cond (missing T e) (Err Missing)
+    (Ok tt))))))
 
 -- the lowest of those that the tables alone can have: 1 to 5
-unfoldable pub tables_verdict : Tables → Verdict
+unfoldable pub tables_verdict : Tables → Answer ⊤
 tables_verdict T =
-    cond (oversize T) (Refused 1)
-    (cond (unbounded_tables T.points T.reals T.ranges) (Refused 2)
-    (cond (ill_formed_tables T) (Refused 3)
-    (cond (unordered T) (Refused 4)
-    (cond (too_deep T) (Refused 5)
-    Accepted))))
+    cond (oversize T) (Err Oversize)
+    (cond (unbounded_tables T.points T.reals T.ranges) (Err Unbounded)
+    (cond (ill_formed_tables T) (Err IllFormed)
+    (cond (unordered T) (Err Unordered)
+    (cond (too_deep T) (Err TooDeep)
+    (Ok tt)))))
 
 -- the lowest of those of the edge and the options: 2, 3 and 6
-unfoldable pub edge_verdict : Tables → Edge → Options → Verdict
+unfoldable pub edge_verdict : Tables → Edge → Options → Answer ⊤
 edge_verdict T e o =
-    cond (unbounded_edge e o) (Refused 2)
-    (cond (ill_formed_edge e o) (Refused 3)
-    (cond (missing T e) (Refused 6)
-    Accepted))
+    cond (unbounded_edge e o) (Err Unbounded)
+    (cond (ill_formed_edge e o) (Err IllFormed)
+    (cond (missing T e) (Err Missing)
+    (Ok tt)))

@@ -5,7 +5,7 @@ use Rattle.std.specs.Float.Ieee.Scale.{finite}
 use Rattle.arith.specs.Constants.{billion}
 use Rattle.brep.specs.declared.Edge.{Edge}
 use Rattle.options.specs.declared.Options.{Options}
-use Rattle.causes_bounds.specs.Some.{some}
+use Rattle.std.specs.List.{list_any}
 
 -- 1e9
 abbrev pub largest : Float
@@ -33,7 +33,7 @@ options_beyond o = beyond o.deflection || (beyond o.angle.0 || finite_beyond o.s
 
 -- any float of the points, the rows' p and q, or the segments' lo and hi
 abbrev pub unbounded_tables : List Float → List Float → List Float → Bool
-unbounded_tables points reals ranges = some beyond points || (some beyond reals || some beyond ranges)
+unbounded_tables points reals ranges = list_any beyond points || (list_any beyond reals || list_any beyond ranges)
 
 -- any float of the edge or the options
 abbrev pub unbounded_edge : Edge → Options → Bool

@@ -1,10 +1,13 @@
 -- Cause 3: what does not follow the tables' form. Definitions only.
-use Rattle.std.specs.Prelude.{Bool, false, cond, not, ◌&&◌, ◌||◌, List, ℕ, ◌+◌, ◌*◌, ◌/◌, ◌%◌, length, get_or, eqb, ltb, leb, Float}
+use Rattle.std.specs.Prelude.{Bool, true, false, not, ◌&&◌, ◌||◌, List, ℕ, ◌+◌, ◌*◌, ◌/◌, ◌%◌, length, get_or, eqb, ltb, leb, Float, Option, Some, None}
 use Rattle.std.specs.Float.{nan}
 use Rattle.std.specs.Float.Ieee.{ne}
 use Rattle.arith.specs.Notation.{plus_zero}
 use Rattle.brep.specs.declared.Edge.{Edge}
-use Rattle.brep.specs.Rows.{last_kind, Tables}
+use Rattle.brep.specs.declared.Kind.{Kind}
+use Rattle.brep.specs.declared.Kind.TheVariants.{Line, Ellipse, Polyline, Trimmed, Composite, Hyperbola}
+use Rattle.brep.specs.Kind.{kind_at}
+use Rattle.brep.specs.Rows.{Tables}
 use Rattle.options.specs.declared.Options.{Options}
 use Rattle.causes_bounds.specs.Some.{some_below}
 
@@ -35,55 +38,56 @@ uneven T = not (eqb (length T.reals / 2) (curve_count T)) || not (eqb (length T.
 abbrev pub ragged : Tables → Bool
 ragged T = broken T || uneven T
 
--- none of the eight kinds
-unfoldable pub unknown_kind : ℕ → Bool
-unknown_kind kind = ltb kind 1 || ltb last_kind kind
-
 -- a line has 2 points, a circle, ellipse, parabola or hyperbola 3, a trim 1 base
-unfoldable pub wrong_count : ℕ → ℕ → Bool
-wrong_count kind count =
-    cond (eqb kind 1) (not (eqb count 2))
-    (cond (leb kind 4) (not (eqb count 3))
-    (cond (eqb kind 6) (not (eqb count 1))
-    (cond (eqb kind 8) (not (eqb count 3)) false)))
+unfoldable pub wrong_count : Kind → ℕ → Bool
+wrong_count Line count = not (eqb count 2)
+wrong_count Trimmed count = not (eqb count 1)
+wrong_count Polyline count = false
+wrong_count Composite count = false
+wrong_count _ count = not (eqb count 3)
 
 -- lines, polylines and composites have no p
-unfoldable pub spare_p : ℕ → Bool
-spare_p kind = eqb kind 1 || (eqb kind 5 || eqb kind 7)
+unfoldable pub spare_p : Kind → Bool
+spare_p Line = true
+spare_p Polyline = true
+spare_p Composite = true
+spare_p _ = false
 
 -- all but ellipses, trims and hyperbolas have no q
-unfoldable pub spare_q : ℕ → Bool
-spare_q kind = not (eqb kind 3 || (eqb kind 6 || eqb kind 8))
+unfoldable pub spare_q : Kind → Bool
+spare_q Ellipse = false
+spare_q Trimmed = false
+spare_q Hyperbola = false
+spare_q _ = true
 
 -- not zero, of either sign
 abbrev pub not_zero : Float → Bool
 not_zero x = ne x plus_zero
 
 -- a p or q that the kind does not use, and that is not zero
-unfoldable pub unused_set : ℕ → Float → Float → Bool
+unfoldable pub unused_set : Kind → Float → Float → Bool
 unused_set kind p q = (spare_p kind && not_zero p) || (spare_q kind && not_zero q)
 
--- how many there are of what a row of this kind refers to: rows for a trim (6), segments for a composite (7), points for any other
-abbrev pub target_count : ℕ → ℕ → ℕ → ℕ → ℕ
-target_count points rows segments kind = cond (eqb kind 6) rows (cond (eqb kind 7) segments points)
+-- how many there are of what a row of this kind refers to: rows for a trim, segments for a composite, points for any other
+abbrev pub targets : Tables → Kind → ℕ
+targets T Trimmed = curve_count T
+targets T Composite = segment_count T
+targets T _ = point_count T
 
--- how many of those the tables have
-unfoldable pub targets : Tables → ℕ → ℕ
-targets T kind = target_count (point_count T) (curve_count T) (segment_count T) kind
+-- a row of this kind with these numbers; a run must end inside its table
+abbrev pub malformed_as : Tables → Kind → ℕ → ℕ → Float → Float → Bool
+malformed_as T kind first count p q =
+    wrong_count kind count || (unused_set kind p q || ltb (targets T kind) (first + count))
 
--- a row of this kind with these numbers, among so many of what it refers to; a run must end inside its table
-abbrev pub malformed_in : ℕ → ℕ → ℕ → ℕ → Float → Float → Bool
-malformed_in n kind first count p q =
-    (unknown_kind kind || wrong_count kind count) || (unused_set kind p q || ltb n (first + count))
-
--- a row of this kind with these numbers, in the tables
-unfoldable pub malformed : Tables → ℕ → ℕ → ℕ → Float → Float → Bool
-malformed T kind first count p q = malformed_in (targets T kind) kind first count p q
+-- the same of a row whose kind may be none of the eight
+unfoldable pub malformed : Tables → Option Kind → ℕ → ℕ → Float → Float → Bool
+malformed T None first count p q = true
+malformed T (Some kind) first count p q = malformed_as T kind first count p q
 
 -- row i of the curves
 unfoldable pub malformed_row : Tables → ℕ → Bool
 malformed_row T i =
-    malformed T (get_or T.curves (i * 3) 0) (get_or T.curves (i * 3 + 1) 0) (get_or T.curves (i * 3 + 2) 0)
+    malformed T (kind_at T.curves i) (get_or T.curves (i * 3 + 1) 0) (get_or T.curves (i * 3 + 2) 0)
     (get_or T.reals (i * 2) nan) (get_or T.reals (i * 2 + 1) nan)
 
 -- segment i: its curve not among so many rows, or its sense neither 0 nor 1

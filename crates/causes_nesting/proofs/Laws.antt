@@ -1,53 +1,27 @@
 -- A row's depth is its nesting where it is in order, and what the rows gone by come to. Assumes nothing.
-use mathlib.Core.Path.{◌≡◌, refl, sym, ap, ◌∙◌}
-use mathlib.Core.Bool.{Bool, true, false, cond, ◌||◌, false≢true}
-use mathlib.Core.List.{List}
-use Prim.Native.Nat.{ℕ, zero, suc, ◌+◌, ◌*◌, ◌<◌, min, max}
-use native.Mathlib.Nat.{not-suc-le-zero, add-zero}
-use native.Mathlib.Numerals.{add-one}
-use native.Mathlib.Omega.{arith}
-use lib.ListN.{length, get_or, set}
-use lib.Seq.{get_or-set_same, get_or-set_other}
-use lib.Dec.{eqb, ltb, leb}
-use lib.Ieee.{Float}
-use borrow.Author.Tests.{eqb-true, eqb-false, ne_eqb, eq-eqb, leb-false, ltb-true, ltb-false}
-use Rattle.brep.specs.declared.Curve.{Curve}
+use Rattle.std.proofs.Common.{◌≡◌, ℕ, zero, suc, ◌+◌, ◌*◌, ◌<◌, ◌≤◌, min, max, Bool, true, false, cond, ◌||◌, refl, sym, ap, ◌∙◌, arith, length, get_or, set, eqb, ltb, leb, Option, Some, None, Ok, Err}
+use Rattle.std.specs.Prelude.{⊤}
+use Rattle.std.proofs.Math.Nat.{not-suc-le-zero, add-zero}
+use Rattle.std.proofs.Math.Numerals.{add-one}
+use Rattle.std.proofs.Math.Seq.{get_or-set_same, get_or-set_other}
+use Rattle.std.proofs.Math.ListN.{length-set}
+use Rattle.std.proofs.lemmas.Bool.{true≢false, eqb-true, eqb-false, ne_eqb, eq-eqb, ltb-true, ltb-false, le-leb, lt-leb}
+use Rattle.std.proofs.lemmas.Bool.Decides.{nat_tests}
+use Rattle.brep.specs.declared.Kind.{Kind}
+use Rattle.brep.specs.declared.Kind.TheVariants.{Line, Circle, Ellipse, Parabola, Polyline, Trimmed, Composite, Hyperbola}
+use Rattle.brep.specs.Kind.{kind_at}
 use Rattle.brep.specs.Rows.{Tables, kind_of, curve_of, segment_of}
-use Rattle.brep.specs.Tree.{CurveTree, segment_in, segments, row_in, grown, below, tree}
+use Rattle.brep.specs.Tree.{CurveTree, segment_in, segments, grown, below, tree}
 use Rattle.brep.proofs.Laws.{lower}
-use Rattle.brep.proofs.ByKind.{row_kind, row_first, row_count, row_p, row_q, row_trim, row_composite}
+use Rattle.brep.proofs.ByKind.{row_first, row_count, curve_by}
+use Rattle.refusal.specs.Answer.{Answer}
+use Rattle.refusal.specs.declared.Refusal.TheVariants.{IllFormed, Unordered, TooDeep}
 use Rattle.causes_bounds.specs.Some.{some_below}
-use Rattle.causes_bounds.proofs.Laws.{or_true, or_false, some_found}
+use Rattle.causes_bounds.proofs.Laws.{some_found}
 use Rattle.causes_form.specs.Forms.{curve_count, malformed_row}
 use Rattle.causes_nesting.specs.Own.RowsCause.{rows_cause}
 use Rattle.causes_nesting.specs.Nest.{high_segment, not_lower, unordered_row, nesting, deepest, deep_row}
-use Rattle.causes_nesting.specs.Own.Depths.{depth_below, deepest_of, one_deeper, row_depth, BlocksKnown, cause_with}
-use Rattle.causes_nesting.proofs.Depths.{blocks_more}
-
--- ---- a row by its kind
--- where both of two curves have P, so has the one that is chosen
-either_way : (P : Curve → Type 0) (b : Bool) (x y : Curve) → P x → P y → P (cond b x y)
-either_way P true x y h k = h
-either_way P false x y h k = k
-
-module _ (T : Tables) (row : ℕ) where
-  -- kinds 6 and 7 apart, a row refers to none and nests nothing
-  abbrev Plain : Curve → Type 0
-  Plain c = (not_lower T row c ≡ false) × (nesting (grown T (below T row) c) ≡ 0)
-
-  kind_other : (points : List Float) (kind first count : ℕ) (p q : Float) → eqb kind 6 ≡ false → eqb kind 7 ≡ false → Plain (kind_of points kind first count p q)
-  unfolding kind_of nesting grown not_lower
-  kind_other points kind first count p q e g =
-      either_way Plain (eqb kind 1) _ _ (refl, refl)
-      (either_way Plain (eqb kind 2) _ _ (refl, refl)
-      (either_way Plain (eqb kind 3) _ _ (refl, refl)
-      (either_way Plain (eqb kind 4) _ _ (refl, refl)
-      (either_way Plain (eqb kind 5) _ _ (refl, refl)
-      (rw (e, g) (either_way Plain (eqb kind 8) _ _ (refl, refl) (refl, refl)))))))
-
-  other_row : eqb (row_kind T row) 6 ≡ false → eqb (row_kind T row) 7 ≡ false → Plain (row_in T row)
-  unfolding curve_of
-  other_row e g = kind_other T.points (row_kind T row) (row_first T row) (row_count T row) (row_p T row) (row_q T row) e g
+use Rattle.causes_nesting.specs.Own.Depths.{Seen, depth_below, deepest_of, one_deeper, depth_as, row_depth, passed, IsStart, cause_with}
 
 -- ---- the deepest of a run, the last segment apart
 deepest_last : (T : Tables) (f : ℕ → CurveTree) (first n : ℕ) → deepest (segments T f first (suc n)) ≡ max (deepest (segments T f first n)) (nesting (f (segment_in T (first + n)).curve))
@@ -66,11 +40,7 @@ marked b n = cond b 10 (min 9 n)
 deeper_marked : (b : Bool) (n : ℕ) → one_deeper (marked b n) ≡ marked b (suc n)
 unfolding one_deeper
 deeper_marked true n = refl
-deeper_marked false n = go (ltb (min 9 n) 9) refl
-  where
-    go : (v : Bool) → ltb (min 9 n) 9 ≡ v → cond v (min 9 n + 1) (min 9 n) ≡ min 9 (suc n)
-    go true e = let l = ltb-true (min 9 n) 9 e in omega arith
-    go false e = let l = ltb-false (min 9 n) 9 e in omega arith
+deeper_marked false n = grind (arith, nat_tests)
 
 larger_marked : (a b : Bool) (m n : ℕ) → max (marked a m) (marked b n) ≡ marked (a || b) (max m n)
 larger_marked true true m n = refl
@@ -78,117 +48,145 @@ larger_marked true false m n = omega arith
 larger_marked false true m n = omega arith
 larger_marked false false m n = omega arith
 
--- the table has the depth of each row below row
-abbrev pub DepthsKnown : Tables → List ℕ → ℕ → Type 0
-DepthsKnown T depths row = (i : ℕ) → i < row → get_or depths i 0 ≡ min 9 (nesting (tree T i))
+-- the rows up to row were passed, each with its depth
+pub record InStep (T : Tables) (seen : Seen) (row : ℕ) : Type 0 where
+  pub same_parts : seen.parts ≡ T.parts
+  pub at_row : seen.row ≡ row
+  pub room : curve_count T ≤ length seen.rows
+  pub depths : (i : ℕ) → i < row → get_or seen.rows i 0 ≡ min 9 (nesting (tree T i))
 
-module _ (T : Tables) (depths : List ℕ) (row : ℕ) (known : DepthsKnown T depths row) where
-  below_marked : (c : ℕ) → depth_below depths row c ≡ marked (leb row c) (nesting (below T row c))
+module _ (T : Tables) (seen : Seen) (row : ℕ) (h : InStep T seen row) where
+  below_marked : (c : ℕ) → depth_below seen c ≡ marked (leb row c) (nesting (below T row c))
   unfolding depth_below
-  below_marked c = go (leb row c) refl
+  below_marked c = rw h.at_row (go (ltb c row) refl)
     where
-      go : (b : Bool) → leb row c ≡ b → cond b 10 (get_or depths c 0) ≡ marked b (nesting (below T row c))
-      go true e = refl
-      go false e = let l = leb-false row c e in known c l ∙ ap (λ t. min 9 (nesting t)) (sym (lower T row c l))
+      go : (b : Bool) → ltb c row ≡ b → cond (ltb c row) (get_or seen.rows c 0) 10 ≡ marked (leb row c) (nesting (below T row c))
+      go true e =
+          let l = ltb-true c row e in
+          let k = lt-leb row c l in
+          rw (e, k) (h.depths c l ∙ ap (λ t. min 9 (nesting t)) (sym (lower T row c l)))
+      go false e = let k = le-leb row c (ltb-false c row e) in rw (e, k)
 
-  run_marked : (first n : ℕ) → deepest_of T.parts depths row first n ≡ marked (some_below n (high_segment T row first)) (deepest (segments T (below T row) first n))
-  unfolding deepest_of some_below high_segment segment_of deepest segments
+  run_marked : (first n : ℕ) → deepest_of seen first n ≡ marked (some_below n (high_segment T row first)) (deepest (segments T (below T row) first n))
+  unfolding deepest_of some_below high_segment segment_of deepest segments depth_below below
   run_marked first zero = refl
   run_marked first (suc n) =
-      let h = run_marked first n in
+      let k = run_marked first n in
       let e = below_marked (get_or T.parts ((first + n) * 2) 0) in
-      rw (h, e, deepest_last T (below T row) first n)
+      rw (h.same_parts, k, e, deepest_last T (below T row) first n)
       (larger_marked (some_below n (high_segment T row first)) (high_segment T row first n) (deepest (segments T (below T row) first n)) (nesting (below T row (segment_in T (first + n)).curve)))
 
+  -- by each kind that a row may have
+  kind_marked : (kind : Option Kind) → depth_as seen kind (row_first T row) (row_count T row) ≡ marked (not_lower T row (curve_by T row kind)) (nesting (grown T (below T row) (curve_by T row kind)))
+  unfolding depth_as not_lower kind_of grown nesting
+  kind_marked (Some Line) = refl
+  kind_marked (Some Circle) = refl
+  kind_marked (Some Ellipse) = refl
+  kind_marked (Some Parabola) = refl
+  kind_marked (Some Polyline) = refl
+  kind_marked (Some Trimmed) =
+      let b = below_marked (row_first T row) in
+      rw b (deeper_marked (leb row (row_first T row)) (nesting (below T row (row_first T row))))
+  kind_marked (Some Composite) =
+      let r = run_marked (row_first T row) (row_count T row) in
+      rw r (deeper_marked (some_below (row_count T row) (high_segment T row (row_first T row))) (deepest (segments T (below T row) (row_first T row) (row_count T row))))
+  kind_marked (Some Hyperbola) = refl
+  kind_marked None = refl
+
   -- THE LAW: 10 where the row is out of order, else its nesting
-  depth_marked : row_depth T.curves T.parts depths row ≡ marked (unordered_row T row) (nesting (tree T row))
-  unfolding row_depth unordered_row not_lower tree grown nesting
-  depth_marked = go (eqb (row_kind T row) 6) (eqb (row_kind T row) 7) refl refl
-    where
-      go : (a b : Bool) → eqb (row_kind T row) 6 ≡ a → eqb (row_kind T row) 7 ≡ b → row_depth T.curves T.parts depths row ≡ marked (unordered_row T row) (nesting (tree T row))
-      go true b e g =
-          let r = row_trim T row (eqb-true (row_kind T row) 6 e) in
-          let h = below_marked (row_first T row) in
-          rw (e, ← r, h) (deeper_marked (leb row (row_first T row)) (nesting (below T row (row_first T row))))
-      go false true e g =
-          let r = row_composite T row (eqb-true (row_kind T row) 7 g) in
-          let h = run_marked (row_first T row) (row_count T row) in
-          rw (e, g, ← r, h) (deeper_marked (some_below (row_count T row) (high_segment T row (row_first T row))) (deepest (segments T (below T row) (row_first T row) (row_count T row))))
-      go false false e g = let p = other_row T row e g in rw (e, g, p.0, p.1)
+  depth_marked : row_depth T.curves seen row ≡ marked (unordered_row T row) (nesting (tree T row))
+  unfolding unordered_row tree curve_of
+  depth_marked = kind_marked (kind_at T.curves row)
 
 -- ---- the rows gone by
--- what a cause of 4, or another, says
-not_four : (a b : Bool) (lowest : ℕ) → lowest ≡ cond a 4 (cond b 5 0) → (lowest ≡ 4 → ⊥) → a ≡ false
-not_four true b lowest e h = absurd (h e)
-not_four false b lowest e h = refl
+-- the cause of rows of which one is out of order, or one too deep
+abbrev pub cause_of : Bool → Bool → Answer ⊤
+cause_of unordered deep = cond unordered (Err Unordered) (cond deep (Err TooDeep) (Ok tt))
 
-is_four_lem : (a b : Bool) (lowest : ℕ) → lowest ≡ 4 → lowest ≡ cond a 4 (cond b 5 0) → a ≡ true
-is_four_lem true b lowest h e = refl
-is_four_lem false true lowest h e = absurd (omega arith)
-is_four_lem false false lowest h e = absurd (omega arith)
+not_unordered : (a b : Bool) → (cause_of a b ≡ Err Unordered → ⊥) → a ≡ false
+not_unordered true b h = absurd (h refl)
+not_unordered false b h = refl
+
+is_unordered : (a b : Bool) → (cause_of a b ≡ Err TooDeep → ⊥) → (cause_of a b ≡ Ok tt → ⊥) → a ≡ true
+is_unordered true b h k = refl
+is_unordered false true h k = absurd (h refl)
+is_unordered false false h k = absurd (k refl)
 
 -- what a row adds, where none before it is out of order
-cause_more : (d u : Bool) (n depth lowest : ℕ) → lowest ≡ cond d 5 0 → depth ≡ marked u n → cause_with lowest depth ≡ cond u 4 (cond (d || ltb 8 n) 5 0)
+cause_more : (d u : Bool) (n : ℕ) → cause_with (cause_of false d) (marked u n) ≡ cause_of u (d || ltb 8 n)
 unfolding cause_with
-cause_more d true n depth lowest h e = rw e
-cause_more d false n depth lowest h e =
-    let k = ne_eqb (min 9 n) 10 (λ w. omega arith) in
-    rw (e, k) (go (ltb 8 n) refl)
+cause_more d true n = refl
+cause_more d false n = go (ltb 8 n) refl d
   where
-    go : (v : Bool) → ltb 8 n ≡ v → cond (eqb (min 9 n) 9) 5 lowest ≡ cond (d || v) 5 0
-    go true q = let l = ltb-true 8 n q in let k = eq-eqb (min 9 n) 9 (omega arith) in rw (k, or_true d)
-    go false q = let l = ltb-false 8 n q in let k = ne_eqb (min 9 n) 9 (λ w. omega arith) in rw (k, or_false d) h
+    go : (v : Bool) → ltb 8 n ≡ v → (d : Bool) → cond (eqb (min 9 n) 10) (Err Unordered) (cond (eqb (min 9 n) 9) (Err TooDeep) (cause_of false d)) ≡ cause_of false (d || v)
+    go true q d = let l = ltb-true 8 n q in let t = ne_eqb (min 9 n) 10 (λ w. omega arith) in let k = eq-eqb (min 9 n) 9 (omega arith) in rw (t, k) (elim d as (λ d. Err TooDeep ≡ cause_of false (d || true)) [ true ↦ refl | false ↦ refl ])
+    go false q d = let l = ltb-false 8 n q in let t = ne_eqb (min 9 n) 10 (λ w. omega arith) in let k = ne_eqb (min 9 n) 9 (λ w. omega arith) in rw (t, k) (elim d as (λ d. cause_of false d ≡ cause_of false (d || false)) [ true ↦ refl | false ↦ refl ])
 
-pub record Gone (T : Tables) (depths blocks larges : List ℕ) (lowest row : ℕ) : Type 0 where
+pub record Gone (T : Tables) (seen : Seen) (lowest : Answer ⊤) (row : ℕ) : Type 0 where
   pub formed : some_below row (malformed_row T) ≡ false
-  pub cause : lowest ≡ cond (some_below row (unordered_row T)) 4 (cond (some_below row (deep_row T)) 5 0)
+  pub cause : lowest ≡ cause_of (some_below row (unordered_row T)) (some_below row (deep_row T))
   -- where no row was out of order
-  pub depths_known : some_below row (unordered_row T) ≡ false → DepthsKnown T depths row
-  pub known : some_below row (unordered_row T) ≡ false → BlocksKnown T.parts depths blocks larges row
+  pub in_step : some_below row (unordered_row T) ≡ false → InStep T seen row
 
-pub gone_none : (T : Tables) (depths blocks larges : List ℕ) → BlocksKnown T.parts depths blocks larges 0 → Gone T depths blocks larges 0 0
+pub gone_none : (T : Tables) (seen : Seen) → IsStart T.parts (curve_count T) seen → Gone T seen (Ok tt) 0
 unfolding some_below
-gone_none T depths blocks larges h = record { formed = refl; cause = refl; depths_known = λ e i l. absurd (not-suc-le-zero l); known = λ e. h }
+gone_none T seen h = record {
+  formed = refl;
+  cause = refl;
+  in_step = λ e. record { same_parts = h.same_parts; at_row = h.none_passed; room = h.room; depths = λ i l. absurd (not-suc-le-zero l) };
+}
 
-module _ (T : Tables) (depths blocks larges : List ℕ) (lowest row : ℕ) (g : Gone T depths blocks larges lowest row) where
-  pub in_order : (lowest ≡ 4 → ⊥) → some_below row (unordered_row T) ≡ false
-  in_order h = not_four (some_below row (unordered_row T)) (some_below row (deep_row T)) lowest g.cause h
+module _ (T : Tables) (seen : Seen) (lowest : Answer ⊤) (row : ℕ) (g : Gone T seen lowest row) where
+  pub in_order : (lowest ≡ Err Unordered → ⊥) → some_below row (unordered_row T) ≡ false
+  in_order h = not_unordered (some_below row (unordered_row T)) (some_below row (deep_row T)) (λ e. h (g.cause ∙ e))
 
-  pub gone_known : (lowest ≡ 4 → ⊥) → BlocksKnown T.parts depths blocks larges row
-  gone_known h = g.known (in_order h)
+  pub gone_in_step : (lowest ≡ Err Unordered → ⊥) → InStep T seen row
+  gone_in_step h = g.in_step (in_order h)
 
   -- a row that is not looked at for its depth
-  pub gone_four : lowest ≡ 4 → malformed_row T row ≡ false → Gone T depths blocks larges lowest (row + 1)
+  pub gone_on : (lowest ≡ Err TooDeep → ⊥) → (lowest ≡ Ok tt → ⊥) → malformed_row T row ≡ false → Gone T seen lowest (row + 1)
   unfolding some_below
-  gone_four e m =
-      let u = is_four_lem (some_below row (unordered_row T)) (some_below row (deep_row T)) lowest e g.cause in
+  gone_on h k m =
+      let u = is_unordered (some_below row (unordered_row T)) (some_below row (deep_row T)) (λ e. h (g.cause ∙ e)) (λ e. k (g.cause ∙ e)) in
       record {
         formed = rw (add-one, g.formed) m;
-        cause = rw (add-one, u) e;
-        depths_known = λ h. absurd (false≢true (sym (rw (add-one, u) at h)));
-        known = λ h. absurd (false≢true (sym (rw (add-one, u) at h)));
+        cause = rw (add-one, u) (rw u at g.cause);
+        in_step = λ h. absurd (true≢false (rw (add-one, u) at h));
       }
 
   -- a row of this depth
-  pub gone_more : (lowest ≡ 4 → ⊥) → malformed_row T row ≡ false → row < length depths → (now most : List ℕ) → BlocksKnown T.parts depths now most row → (depth : ℕ) → depth ≡ row_depth T.curves T.parts depths row → (next : ℕ) → next ≡ cause_with lowest depth → Gone T (set depths row depth) now most next (row + 1)
+  pub gone_more : (lowest ≡ Err Unordered → ⊥) → malformed_row T row ≡ false → row < curve_count T → (depth : ℕ) → depth ≡ row_depth T.curves seen row → (next : Answer ⊤) → next ≡ cause_with lowest depth → Gone T (passed seen depth) next (row + 1)
   unfolding some_below deep_row
-  gone_more h m l now most k depth e next q =
+  gone_more h m l depth e next q =
       let o = in_order h in
-      let d : depth ≡ marked (unordered_row T row) (nesting (tree T row)) = e ∙ depth_marked T depths row (g.depths_known o) in
-      let z : lowest ≡ cond (some_below row (deep_row T)) 5 0 = g.cause ∙ ap (λ a. cond a 4 (cond (some_below row (deep_row T)) 5 0)) o in
+      let s = g.in_step o in
+      let d : depth ≡ marked (unordered_row T row) (nesting (tree T row)) = e ∙ depth_marked T seen row s in
+      let z : lowest ≡ cause_of false (some_below row (deep_row T)) = g.cause ∙ ap (λ a. cause_of a (some_below row (deep_row T))) o in
+      let c = rw (z, d) at q in
       record {
         formed = rw (add-one, g.formed) m;
-        cause = rw (add-one, o) (q ∙ cause_more (some_below row (deep_row T)) (unordered_row T row) (nesting (tree T row)) depth lowest z d);
-        depths_known = λ w i j. known_more o d (rw (add-one, o) at w) i j (eqb i row) refl;
-        known = λ w. blocks_more T.parts depths row depth now most k;
+        cause = rw (add-one, o) (c ∙ cause_more (some_below row (deep_row T)) (unordered_row T row) (nesting (tree T row)));
+        in_step = λ w. step s d (rw (add-one, o) at w);
       }
     where
-      known_more : some_below row (unordered_row T) ≡ false → depth ≡ marked (unordered_row T row) (nesting (tree T row)) → unordered_row T row ≡ false → (i : ℕ) → i < row + 1 → (b : Bool) → eqb i row ≡ b → get_or (set depths row depth) i 0 ≡ min 9 (nesting (tree T i))
-      known_more o d u i j true w = let v = eqb-true i row w in rw v (get_or-set_same depths row depth 0 l ∙ d ∙ ap (λ b. marked b (nesting (tree T row))) u)
-      known_more o d u i j false w = let ne = eqb-false i row w in get_or-set_other depths row i depth 0 ne ∙ g.depths_known o i (omega arith)
+      step : InStep T seen row → depth ≡ marked (unordered_row T row) (nesting (tree T row)) → unordered_row T row ≡ false → InStep T (passed seen depth) (row + 1)
+      step s d u = record {
+        same_parts = s.same_parts;
+        at_row = rw s.at_row refl;
+        room = omega (arith, s.room, length-set seen.rows seen.row depth);
+        depths = λ i j. one i j (eqb i row) refl;
+      }
+        where
+          one : (i : ℕ) → i < row + 1 → (b : Bool) → eqb i row ≡ b → get_or (set seen.rows seen.row depth) i 0 ≡ min 9 (nesting (tree T i))
+          one i j true w =
+              let v = eqb-true i row w in
+              rw (s.at_row, v) (get_or-set_same seen.rows row depth 0 (omega (arith, s.room)) ∙ d ∙ ap (λ b. marked b (nesting (tree T row))) u)
+          one i j false w =
+              let ne = eqb-false i row w in
+              rw s.at_row (get_or-set_other seen.rows row i depth 0 ne ∙ s.depths i (omega arith))
 
   -- a malformed row decides
-  pub gone_malformed : row < curve_count T → malformed_row T row ≡ true → 3 ≡ rows_cause T
+  pub gone_malformed : row < curve_count T → malformed_row T row ≡ true → Err IllFormed ≡ rows_cause T
   unfolding rows_cause
   gone_malformed l m = let s = some_found (malformed_row T) (curve_count T) row l m in rw s
 

@@ -2,9 +2,11 @@
 // Reads one sheet from standard input and writes the chain of its edge, or the number of a refusal.
 ghost use Rattle.std.specs.Prelude.{◌≤◌, length};
 
+use std::io;
 use std::io::{Read, Stdin};
 
 // Reads until the buffer is full, the input ends or a read fails; answers how many bytes it put at the buffer's start.
+// `read_exact` would not say how many, and `io::copy` goes through a buffer of its own.
 fn read_full(mut from: Stdin, text: &mut [u8]) -> usize
     ensures { result ≤ length text.new }
 {
@@ -17,20 +19,6 @@ fn read_full(mut from: Stdin, text: &mut [u8]) -> usize
         done += n;
     }
     done
-}
-
-// Reads what an input that is too long has left, so that whoever writes it can end. The loop counts its turns down, from a
-// number that no run uses up, since nothing says that an input ends.
-fn drain(mut from: Stdin) {
-    let mut chunk = [0u8; 65536];
-    let mut turns = u64::MAX;
-    while 0 < turns {
-        let n = from.read(&mut chunk).unwrap_or(0);
-        if n == 0 {
-            break;
-        }
-        turns -= 1;
-    }
 }
 
 // Writes the bytes. That they could not be written, as to a full disk, it says on standard error.
@@ -46,8 +34,9 @@ fn main(rt: HostRuntime) {
     let n = read_full(rt.stdin(), &mut text);
     let written = chain_answer::print(&text, n, &mut out);
     write(&rt, &out[..written]);
-    // After the answer, since an input may have no end.
+    // After the answer, since an input may have no end: what one that is too long has left is read, so that whoever writes it can
+    // end.
     if n == chain_answer::READ {
-        drain(rt.stdin());
+        let _ = io::copy(&mut rt.stdin(), &mut io::sink());
     }
 }

@@ -1,15 +1,15 @@
 -- What is printed, by the way through reading and drawing. Assumes nothing but what its statements say.
+use Rattle.std.specs.Prelude.{Err, Ok}
 use mathlib.Core.Path.{◌≡◌, refl, sym, ap, subst, ◌∙◌}
 use mathlib.Core.Bool.{Bool, true, false, cond}
 use mathlib.Core.List.{List, []}
-use Prim.Native.Nat.{ℕ, ◌+◌, ◌*◌, ◌-◌, ◌<◌, ◌≤◌}
+use Prim.Native.Nat.{ℕ, ◌+◌, ◌*◌, ◌-◌, ◌/◌, ◌<◌, ◌≤◌}
 use native.Mathlib.Omega.{arith}
 use lib.ListN.{length, take, replicate, length-append, length-replicate}
 use lib.Seq.{take_all, length-take-le}
 use lib.Dec.{leb}
 use lib.Ieee.{Float, binary64, of_bits}
 use borrow.Author.Tests.{leb-true, leb-false, le-ltb}
-use Rattle.base_lists.specs.Result.{Result, refused, got}
 use Rattle.base_lists.specs.Room.{filled}
 use Rattle.sheet_layout.specs.Layout.{size, read_sheet}
 use Rattle.sheet.specs.Sheet.{tables_of, leading}
@@ -22,26 +22,34 @@ use Rattle.options.specs.declared.Options.{Options}
 use Rattle.edge_record.specs.Chain.{width, flat, samples}
 use Rattle.text_listing.specs.Listing.{float_bytes, line_bytes, refusal_bytes, listing, refusal, Put}
 use Rattle.draw_spec.specs.declared.Way.{Way}
-use Rattle.draw_spec.specs.declared.Drawn.{Drawn}
-use Rattle.draw_spec.specs.declared.Drawn.TheVariants.{Refused, Chain}
 use Rattle.draw_spec.specs.Repair.{Got}
-use Rattle.draw_spec.specs.Draw.{room_of, program_floats, drawn, answer_of, in_first, first_after, second_after, chain_in, Outcome}
+use Rattle.draw_spec.specs.Draw.{room_of, program_floats, drawn, answer_of, in_first, first_after, second_after, chain_in, chain_floats, Outcome}
 use Rattle.draw_spec.proofs.Sound.{drawn_fits}
 use Rattle.draw_spec.proofs.ReadBack.{read_back}
-use Rattle.draw_spec.specs.Draw.{chain_floats}
 use Rattle.chain_answer.specs.Own.Shown.{shown}
 use Rattle.chain_answer.specs.Printed.{last_bits, printed_drawn, drawn_of, printed_read, program_prints, ReadEnough, NeverOversize, first_after_sheet, second_after_sheet, Prints}
+use Rattle.draw_spec.specs.declared.Drawn.{Drawn}
+use Rattle.refusal.specs.Answer.{Answer}
+use Rattle.refusal.specs.declared.Refusal.{Refusal}
+use Rattle.refusal.specs.Refusal.{number_of}
+use Rattle.text_listing.proofs.Leading.{leading as leads}
+use Rattle.edge_record.specs.declared.Sample.{Sample}
+use Rattle.sheet.specs.declared.Sheet.{Sheet}
 
 -- ---- the listing of an answer
-module _ (lo hi : ℕ) (d : Drawn) (first second : List Float) (r : ℕ) (out out' : List ℕ) where
-  pub show_refusal : (n : ℕ) → d ≡ Refused n → Put (refusal n) out r out' → Put (shown lo hi d (chain_in first second d)) out r out'
+module _ (lo hi : ℕ) (d : Answer Drawn) (first second : List Float) (r : ℕ) (out out' : List ℕ) where
+  pub show_refusal : (n : Refusal) → d ≡ Err n → Put (refusal (number_of n)) out r out' → Put (shown lo hi d (chain_in first second d)) out r out'
   unfolding shown
-  show_refusal n e h = subst (λ (x : Drawn). Put (shown lo hi x (chain_in first second x)) out r out') (sym e) h
+  show_refusal n e h = subst (λ (x : Answer Drawn). Put (shown lo hi x (chain_in first second x)) out r out') (sym e) h
 
-  pub show_chain : (way : Way) (n : ℕ) → d ≡ Chain way n → Put (listing lo (last_bits way lo hi) (samples n (cond (in_first way) first second))) out r out'
+  -- the chain is the leading part of one of the buffers
+  pub show_chain : (chain : Drawn) (way : Way) (c : List Float) → d ≡ Ok chain → chain.way ≡ way → cond (in_first way) first second ≡ c → chain_floats d ≤ length c
+      → Put (listing lo (last_bits way lo hi) (samples (length (take (width * chain.count) c) / width) (take (width * chain.count) c))) out r out'
       → Put (shown lo hi d (chain_in first second d)) out r out'
   unfolding shown chain_in
-  show_chain way n e h = subst (λ (x : Drawn). Put (shown lo hi x (chain_in first second x)) out r out') (sym e) h
+  show_chain chain way c e v b l h =
+      let z = ap chain_floats e in
+      rw (e, v, b) (subst (λ (s : List Sample). Put (listing lo (last_bits way lo hi) s) out r out') (leads chain.count c (omega arith)) h)
 
 -- ---- the room that a chain needs
 filled_long : (n : ℕ) (l : List Float) → n ≤ length (filled n l)
@@ -50,26 +58,26 @@ filled_long n l =
     let b = length-replicate (n - length l) (of_bits binary64 0) in
     omega arith
 
-module _ (t : Tables) (e : Edge) (o : Options) (first second : List Float) (d : Drawn) (f s : List Float) (h : Outcome t e o first second d f s) where
-  abbrev made : Result Got
+module _ (t : Tables) (e : Edge) (o : Options) (first second : List Float) (d : Answer Drawn) (f s : List Float) (h : Outcome t e o first second d f s) where
+  abbrev made : Answer Got
   made = drawn t e o (length first) (length second)
 
   pub floats_few : chain_floats d ≤ width * room_of (length first) (length second)
   unfolding answer_of
   floats_few = go made refl
     where
-      go : (g : Result Got) → made ≡ g → chain_floats d ≤ width * room_of (length first) (length second)
-      go (refused n) q = let z = ap chain_floats (h.answered ∙ ap answer_of q) in omega arith
-      go (got g) q = let z = ap chain_floats (h.answered ∙ ap answer_of q) in let k = drawn_fits t e o (length first) (length second) g q in omega arith
+      go : (g : Answer Got) → made ≡ g → chain_floats d ≤ width * room_of (length first) (length second)
+      go (Err n) q = let z = ap chain_floats (h.answered ∙ ap answer_of q) in omega arith
+      go (Ok g) q = let z = ap chain_floats (h.answered ∙ ap answer_of q) in let k = drawn_fits t e o (length first) (length second) g q in omega arith
 
   -- both buffers are as long as before, so they hold the chain
   buffers_hold : (chain_floats d ≤ length f) × (chain_floats d ≤ length s)
   unfolding answer_of room_of first_after second_after
   buffers_hold = go made refl
     where
-      go : (g : Result Got) → made ≡ g → (chain_floats d ≤ length f) × (chain_floats d ≤ length s)
-      go (refused n) q = let z = ap chain_floats (h.answered ∙ ap answer_of q) in (omega arith, omega arith)
-      go (got g) q =
+      go : (g : Answer Got) → made ≡ g → (chain_floats d ≤ length f) × (chain_floats d ≤ length s)
+      go (Err n) q = let z = ap chain_floats (h.answered ∙ ap answer_of q) in (omega arith, omega arith)
+      go (Ok g) q =
           let k = floats_few in
           let x = ap length (h.first_holds ∙ ap (first_after first) q) in
           let y = ap length (h.second_holds ∙ ap (second_after second) q) in
@@ -86,29 +94,32 @@ module _ (t : Tables) (e : Edge) (o : Options) (first second : List Float) (d : 
   unfolding shown printed_drawn answer_of
   shown_is lo hi = go made refl
     where
-      go : (g : Result Got) → made ≡ g → shown lo hi d (chain_in f s d) ≡ printed_drawn lo hi g
-      go (refused n) q = ap (λ (x : Drawn). shown lo hi x (chain_in f s x)) (h.answered ∙ ap answer_of q)
-      go (got g) q =
+      go : (g : Answer Got) → made ≡ g → shown lo hi d (chain_in f s d) ≡ printed_drawn lo hi g
+      go (Err n) q = ap (λ (x : Answer Drawn). shown lo hi x (chain_in f s x)) (h.answered ∙ ap answer_of q)
+      go (Ok g) q =
           rw (h.answered, h.first_holds, h.second_holds, q) (ap (listing lo (last_bits g.way lo hi)) (read_back first second g))
 
 -- ---- the whole answer
 module _ (text : List ℕ) (first second : List Float) (out : List ℕ) (r : ℕ) (out' : List ℕ) where
   -- no sheet was read
-  pub no_sheet : (cause : ℕ) → read_sheet text ≡ refused cause → Put (refusal cause) out r out' → Prints text first second out r first second out'
+  pub no_sheet : (cause : Refusal) → read_sheet text ≡ Err cause → Put (refusal (number_of cause)) out r out' → Prints text first second out r first second out'
   unfolding printed_read first_after_sheet second_after_sheet
   no_sheet cause q h = record { put = rw q h; first_holds = rw q; second_holds = rw q }
 
   -- a sheet was read, and its edge was drawn
-  module _ (n m k : ℕ) (e : Edge) (o : Options) (lo hi : ℕ) (t : Tables) (read : SheetRead text n m k e o lo hi t) (d : Drawn) (f s : List Float)
-      (h : Outcome (leading n m k t) e o first second d f s) where
-    made_is : drawn (leading n m k t) e o (length first) (length second) ≡ drawn_of read.raw (length first) (length second)
+  module _ (sheet : Sheet) (t : Tables) (read : SheetRead text sheet t) (d : Answer Drawn) (f s : List Float)
+      (h : Outcome (leading sheet.points sheet.curves sheet.segments t) sheet.edge sheet.options first second d f s) where
+    made_is : drawn (leading sheet.points sheet.curves sheet.segments t) sheet.edge sheet.options (length first) (length second) ≡ drawn_of read.raw (length first) (length second)
     made_is = rw (read.tables_are, read.edge_is, read.options_is)
 
-    bytes_are : shown lo hi d (chain_in f s d) ≡ printed_read (length first) (length second) (read_sheet text)
+    bytes_are : shown sheet.lo sheet.hi d (chain_in f s d) ≡ printed_read (length first) (length second) (read_sheet text)
     unfolding printed_read
-    bytes_are = rw read.is (shown_is (leading n m k t) e o first second d f s h lo hi ∙ rw (read.lo_is, read.hi_is, made_is))
+    bytes_are =
+        rw read.is
+        (shown_is (leading sheet.points sheet.curves sheet.segments t) sheet.edge sheet.options first second d f s h sheet.lo sheet.hi
+        ∙ rw (read.lo_is, read.hi_is, made_is))
 
-    pub sheet_drawn : Put (shown lo hi d (chain_in f s d)) out r out' → Prints text first second out r f s out'
+    pub sheet_drawn : Put (shown sheet.lo sheet.hi d (chain_in f s d)) out r out' → Prints text first second out r f s out'
     unfolding first_after_sheet second_after_sheet
     sheet_drawn p = record {
       put = subst (λ l. Put l out r out') bytes_are p;

@@ -1,6 +1,5 @@
 -- What is printed for a sheet, byte by byte, and what both chain buffers hold afterwards. Definitions only.
-use Rattle.std.specs.Prelude.{◌≡◌, false, List, ℕ, ◌<◌, length, take, Float}
-use Rattle.base_lists.specs.Result.{Result, refused, got}
+use Rattle.std.specs.Prelude.{◌≡◌, false, List, ℕ, ◌<◌, length, take, Float, Err, Ok}
 use Rattle.causes.specs.Causes.{oversize}
 use Rattle.sheet_layout.specs.Layout.{RawSheet, size, read_sheet, Follows}
 use Rattle.sheet_row.specs.Rows.{raw_edge_of, raw_options_of}
@@ -10,6 +9,8 @@ use Rattle.draw_spec.specs.declared.Way.{Way}
 use Rattle.draw_spec.specs.declared.Way.TheVariants.{AsDrawn, Chord, Complement, ShortArc, Runaway}
 use Rattle.draw_spec.specs.Repair.{Got}
 use Rattle.draw_spec.specs.Draw.{program_floats, drawn, first_after, second_after}
+use Rattle.refusal.specs.Answer.{Answer}
+use Rattle.refusal.specs.Refusal.{number_of}
 
 -- ---- what is printed
 -- the bits of a chain's last parameter if it is NaN: a copy of hi; the runaway chord has lo twice
@@ -21,18 +22,18 @@ last_bits ShortArc lo hi = hi
 last_bits Runaway lo hi = lo
 
 -- for what drawing gives
-unfoldable pub printed_drawn : ℕ → ℕ → Result Got → List ℕ
-printed_drawn lo hi (refused n) = refusal n
-printed_drawn lo hi (got g) = listing lo (last_bits g.way lo hi) g.chain
+unfoldable pub printed_drawn : ℕ → ℕ → Answer Got → List ℕ
+printed_drawn lo hi (Err cause) = refusal (number_of cause)
+printed_drawn lo hi (Ok g) = listing lo (last_bits g.way lo hi) g.chain
 
 -- what drawing the edge of a sheet gives, in buffers of so many floats
-abbrev pub drawn_of : RawSheet → ℕ → ℕ → Result Got
+abbrev pub drawn_of : RawSheet → ℕ → ℕ → Answer Got
 drawn_of raw first second = drawn (tables_of raw) (edge_from (raw_edge_of raw.edge)) (options_from (raw_options_of raw.options)) first second
 
 -- for what reading gives
-unfoldable pub printed_read : ℕ → ℕ → Result RawSheet → List ℕ
-printed_read first second (refused cause) = refusal cause
-printed_read first second (got raw) =
+unfoldable pub printed_read : ℕ → ℕ → Answer RawSheet → List ℕ
+printed_read first second (Err cause) = refusal (number_of cause)
+printed_read first second (Ok raw) =
     printed_drawn (raw_edge_of raw.edge).lo (raw_edge_of raw.edge).hi (drawn_of raw first second)
 
 -- THE BYTES for a text: the chain of the sheet that it stands for, or the refusal
@@ -53,13 +54,13 @@ abbrev pub NeverOversize : Type 0
 NeverOversize = (text : List ℕ) (raw : RawSheet) → Follows text raw → oversize (tables_of raw) ≡ false
 
 -- ---- the chain buffers afterwards: as before where there is no sheet
-unfoldable pub first_after_sheet : List Float → ℕ → Result RawSheet → List Float
-first_after_sheet first second (refused cause) = first
-first_after_sheet first second (got raw) = first_after first (drawn_of raw (length first) second)
+unfoldable pub first_after_sheet : List Float → ℕ → Answer RawSheet → List Float
+first_after_sheet first second (Err cause) = first
+first_after_sheet first second (Ok raw) = first_after first (drawn_of raw (length first) second)
 
-unfoldable pub second_after_sheet : ℕ → List Float → Result RawSheet → List Float
-second_after_sheet first second (refused cause) = second
-second_after_sheet first second (got raw) = second_after second (drawn_of raw first (length second))
+unfoldable pub second_after_sheet : ℕ → List Float → Answer RawSheet → List Float
+second_after_sheet first second (Err cause) = second
+second_after_sheet first second (Ok raw) = second_after second (drawn_of raw first (length second))
 
 -- ---- the whole answer: the bytes at the start of `out`, and both buffers
 pub record Prints (text : List ℕ) (first second : List Float) (out : List ℕ) (n : ℕ) (first' second' : List Float) (out' : List ℕ) : Type 0 where

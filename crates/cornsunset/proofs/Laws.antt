@@ -1,4 +1,5 @@
 -- Drawing with an edge and options that are put together from their numbers, and tables that were accepted. Assumes nothing.
+use Rattle.std.specs.Prelude.{⊤, Ok, Err}
 use mathlib.Core.Path.{◌≡◌, refl, sym, ap, subst, ◌∙◌}
 use mathlib.Core.Logic.{inl, inr}
 use mathlib.Core.Bool.{Bool, true, false, cond}
@@ -7,19 +8,15 @@ use Prim.Native.Nat.{ℕ, ◌*◌, ◌≤◌}
 use native.Mathlib.Omega.{arith}
 use lib.ListN.{length}
 use lib.Ieee.{Float}
-use Rattle.base_lists.specs.Result.{Result, refused, got}
 use Rattle.brep.specs.declared.Edge.{Edge}
 use Rattle.brep.specs.Rows.{Tables}
 use Rattle.options.specs.declared.Options.{Options}
-use Rattle.causes.specs.declared.Verdict.{Verdict}
-use Rattle.causes.specs.declared.Verdict.TheVariants as verdicts
 use Rattle.causes.specs.Causes.{oversize, unordered, too_deep, tables_verdict}
 use Rattle.causes_bounds.specs.Bounds.{unbounded_tables}
 use Rattle.causes_form.specs.Forms.{ill_formed_tables}
 use Rattle.edge_record.specs.Chain.{width}
 use Rattle.draw_spec.specs.declared.Way.{Way}
 use Rattle.draw_spec.specs.declared.Way.TheVariants.{AsDrawn, Chord, Complement, ShortArc, Runaway}
-use Rattle.draw_spec.specs.declared.Drawn.{Drawn}
 use Rattle.draw_spec.specs.Repair.{Got}
 use Rattle.draw_spec.specs.Draw.{room_of, drawn, answer_of, Outcome}
 use Rattle.draw.specs.Over.{drawn_over, Over}
@@ -27,6 +24,11 @@ use Rattle.draw.proofs.Over.{Answerable, drawn_answerable, over_answerable}
 use Rattle.ffi_numbers.specs.declared.Codes.{Codes}
 use Rattle.ffi_numbers.specs.Numbers.{cause_of, number_of, codes_of}
 use Rattle.cornsunset.specs.Numbered.{Numbered, NumberedAnswer, NumberedOutcome, NumberedOver}
+use Rattle.draw_spec.specs.declared.Drawn.{Drawn}
+use Rattle.refusal.specs.Answer.{Answer}
+use Rattle.refusal.specs.Refusal.{number_of as refusal_number}
+use Rattle.refusal.specs.declared.Refusal.{Refusal}
+use Rattle.refusal.specs.declared.Refusal.TheVariants.{Oversize, Unbounded, IllFormed, Unordered, TooDeep, Missing, ShortBuffer, NoRoom, Endless, NoSheet, TooFar}
 
 -- ways are numbered from 1 to 5
 way_numbers : (w : Way) → (1 ≤ number_of w) × (number_of w ≤ 5)
@@ -42,14 +44,28 @@ fits_room : (first second n : ℕ) → n ≤ room_of first second → (width * n
 unfolding room_of
 fits_room first second n h = (omega arith, omega arith)
 
+-- the number of none but a sheet's is 10
+not_sheet : (n : Refusal) → (n ≡ NoSheet → ⊥) → refusal_number n ≡ 10 → ⊥
+not_sheet Oversize h e = omega arith
+not_sheet Unbounded h e = omega arith
+not_sheet IllFormed h e = omega arith
+not_sheet Unordered h e = omega arith
+not_sheet TooDeep h e = omega arith
+not_sheet Missing h e = omega arith
+not_sheet ShortBuffer h e = omega arith
+not_sheet NoRoom h e = omega arith
+not_sheet Endless h e = omega arith
+not_sheet NoSheet h e = h refl
+not_sheet TooFar h e = omega arith
+
 -- what a caller may rely on, of an answer's numbers
-relied : (first second : ℕ) (d : Result Got) → Answerable first second d → let c = codes_of (answer_of d) in Numbered first second c.refusal c.way c.count
+relied : (first second : ℕ) (d : Answer Got) → Answerable first second d → let c = codes_of (answer_of d) in Numbered first second c.refusal c.way c.count
 unfolding answer_of codes_of
-relied first second (refused n) h = inl (h.0, h.1, h.2, refl, refl)
-relied first second (got g) h = let m = way_numbers g.way in let k = fits_room first second (length g.chain) h in inr (refl, m.0, m.1, k.0, k.1)
+relied first second (Err n) h = inl (h.0, h.1, not_sheet n h.2, refl, refl)
+relied first second (Ok g) h = let m = way_numbers g.way in let k = fits_room first second (length g.chain) h in inr (refl, m.0, m.1, k.0, k.1)
 
 -- the numbers of an answer that the definition gives
-numbers_of : (first second : ℕ) (D : Result Got) (a : Drawn) (x : Codes) → Answerable first second D → a ≡ answer_of D → x ≡ codes_of a
+numbers_of : (first second : ℕ) (D : Answer Got) (a : Answer Drawn) (x : Codes) → Answerable first second D → a ≡ answer_of D → x ≡ codes_of a
     → NumberedAnswer D first second x.refusal x.way x.count
 numbers_of first second D a x h p q =
     let w = q ∙ ap codes_of p in
@@ -61,7 +77,7 @@ numbers_of first second D a x h p q =
     }
 
 -- with an edge and options that the numbers stand for
-module _ (T : Tables) (first second : List Float) (x : Codes) (f s : List Float) (e e' : Edge) (o o' : Options) (a : Drawn) (p : e ≡ e') (q : o ≡ o') (w : x ≡ codes_of a) where
+module _ (T : Tables) (first second : List Float) (x : Codes) (f s : List Float) (e e' : Edge) (o o' : Options) (a : Answer Drawn) (p : e ≡ e') (q : o ≡ o') (w : x ≡ codes_of a) where
   -- P of the edge and the options, and so of what they are put together from
   put : (P : Edge → Options → Type 0) → P e o → P e' o'
   put P h = subst (λ (z : Edge). P z o') p (subst (P e) q h)
@@ -69,19 +85,19 @@ module _ (T : Tables) (first second : List Float) (x : Codes) (f s : List Float)
   pub by_outcome : Outcome T e o first second a f s → NumberedOutcome T e' o' first second x.refusal x.way x.count f s
   by_outcome h = put (λ i j. NumberedOutcome T i j first second x.refusal x.way x.count f s) (record {
     answer = numbers_of (length first) (length second) (drawn T e o (length first) (length second)) a x (drawn_answerable T e o (length first) (length second)) h.answered w;
-    outcome = subst (λ (z : Drawn). Outcome T e o first second z f s) h.answered h;
+    outcome = subst (λ (z : Answer Drawn). Outcome T e o first second z f s) h.answered h;
   })
 
   pub by_over : Over T e o first second a f s → NumberedOver T e' o' first second x.refusal x.way x.count f s
   by_over h = put (λ i j. NumberedOver T i j first second x.refusal x.way x.count f s) (record {
     answer = numbers_of (length first) (length second) (drawn_over T e o (length first) (length second)) a x (over_answerable T e o (length first) (length second)) h.answered w;
-    over = subst (λ (z : Drawn). Over T e o first second z f s) h.answered h;
+    over = subst (λ (z : Answer Drawn). Over T e o first second z f s) h.answered h;
   })
 
 -- no cause of the tables has the number 0
-by_causes : (a b c d e : Bool) (v : Verdict)
-    → v ≡ cond a (verdicts.Refused 1) (cond b (verdicts.Refused 2) (cond c (verdicts.Refused 3) (cond d (verdicts.Refused 4) (cond e (verdicts.Refused 5) verdicts.Accepted))))
-    → cause_of v ≡ 0 → v ≡ verdicts.Accepted
+by_causes : (a b c d e : Bool) (v : Answer ⊤)
+    → v ≡ cond a (Err Oversize) (cond b (Err Unbounded) (cond c (Err IllFormed) (cond d (Err Unordered) (cond e (Err TooDeep) (Ok tt)))))
+    → cause_of v ≡ 0 → v ≡ Ok tt
 unfolding cause_of
 by_causes true b c d e v p q = absurd (omega (arith, sym (ap cause_of p) ∙ q))
 by_causes false true c d e v p q = absurd (omega (arith, sym (ap cause_of p) ∙ q))
@@ -91,6 +107,6 @@ by_causes false false false false true v p q = absurd (omega (arith, sym (ap cau
 by_causes false false false false false v p q = p
 
 -- so that tables whose check returned 0 are accepted
-pub accepted : (T : Tables) (r : ℕ) → r ≡ cause_of (tables_verdict T) → r ≡ 0 → tables_verdict T ≡ verdicts.Accepted
+pub accepted : (T : Tables) (r : ℕ) → r ≡ cause_of (tables_verdict T) → r ≡ 0 → tables_verdict T ≡ Ok tt
 unfolding tables_verdict
 accepted T r p q = by_causes (oversize T) (unbounded_tables T.points T.reals T.ranges) (ill_formed_tables T) (unordered T) (too_deep T) (tables_verdict T) refl (sym p ∙ q)

@@ -1,6 +1,5 @@
 -- What drawing returns and stores through C names. Definitions only.
 use Rattle.std.specs.Prelude.{◌≡◌, List, ◌⊎◌, ℕ, ◌*◌, ◌≤◌, length, Float}
-use Rattle.base_lists.specs.Result.{Result}
 use Rattle.brep.specs.declared.Edge.{Edge}
 use Rattle.brep.specs.Rows.{Tables}
 use Rattle.options.specs.declared.Options.{Options}
@@ -9,6 +8,7 @@ use Rattle.draw_spec.specs.Draw.{drawn, answer_of, Outcome}
 use Rattle.draw.specs.Over.{drawn_over, Over}
 use Rattle.edge_record.specs.Chain.{width}
 use Rattle.ffi_numbers.specs.Numbers.{codes_of}
+use Rattle.refusal.specs.Answer.{Answer}
 
 -- what a caller may rely on: a number from 1 to 9, or 11, with no way and no points, or 0, a way from 1 to 5 and points that fit either buffer
 abbrev pub Numbered : ℕ → ℕ → ℕ → ℕ → ℕ → Type 0
@@ -17,7 +17,7 @@ Numbered first second refusal way count =
     ⊎ ((refusal ≡ 0) × (1 ≤ way) × (way ≤ 5) × (width * count ≤ first) × (width * count ≤ second))
 
 -- the three numbers of an answer D, into buffers of so many floats
-pub record NumberedAnswer (D : Result Got) (first second refusal way count : ℕ) : Type 0 where
+pub record NumberedAnswer (D : Answer Got) (first second refusal way count : ℕ) : Type 0 where
   pub its_refusal : refusal ≡ (codes_of (answer_of D)).refusal
   pub its_way : way ≡ (codes_of (answer_of D)).way
   pub its_count : count ≡ (codes_of (answer_of D)).count

@@ -1,15 +1,15 @@
 #![tactic(auto)]
 // Drawing, walking, presets and angles under C names, over numbers and slices alone. A slice is a pointer and a length, an
 // out value a pointer. No function has a requires: nothing that another language hands over is outside a contract.
-ghost use Rattle.std.specs.Prelude.{◌≡◌};
+ghost use Rattle.std.specs.Prelude.{◌≡◌, Ok};
 ghost use Rattle.brep.specs.Rows.{given};
-ghost use Rattle.causes.specs.declared.Verdict.TheVariants.{Accepted};
 ghost use Rattle.causes.specs.Causes.{verdict, tables_verdict};
 ghost use Rattle.options.specs.Options.{radians as inRadians, degrees, is_clamped, default_options, draft_options, fine_options};
 ghost use Rattle.edge_walker.specs.Walk.{start_of, stepped};
 ghost use Rattle.ffi_numbers.specs.Numbers.{edge_of, options_of, cause_of, passed, point_after};
 ghost use Rattle.cornsunset.specs.Numbered.{NumberedOutcome, NumberedOver};
 
+use brep::LentTables;
 use options::{Angle, Options};
 
 // Draws an edge: 0, or the refusal's number.
@@ -42,11 +42,16 @@ pub extern "C" fn cs_flat_draw(
 ) -> u32
     ensures { NumberedOutcome (given points curves reals parts ranges) (edge_of curve start end sense lo hi tolerance low high) (options_of deflection radians relative segments depth scale) first.old second.old result way.new count.new first.new second.new }
 {
+    let tables = LentTables {
+        points,
+        curves,
+        reals,
+        parts,
+        ranges,
+    };
     let edge = ffi_numbers::edge_of(curve, start, end, sense, lo, hi, tolerance, low, high);
     let options = ffi_numbers::options_of(deflection, radians, relative, segments, depth, scale);
-    let drawn = draw::draw(
-        points, curves, reals, parts, ranges, edge, options, first, second,
-    );
+    let drawn = draw::draw(&tables, edge, options, first, second);
     let codes = ffi_numbers::codes_of(drawn);
     *way = codes.way;
     *count = codes.count;
@@ -84,12 +89,15 @@ pub extern "C" fn cs_flat_draw_over(
 ) -> u32
     ensures { NumberedOver (given points curves reals parts ranges) (edge_of curve start end sense lo hi tolerance low high) (options_of deflection radians relative segments depth scale) first.old second.old result way.new count.new first.new second.new }
 {
-    let drawn = draw::draw_over(
+    let tables = LentTables {
         points,
         curves,
         reals,
         parts,
         ranges,
+    };
+    let drawn = draw::draw_over(
+        &tables,
         ffi_numbers::edge_of(curve, start, end, sense, lo, hi, tolerance, low, high),
         ffi_numbers::options_of(deflection, radians, relative, segments, depth, scale),
         first,
@@ -127,9 +135,16 @@ pub extern "C" fn cs_flat_check(
 ) -> u32
     ensures { result ≡ cause_of (verdict (given points curves reals parts ranges) (edge_of curve start end sense lo hi tolerance low high) (options_of deflection radians relative segments depth scale)) }
 {
+    let tables = LentTables {
+        points,
+        curves,
+        reals,
+        parts,
+        ranges,
+    };
     let e = ffi_numbers::edge_of(curve, start, end, sense, lo, hi, tolerance, low, high);
     let o = ffi_numbers::options_of(deflection, radians, relative, segments, depth, scale);
-    ffi_numbers::cause_of(causes::check(points, curves, reals, parts, ranges, e, o))
+    ffi_numbers::cause_of(causes::check(&tables, e, o))
 }
 
 // The lowest of the causes 1 to 5 that the tables alone have, or 0.
@@ -142,9 +157,16 @@ pub extern "C" fn cs_flat_check_tables(
     ranges: &[f64],
 ) -> u32
     ensures { (result ≡ cause_of (tables_verdict (given points curves reals parts ranges)))
-        × (result ≡ 0 → tables_verdict (given points curves reals parts ranges) ≡ Accepted) }
+        × (result ≡ 0 → tables_verdict (given points curves reals parts ranges) ≡ Ok tt) }
 {
-    ffi_numbers::cause_of(causes::check_tables(points, curves, reals, parts, ranges))
+    let tables = LentTables {
+        points,
+        curves,
+        reals,
+        parts,
+        ranges,
+    };
+    ffi_numbers::cause_of(causes::check_tables(&tables))
 }
 
 // The place where a walk of a chain begins.

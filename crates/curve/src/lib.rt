@@ -1,16 +1,17 @@
 #![tactic(auto)]
 // Ranges, closure, period and sampling on rows, of eval/curve.rs. Each contract is the definition at the row's curve.
-// A row's kind is read by its number, as brep::kind_of has them, and of its other numbers only those that are used: 1 line, 2 circle,
-// 3 ellipse, 4 parabola, 5 polyline, 6 trim, 7 composite, 8 hyperbola; any other is the empty polyline. A match has an arm for each kind, as
-// the Rust's, and `_` is for numbers that are none; after `under_trims` also for a trim whose base is not lower.
+// Of a row's numbers only those that are used are read. A match has an arm for each kind, as the Rust's, and `None` for a number that
+// is none; after `under_trims` the arm of a trim is one whose base is not lower.
 ghost use Rattle.std.specs.Prelude.{◌≡◌, ◌+◌, ◌*◌, get_or};
 ghost use Rattle.std.specs.Float.{nan};
 ghost use Rattle.math.specs.Math.{interval};
-ghost use Rattle.brep.specs.Rows.{given};
+ghost use Rattle.brep.specs.Rows.{lent};
 ghost use Rattle.brep.specs.Tree.{tree, run, polyline};
-ghost use Rattle.curve.specs.Eval.{natural_range, is_closed, every_span, period, is_sampled};
+ghost use Rattle.curve.specs.Own.Alone.{alone};
+ghost use Rattle.curve.specs.Eval.{polyline_range, natural_range, spans_agree, is_closed, every_span, period, is_sampled};
 
-use curve_parameter::{closes_at, last_of};
+use brep::{Kind, LentTables};
+use curve_parameter::closes_at;
 use math::Interval;
 
 // What others name here of eval/curve.rs's parameters and points.
@@ -19,13 +20,6 @@ pub use curve_point::point_at;
 
 // 2π
 const TAU: f64 = 6.283185307179586;
-
-// What `period` finds: how far the parameter runs until the curve is back where it was, or that it never is.
-#[derive(Clone, Copy)]
-pub enum Repeats {
-    Every(f64),
-    Never,
-}
 
 // A trim's range.
 fn range_at(reals: &[f64], row: u32) -> Interval
@@ -38,152 +32,145 @@ fn range_at(reals: &[f64], row: u32) -> Interval
     }
 }
 
-// Curve::natural_range: the range over which the curve of a row is defined.
-pub fn natural_range(
-    points: &[f64],
-    curves: &[u32],
-    reals: &[f64],
-    parts: &[u32],
-    ranges: &[f64],
-    row: u32,
-) -> Interval
-    ensures { result ≡ natural_range (tree (given points curves reals parts ranges) row) }
+// The range of a polyline of so many points.
+fn polyline_range(count: u32) -> Interval
+    ensures { result ≡ polyline_range count }
 {
-    let at = row as usize * 3;
-    let kind = brep::int_at(curves, at);
-    match kind {
-        1 => Interval {
-            lo: -1e12,
-            hi: 1e12,
-        },
-        2 => Interval { lo: 0.0, hi: TAU },
-        3 => Interval { lo: 0.0, hi: TAU },
-        4 => Interval { lo: -1e6, hi: 1e6 },
-        5 => Interval {
-            lo: 0.0,
-            hi: last_of(brep::int_at(curves, at + 2)) as f64,
-        },
-        6 => range_at(reals, row),
-        7 => Interval {
-            lo: 0.0,
-            hi: brep::int_at(curves, at + 2) as f64,
-        },
-        8 => Interval { lo: -1e6, hi: 1e6 },
-        _ => Interval { lo: 0.0, hi: 0.0 },
+    Interval {
+        lo: 0.0,
+        hi: count.saturating_sub(1) as f64,
     }
 }
 
-// Curve::is_closed: whether the curve of a row ends where it starts.
-pub fn is_closed(
-    points: &[f64],
-    curves: &[u32],
-    reals: &[f64],
-    parts: &[u32],
-    ranges: &[f64],
-    row: u32,
-) -> bool
-    ensures { result ≡ is_closed (tree (given points curves reals parts ranges) row) }
+// Curve::natural_range: the range over which the curve of a row is defined.
+#[tactic(auto, using(brep::proofs::Laws::length_run, curve_parameter::proofs::Laws::count_segments, crate::proofs::Laws::no_count), unfolding(crate::specs::Eval::natural_range, brep::specs::Tree::tree, brep::specs::Tree::grown, brep::specs::Rows::curve_of, brep::specs::Rows::kind_of))]
+pub fn natural_range(tables: &LentTables<'_>, row: u32) -> Interval
+    ensures { result ≡ natural_range (tree (lent tables.now) row) }
 {
     let at = row as usize * 3;
-    let kind = brep::int_at(curves, at);
-    let first = brep::int_at(curves, at + 1);
-    match kind {
-        1 => false,
-        2 => true,
-        3 => true,
-        4 => false,
-        5 => closes_at(points, first, brep::int_at(curves, at + 2)),
-        6 => {
-            if first < row {
-                if is_closed(points, curves, reals, parts, ranges, first) {
-                    let range = range_at(reals, row);
-                    let n = natural_range(points, curves, reals, parts, ranges, first);
-                    return arith::abs(arith::abs(range.span()) - n.span()) < 1e-9;
-                }
-            }
-            false
+    match brep::kind_at(tables.curves, row) {
+        Some(Kind::Line) => Interval {
+            lo: -1e12,
+            hi: 1e12,
+        },
+        Some(Kind::Circle) => Interval { lo: 0.0, hi: TAU },
+        Some(Kind::Ellipse) => Interval { lo: 0.0, hi: TAU },
+        Some(Kind::Parabola) => Interval { lo: -1e6, hi: 1e6 },
+        Some(Kind::Polyline) => polyline_range(brep::int_at(tables.curves, at + 2)),
+        Some(Kind::Trimmed) => range_at(tables.reals, row),
+        Some(Kind::Composite) => Interval {
+            lo: 0.0,
+            hi: brep::int_at(tables.curves, at + 2) as f64,
+        },
+        Some(Kind::Hyperbola) => Interval { lo: -1e6, hi: 1e6 },
+        None => Interval { lo: 0.0, hi: 0.0 },
+    }
+}
+
+// Whether a trim's span is its base's own.
+fn spans_agree(range: Interval, own: Interval) -> bool
+    ensures { result ≡ spans_agree range own }
+{
+    arith::abs(arith::abs(range.span()) - own.span()) < 1e-9
+}
+
+// Curve::is_closed: whether the curve of a row ends where it starts.
+#[tactic(auto, using(brep::proofs::Laws::lower, brep::proofs::Laws::high, brep::proofs::Laws::length_run), unfolding(crate::specs::Eval::is_closed, curve_parameter::specs::Run::closes, brep::specs::Tree::tree, brep::specs::Tree::grown, brep::specs::Rows::curve_of, brep::specs::Rows::kind_of))]
+pub fn is_closed(tables: &LentTables<'_>, row: u32) -> bool
+    ensures { result ≡ is_closed (tree (lent tables.now) row) }
+{
+    let at = row as usize * 3;
+    let first = brep::int_at(tables.curves, at + 1);
+    match brep::kind_at(tables.curves, row) {
+        Some(Kind::Line) => false,
+        Some(Kind::Circle) => true,
+        Some(Kind::Ellipse) => true,
+        Some(Kind::Parabola) => false,
+        Some(Kind::Polyline) => {
+            closes_at(tables.points, first, brep::int_at(tables.curves, at + 2))
         }
-        7 => false,
-        8 => false,
-        _ => false,
+        Some(Kind::Trimmed) => {
+            first < row
+                && is_closed(tables, first)
+                && spans_agree(range_at(tables.reals, row), natural_range(tables, first))
+        }
+        Some(Kind::Composite) => false,
+        Some(Kind::Hyperbola) => false,
+        None => false,
     }
 }
 
 // A span that is above zero and finite is a period.
-fn every_span(span: f64) -> Repeats
+#[tactic(auto, unfolding(crate::specs::Eval::every_span))]
+fn every_span(span: f64) -> Option<f64>
     ensures { result ≡ every_span span }
 {
-    if 0.0 < span {
-        if arith::is_finite(span) {
-            return Repeats::Every(span);
-        }
-    }
-    Repeats::Never
+    (0.0 < span && arith::is_finite(span)).then_some(span)
 }
 
 // A polyline's period, where it closes, is its range's span.
-fn polyline_period(points: &[f64], first: u32, count: u32) -> Repeats
+#[tactic(auto, using(brep::proofs::Laws::length_run), unfolding(crate::specs::Eval::period, crate::specs::Eval::natural_range))]
+fn polyline_period(points: &[f64], first: u32, count: u32) -> Option<f64>
     ensures { result ≡ period (polyline (run points.now first count)) }
 {
     if closes_at(points, first, count) {
-        let n = Interval {
-            lo: 0.0,
-            hi: last_of(count) as f64,
-        };
-        return every_span(n.span());
+        return every_span(polyline_range(count).span());
     }
-    Repeats::Never
+    None
+}
+
+// The period of a row that is no trim of a lower one.
+#[tactic(auto, using(brep::proofs::Laws::length_run), unfolding(crate::specs::Eval::period, curve_parameter::specs::Run::closes, brep::specs::Tree::grown, brep::specs::Rows::curve_of, brep::specs::Rows::kind_of))]
+fn own_period(tables: &LentTables<'_>, row: u32) -> Option<f64>
+    ensures { result ≡ period (alone (lent tables.now) row) }
+{
+    let at = row as usize * 3;
+    match brep::kind_at(tables.curves, row)? {
+        Kind::Line => None,
+        Kind::Circle => Some(TAU),
+        Kind::Ellipse => Some(TAU),
+        Kind::Parabola => None,
+        Kind::Polyline => {
+            let first = brep::int_at(tables.curves, at + 1);
+            polyline_period(tables.points, first, brep::int_at(tables.curves, at + 2))
+        }
+        // Its base does not fall.
+        Kind::Trimmed => None,
+        Kind::Composite => None,
+        Kind::Hyperbola => None,
+    }
 }
 
 // Curve::period: what the parameter of a closed curve repeats by.
-pub fn period(
-    points: &[f64],
-    curves: &[u32],
-    reals: &[f64],
-    parts: &[u32],
-    ranges: &[f64],
-    row: u32,
-) -> Repeats
-    ensures { result ≡ period (tree (given points curves reals parts ranges) row) }
+#[tactic(auto, using(crate::proofs::Laws::period_under))]
+pub fn period(tables: &LentTables<'_>, row: u32) -> Option<f64>
+    ensures { result ≡ period (tree (lent tables.now) row) }
 {
-    let at = under_trims(curves, row) as usize * 3;
-    let kind = brep::int_at(curves, at);
-    match kind {
-        1 => Repeats::Never,
-        2 => Repeats::Every(TAU),
-        3 => Repeats::Every(TAU),
-        4 => Repeats::Never,
-        5 => {
-            let first = brep::int_at(curves, at + 1);
-            polyline_period(points, first, brep::int_at(curves, at + 2))
-        }
-        7 => Repeats::Never,
-        8 => Repeats::Never,
-        _ => Repeats::Never,
+    own_period(tables, under_trims(tables.curves, row))
+}
+
+// Whether a row that is no trim of a lower one is a polyline. (An unknown kind and a base that is not lower read as an empty one.)
+#[tactic(auto, unfolding(crate::specs::Eval::is_sampled, brep::specs::Tree::grown, brep::specs::Rows::curve_of, brep::specs::Rows::kind_of))]
+fn is_polyline(tables: &LentTables<'_>, row: u32) -> bool
+    ensures { result ≡ is_sampled (alone (lent tables.now) row) }
+{
+    match brep::kind_at(tables.curves, row) {
+        Some(Kind::Line) => false,
+        Some(Kind::Circle) => false,
+        Some(Kind::Ellipse) => false,
+        Some(Kind::Parabola) => false,
+        Some(Kind::Polyline) => true,
+        Some(Kind::Trimmed) => true,
+        Some(Kind::Composite) => false,
+        Some(Kind::Hyperbola) => false,
+        None => true,
     }
 }
 
-// Whether the row is a polyline, or a trim of one. (An unknown kind and a base that is not lower read as an empty polyline.)
-pub fn is_sampled(
-    points: &[f64],
-    curves: &[u32],
-    reals: &[f64],
-    parts: &[u32],
-    ranges: &[f64],
-    row: u32,
-) -> bool
-    ensures { result ≡ is_sampled (tree (given points curves reals parts ranges) row) }
+// Whether the row is a polyline, or a trim of one.
+#[tactic(auto, using(crate::proofs::Laws::sampled_under))]
+pub fn is_sampled(tables: &LentTables<'_>, row: u32) -> bool
+    ensures { result ≡ is_sampled (tree (lent tables.now) row) }
 {
-    let at = under_trims(curves, row) as usize * 3;
-    let kind = brep::int_at(curves, at);
-    match kind {
-        1 => false,
-        2 => false,
-        3 => false,
-        4 => false,
-        5 => true,
-        7 => false,
-        8 => false,
-        _ => true,
-    }
+    is_polyline(tables, under_trims(tables.curves, row))
 }

@@ -1,32 +1,43 @@
 -- What the code's proofs use: a row that is neither a hyperbola nor a composite under its trims, and a run of segments that is asked. Assumes nothing.
-use mathlib.Core.Path.{◌≡◌, refl, sym, ◌∙◌}
-use mathlib.Core.Bool.{Bool, true, false}
+use Rattle.std.specs.Prelude.{Option, Some, None}
+use Rattle.std.specs.Option.{option_eq}
+use Rattle.std.specs.List.{list_any, range_with_len}
+use Rattle.std.proofs.Common.{add-zero, add-one}
+use Rattle.std.proofs.Math.Bool.{or-false, or_assoc}
+use Rattle.std.proofs.lemmas.List.Folds.{list_any_at}
+use Rattle.std.proofs.lemmas.List.FromFn.{length-range_with_len, get_or-range_with_len}
+use mathlib.Core.Path.{◌≡◌, refl, sym, ap, ◌∙◌}
+use mathlib.Core.Bool.{Bool, true, false, cond, ◌&&◌, ◌||◌}
 use mathlib.Core.List.{List, []}
-use Prim.Native.Nat.{ℕ, ◌+◌, ◌-◌, ◌<◌, ◌≤◌}
+use Prim.Native.Nat.{ℕ, zero, suc, ◌+◌, ◌*◌, ◌<◌}
 use native.Mathlib.Omega.{arith}
-use lib.Dec.{eqb}
+use lib.Dec.{eqb, ltb}
+use lib.ListN.{get_or}
 use lib.Ieee.{Float}
-use borrow.Author.Tests.{eqb-true, eqb-false}
-use Rattle.arith.specs.Notation.{◌⊖◌, count}
+use borrow.Author.Tests.{eqb-true, eqb-false, eq-eqb, ne_eqb, ltb-true, ltb-false}
 use Rattle.math.specs.declared.Vec3.{Vec3}
 use Rattle.math.specs.declared.Frame.{Frame}
 use Rattle.math.specs.declared.Interval.{Interval}
-use Rattle.brep.specs.declared.Segment.{Segment}
+use Rattle.brep.specs.contracts.KindPartialEq.TheImpl.{eq-value}
 use Rattle.brep.specs.declared.Curve.{Curve}
 use Rattle.brep.specs.declared.Curve.TheVariants.{Line, Circle, Ellipse, Parabola, Polyline, Trimmed, Composite, Hyperbola}
-use Rattle.brep.specs.Rows.{Tables}
+use Rattle.brep.specs.declared.Kind.{Kind}
+use Rattle.brep.specs.Kind.{number_of, kind_at}
+use Rattle.brep.specs.Rows.{Tables, frame_of, segment_of}
 use Rattle.brep.specs.Own.RunOf.{run_of}
-use Rattle.brep.specs.Tree.{CurveTree, analytic, line, circle, ellipse, parabola, polyline, trimmed, composite, segments, segment_in, row_in, grown, below, tree}
+use Rattle.brep.specs.Tree.{CurveTree, analytic, line, circle, ellipse, parabola, hyperbola, polyline, trimmed, segments, row_in, grown, below, tree}
 use Rattle.brep.proofs.Laws.{at_row, at_lower, at_high}
-use Rattle.brep.proofs.ByKind.{row_kind, row_first, row_count, number, at_composite, at_hyperbola}
+use Rattle.brep.proofs.Numbered.{is_kind}
+use Rattle.brep.proofs.ByKind.{row_kind, row_first, row_count, row_p, row_q, number, at_composite, at_hyperbola}
+use Rattle.curve_parameter.specs.declared.OnSegment.{OnSegment}
+use Rattle.curve_parameter.specs.Own.Falls.{segment_under}
 use Rattle.curve_parameter.specs.Own.Under.{under}
-use Rattle.curve_parameter.specs.Run.{clamped_to, index_in, own_parameter}
-use Rattle.curve_parameter.proofs.Laws.{of_composite}
-use Rattle.curve_parameter.proofs.Under.{under_other, under_same, empty_trim}
-use Rattle.curve_nests.specs.Nests.{is_composite}
-use Rattle.curve_nests.proofs.Laws.{by_kind}
-use Rattle.curve_asks.specs.Asks.{asks_far, segment_asks_far}
-use Rattle.curve_asks.specs.Own.Risk.{is_hyperbola, may_ask}
+use Rattle.curve_parameter.proofs.Laws.{no_segment, on_segment}
+use Rattle.curve_parameter.proofs.Under.{under_stays, under_same, empty_trim}
+use Rattle.curve_nests.proofs.Laws.{some_by_number}
+use Rattle.curve_asks.specs.Asks.{is_far, asks_far, segment_asks_far}
+use Rattle.curve_asks.specs.Own.Numbers.{kind_below, is_risky, run_may_ask}
+use Rattle.curve_asks.specs.Own.Risk.{is_hyperbola, some_risky, some_hyperbola, may_ask}
 
 -- F looks through trims, and is v of every curve but hyperbolas and composites
 pub record Plain {A : Type 0} (F : CurveTree → A) (v : A) : Type 0 where
@@ -56,6 +67,23 @@ under_plain {A} {F} {v} p T row {r} {kind} e k seven eight = go (row_in T r) ref
     go (Composite first n) q = absurd (seven (k ∙ number T r q (λ x. omega arith)))
     go (Hyperbola f a b) q = absurd (eight (k ∙ number T r q (λ x. omega arith)))
 
+-- what it is of a row, by the numbers of the row under its trims
+under_number : {A : Type 0} {F : CurveTree → A} {v : A} → Plain F v → (T : Tables) (row : ℕ) →
+    let r = under T.curves row in
+    F (tree T row)
+    ≡ cond (eqb (row_kind T r) 7) (F (run_of T r (row_first T r) (row_count T r)))
+    (cond (eqb (row_kind T r) 8) (F (analytic (hyperbola (frame_of T.points (row_first T r)) (row_p T r) (row_q T r)))) v)
+under_number {A} {F} {v} p T row = go (eqb (row_kind T r) 7) refl (eqb (row_kind T r) 8) refl
+  where
+    r : ℕ
+    r = under T.curves row
+
+    go : (s : Bool) → eqb (row_kind T r) 7 ≡ s → (e : Bool) → eqb (row_kind T r) 8 ≡ e
+        → F (tree T row) ≡ cond s (F (run_of T r (row_first T r) (row_count T r))) (cond e (F (analytic (hyperbola (frame_of T.points (row_first T r)) (row_p T r) (row_q T r)))) v)
+    go true h e l = sym (at_composite F T r refl (eqb-true _ 7 h) refl refl ∙ under_same F p.through T row refl)
+    go false h true l = sym (at_hyperbola F T r refl (eqb-true _ 8 l) refl refl refl ∙ under_same F p.through T row refl)
+    go false h false l = sym (under_plain p T row refl refl (eqb-false _ 7 h) (eqb-false _ 8 l))
+
 -- ---- what a row asks
 pub plain_far : (t : Float) → Plain (λ c. asks_far c t) false
 unfolding asks_far
@@ -71,23 +99,58 @@ plain_far t = record {
 -- a row that is plain by its number asks for nothing that is too far
 pub plain_near : (T : Tables) (row : ℕ) → row_kind T row < 6 → (t : Float) → asks_far (tree T row) t ≡ false
 plain_near T row h t =
-    sym (under_plain (plain_far t) T row (under_other T.curves row (λ k. omega arith)) refl (λ k. omega arith) (λ k. omega arith))
+    let here : row ≡ under T.curves row = under_stays T.curves row (rw (ne_eqb (row_kind T row) 6 (λ k. omega arith))) in
+    sym (under_plain (plain_far t) T row here refl (λ k. omega arith) (λ k. omega arith))
 
-module _ (T : Tables) (f : ℕ → CurveTree) (first n : ℕ) (t : Float) where
-  pub far_none : n ≡ 0 → false ≡ asks_far (composite (segments T f first n)) t
-  unfolding asks_far segments
-  far_none h = rw h
+-- what a row refers to: a reference that does not fall is to the empty polyline, at which F is false
+falls : (F : CurveTree → Bool) → F (polyline []) ≡ false → (T : Tables) (row base : ℕ) → ltb base row && F (tree T base) ≡ F (below T row base)
+falls F z T row base = go (ltb base row) refl
+  where
+    go : (b : Bool) → ltb base row ≡ b → b && F (tree T base) ≡ F (below T row base)
+    go true h = at_lower F T row (ltb-true base row h)
+    go false h = sym z ∙ at_high F T row (ltb-false base row h)
 
-  pub far_some : (n ≡ 0 → ⊥) → (clamped : Float) → clamped ≡ clamped_to n t → (i : ℕ) → i ≡ index_in (n - 1) clamped → (s : Segment)
-      → s ≡ segment_in T (first + i) → (u : Float) → u ≡ own_parameter s.range s.same_sense (clamped ⊖ count i)
-      → asks_far (f s.curve) u ≡ asks_far (composite (segments T f first n)) t
-  unfolding asks_far
-  far_some z clamped ec i ei s es u eu =
-      rw eu
-      (of_composite segment_asks_far (λ c r b v. asks_far c (own_parameter r b v))
-      (λ c r b rest v. refl) (λ c r b rest i v. refl) T f first n t z clamped ec i ei s es)
+-- the segment that a composite's parameter falls on
+abbrev far_on : Tables → ℕ → Option OnSegment → Bool
+far_on T row None = false
+far_on T row (Some on) = ltb on.segment.curve row && asks_far (tree T on.segment.curve) on.t
 
--- ---- what a row refers to, by its kind's number under the trims
+run_far : (T : Tables) (row first n : ℕ) (t : Float) → far_on T row (segment_under T.parts T.ranges first n t) ≡ asks_far (run_of T row first n) t
+unfolding asks_far segments
+run_far T row first n t = go (segment_under T.parts T.ranges first n t) refl
+  where
+    go : (o : Option OnSegment) → o ≡ segment_under T.parts T.ranges first n t → far_on T row o ≡ asks_far (run_of T row first n) t
+    go None e = rw (no_segment _ _ _ _ _ e)
+    go (Some on) e =
+        falls (λ c. asks_far c on.t) refl T row on.segment.curve
+        ∙ on_segment segment_asks_far (λ c r b u. asks_far c u) (λ c r b rest v. refl) (λ c r b rest i v. refl) T (below T row) first n t e
+
+pub far_by_number : (T : Tables) (row : ℕ) (t : Float) →
+    let r = under T.curves row in
+    asks_far (tree T row) t
+    ≡ cond (eqb (row_kind T r) 7) (far_on T r (segment_under T.parts T.ranges (row_first T r) (row_count T r) t))
+    (cond (eqb (row_kind T r) 8) (is_far t) false)
+unfolding asks_far
+far_by_number T row t = rw (run_far T (under T.curves row) _ _ t) (under_number (plain_far t) T row)
+
+-- what the code finds of the row under the trims: a composite's, whose parameter falls on no segment or on one; or another
+module _ (T : Tables) (row : ℕ) (t : Float) {r : ℕ} (e : r ≡ under T.curves row) where
+  module _ (k : row_kind T r ≡ 7) {first n : ℕ} (f : first ≡ row_first T r) (m : n ≡ row_count T r) where
+    far_run : {o : Option OnSegment} → o ≡ segment_under T.parts T.ranges first n t → far_on T r o ≡ asks_far (tree T row) t
+    far_run s =
+        let seven : row_kind T (under T.curves row) ≡ 7 = rw e at k in
+        rw (s, m, f, e) (sym (far_by_number T row t ∙ rw (eq-eqb (row_kind T (under T.curves row)) 7 seven)))
+
+    pub far_none : None ≡ segment_under T.parts T.ranges first n t → false ≡ asks_far (tree T row) t
+    far_none s = far_run s
+
+    pub far_some : {on : OnSegment} → Some on ≡ segment_under T.parts T.ranges first n t → ltb on.segment.curve r && asks_far (tree T on.segment.curve) on.t ≡ asks_far (tree T row) t
+    far_some s = far_run s
+
+  pub far_other : (row_kind T r ≡ 7 → ⊥) → cond (eqb (row_kind T r) 8) (is_far t) false ≡ asks_far (tree T row) t
+  far_other k = rw e (sym (far_by_number T row t ∙ rw (ne_eqb (row_kind T (under T.curves row)) 7 (rw e at k))))
+
+-- ---- a hyperbola, by the same numbers
 plain_hyperbola : Plain is_hyperbola false
 unfolding is_hyperbola
 plain_hyperbola = record {
@@ -99,32 +162,37 @@ plain_hyperbola = record {
   through = λ b r. refl;
 }
 
-module _ (T : Tables) (row : ℕ) {r kind : ℕ} (e : r ≡ under T.curves row) (k : kind ≡ row_kind T r) where
-  pub hyperbola_by_kind : eqb kind 8 ≡ is_hyperbola (tree T row)
-  unfolding is_hyperbola
-  hyperbola_by_kind = go (eqb kind 8) refl (eqb kind 7) refl
-    where
-      same : is_hyperbola (tree T r) ≡ is_hyperbola (tree T row)
-      same = under_same is_hyperbola plain_hyperbola.through T row e
+hyperbola_by_number : (T : Tables) (row : ℕ) → eqb (row_kind T (under T.curves row)) 8 ≡ is_hyperbola (tree T row)
+unfolding is_hyperbola
+hyperbola_by_number T row = go (eqb (row_kind T r) 7) refl (eqb (row_kind T r) 8) refl (under_number plain_hyperbola T row)
+  where
+    r : ℕ
+    r = under T.curves row
 
-      go : (v : Bool) → eqb kind 8 ≡ v → (w : Bool) → eqb kind 7 ≡ w → v ≡ is_hyperbola (tree T row)
-      go true h w l = at_hyperbola is_hyperbola T r k (eqb-true kind 8 h) refl refl refl ∙ same
-      go false h true l = at_composite is_hyperbola T r k (eqb-true kind 7 l) refl refl ∙ same
-      go false h false l = under_plain plain_hyperbola T row e k (eqb-false kind 7 l) (eqb-false kind 8 h)
+    go : (s : Bool) → eqb (row_kind T r) 7 ≡ s → (e : Bool) → eqb (row_kind T r) 8 ≡ e → is_hyperbola (tree T row) ≡ cond s false (cond e true false) → e ≡ is_hyperbola (tree T row)
+    go true h true l k = let seven = eqb-true _ 7 h in let eight = eqb-true _ 8 l in absurd (omega arith)
+    go true h false l k = sym k
+    go false h true l k = sym k
+    go false h false l k = sym k
 
-module _ (T : Tables) (row base : ℕ) where
-  -- the two numbers that are looked for
-  abbrev pub Tells : ℕ → Type 0
-  Tells kind = (eqb kind 8 ≡ is_hyperbola (below T row base)) × (eqb kind 7 ≡ is_composite (below T row base))
+pub hyperbola_by_kind : (T : Tables) (row : ℕ) {r kind : ℕ} → r ≡ under T.curves row → kind ≡ row_kind T r → eqb kind 8 ≡ is_hyperbola (tree T row)
+hyperbola_by_kind T row e k = rw (k, e) (hyperbola_by_number T row)
 
-  pub tells_lower : base < row → {r kind : ℕ} → r ≡ under T.curves base → kind ≡ row_kind T r → Tells kind
-  tells_lower l e k = (hyperbola_by_kind T base e k ∙ at_lower is_hyperbola T row l, by_kind T base e k ∙ at_lower is_composite T row l)
+-- ---- a run of segments, by the numbers of the rows that they refer to
+module _ (T : Tables) (row : ℕ) where
+  risky_by_number : (first n : ℕ) → list_any (is_risky T.curves T.parts T.ranges row) (range_with_len first n) ≡ some_risky (segments T (below T row) first n)
+  unfolding some_risky segments segment_of is_hyperbola
+  risky_by_number first zero = refl
+  risky_by_number first (suc n) =
+      let base = get_or T.parts (first * 2) 0 in
+      let here = ap (λ b. ltb base row && b) (hyperbola_by_number T base) ∙ falls is_hyperbola refl T row base in
+      rw (here, risky_by_number (first + 1) n, add-one first)
 
-  pub tells_high : row ≤ base → Tells 0
-  unfolding is_hyperbola is_composite
-  tells_high l = (at_high is_hyperbola T row l, at_high is_composite T row l)
+  run_may : (first n : ℕ) → run_may_ask T.curves T.parts T.ranges row first n ≡ may_ask (some_hyperbola T.curves) (run_of T row first n)
+  unfolding may_ask
+  run_may first n = rw (risky_by_number first n, some_by_number T row first n)
 
--- ---- whether a row may ask, by the same number
+-- ---- whether a row may ask
 plain_may : (rows : Bool) → Plain (may_ask rows) false
 unfolding may_ask is_hyperbola
 plain_may rows = record {
@@ -136,17 +204,45 @@ plain_may rows = record {
   through = λ b r. refl;
 }
 
-module _ (rows : Bool) (T : Tables) (row : ℕ) {r kind : ℕ} (e : r ≡ under T.curves row) (k : kind ≡ row_kind T r) where
-  may_same : may_ask rows (tree T r) ≡ may_ask rows (tree T row)
-  may_same = under_same (may_ask rows) (plain_may rows).through T row e
+pub may_by_number : (T : Tables) (row : ℕ) →
+    let r = under T.curves row in
+    may_ask (some_hyperbola T.curves) (tree T row)
+    ≡ cond (eqb (row_kind T r) 7) (run_may_ask T.curves T.parts T.ranges r (row_first T r) (row_count T r)) (eqb (row_kind T r) 8)
+unfolding may_ask is_hyperbola
+may_by_number T row = rw (run_may T (under T.curves row) _ _, ← yes (eqb (row_kind T (under T.curves row)) 8)) (under_number (plain_may (some_hyperbola T.curves)) T row)
+  where
+    yes : (b : Bool) → cond b true false ≡ b
+    yes true = refl
+    yes false = refl
 
-  pub may_run : kind ≡ 7 → {first n : ℕ} → first ≡ row_first T r → n ≡ row_count T r → {b : Bool} → b ≡ may_ask rows (run_of T r first n) → b ≡ may_ask rows (tree T row)
-  may_run h f n s = s ∙ at_composite (may_ask rows) T r k h f n ∙ may_same
+-- what the code finds of the row under the trims
+module _ (T : Tables) (row : ℕ) {r : ℕ} (e : r ≡ under T.curves row) where
+  pub may_run : row_kind T r ≡ 7 → {first n : ℕ} → first ≡ row_first T r → n ≡ row_count T r → run_may_ask T.curves T.parts T.ranges r first n ≡ may_ask (some_hyperbola T.curves) (tree T row)
+  may_run k f m =
+      let seven : row_kind T (under T.curves row) ≡ 7 = rw e at k in
+      rw (m, f, e) (sym (may_by_number T row ∙ rw (eq-eqb (row_kind T (under T.curves row)) 7 seven)))
 
-  pub may_other : (kind ≡ 7 → ⊥) → eqb kind 8 ≡ may_ask rows (tree T row)
-  unfolding may_ask is_hyperbola
-  may_other h = go (eqb kind 8) refl
-    where
-      go : (v : Bool) → eqb kind 8 ≡ v → v ≡ may_ask rows (tree T row)
-      go true l = at_hyperbola (may_ask rows) T r k (eqb-true kind 8 l) refl refl refl ∙ may_same
-      go false l = under_plain (plain_may rows) T row e k h (eqb-false kind 8 l)
+  pub may_other : (row_kind T r ≡ 7 → ⊥) → eqb (row_kind T r) 8 ≡ may_ask (some_hyperbola T.curves) (tree T row)
+  may_other k = rw e (sym (may_by_number T row ∙ rw (ne_eqb (row_kind T (under T.curves row)) 7 (rw e at k))))
+
+-- ---- the code's tests and its loop
+-- a test of the kind of what a row refers to
+pub is_kind_below : (curves : List ℕ) (row base : ℕ) (k : Kind) → option_eq eq-value.it (kind_below curves row base) (Some k) ≡ ltb base row && eqb (get_or curves (under curves base * 3) 0) (number_of k)
+is_kind_below curves row base k = go (ltb base row)
+  where
+    go : (b : Bool) → option_eq eq-value.it (cond b (kind_at curves (under curves base)) None) (Some k) ≡ b && eqb (get_or curves (under curves base * 3) 0) (number_of k)
+    go true = is_kind _ k
+    go false = refl
+
+module _ (P : ℕ → Bool) where
+  -- one more of a range
+  more : (a n : ℕ) → list_any P (range_with_len a (suc n)) ≡ list_any P (range_with_len a n) || P (a + n)
+  more a zero = rw add-zero (or-false (P a))
+  more a (suc n) = let e : a + 1 + n ≡ a + suc n = omega arith in rw (more (a + 1) n, e) (sym (or_assoc (P a) (list_any P (range_with_len (a + 1) n)) (P (a + suc n))))
+
+  pub some_more : (a n : ℕ) → list_any P (range_with_len a (n + 1)) ≡ list_any P (range_with_len a n) || P (a + n)
+  some_more a n = rw add-one (more a n)
+
+  -- one that holds settles it
+  pub some_at : (a n i : ℕ) → i < n → P (a + i) ≡ true → list_any P (range_with_len a n) ≡ true
+  some_at a n i l h = list_any_at P (range_with_len a n) i 0 (rw length-range_with_len l) (rw get_or-range_with_len h)

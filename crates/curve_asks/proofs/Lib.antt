@@ -1,4 +1,4 @@
-pub mod Laws
 pub mod Calm
+pub mod Farthest
+pub mod Laws
 pub mod Never
-pub mod Left

@@ -14,7 +14,8 @@ use Rattle.brep.specs.declared.Curve.TheVariants.{Line, Circle, Ellipse, Parabol
 use Rattle.brep.specs.Rows.{Tables}
 use Rattle.brep.specs.Tree.{CurveTree, analytic, line, circle, ellipse, parabola, hyperbola, polyline, trimmed, composite, Segments, none, segment, segments, row_in, grown, below, tree}
 use Rattle.brep.proofs.ByKind.{row_kind, row_first, row_count, number, at_composite, at_hyperbola}
-use Rattle.causes_bounds.proofs.Laws.{neither, some_none}
+use Rattle.std.proofs.lemmas.Bool.{or_parts}
+use Rattle.causes_bounds.proofs.Laws.{some_none}
 use Rattle.curve_nests.specs.Nests.{is_composite, some_composite}
 use Rattle.curve_parameter.specs.Own.Under.{under}
 use Rattle.curve_parameter.specs.Run.{run_length, segment_index, segment_local, own_parameter}
@@ -48,11 +49,11 @@ calm_run : (ss : Segments) → some_risky ss ≡ false → some_composite ss ≡
 unfolding asks_far some_risky some_composite
 calm_run none r n i q p = refl
 calm_run (segment c range same rest) r n zero q p =
-    let h = neither (is_hyperbola c && not (is_calm range)) (some_risky rest) r in
-    let k = neither (is_composite c) (some_composite rest) n in
+    let h = or_parts (is_hyperbola c && not (is_calm range)) (some_risky rest) r in
+    let k = or_parts (is_composite c) (some_composite rest) n in
     leaf c k.0 (own_parameter range same q) (λ (e : is_hyperbola c ≡ true). calm_own range (calm_of (is_hyperbola c) (is_calm range) h.0 e) same q p)
 calm_run (segment c range same rest) r n (suc i) q p =
-    calm_run rest (neither (is_hyperbola c && not (is_calm range)) (some_risky rest) r).1 (neither (is_composite c) (some_composite rest) n).1 i q p
+    calm_run rest (or_parts (is_hyperbola c && not (is_calm range)) (some_risky rest) r).1 (or_parts (is_composite c) (some_composite rest) n).1 i q p
 
 calm_composite : (ss : Segments) → run_length ss ≤ 2 ^ 53 → some_risky ss ≡ false → some_composite ss ≡ false → (t : Float) → asks_far (composite ss) t ≡ false
 unfolding asks_far run_length
@@ -126,14 +127,14 @@ module _ (T : Tables) where
       ss = segments T (below T row) first n
 
       parts : (some_risky ss ≡ false) × (some_composite ss && some_hyperbola T.curves ≡ false)
-      parts = neither (some_risky ss) (some_composite ss && some_hyperbola T.curves) h
+      parts = or_parts (some_risky ss) (some_composite ss && some_hyperbola T.curves) h
 
       go : (v : Bool) → some_composite ss ≡ v → (w : Bool) → some_hyperbola T.curves ≡ w → v && w ≡ false → Silent (composite ss)
       go false e w f g = calm_composite ss (rw (count_segments T (below T row) first n) b) parts.0 e
       go true e false f g = bare_composite f row k first n
       go true e true f g = never g
 
-  -- THE LAW of mayAsk: where it is false, no t is too far. The counts of a table are whole numbers that a double holds
+  -- THE LAW of may_ask: where it is false, no t is too far. The counts of a table are whole numbers that a double holds
   pub never_far : ((i : ℕ) → get_or T.curves i 0 ≤ 2 ^ 53) → (row : ℕ) → may_ask (some_hyperbola T.curves) (tree T row) ≡ false
       → (t : Float) → asks_far (tree T row) t ≡ false
   unfolding asks_far may_ask is_hyperbola

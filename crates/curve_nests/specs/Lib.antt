@@ -1,1 +1,2 @@
 pub mod Nests
+pub mod Own

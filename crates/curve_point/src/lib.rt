@@ -1,59 +1,83 @@
 #![tactic(auto)]
 // Points on rows: point_at of eval/curve.rs. Each contract is the definition at the row's curve.
-ghost use Rattle.std.specs.Prelude.{◌≡◌, ◌*◌, get_or};
+ghost use Rattle.std.specs.Prelude.{◌≡◌};
 ghost use Rattle.math.specs.Math.{y_dir};
-ghost use Rattle.brep.specs.Rows.{given};
+ghost use Rattle.brep.specs.Rows.{lent};
 ghost use Rattle.brep.specs.Own.RunOf.{run_of};
 ghost use Rattle.brep.specs.Tree.{tree, run};
+ghost use Rattle.curve_parameter.specs.Run.{closes};
 ghost use Rattle.curve_point.specs.Own.Turn.{sin_cos_for};
 ghost use Rattle.curve_point.specs.Point.{polyline_point, axes_point, parabola_point, point_at};
 
 use arith_trig::SinCos;
-use brep::Curve;
+use brep::{Curve, Kind, LentTables};
 use math::{Frame, Vec3};
 
-// A polyline's point, of its run of points.
-fn polyline_point(points: &[f64], first: u32, count: u32, t: f64) -> Vec3
+// A polyline's point, of its run of points; whether it closes is at hand.
+#[tactic(auto, using(crate::proofs::Laws::polyline_one, crate::proofs::Laws::polyline_none, crate::proofs::Laws::polyline_some))]
+pub fn polyline_point(points: &[f64], first: u32, count: u32, closed: bool, t: f64) -> Vec3
+    requires { closed ≡ closes (run points.now first count) }
     ensures { result ≡ polyline_point (run points.now first count) t }
 {
-    if count == 0 {
-        return Vec3::ZERO;
-    }
     if count == 1 {
         return brep::point_in(points, first, 0);
     }
-    let u = curve_parameter::polyline_parameter(points, first, count, t);
-    let i = curve_parameter::index_in(count - 2, u);
-    let a = brep::point_in(points, first, i);
-    let b = brep::point_in(points, first, i + 1);
-    a.lerp(b, u - i as f64)
+    let Some(leg) = curve_parameter::leg_under(points, first, count, closed, t) else {
+        return Vec3::ZERO;
+    };
+    leg.from.lerp(leg.to, leg.local)
 }
 
-// An ellipse's point, of a sine and a cosine that are at hand; a hyperbola's is the same of sinh and cosh.
+// An ellipse's point, of its frame's two axes and of a sine and a cosine that are at hand; a hyperbola's is the same of sinh and cosh.
+#[tactic(auto, unfolding(crate::specs::Point::axes_point))]
+pub fn axes_point(
+    origin: Vec3,
+    x: Vec3,
+    y: Vec3,
+    semi_major: f64,
+    semi_minor: f64,
+    sc: SinCos,
+) -> Vec3
+    ensures { result ≡ axes_point origin x y semi_major semi_minor sc.cos sc.sin }
+{
+    origin
+        .add(x.scale(semi_major * sc.cos))
+        .add(y.scale(semi_minor * sc.sin))
+}
+
+// The same of a frame.
 fn around(frame: Frame, semi_major: f64, semi_minor: f64, sc: SinCos) -> Vec3
     ensures { result ≡ axes_point frame.origin frame.ref_dir (y_dir frame) semi_major semi_minor sc.cos sc.sin }
 {
-    let x = frame.ref_dir.scale(semi_major * sc.cos);
-    let y = frame.y_dir().scale(semi_minor * sc.sin);
-    frame.origin.add(x).add(y)
+    axes_point(
+        frame.origin,
+        frame.ref_dir,
+        frame.y_dir(),
+        semi_major,
+        semi_minor,
+        sc,
+    )
 }
 
-fn parabola_point(frame: Frame, focal_dist: f64, t: f64) -> Vec3
-    ensures { result ≡ parabola_point frame.origin frame.ref_dir (y_dir frame) focal_dist t }
+// A parabola's point, of its frame's two axes.
+#[tactic(auto, unfolding(crate::specs::Point::parabola_point))]
+pub fn parabola_point(origin: Vec3, x: Vec3, y: Vec3, focal_dist: f64, t: f64) -> Vec3
+    ensures { result ≡ parabola_point origin x y focal_dist t }
 {
-    let x = frame.ref_dir.scale(focal_dist * t * t);
-    let y = frame.y_dir().scale(2.0 * focal_dist * t);
-    frame.origin.add(x).add(y)
+    origin
+        .add(x.scale(focal_dist * t * t))
+        .add(y.scale(2.0 * focal_dist * t))
 }
 
 // The sine and cosine that a row's point is made of, a hyperbola's sinh and cosh; any other row needs none.
-fn turn_at(curves: &[u32], row: u32, t: f64) -> SinCos
-    ensures { result ≡ sin_cos_for (get_or curves.now (row * 3) 0) t }
+#[tactic(auto, unfolding(crate::specs::Own::Turn::sin_cos_for, arith_exp::specs::Own::Hyperbolic::hyperbolic_of))]
+fn turn_of(kind: Option<Kind>, t: f64) -> SinCos
+    ensures { result ≡ sin_cos_for kind t }
 {
-    match brep::int_at(curves, row as usize * 3) {
-        2 => arith_trig::sin_cos(t),
-        3 => arith_trig::sin_cos(t),
-        8 => {
+    match kind {
+        Some(Kind::Circle) => arith_trig::sin_cos(t),
+        Some(Kind::Ellipse) => arith_trig::sin_cos(t),
+        Some(Kind::Hyperbola) => {
             let h = arith_exp::cosh_sinh(t);
             SinCos {
                 sin: h.sinh,
@@ -66,21 +90,13 @@ fn turn_at(curves: &[u32], row: u32, t: f64) -> SinCos
 
 // Curve::point_at: the point at t of the curve of a row.
 #[cycle(composite_at_point_at)]
-pub fn point_at(
-    points: &[f64],
-    curves: &[u32],
-    reals: &[f64],
-    parts: &[u32],
-    ranges: &[f64],
-    row: u32,
-    t: f64,
-) -> Vec3
-    ensures { result ≡ point_at (tree (given points curves reals parts ranges) row) t }
+pub fn point_at(tables: &LentTables<'_>, row: u32, t: f64) -> Vec3
+    ensures { result ≡ point_at (tree (lent tables.now) row) t }
 {
-    let r = curve_parameter::under_trims(curves, row);
+    let r = curve_parameter::under_trims(tables.curves, row);
     // Before the row, whose nine floats need not be kept over the call.
-    let sc = turn_at(curves, r, t);
-    let c = brep::row_at(points, curves, reals, r);
+    let sc = turn_of(brep::kind_at(tables.curves, r), t);
+    let c = brep::row_at(tables.points, tables.curves, tables.reals, r);
     match c {
         Curve::Line { origin, direction } => origin.add(direction.scale(t)),
         Curve::Circle { frame, radius } => around(frame, radius, radius, sc),
@@ -89,13 +105,16 @@ pub fn point_at(
             semi_major,
             semi_minor,
         } => around(frame, semi_major, semi_minor, sc),
-        Curve::Parabola { frame, focal_dist } => parabola_point(frame, focal_dist, t),
-        Curve::Polyline { first, count } => polyline_point(points, first, count, t),
+        Curve::Parabola { frame, focal_dist } => {
+            parabola_point(frame.origin, frame.ref_dir, frame.y_dir(), focal_dist, t)
+        }
+        Curve::Polyline { first, count } => {
+            let closed = curve_parameter::closes_at(tables.points, first, count);
+            polyline_point(tables.points, first, count, closed, t)
+        }
         // Its base does not fall.
         Curve::Trimmed { base: _, range: _ } => Vec3::ZERO,
-        Curve::Composite { first, count } => {
-            composite_at(points, curves, reals, parts, ranges, r, first, count, t)
-        }
+        Curve::Composite { first, count } => { composite_at(tables, r, first, count, t) }
         Curve::Hyperbola {
             frame,
             semi_major,
@@ -106,30 +125,16 @@ pub fn point_at(
 
 // The point of a composite's run of segments; their curves lie in rows below row.
 #[cycle(composite_at_point_at)]
-fn composite_at(
-    points: &[f64],
-    curves: &[u32],
-    reals: &[f64],
-    parts: &[u32],
-    ranges: &[f64],
-    row: u32,
-    first: u32,
-    count: u32,
-    t: f64,
-) -> Vec3
-    ensures { result ≡ point_at (run_of (given points curves reals parts ranges) row first count) t }
+fn composite_at(tables: &LentTables<'_>, row: u32, first: u32, count: u32, t: f64) -> Vec3
+    ensures { result ≡ point_at (run_of (lent tables.now) row first count) t }
 {
-    if count == 0 {
+    let Some(on) = curve_parameter::segment_under(tables.parts, tables.ranges, first, count, t)
+    else {
         return Vec3::ZERO;
-    }
-    let clamped = arith::clamp(t, 0.0, count as f64);
-    let i = curve_parameter::index_in(count - 1, clamped);
-    let s = brep::segment_at(parts, ranges, first, i);
-    let base = s.curve;
-    let range = s.range;
-    let u = curve_parameter::own_parameter(range, s.same_sense, clamped - i as f64);
+    };
+    let base = on.segment.curve;
     if base < row {
-        return point_at(points, curves, reals, parts, ranges, base, u);
+        return point_at(tables, base, on.t);
     }
     Vec3::ZERO
 }

@@ -1,24 +1,27 @@
 -- The derivative of a row by the curve that it is read as, of a run of segments and of a run of points. Assumes nothing.
+use Rattle.std.specs.Prelude.{Some, None}
 use mathlib.Core.Path.{◌≡◌, refl, sym, ◌∙◌}
+use mathlib.Core.Bool.{Bool}
 use mathlib.Core.List.{List}
-use Prim.Native.Nat.{ℕ, ◌+◌, ◌-◌, ◌<◌, ◌≤◌, min}
+use Prim.Native.Nat.{ℕ}
 use native.Mathlib.Omega.{arith}
-use lib.Ieee.{Float, to_unsigned}
+use lib.Ieee.{Float}
+use lib.ListN.{length}
 use borrow.Author.Tests.{lt-ltb, le-ltb}
-use Rattle.arith.specs.Notation.{◌⊖◌, count}
-use Rattle.arith.specs.Floor.{floor_of}
 use Rattle.math.specs.declared.Interval.{Interval}
 use Rattle.math.specs.Math.{v_zero, v_sub, v_scale}
 use Rattle.brep.specs.declared.Curve.{Curve}
 use Rattle.brep.specs.declared.Curve.TheVariants.{Trimmed}
-use Rattle.brep.specs.declared.Segment.{Segment}
-use Rattle.brep.specs.Rows.{Tables, point_of}
-use Rattle.brep.specs.Tree.{CurveTree, composite, run, segments, segment_in, row_in, grown, below, tree}
-use Rattle.brep.proofs.Laws.{length_run, get_d-run, at_row}
+use Rattle.brep.specs.Rows.{Tables}
+use Rattle.brep.specs.Tree.{CurveTree, composite, run, segments, row_in, grown, below, tree}
+use Rattle.brep.proofs.Laws.{length_run, at_row}
 use Rattle.brep.proofs.ByKind.{number}
 use Rattle.curve_parameter.specs.Own.Under.{under}
-use Rattle.curve_parameter.specs.Run.{clamped_to, index_in, own_parameter, polyline_parameter}
-use Rattle.curve_parameter.proofs.Laws.{of_composite}
+use Rattle.curve_parameter.specs.declared.OnLeg.{OnLeg}
+use Rattle.curve_parameter.specs.declared.OnSegment.{OnSegment}
+use Rattle.curve_parameter.specs.Own.Falls.{leg_under, segment_under}
+use Rattle.curve_parameter.specs.Run.{closes}
+use Rattle.curve_parameter.proofs.Laws.{no_leg, no_segment, on_leg, on_segment}
 use Rattle.curve_parameter.proofs.Under.{under_same, empty_trim}
 use Rattle.curve_tangent.specs.Derivative.{derivative_at, segment_derivative, signed_span, polyline_derivative}
 
@@ -34,31 +37,22 @@ module _ (T : Tables) (row : ℕ) (t : Float) {r : ℕ} (u : r ≡ under T.curve
   derivative_trim k = empty_trim (λ (x : CurveTree). derivative_at x t) (λ b i. refl) T row u refl (number T r (sym e ∙ k) (λ v. omega arith))
 
 module _ (T : Tables) (f : ℕ → CurveTree) (first n : ℕ) (t : Float) where
-  pub derivative_none : n ≡ 0 → v_zero ≡ derivative_at (composite (segments T f first n)) t
+  pub derivative_none : None ≡ segment_under T.parts T.ranges first n t → v_zero ≡ derivative_at (composite (segments T f first n)) t
   unfolding derivative_at segments
-  derivative_none h = rw h
+  derivative_none e = rw (no_segment _ _ _ _ _ e)
 
-  pub derivative-some :
-      (n ≡ 0 → ⊥) → (clamped : Float) → clamped ≡ clamped_to n t → (i : ℕ) → i ≡ index_in (n - 1) clamped → (s : Segment)
-      → s ≡ segment_in T (first + i) → (u : Float) → u ≡ own_parameter s.range s.same_sense (clamped ⊖ count i)
-      → (k : Float) → k ≡ signed_span s.range s.same_sense
-      → v_scale (derivative_at (f s.curve) u) k ≡ derivative_at (composite (segments T f first n)) t
+  pub derivative_some : {p : OnSegment} → Some p ≡ segment_under T.parts T.ranges first n t →
+      v_scale (derivative_at (f p.segment.curve) p.t) (signed_span p.segment.range p.segment.same_sense) ≡ derivative_at (composite (segments T f first n)) t
   unfolding derivative_at
-  derivative-some z clamped ec i ei s es u eu k ek =
-      rw (eu, ek)
-      (of_composite segment_derivative (λ c r b v. v_scale (derivative_at c (own_parameter r b v)) (signed_span r b))
-      (λ c r b rest v. refl) (λ c r b rest i v. refl) T f first n t z clamped ec i ei s es)
+  derivative_some e =
+      on_segment segment_derivative (λ c r b u. v_scale (derivative_at c u) (signed_span r b))
+      (λ c r b rest v. refl) (λ c r b rest i v. refl) T f first n t e
 
-module _ (points : List Float) (first n : ℕ) (t : Float) where
-  pub slope_few : n < 2 → v_zero ≡ polyline_derivative (run points first n) t
+module _ (points : List Float) (first n : ℕ) (t : Float) (closed : Bool) where
+  pub slope_few : None ≡ leg_under points first n closed t → v_zero ≡ polyline_derivative (run points first n) t
   unfolding polyline_derivative
-  slope_few l = rw (length_run points first n, lt-ltb n 2 l)
+  slope_few e = rw (length_run points first n, lt-ltb n 2 (no_leg _ _ _ _ _ e))
 
-  pub slope-many :
-      2 ≤ n → (u : Float) → u ≡ polyline_parameter (run points first n) t → (i : ℕ) → i ≡ index_in (n - 2) u
-      → v_sub (point_of points (first + (i + 1))) (point_of points (first + i)) ≡ polyline_derivative (run points first n) t
+  pub slope_many : closed ≡ closes (run points first n) → {p : OnLeg} → Some p ≡ leg_under points first n closed t → v_sub p.to p.from ≡ polyline_derivative (run points first n) t
   unfolding polyline_derivative
-  slope-many h u eu i ei =
-      let j = index_in (n - 2) (polyline_parameter (run points first n) t) in
-      let l : min (to_unsigned 64 (floor_of (polyline_parameter (run points first n) t))) (n - 2) + 1 < n = omega arith in
-      rw (length_run points first n, ei, eu, le-ltb n 2 h, get_d-run points first n j v_zero (omega arith), get_d-run points first n (j + 1) v_zero l)
+  slope_many c {p} e = let l = on_leg points first n c t e in rw (l.1, le-ltb (length (run points first n)) 2 l.0)

@@ -1,11 +1,10 @@
 -- eval/curve.rs: derivative and tangent, by recursion on the curve, as the Rust's `match`. Definitions only.
-use Rattle.std.specs.Prelude.{Bool, true, false, cond, List, ℕ, zero, suc, ◌+◌, ◌-◌, length, get_or, ltb, Float}
+use Rattle.std.specs.Prelude.{Bool, true, false, cond, List, ℕ, zero, suc, ◌+◌, ◌-◌, length, get_or, ltb, Float, Option}
 use Rattle.std.specs.Float.Ieee.{neg}
 use Rattle.arith.specs.Notation.{◌⊗◌, one, two}
 use Rattle.arith_trig.specs.Trig.{sin_of, cos_of}
 use Rattle.arith_exp.specs.Exp.{cosh_of, sinh_of}
 use Rattle.math.specs.declared.Vec3.{Vec3}
-use Rattle.math.specs.declared.Direction.{Direction}
 use Rattle.math.specs.declared.Interval.{Interval}
 use Rattle.math.specs.Math.{v_zero, v_add, v_sub, v_scale, y_dir, try_normalized, span_of}
 use Rattle.brep.specs.Tree.{CurveTree, analytic, line, circle, ellipse, parabola, hyperbola, polyline, trimmed, composite, Segments, none, segment}
@@ -54,5 +53,5 @@ unfoldable mutual
   segment_derivative (segment curve range same rest) (suc i) local = segment_derivative rest i local
 
 -- Curve::tangent_at
-abbrev pub tangent_at : CurveTree → Float → Direction
+abbrev pub tangent_at : CurveTree → Float → Option Vec3
 tangent_at c t = try_normalized (derivative_at c t)

@@ -3,29 +3,30 @@
 ghost use Rattle.std.specs.Prelude.{◌≡◌};
 ghost use Rattle.arith_trig.specs.Trig.{sin_of, cos_of};
 ghost use Rattle.arith_exp.specs.Exp.{cosh_of, sinh_of};
-ghost use Rattle.brep.specs.Rows.{given};
+ghost use Rattle.brep.specs.Rows.{lent};
 ghost use Rattle.brep.specs.Own.RunOf.{run_of};
 ghost use Rattle.brep.specs.Tree.{tree, run};
+ghost use Rattle.curve_parameter.specs.Run.{closes};
 ghost use Rattle.curve_tangent.specs.Derivative.{polyline_derivative, signed_span, ellipse_derivative, parabola_derivative, hyperbola_derivative, derivative_at, tangent_at};
 
-use brep::Curve;
-use math::{Direction, Interval, Vec3};
+use brep::{Curve, LentTables};
+use math::{Interval, Vec3};
 
-fn polyline_derivative(points: &[f64], first: u32, count: u32, t: f64) -> Vec3
+// A polyline's derivative, of its run of points; whether it closes is at hand.
+#[tactic(auto, using(crate::proofs::Laws::slope_few, crate::proofs::Laws::slope_many))]
+pub fn polyline_derivative(points: &[f64], first: u32, count: u32, closed: bool, t: f64) -> Vec3
+    requires { closed ≡ closes (run points.now first count) }
     ensures { result ≡ polyline_derivative (run points.now first count) t }
 {
-    if count < 2 {
-        return Vec3::ZERO;
+    match curve_parameter::leg_under(points, first, count, closed, t) {
+        Some(leg) => leg.to.sub(leg.from),
+        None => Vec3::ZERO,
     }
-    let u = curve_parameter::polyline_parameter(points, first, count, t);
-    let i = curve_parameter::index_in(count - 2, u);
-    let a = brep::point_in(points, first, i);
-    let b = brep::point_in(points, first, i + 1);
-    b.sub(a)
 }
 
 // A segment's span, or that the other way round where it is walked against its curve.
 // As in the Rust, a sign times the span.
+#[tactic(auto, unfolding(crate::specs::Derivative::signed_span))]
 pub fn signed_span(range: Interval, same_sense: bool) -> f64
     ensures { result ≡ signed_span range same_sense }
 {
@@ -36,6 +37,7 @@ pub fn signed_span(range: Interval, same_sense: bool) -> f64
 }
 
 // An ellipse's derivative, of its frame's two axes; a circle's is that of equal radii.
+#[tactic(auto, unfolding(crate::specs::Derivative::ellipse_derivative, arith_trig::specs::Own::SinCos::sin_cos_of))]
 pub fn ellipse_derivative(x: Vec3, y: Vec3, semi_major: f64, semi_minor: f64, t: f64) -> Vec3
     ensures { result ≡ ellipse_derivative x y semi_major semi_minor (cos_of t) (sin_of t) }
 {
@@ -45,13 +47,15 @@ pub fn ellipse_derivative(x: Vec3, y: Vec3, semi_major: f64, semi_minor: f64, t:
 }
 
 // A parabola's derivative, of its frame's two axes.
+#[tactic(auto, unfolding(crate::specs::Derivative::parabola_derivative))]
 pub fn parabola_derivative(x: Vec3, y: Vec3, focal_dist: f64, t: f64) -> Vec3
     ensures { result ≡ parabola_derivative x y focal_dist t }
 {
     x.scale(2.0 * focal_dist * t).add(y.scale(2.0 * focal_dist))
 }
 
-// A hyperbola's derivative, of its frame's two axes.
+// A hyperbola's derivative, of its frame's two axes. Beside an ellipse's: other functions of t and another sign, which is all that there is.
+#[tactic(auto, unfolding(crate::specs::Derivative::hyperbola_derivative, arith_exp::specs::Own::Hyperbolic::hyperbolic_of))]
 pub fn hyperbola_derivative(x: Vec3, y: Vec3, semi_major: f64, semi_minor: f64, t: f64) -> Vec3
     ensures { result ≡ hyperbola_derivative x y semi_major semi_minor (cosh_of t) (sinh_of t) }
 {
@@ -62,19 +66,11 @@ pub fn hyperbola_derivative(x: Vec3, y: Vec3, semi_major: f64, semi_minor: f64, 
 
 // Curve::derivative_at: the derivative at t of the curve of a row.
 #[cycle(composite_derivative_derivative_at)]
-pub fn derivative_at(
-    points: &[f64],
-    curves: &[u32],
-    reals: &[f64],
-    parts: &[u32],
-    ranges: &[f64],
-    row: u32,
-    t: f64,
-) -> Vec3
-    ensures { result ≡ derivative_at (tree (given points curves reals parts ranges) row) t }
+pub fn derivative_at(tables: &LentTables<'_>, row: u32, t: f64) -> Vec3
+    ensures { result ≡ derivative_at (tree (lent tables.now) row) t }
 {
-    let r = curve_parameter::under_trims(curves, row);
-    let c = brep::row_at(points, curves, reals, r);
+    let r = curve_parameter::under_trims(tables.curves, row);
+    let c = brep::row_at(tables.points, tables.curves, tables.reals, r);
     match c {
         Curve::Line {
             origin: _,
@@ -91,12 +87,13 @@ pub fn derivative_at(
         Curve::Parabola { frame, focal_dist } => {
             parabola_derivative(frame.ref_dir, frame.y_dir(), focal_dist, t)
         }
-        Curve::Polyline { first, count } => polyline_derivative(points, first, count, t),
+        Curve::Polyline { first, count } => {
+            let closed = curve_parameter::closes_at(tables.points, first, count);
+            polyline_derivative(tables.points, first, count, closed, t)
+        }
         // Its base does not fall.
         Curve::Trimmed { base: _, range: _ } => Vec3::ZERO,
-        Curve::Composite { first, count } => {
-            composite_derivative(points, curves, reals, parts, ranges, r, first, count, t)
-        }
+        Curve::Composite { first, count } => composite_derivative(tables, r, first, count, t),
         Curve::Hyperbola {
             frame,
             semi_major,
@@ -107,46 +104,24 @@ pub fn derivative_at(
 
 // The derivative of a composite's run of segments; their curves lie in rows below row.
 #[cycle(composite_derivative_derivative_at)]
-fn composite_derivative(
-    points: &[f64],
-    curves: &[u32],
-    reals: &[f64],
-    parts: &[u32],
-    ranges: &[f64],
-    row: u32,
-    first: u32,
-    count: u32,
-    t: f64,
-) -> Vec3
-    ensures { result ≡ derivative_at (run_of (given points curves reals parts ranges) row first count) t }
+fn composite_derivative(tables: &LentTables<'_>, row: u32, first: u32, count: u32, t: f64) -> Vec3
+    ensures { result ≡ derivative_at (run_of (lent tables.now) row first count) t }
 {
-    if count == 0 {
+    let Some(on) = curve_parameter::segment_under(tables.parts, tables.ranges, first, count, t)
+    else {
         return Vec3::ZERO;
-    }
-    let clamped = arith::clamp(t, 0.0, count as f64);
-    let i = curve_parameter::index_in(count - 1, clamped);
-    let s = brep::segment_at(parts, ranges, first, i);
-    let base = s.curve;
-    let range = s.range;
-    let u = curve_parameter::own_parameter(range, s.same_sense, clamped - i as f64);
-    let k = signed_span(range, s.same_sense);
+    };
+    let base = on.segment.curve;
+    let k = signed_span(on.segment.range, on.segment.same_sense);
     if base < row {
-        return derivative_at(points, curves, reals, parts, ranges, base, u).scale(k);
+        return derivative_at(tables, base, on.t).scale(k);
     }
     Vec3::ZERO.scale(k)
 }
 
 // Curve::tangent_at: the derivative's direction, where it has one.
-pub fn tangent_at(
-    points: &[f64],
-    curves: &[u32],
-    reals: &[f64],
-    parts: &[u32],
-    ranges: &[f64],
-    row: u32,
-    t: f64,
-) -> Direction
-    ensures { result ≡ tangent_at (tree (given points curves reals parts ranges) row) t }
+pub fn tangent_at(tables: &LentTables<'_>, row: u32, t: f64) -> Option<Vec3>
+    ensures { result ≡ tangent_at (tree (lent tables.now) row) t }
 {
-    derivative_at(points, curves, reals, parts, ranges, row, t).try_normalized()
+    derivative_at(tables, row, t).try_normalized()
 }

@@ -1,4 +1,5 @@
 -- The ways through drawing: the answer and both buffers, by what discretise and repair_runaway left. Assumes nothing but what its statements say.
+use Rattle.std.specs.Prelude.{Option, Some, None, Ok, Err}
 use mathlib.Core.Path.{◌≡◌, refl, sym, ap, subst, ◌∙◌}
 use mathlib.Core.Bool.{Bool, true, false, cond, ◌||◌, false≢true}
 use mathlib.Core.List.{List, []}
@@ -8,7 +9,6 @@ use lib.ListN.{length, replicate}
 use lib.Dec.{T, ltb}
 use lib.Ieee.{Float, binary64, fits, of_bits, le}
 use borrow.Author.Tests.{lt-ltb, le-ltb, le-leb, lt-leb}
-use Rattle.base_lists.specs.Result.{Result, refused, got, bind}
 use Rattle.base_lists.specs.Own.ListOf.{list_of}
 use Rattle.base_lists.specs.Room.{filled}
 use Rattle.base_lists.proofs.Filled.{filled_length}
@@ -20,7 +20,6 @@ use Rattle.brep.specs.Rows.{Tables}
 use Rattle.options.specs.declared.Options.{Options}
 use Rattle.options.specs.declared.Resolved.{Resolved}
 use Rattle.options.specs.Options.{resolve, for_extent}
-use Rattle.causes.specs.declared.Verdict.TheVariants as verdicts
 use Rattle.causes.specs.Causes.{verdict}
 use Rattle.causes.proofs.Checked.{verdict_numbers}
 use Rattle.curve_prepared.specs.declared.Prepared.TheVariants.{Line}
@@ -31,24 +30,18 @@ use Rattle.edge_params.specs.Params.{evenly}
 use Rattle.edge_params.specs.Work.{within}
 use Rattle.edge_params.proofs.Asks.{some_far-never, asking_clear, asking_then}
 use Rattle.edge_params.proofs.Work.{within_then}
-use Rattle.edge_range.specs.declared.Usable.{Usable}
-use Rattle.edge_range.specs.declared.Usable.TheVariants.{Range, Unusable}
 use Rattle.edge_range.specs.Usable.{usable_range}
 use Rattle.edge_record.specs.declared.Sample.{Sample}
-use Rattle.edge_record.specs.declared.Counted.{Counted}
-use Rattle.edge_record.specs.declared.Counted.TheVariants as counted
 use Rattle.edge_record.specs.Own.Stored.{counted_of}
 use Rattle.edge_record.specs.Chain.{width, shortest, flat, samples}
 use Rattle.edge_record.proofs.Laws.{length_flat, reads}
 use Rattle.edge_merge.specs.Merge.{merge_floor}
 use Rattle.draw_spec.specs.declared.Way.{Way}
 use Rattle.draw_spec.specs.declared.Way.TheVariants.{AsDrawn}
-use Rattle.draw_spec.specs.declared.Drawn.{Drawn}
-use Rattle.draw_spec.specs.declared.Drawn.TheVariants.{Refused, Chain}
 use Rattle.draw_spec.specs.Edge.{edge_curve, edge_start, edge_end, edge_extent, placed, over_range, discretised}
 use Rattle.draw_spec.specs.Repair.{Got, by, stays, repaired}
 use Rattle.draw_spec.specs.Draw as draw
-use Rattle.draw_spec.specs.Draw.{first_way, local_options, probes, referenced, in_buffers, room_of, too_short, drawn, Outcome, in_first, after_refusal, first_after, second_after}
+use Rattle.draw_spec.specs.Draw.{first_way, local_options, probes, referenced, in_buffers, room_of, too_short, drawn, Outcome, in_first, after_refusal, first_after, second_after, drawn_as}
 use Rattle.draw_spec.specs.Own.Binary.{AllBinary64}
 use Rattle.draw_spec.proofs.Answers.{Answers, late_above, answers_asking, answers_got, answers_refused}
 use Rattle.draw_spec.proofs.Discretised.{Chained, Room, discretised_answers}
@@ -64,6 +57,11 @@ use Rattle.edge_discretise.specs.Own.Discretised.{asked_discretised, Discretised
 use Rattle.edge_repair.specs.Own.Redrawn.{DrawnInto}
 use Rattle.edge_repair.proofs.Ways.{repaired_kept}
 use Rattle.draw.specs.Own.Straight.{StraightInto}
+use Rattle.draw_spec.specs.declared.Drawn.{Drawn}
+use Rattle.refusal.specs.Answer.{Answer, bind}
+use Rattle.refusal.specs.declared.Refusal.TheVariants.{ShortBuffer}
+use Rattle.refusal.specs.declared.Refusal.{Refusal}
+use Rattle.refusal.specs.Refusal.{number_of}
 
 -- ---- the room of buffers that are long enough
 room_fine : (first second : ℕ) → shortest ≤ first → shortest ≤ second → Room (room_of first second)
@@ -75,30 +73,30 @@ unfolding room_of
 room_least first second n h = omega arith
 
 -- ---- what a refusal of drawing leaves
-late : (n : ℕ) (entry : List Float) → 7 < n → after_refusal n entry ≡ filled (length entry) []
-late n entry h = ap (λ (b : Bool). cond b entry (filled (length entry) [])) (lt-leb n 7 h)
+late : (n : Refusal) (entry : List Float) → 7 < number_of n → after_refusal n entry ≡ filled (length entry) []
+late n entry h = ap (λ (b : Bool). cond b entry (filled (length entry) [])) (lt-leb (number_of n) 7 h)
 
 flat_none : flat [] ≡ []
 unfolding flat
 flat_none = refl
 
-pub first_in_first : (u : Usable) → in_first (first_way u) ≡ true
+pub first_in_first : (u : Option Interval) → in_first (first_way u) ≡ true
 unfolding first_way
-first_in_first (Range range) = refl
-first_in_first Unusable = refl
+first_in_first (Some range) = refl
+first_in_first None = refl
 
 -- a buffer of the same length is left alike
-same_first : (g : Result Got) (a b : List Float) → ((n : ℕ) → g ≡ refused n → 7 < n) → length a ≡ length b → first_after a g ≡ first_after b g
+same_first : (g : Answer Got) (a b : List Float) → ((n : Refusal) → g ≡ Err n → 7 < number_of n) → length a ≡ length b → first_after a g ≡ first_after b g
 unfolding first_after
-same_first (refused n) a b h e = late n a (h n refl) ∙ ap (λ (m : ℕ). filled m []) e ∙ sym (late n b (h n refl))
-same_first (got g) a b h e = ap (λ (m : ℕ). filled m (cond (in_first g.way) (flat g.chain) [])) e
+same_first (Err n) a b h e = late n a (h n refl) ∙ ap (λ (m : ℕ). filled m []) e ∙ sym (late n b (h n refl))
+same_first (Ok g) a b h e = ap (λ (m : ℕ). filled m (cond (in_first g.way) (flat g.chain) [])) e
 
-same_second : (g : Result Got) (a b : List Float) → ((n : ℕ) → g ≡ refused n → 7 < n) → length a ≡ length b → second_after a g ≡ second_after b g
+same_second : (g : Answer Got) (a b : List Float) → ((n : Refusal) → g ≡ Err n → 7 < number_of n) → length a ≡ length b → second_after a g ≡ second_after b g
 unfolding second_after
-same_second (refused n) a b h e = late n a (h n refl) ∙ ap (λ (m : ℕ). filled m []) e ∙ sym (late n b (h n refl))
-same_second (got g) a b h e = ap (λ (m : ℕ). filled m (cond (in_first g.way) [] (flat g.chain))) e
+same_second (Err n) a b h e = late n a (h n refl) ∙ ap (λ (m : ℕ). filled m []) e ∙ sym (late n b (h n refl))
+same_second (Ok g) a b h e = ap (λ (m : ℕ). filled m (cond (in_first g.way) [] (flat g.chain))) e
 
-refused_left : (n : ℕ) (first second : List Float) → 7 < n → DrawnInto (refused n) first second (Refused n) (filled (length first) []) (filled (length second) [])
+refused_left : (n : Refusal) (first second : List Float) → 7 < number_of n → DrawnInto (Err n) first second (Err n) (filled (length first) []) (filled (length second) [])
 unfolding draw.answer_of first_after second_after
 refused_left n first second h = record { answered = refl; first_holds = sym (late n first h); second_holds = sym (late n second h) }
 
@@ -109,10 +107,10 @@ room_answers t e r first second p q = referenced_answers ⊥ t e (λ x. absurd x
 
 -- ---- drawn_in, after discretise answered w and left f and s
 module _ (t : Tables) (e : Edge) (r : Resolved) (first second : List Float) (p : shortest ≤ length first) (q : shortest ≤ length second) where
-  abbrev chain : Result (List Sample)
+  abbrev chain : Answer (List Sample)
   chain = within (room_of (length first) (length second)) (asked_discretised true t e r)
 
-  abbrev whole : Result Got
+  abbrev whole : Answer Got
   whole = within (room_of (length first) (length second)) (referenced t e r)
 
   abbrev way : Way
@@ -122,37 +120,37 @@ module _ (t : Tables) (e : Edge) (r : Resolved) (first second : List Float) (p :
   chain_answers = answers_asking (room_of (length first) (length second)) (asks_far (edge_curve t e)) (probes (usable_range (edge_curve t e) e.range)) (discretised t e r)
       (discretised_answers ⊥ t e (λ x. absurd x) (λ x. absurd x) (room_of (length first) (length second)) (room_fine (length first) (length second) p q) r)
 
-  chain_late : (n : ℕ) → chain ≡ refused n → 7 < n
+  chain_late : (n : Refusal) → chain ≡ Err n → 7 < number_of n
   chain_late n h = late_above (answers_refused n chain_answers h)
 
-  chain_fits : (l : List Sample) → chain ≡ got l → width * length l ≤ length first
+  chain_fits : (l : List Sample) → chain ≡ Ok l → width * length l ≤ length first
   chain_fits l h = room_least (length first) (length second) (length l) (answers_got l chain_answers h).fits
 
-  whole_late : (n : ℕ) → whole ≡ refused n → 7 < n
+  whole_late : (n : Refusal) → whole ≡ Err n → 7 < number_of n
   whole_late n h = late_above (answers_refused n (room_answers t e r (length first) (length second) p q) h)
 
   -- what follows the chain, by what discretise answered
-  whole_by : (c : Result (List Sample)) → chain ≡ c → whole ≡ bind c (λ l. within (room_of (length first) (length second)) (repaired t e r (by way l)))
+  whole_by : (c : Answer (List Sample)) → chain ≡ c → whole ≡ bind c (λ l. within (room_of (length first) (length second)) (repaired t e r (by way l)))
   unfolding referenced
   whole_by c h =
       ap (within (room_of (length first) (length second))) (asking_then (asks_far (edge_curve t e)) (probes (usable_range (edge_curve t e) e.range)) (discretised t e r) (λ l. repaired t e r (by way l)))
       ∙ within_then (room_of (length first) (length second)) (asked_discretised true t e r) (λ l. repaired t e r (by way l))
-      ∙ ap (λ (x : Result (List Sample)). bind x (λ l. within (room_of (length first) (length second)) (repaired t e r (by way l)))) h
+      ∙ ap (λ (x : Answer (List Sample)). bind x (λ l. within (room_of (length first) (length second)) (repaired t e r (by way l)))) h
 
-  module _ {w : Counted} {f s : List Float} (d : DiscretisedInto (asked_discretised true t e r) first second w f s) where
+  module _ {w : Answer ℕ} {f s : List Float} (d : DiscretisedInto (asked_discretised true t e r) first second w f s) where
     -- it refused
-    pub not_drawn : (n : ℕ) → w ≡ counted.Refused n → DrawnInto whole first second (Refused n) f s
+    pub not_drawn : (n : Refusal) → w ≡ Err n → DrawnInto whole first second (Err n) f s
     not_drawn n is = go chain refl
       where
-        go : (c : Result (List Sample)) → chain ≡ c → DrawnInto whole first second (Refused n) f s
-        go (got l) h = absurd (let a : counted.Refused n ≡ counted_of (got l) = sym is ∙ d.drawn.answered ∙ ap counted_of h in let z : ◌≡◌ {A = ℕ} 0 1 = cc in omega arith)
-        go (refused m) h =
-            let a : counted.Refused n ≡ counted_of (refused m) = sym is ∙ d.drawn.answered ∙ ap counted_of h in
+        go : (c : Answer (List Sample)) → chain ≡ c → DrawnInto whole first second (Err n) f s
+        go (Ok l) h = absurd (let a : Err n ≡ counted_of (Ok l) = sym is ∙ d.drawn.answered ∙ ap counted_of h in let z : ◌≡◌ {A = ℕ} 0 1 = cc in omega arith)
+        go (Err m) h =
+            let a : Err n ≡ counted_of (Err m) = sym is ∙ d.drawn.answered ∙ ap counted_of h in
             let k : m ≡ n = cc in
-            let c : chain ≡ refused n = h ∙ ap refused k in
-            subst (λ (x : Result Got). DrawnInto x first second (Refused n) f s) (sym (whole_by (refused n) c))
-            (subst (λ (x : List Float). DrawnInto (refused n) first second (Refused n) x s) (sym (d.drawn.holds ∙ ap (λ (x : Result (List Sample)). filled (length first) (flat (list_of x))) c ∙ none))
-            (subst (λ (x : List Float). DrawnInto (refused n) first second (Refused n) (filled (length first) []) x) (sym d.cleared)
+            let c : chain ≡ Err n = h ∙ ap (λ (x : Refusal). Err x) k in
+            subst (λ (x : Answer Got). DrawnInto x first second (Err n) f s) (sym (whole_by (Err n) c))
+            (subst (λ (x : List Float). DrawnInto (Err n) first second (Err n) x s) (sym (d.drawn.holds ∙ ap (λ (x : Answer (List Sample)). filled (length first) (flat (list_of x))) c ∙ none))
+            (subst (λ (x : List Float). DrawnInto (Err n) first second (Err n) (filled (length first) []) x) (sym d.cleared)
             (refused_left n first second (chain_late n c))))
           where
             none : filled (length first) (flat []) ≡ filled (length first) []
@@ -160,7 +158,7 @@ module _ (t : Tables) (e : Edge) (r : Resolved) (first second : List Float) (p :
 
     -- it counted n: the chain that the first buffer holds
     pub record Counts (n : ℕ) : Type 0 where
-      pub is : chain ≡ got (samples n f)
+      pub is : chain ≡ Ok (samples n f)
       pub first_long : length f ≡ length first
       pub second_long : length s ≡ length second
       pub first_enough : shortest ≤ length f
@@ -169,15 +167,15 @@ module _ (t : Tables) (e : Edge) (r : Resolved) (first second : List Float) (p :
       pub alone : f ≡ filled (length f) (flat (samples n f))
       pub clear : s ≡ filled (length s) []
 
-    pub counts : (n : ℕ) → w ≡ counted.Count n → Counts n
+    pub counts : (n : ℕ) → w ≡ Ok n → Counts n
     counts n is = go chain refl
       where
-        go : (c : Result (List Sample)) → chain ≡ c → Counts n
-        go (refused m) h = absurd (let a : counted.Count n ≡ counted_of (refused m) = sym is ∙ d.drawn.answered ∙ ap counted_of h in let z : ◌≡◌ {A = ℕ} 0 1 = cc in omega arith)
-        go (got l) h =
-            let a : counted.Count n ≡ counted_of (got l) = sym is ∙ d.drawn.answered ∙ ap counted_of h in
+        go : (c : Answer (List Sample)) → chain ≡ c → Counts n
+        go (Err m) h = absurd (let a : Ok n ≡ counted_of (Err m) = sym is ∙ d.drawn.answered ∙ ap counted_of h in let z : ◌≡◌ {A = ℕ} 0 1 = cc in omega arith)
+        go (Ok l) h =
+            let a : Ok n ≡ counted_of (Ok l) = sym is ∙ d.drawn.answered ∙ ap counted_of h in
             let k : n ≡ length l = cc in
-            let g : f ≡ filled (length first) (flat l) = d.drawn.holds ∙ ap (λ (x : Result (List Sample)). filled (length first) (flat (list_of x))) h in
+            let g : f ≡ filled (length first) (flat l) = d.drawn.holds ∙ ap (λ (x : Answer (List Sample)). filled (length first) (flat (list_of x))) h in
             let m : length (flat l) ≤ length first = omega (arith, length_flat l, chain_fits l h) in
             let long : length f ≡ length first = ap length g ∙ filled_length (length first) (flat l) m in
             let short : length s ≡ length second = ap length d.cleared ∙ filled_length (length second) [] (omega arith) in
@@ -185,7 +183,7 @@ module _ (t : Tables) (e : Edge) (r : Resolved) (first second : List Float) (p :
             ap (λ (x : List Float). samples n x) g ∙ ap (λ (x : ℕ). samples x (filled (length first) (flat l))) k
             ∙ reads l (replicate (length first - length (flat l)) (of_bits binary64 0)) in
             record {
-              is = h ∙ ap got (sym read);
+              is = h ∙ ap (λ (x : List Sample). Ok x) (sym read);
               first_long = long;
               second_long = short;
               first_enough = omega (arith, long, p);
@@ -198,16 +196,16 @@ module _ (t : Tables) (e : Edge) (r : Resolved) (first second : List Float) (p :
     -- and repair_runaway went on from it
     module _ (n : ℕ) (c : Counts n) where
       module _ (v : Way) (v_is : v ≡ way) where
-        abbrev mended : Result Got
+        abbrev mended : Answer Got
         mended = within (room_of (length f) (length s)) (repaired t e r (by v (samples n f)))
 
         all_mended : mended ≡ whole
         all_mended =
             ap (λ (u : Way). within (room_of (length f) (length s)) (repaired t e r (by u (samples n f)))) v_is
             ∙ ap (λ (m : ℕ). within (room_of m (length s)) (repaired t e r (by way (samples n f)))) c.first_long
-            ∙ ap (λ (m : ℕ). within (room_of (length first) m) (repaired t e r (by way (samples n f)))) c.second_long ∙ sym (whole_by (got (samples n f)) c.is)
+            ∙ ap (λ (m : ℕ). within (room_of (length first) m) (repaired t e r (by way (samples n f)))) c.second_long ∙ sym (whole_by (Ok (samples n f)) c.is)
 
-        pub drawn_on : {answer : Drawn} {f' s' : List Float} → DrawnInto mended f s answer f' s' → DrawnInto whole first second answer f' s'
+        pub drawn_on : {answer : Answer Drawn} {f' s' : List Float} → DrawnInto mended f s answer f' s' → DrawnInto whole first second answer f' s'
         drawn_on h = record {
           answered = h.answered ∙ ap draw.answer_of all_mended;
           first_holds = h.first_holds ∙ ap (first_after f) all_mended ∙ same_first whole f first whole_late c.first_long;
@@ -216,7 +214,7 @@ module _ (t : Tables) (e : Edge) (r : Resolved) (first second : List Float) (p :
 
 -- ---- draw_straight
 module _ (t : Tables) (e : Edge) (r : Resolved) (first second : List Float) (p : shortest ≤ length first) (q : shortest ≤ length second) (range : Interval)
-    (u : usable_range (edge_curve t e) e.range ≡ Range range) (near : (x : Float) → asks_far (edge_curve t e) x ≡ false) where
+    (u : usable_range (edge_curve t e) e.range ≡ Some range) (near : (x : Float) → asks_far (edge_curve t e) x ≡ false) where
   over_usable : over_range t e r range ≡ discretised t e r
   unfolding discretised
   over_usable = rw (u, discretised)
@@ -228,19 +226,19 @@ module _ (t : Tables) (e : Edge) (r : Resolved) (first second : List Float) (p :
       over_usable ∙ sym (asking_clear (asks_far (edge_curve t e)) ts (discretised t e r) (some_far-never (asks_far (edge_curve t e)) near ts))
 
   -- one segment, which stays, is all of the drawing
-  straight_whole : (l : List Sample) → within (room_of (length first) (length second)) (over_range t e r range) ≡ got l → stays t e r l ≡ true → whole t e r first second p q ≡ got (by AsDrawn l)
+  straight_whole : (l : List Sample) → within (room_of (length first) (length second)) (over_range t e r range) ≡ Ok l → stays t e r l ≡ true → whole t e r first second p q ≡ Ok (by AsDrawn l)
   unfolding first_way
   straight_whole l h k =
-      whole_by t e r first second p q (got l) (ap (within (room_of (length first) (length second))) (sym over_probed) ∙ h)
+      whole_by t e r first second p q (Ok l) (ap (within (room_of (length first) (length second))) (sym over_probed) ∙ h)
       ∙ repaired_kept t e r (room_of (length first) (length second)) (by (first_way (usable_range (edge_curve t e) e.range)) l) k
-      ∙ ap (λ (v : Usable). got (by (first_way v) l)) u
+      ∙ ap (λ (v : Option Interval). Ok (by (first_way v) l)) u
 
   straight_drawn : {b : Bool} {f s : List Float} → SegmentInto t e r range first b f → b ≡ true → stays t e r (placed t e (evenly range 1)) ≡ true → s ≡ filled (length second) []
-      → DrawnInto (whole t e r first second p q) first second (Chain AsDrawn 2) f s
+      → DrawnInto (whole t e r first second p q) first second (drawn_as AsDrawn 2) f s
   unfolding draw.answer_of first_after second_after
   straight_drawn d h k c =
       rw (straight_whole (placed t e (evenly range 1)) (d.chain h (room_of (length first) (length second)) (room_fine (length first) (length second) p q).least) k)
-      (record { answered = ap (Chain AsDrawn) (sym (placed_size t e range)); first_holds = d.holds h; second_holds = c })
+      (record { answered = ap (drawn_as AsDrawn) (sym (placed_size t e range)); first_holds = d.holds h; second_holds = c })
 
 -- ---- draw: answer and buffers, by the way out
 -- what `binary64` says of the tables and the edge's range
@@ -248,29 +246,29 @@ pub binary : (t : Tables) (e : Edge) → AllBinary64 t.reals × AllBinary64 t.ra
 binary t e h = record { reals = h.0; ranges = h.1; lo = h.2; hi = h.3 }
 
 -- 1 to 7 leave both buffers as before
-pub early : (n : ℕ) (first second : List Float) (d : Result Got) → n ≤ 7 → d ≡ refused n → DrawnInto d first second (Refused n) first second
+pub early : (n : Refusal) (first second : List Float) (d : Answer Got) → number_of n ≤ 7 → d ≡ Err n → DrawnInto d first second (Err n) first second
 unfolding draw.answer_of first_after second_after
-early n first second d h q = record { answered = rw q; first_holds = rw (q, le-leb n 7 h); second_holds = rw (q, le-leb n 7 h) }
+early n first second d h q = record { answered = rw q; first_holds = rw (q, le-leb (number_of n) 7 h); second_holds = rw (q, le-leb (number_of n) 7 h) }
 
 module _ (t : Tables) (e : Edge) (o : Options) (first second : List Float) where
   -- draw_unchecked
-  pub too_short_lem : too_short (length first) (length second) ≡ true → DrawnInto (in_buffers t e o (length first) (length second)) first second (Refused 7) first second
-  too_short_lem h = early 7 first second _ (omega arith) (rw h)
+  pub too_short_lem : too_short (length first) (length second) ≡ true → DrawnInto (in_buffers t e o (length first) (length second)) first second (Err ShortBuffer) first second
+  too_short_lem h = early ShortBuffer first second _ (omega arith) (rw h)
 
   pub in_buffers_lem : too_short (length first) (length second) ≡ false → (r : Resolved) → r ≡ local_options t e o
-      → (answer : Drawn) (f s : List Float) → DrawnInto (within (room_of (length first) (length second)) (referenced t e r)) first second answer f s
+      → (answer : Answer Drawn) (f s : List Float) → DrawnInto (within (room_of (length first) (length second)) (referenced t e r)) first second answer f s
       → DrawnInto (in_buffers t e o (length first) (length second)) first second answer f s
   in_buffers_lem h r is answer f s d = rw (h, ← is) d
 
   -- draw
-  pub by_verdict : (n : ℕ) → verdict t e o ≡ verdicts.Refused n → DrawnInto (drawn t e o (length first) (length second)) first second (Refused n) first second
+  pub by_verdict : (n : Refusal) → verdict t e o ≡ Err n → DrawnInto (drawn t e o (length first) (length second)) first second (Err n) first second
   by_verdict n a = early n first second _ (omega (arith, verdict_numbers t e o n a)) (refused_so t e o (length first) (length second) n (by_tables a))
 
-  pub by_drawing : verdict t e o ≡ verdicts.Accepted → (answer : Drawn) (f s : List Float) → DrawnInto (in_buffers t e o (length first) (length second)) first second answer f s
+  pub by_drawing : verdict t e o ≡ Ok tt → (answer : Answer Drawn) (f s : List Float) → DrawnInto (in_buffers t e o (length first) (length second)) first second answer f s
       → DrawnInto (drawn t e o (length first) (length second)) first second answer f s
-  by_drawing a answer f s = subst (λ (x : Result Got). DrawnInto x first second answer f s) (sym (given t e o (length first) (length second) verdicts.Accepted (too_short (length first) (length second)) a refl))
+  by_drawing a answer f s = subst (λ (x : Answer Got). DrawnInto x first second answer f s) (sym (given t e o (length first) (length second) (Ok tt) (too_short (length first) (length second)) a refl))
 
-  pub all_outcome : Binary t e → (answer : Drawn) (f s : List Float) → DrawnInto (drawn t e o (length first) (length second)) first second answer f s → Outcome t e o first second answer f s
+  pub all_outcome : Binary t e → (answer : Answer Drawn) (f s : List Float) → DrawnInto (drawn t e o (length first) (length second)) first second answer f s → Outcome t e o first second answer f s
   all_outcome b answer f s d = outcome t e o first second answer f s d.answered d.first_holds d.second_holds b
 
 -- ---- the lengths that draw_unchecked looks at
@@ -293,11 +291,11 @@ unfolding local_options for_extent resolve
 depth_above t e o {r} h = let d : r.depth ≡ (local_options t e o).depth = ap (λ (x : Resolved). x.depth) h in omega arith
 
 -- ---- draw_straight, by the way out
-pub not_straight : (D : Result Got) (first second : List Float) {f s : List Float} → f ≡ first → s ≡ second → StraightInto D first second false f s
+pub not_straight : (D : Answer Got) (first second : List Float) {f s : List Float} → f ≡ first → s ≡ second → StraightInto D first second false f s
 not_straight D first second h k = record { chain = λ z. absurd (false≢true z); kept_first = λ z. h; kept_second = λ z. k }
 
 module _ (t : Tables) (e : Edge) (o : Options) (first second : List Float) (p : shortest ≤ length first) (q : shortest ≤ length second) (range : Interval)
-    (u : usable_range (edge_curve t e) e.range ≡ Range range) {origin direction : Vec3} (line : prepared_of (edge_curve t e) ≡ Line origin direction)
+    (u : usable_range (edge_curve t e) e.range ≡ Some range) {origin direction : Vec3} (line : prepared_of (edge_curve t e) ≡ Line origin direction)
     {start end : Vec3} (at_start : start ≡ edge_start t e) (at_end : end ≡ edge_end t e) where
   -- a line asks no hyperbola for anything
   line_near : (x : Float) → asks_far (edge_curve t e) x ≡ false
@@ -325,7 +323,7 @@ module _ (t : Tables) (e : Edge) (o : Options) (first second : List Float) (p : 
       }
 
 -- the buffers as they were, and drawing went on from there
-pub drawn_from : (t : Tables) (e : Edge) (r : Resolved) {first second f s : List Float} → f ≡ first → s ≡ second → {answer : Drawn} {f' s' : List Float}
+pub drawn_from : (t : Tables) (e : Edge) (r : Resolved) {first second f s : List Float} → f ≡ first → s ≡ second → {answer : Answer Drawn} {f' s' : List Float}
     → DrawnInto (within (room_of (length f) (length s)) (referenced t e r)) f s answer f' s'
     → DrawnInto (within (room_of (length first) (length second)) (referenced t e r)) first second answer f' s'
 drawn_from t e r {first} {second} {f} {s} h k {answer} {f'} {s'} d =

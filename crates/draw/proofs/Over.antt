@@ -1,6 +1,7 @@
 -- Drawing over tables of any content: over accepted tables it is drawing, every answer is one that a caller can rely on, and `draw_over` by the way out. Assumes nothing but what its statements say.
+use Rattle.std.specs.Prelude.{⊤, Ok, Err}
 use mathlib.Core.Path.{◌≡◌, refl, sym, ap, subst, ◌∙◌}
-use mathlib.Core.Bool.{Bool, true, false, cond}
+use mathlib.Core.Bool.{Bool, true, false, cond, ◌||◌}
 use mathlib.Core.List.{List}
 use Prim.Native.Nat.{ℕ, ◌*◌, ◌<◌, ◌≤◌}
 use native.Mathlib.Omega.{arith}
@@ -8,14 +9,10 @@ use lib.ListN.{length}
 use lib.Dec.{ltb}
 use lib.Ieee.{Float}
 use borrow.Author.Tests.{lt-ltb, le-ltb, ltb-false}
-use Rattle.base_lists.specs.Result.{Result, refused, got}
 use Rattle.brep.specs.declared.Edge.{Edge}
 use Rattle.brep.specs.Rows.{Tables, most_segments}
 use Rattle.brep.specs.Tree.{CurveTree, analytic, polyline, trimmed, composite, none, segment, tree}
 use Rattle.options.specs.declared.Options.{Options}
-use Rattle.causes_bounds.proofs.Laws.{neither}
-use Rattle.causes.specs.declared.Verdict.{Verdict}
-use Rattle.causes.specs.declared.Verdict.TheVariants as verdicts
 use Rattle.causes.specs.Causes.{oversize, tables_verdict, edge_verdict}
 use Rattle.causes.proofs.Apart.{verdict_edge}
 use Rattle.causes.proofs.Checked.{tables_of_lem, edge_numbers}
@@ -24,8 +21,6 @@ use Rattle.knots.specs.Knots.{segment_knots, curve_knots}
 use Rattle.knots_sort.specs.Own.Sortable.{most_knots}
 use Rattle.edge_record.specs.Chain.{shortest}
 use Rattle.edge_merge.specs.Merge.{merge_floor}
-use Rattle.draw_spec.specs.declared.Drawn.{Drawn}
-use Rattle.draw_spec.specs.declared.Drawn.TheVariants.{Refused}
 use Rattle.draw_spec.specs.Repair.{Got}
 use Rattle.draw_spec.specs.Draw.{local_options, in_buffers, room_of, too_short, drawn, answer_of, first_after, second_after, Outcome}
 use Rattle.draw_spec.proofs.Answers as answers
@@ -38,63 +33,73 @@ use Rattle.edge_repair.specs.Own.Redrawn.{DrawnInto}
 use Rattle.draw.specs.Over.{long_run, drawn_bounded, drawn_over, Over}
 use Rattle.draw.proofs.Few.{knots_fit}
 use Rattle.draw.proofs.Laws.{room_answers, early}
+use Rattle.draw_spec.specs.declared.Drawn.{Drawn}
+use Rattle.refusal.specs.Answer.{Answer}
+use Rattle.refusal.specs.declared.Refusal.TheVariants.{Oversize, IllFormed, ShortBuffer, NoRoom, NoSheet}
+use Rattle.refusal.specs.declared.Refusal.{Refusal}
+use Rattle.refusal.specs.Refusal.{number_of}
+
+-- of two tests of which neither holds
+neither : (a b : Bool) → (a || b) ≡ false → (a ≡ false) × (b ≡ false)
+neither true b h = cc
+neither false b h = (refl, h)
 
 module _ (t : Tables) (e : Edge) (o : Options) (first second : ℕ) where
   -- by the tables' sizes, the edge's verdict, and whether a run is too long
-  abbrev over_by : Bool → Verdict → Bool → Result Got
-  over_by z v k = cond z (refused 1) (elim v [ verdicts.Refused n ↦ refused n | verdicts.Accepted ↦ cond k (refused 3) (drawn_bounded t e o first second) ])
+  abbrev over_by : Bool → Answer ⊤ → Bool → Answer Got
+  over_by z v k = cond z (Err Oversize) (elim v [ Err n ↦ Err n | Ok u ↦ cond k (Err IllFormed) (drawn_bounded t e o first second) ])
 
-  over_is : (z : Bool) (v : Verdict) (k : Bool) → oversize t ≡ z → edge_verdict t e o ≡ v → long_run t e ≡ k → drawn_over t e o first second ≡ over_by z v k
+  over_is : (z : Bool) (v : Answer ⊤) (k : Bool) → oversize t ≡ z → edge_verdict t e o ≡ v → long_run t e ≡ k → drawn_over t e o first second ≡ over_by z v k
   unfolding drawn_over
   over_is z v k a b c =
-      ap (λ (x : Bool). over_by x (edge_verdict t e o) (long_run t e)) a ∙ ap (λ (x : Verdict). over_by z x (long_run t e)) b
+      ap (λ (x : Bool). over_by x (edge_verdict t e o) (long_run t e)) a ∙ ap (λ (x : Answer ⊤). over_by z x (long_run t e)) b
       ∙ ap (λ (x : Bool). over_by z v x) c
 
   -- over accepted tables no test fires that is not the entry point's
-  pub over_same : tables_verdict t ≡ verdicts.Accepted → drawn_over t e o first second ≡ drawn t e o first second
+  pub over_same : tables_verdict t ≡ Ok tt → drawn_over t e o first second ≡ drawn t e o first second
   over_same h = go (edge_verdict t e o) refl
     where
       fits : long_run t e ≡ false
       fits = le-ltb (2 * most_segments) (length (curve_knots (tree t e.curve))) (knots_fit t (tables_of_lem t h).0 (tables_of_lem t h).1 e.curve)
 
-      go : (v : Verdict) → edge_verdict t e o ≡ v → drawn_over t e o first second ≡ drawn t e o first second
-      go (verdicts.Refused n) q =
-          over_is false (verdicts.Refused n) false (tables_of_lem t h).0 q fits
-          ∙ sym (given t e o first second (verdicts.Refused n) (too_short first second) (verdict_edge t e o h ∙ q) refl)
-      go verdicts.Accepted q =
-          over_is false verdicts.Accepted false (tables_of_lem t h).0 q fits
+      go : (v : Answer ⊤) → edge_verdict t e o ≡ v → drawn_over t e o first second ≡ drawn t e o first second
+      go (Err n) q =
+          over_is false (Err n) false (tables_of_lem t h).0 q fits
+          ∙ sym (given t e o first second (Err n) (too_short first second) (verdict_edge t e o h ∙ q) refl)
+      go (Ok u) q =
+          over_is false (Ok tt) false (tables_of_lem t h).0 q fits
           ∙ either (nests (tree t e.curve))
         where
           either : (m : Bool) → cond m (drawn t e o first second) (in_buffers t e o first second) ≡ drawn t e o first second
           either true = refl
-          either false = sym (given t e o first second verdicts.Accepted (too_short first second) (verdict_edge t e o h ∙ q) refl)
+          either false = sym (given t e o first second (Ok tt) (too_short first second) (verdict_edge t e o h ∙ q) refl)
 
 -- ---- every answer is a refusal from 1 to 9, or 11, or a chain that fits both buffers
-abbrev pub Answerable : ℕ → ℕ → Result Got → Type 0
-Answerable first second (refused n) = (1 ≤ n) × (n ≤ 11) × (n ≡ 10 → ⊥)
-Answerable first second (got g) = length g.chain ≤ room_of first second
+abbrev pub Answerable : ℕ → ℕ → Answer Got → Type 0
+Answerable first second (Err n) = (1 ≤ number_of n) × (number_of n ≤ 11) × (n ≡ NoSheet → ⊥)
+Answerable first second (Ok g) = length g.chain ≤ room_of first second
 
 module _ (t : Tables) (e : Edge) (o : Options) (first second : ℕ) where
-  buffers_answerable : (b : Bool) → too_short first second ≡ b → Answerable first second (cond b (refused 7) (in_room t e o first second))
-  buffers_answerable true h = (omega arith, omega arith, λ z. omega arith)
+  buffers_answerable : (b : Bool) → too_short first second ≡ b → Answerable first second (cond b (Err ShortBuffer) (in_room t e o first second))
+  buffers_answerable true h = (omega arith, omega arith, λ z. cc)
   buffers_answerable false h =
       let k = neither (ltb first shortest) (ltb second shortest) h in
       of (room_answers t e (local_options t e o) first second (ltb-false first shortest k.0) (ltb-false second shortest k.1))
     where
-      of : {b : Bool} {x : Result Got}
+      of : {b : Bool} {x : Answer Got}
           → Answered (λ (g : Got). Chained ⊥ t e (merge_floor e.tolerance (local_options t e o).sag) (room_of first second) g.chain) b x
-          → Answerable first second (cond b (refused 8) x)
+          → Answerable first second (cond b (Err NoRoom) x)
       of (answers.answer c) = c.fits
-      of answers.eight = (omega arith, omega arith, λ z. omega arith)
-      of answers.nine = (omega arith, omega arith, λ z. omega arith)
-      of answers.eleven = (omega arith, omega arith, λ z. omega arith)
+      of answers.eight = (omega arith, omega arith, λ z. cc)
+      of answers.nine = (omega arith, omega arith, λ z. cc)
+      of answers.eleven = (omega arith, omega arith, λ z. cc)
 
   pub drawn_answerable : Answerable first second (drawn t e o first second)
   drawn_answerable = go (drawn t e o first second) refl
     where
-      go : (d : Result Got) → drawn t e o first second ≡ d → Answerable first second d
-      go (refused n) q = drawn_numbers t e o first second n q
-      go (got g) q = drawn_fits t e o first second g q
+      go : (d : Answer Got) → drawn t e o first second ≡ d → Answerable first second d
+      go (Err n) q = drawn_numbers t e o first second n q
+      go (Ok g) q = drawn_fits t e o first second g q
 
   bounded_answerable : (m : Bool) → Answerable first second (cond m (drawn t e o first second) (in_buffers t e o first second))
   bounded_answerable true = drawn_answerable
@@ -103,14 +108,14 @@ module _ (t : Tables) (e : Edge) (o : Options) (first second : ℕ) where
   pub over_answerable : Answerable first second (drawn_over t e o first second)
   over_answerable = go (oversize t) (edge_verdict t e o) (long_run t e) refl refl refl
     where
-      go : (z : Bool) (v : Verdict) (k : Bool) → oversize t ≡ z → edge_verdict t e o ≡ v → long_run t e ≡ k → Answerable first second (drawn_over t e o first second)
+      go : (z : Bool) (v : Answer ⊤) (k : Bool) → oversize t ≡ z → edge_verdict t e o ≡ v → long_run t e ≡ k → Answerable first second (drawn_over t e o first second)
       go z v k a b c = subst (Answerable first second) (sym (over_is t e o first second z v k a b c)) (each z v k b)
         where
-          each : (z : Bool) (v : Verdict) (k : Bool) → edge_verdict t e o ≡ v → Answerable first second (over_by t e o first second z v k)
-          each true v k b = (omega arith, omega arith, λ x. omega arith)
-          each false (verdicts.Refused n) k b = let m = edge_numbers t e o n b in (omega arith, omega arith, λ x. omega arith)
-          each false verdicts.Accepted true b = (omega arith, omega arith, λ x. omega arith)
-          each false verdicts.Accepted false b = bounded_answerable (nests (tree t e.curve))
+          each : (z : Bool) (v : Answer ⊤) (k : Bool) → edge_verdict t e o ≡ v → Answerable first second (over_by t e o first second z v k)
+          each true v k b = (omega arith, omega arith, λ x. cc)
+          each false (Err n) k b = let m = edge_numbers t e o n b in (m.0, omega (arith, m.1), λ x. let z = ap number_of x in omega (arith, z, m.1))
+          each false (Ok u) true b = (omega arith, omega arith, λ x. cc)
+          each false (Ok u) false b = bounded_answerable (nests (tree t e.curve))
 
 -- ---- a curve with no knots has no segments, so that nothing nests
 pub flat_curve : (c : CurveTree) → length (curve_knots c) ≡ 0 → nests c ≡ false
@@ -122,7 +127,7 @@ flat_curve (composite none) h = refl
 flat_curve (composite (segment curve range same rest)) h = absurd (omega arith)
 
 -- ---- draw_bounded, by the way out
-module _ (t : Tables) (e : Edge) (o : Options) (first second : List Float) (answer : Drawn) (f s : List Float) where
+module _ (t : Tables) (e : Edge) (o : Options) (first second : List Float) (answer : Answer Drawn) (f s : List Float) where
   -- by whether composites nest
   bounded_is : (m : Bool) → nests (tree t e.curve) ≡ m
       → DrawnInto (cond m (drawn t e o (length first) (length second)) (in_buffers t e o (length first) (length second))) first second answer f s
@@ -138,7 +143,7 @@ module _ (t : Tables) (e : Edge) (o : Options) (first second : List Float) (answ
 
 -- ---- draw_over, by the way out
 module _ (t : Tables) (e : Edge) (o : Options) (b : Binary t e) (first second : List Float) where
-  whole : (answer : Drawn) (f s : List Float) → DrawnInto (drawn_over t e o (length first) (length second)) first second answer f s → Over t e o first second answer f s
+  whole : (answer : Answer Drawn) (f s : List Float) → DrawnInto (drawn_over t e o (length first) (length second)) first second answer f s → Over t e o first second answer f s
   whole answer f s d = record {
     answered = d.answered;
     first_holds = d.first_holds;
@@ -148,22 +153,22 @@ module _ (t : Tables) (e : Edge) (o : Options) (b : Binary t e) (first second : 
         outcome t e o first second answer f s (d.answered ∙ ap answer_of k) (d.first_holds ∙ ap (first_after first) k) (d.second_holds ∙ ap (second_after second) k) b;
   }
 
-  refuses : (n : ℕ) → n ≤ 7 → drawn_over t e o (length first) (length second) ≡ refused n → Over t e o first second (Refused n) first second
-  refuses n h q = whole (Refused n) first second (early n first second (drawn_over t e o (length first) (length second)) h q)
+  refuses : (n : Refusal) → number_of n ≤ 7 → drawn_over t e o (length first) (length second) ≡ Err n → Over t e o first second (Err n) first second
+  refuses n h q = whole (Err n) first second (early n first second (drawn_over t e o (length first) (length second)) h q)
 
-  pub over_sizes : oversize t ≡ true → Over t e o first second (Refused 1) first second
-  over_sizes z = refuses 1 (omega arith) (over_is t e o (length first) (length second) true (edge_verdict t e o) (long_run t e) z refl refl)
+  pub over_sizes : oversize t ≡ true → Over t e o first second (Err Oversize) first second
+  over_sizes z = refuses Oversize (omega arith) (over_is t e o (length first) (length second) true (edge_verdict t e o) (long_run t e) z refl refl)
 
   module _ (z : oversize t ≡ false) where
-    pub over_edge : (n : ℕ) → edge_verdict t e o ≡ verdicts.Refused n → Over t e o first second (Refused n) first second
-    over_edge n v = refuses n (omega (arith, edge_numbers t e o n v)) (over_is t e o (length first) (length second) false (verdicts.Refused n) (long_run t e) z v refl)
+    pub over_edge : (n : Refusal) → edge_verdict t e o ≡ Err n → Over t e o first second (Err n) first second
+    over_edge n v = refuses n (omega (arith, edge_numbers t e o n v)) (over_is t e o (length first) (length second) false (Err n) (long_run t e) z v refl)
 
-    pub over_run : edge_verdict t e o ≡ verdicts.Accepted → most_knots < length (curve_knots (tree t e.curve)) → Over t e o first second (Refused 3) first second
-    over_run v k = refuses 3 (omega arith)
-        (over_is t e o (length first) (length second) false verdicts.Accepted true z v (lt-ltb (2 * most_segments) (length (curve_knots (tree t e.curve))) k))
+    pub over_run : edge_verdict t e o ≡ Ok tt → most_knots < length (curve_knots (tree t e.curve)) → Over t e o first second (Err IllFormed) first second
+    over_run v k = refuses IllFormed (omega arith)
+        (over_is t e o (length first) (length second) false (Ok tt) true z v (lt-ltb (2 * most_segments) (length (curve_knots (tree t e.curve))) k))
 
-    pub over_drawn : edge_verdict t e o ≡ verdicts.Accepted → length (curve_knots (tree t e.curve)) ≤ most_knots
-        → (answer : Drawn) (f s : List Float) → DrawnInto (drawn_bounded t e o (length first) (length second)) first second answer f s → Over t e o first second answer f s
+    pub over_drawn : edge_verdict t e o ≡ Ok tt → length (curve_knots (tree t e.curve)) ≤ most_knots
+        → (answer : Answer Drawn) (f s : List Float) → DrawnInto (drawn_bounded t e o (length first) (length second)) first second answer f s → Over t e o first second answer f s
     over_drawn v k answer f s d = whole answer f s
-        (subst (λ (x : Result Got). DrawnInto x first second answer f s)
-        (sym (over_is t e o (length first) (length second) false verdicts.Accepted false z v (le-ltb (2 * most_segments) (length (curve_knots (tree t e.curve))) k))) d)
+        (subst (λ (x : Answer Got). DrawnInto x first second answer f s)
+        (sym (over_is t e o (length first) (length second) false (Ok tt) false z v (le-ltb (2 * most_segments) (length (curve_knots (tree t e.curve))) k))) d)

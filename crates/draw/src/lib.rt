@@ -1,38 +1,33 @@
 #![tactic(auto)]
 // Drawing an edge: THE entry point. Whoever calls it, with tables, edge, options and buffers of any content, gets a chain
 // or one of the numbered refusals.
-ghost use Rattle.std.specs.Prelude.{◌≡◌, List, ℕ, ◌<◌, ◌≤◌, length, T, Float};
+ghost use Rattle.std.specs.Prelude.{◌≡◌, ◌<◌, ◌≤◌, length, T};
 ghost use Rattle.std.specs.Float.{binary64};
 ghost use Rattle.std.specs.Float.Ieee.{fits};
-ghost use Rattle.brep.specs.Rows.{tables, lent, given};
-ghost use Rattle.brep.specs.Tree.{tree};
-ghost use Rattle.knots_sort.specs.Own.Sortable.{most_knots};
-ghost use Rattle.knots.specs.Knots.{curve_knots};
+ghost use Rattle.brep.specs.Rows.{lent};
 ghost use Rattle.edge_params.specs.Work.{within};
 ghost use Rattle.edge_record.specs.Chain.{shortest};
-ghost use Rattle.edge_range.specs.Usable.{usable_range};
 ghost use Rattle.draw_spec.specs.Draw.{first_way, local_options, referenced, in_buffers, room_of, Outcome};
 ghost use Rattle.draw_spec.specs.Own.Binary.{AllBinary64};
 ghost use Rattle.edge_repair.specs.Own.Redrawn.{DrawnInto};
 ghost use Rattle.draw.specs.Own.Straight.{StraightInto};
 ghost use Rattle.draw.specs.Over.{drawn_bounded, Over};
 
-use brep::Edge;
-use causes::Verdict;
+use brep::{Edge, LentTables};
 use curve_prepared::Prepared;
 use draw_spec::{Drawn, Way};
-use edge_range::Usable;
-use edge_record::Counted;
+use edge_drawing::Drawing;
 use math::Interval;
 use options::{Options, Resolved};
+use refusal::Refusal;
 
 // The way of the first drawing: the chord where the edge has no usable range.
-fn first_way(usable: Usable) -> Way
+fn first_way(usable: Option<Interval>) -> Way
     ensures { result ≡ first_way usable }
 {
     match usable {
-        Usable::Range(_) => Way::AsDrawn,
-        Usable::Unusable => Way::Chord,
+        Some(_) => Way::AsDrawn,
+        None => Way::Chord,
     }
 }
 
@@ -54,22 +49,12 @@ fn binary64(reals: &[f64], ranges: &[f64], range: Interval)
 }
 
 // The options for an edge of this size.
-fn local_options(
-    points: &[f64],
-    curves: &[u32],
-    reals: &[f64],
-    parts: &[u32],
-    ranges: &[f64],
-    edge: Edge,
-    usable: Usable,
-    options: Options,
-) -> Resolved
-    requires { usable ≡ usable_range (tree (lent points curves reals parts ranges) edge.curve) edge.range }
-    ensures { result ≡ local_options (given points curves reals parts ranges) edge options }
+fn local_options(drawing: &Drawing<'_>, options: Options) -> Resolved
+    ensures { result ≡ local_options (lent drawing.now.tables.now) drawing.now.edge options }
 {
     let r = options.resolve();
     if 0.0 < r.relative {
-        let extent = edge_extent::extent_usable(points, curves, reals, parts, ranges, edge, usable);
+        let extent = edge_extent::extent_usable(drawing.tables, drawing.edge, drawing.usable);
         return r.for_extent(extent);
     }
     // No extent changes these, so that none is worked out. What its probes may not ask for is looked at before the edge is discretised, either
@@ -80,31 +65,29 @@ fn local_options(
 // Draws a line's edge in one segment, the commonest, at once, where neither its extent nor its box can change the chain, and says whether
 // it did. If not, both buffers are as they were, and it is drawn as any other.
 fn draw_straight(
-    points: &[f64],
-    curves: &[u32],
-    edge: Edge,
-    usable: Usable,
+    drawing: &Drawing<'_>,
     options: Options,
     first: &mut [f64],
     second: &mut [f64],
 ) -> bool
     requires { (shortest ≤ length first.old) × (shortest ≤ length second.old) }
-    ensures { (reals : List Float) (parts : List ℕ) (ranges : List Float) → usable ≡ usable_range (tree (tables points.now curves.now reals parts ranges) edge.curve) edge.range
-        → StraightInto (in_buffers (tables points.now curves.now reals parts ranges) edge options (length first.old) (length second.old)) first.old second.old result first.new second.new }
+    ensures { StraightInto (in_buffers (lent drawing.now.tables.now) drawing.now.edge options (length first.old) (length second.old)) first.old second.old result first.new second.new }
 {
     if 1 < options.segments {
         return false;
     }
-    let Usable::Range(range) = usable else {
+    let Some(range) = drawing.usable else {
         return false;
     };
-    let line = curve_prepared::line_under(points, curves, edge.curve);
+    let tables = drawing.tables;
+    let edge = drawing.edge;
+    let line = curve_prepared::line_under(tables.points, tables.curves, edge.curve);
     let Prepared::Line { origin, direction } = line else {
         return false;
     };
-    let start = brep::point(points, edge.start);
-    let end = brep::point(points, edge.end);
-    if edge_repair::stays_between(points, edge, start, end) {
+    let start = brep::point(tables.points, edge.start);
+    let end = brep::point(tables.points, edge.end);
+    if edge_repair::stays_between(tables.points, edge, start, end) {
         if edge_segment::draw_segment(start, end, origin, direction, edge, range, options, first) {
             base_lists::clear_from(second, 0);
             return true;
@@ -115,153 +98,100 @@ fn draw_straight(
 
 // The closure inside discretise_all: the probes, discretise, then repair_runaway.
 fn drawn_in(
-    points: &[f64],
-    curves: &[u32],
-    reals: &[f64],
-    parts: &[u32],
-    ranges: &[f64],
-    edge: Edge,
-    usable: Usable,
+    drawing: &Drawing<'_>,
     r: Resolved,
     first: &mut [f64],
     second: &mut [f64],
-) -> Drawn
-    requires { (shortest ≤ length first.old) × (shortest ≤ length second.old) × (length (curve_knots (tree (lent points curves reals parts ranges) edge.curve)) ≤ most_knots)
-        × (0 < r.depth) × (usable ≡ usable_range (tree (lent points curves reals parts ranges) edge.curve) edge.range) }
-    ensures { DrawnInto (within (room_of (length first.old) (length second.old)) (referenced (given points curves reals parts ranges) edge r)) first.old second.old result first.new second.new }
+) -> Result<Drawn, Refusal>
+    requires { (shortest ≤ length first.old) × (shortest ≤ length second.old) × (0 < r.depth) }
+    ensures { DrawnInto (within (room_of (length first.old) (length second.old)) (referenced (lent drawing.now.tables.now) drawing.now.edge r)) first.old second.old result first.new second.new }
 {
-    let counted = edge_discretise::discretise_usable(
-        points, curves, reals, parts, ranges, edge, usable, true, r, first, second,
-    );
-    match counted {
-        Counted::Refused(n) => Drawn::Refused(n),
-        Counted::Count(n) => {
-            let way = first_way(usable);
-            edge_repair::repair_runaway(
-                points, curves, reals, parts, ranges, edge, r, way, n, first, second,
-            )
-        }
-    }
+    let n = edge_discretise::discretise_usable(drawing, true, r, first, second)?;
+    let way = first_way(drawing.usable);
+    edge_repair::repair_runaway(drawing, r, way, n, first, second)
 }
 
 // Draws an edge over tables of any content, of which nothing is looked at but that its curve has no more knots than can be sorted.
 fn draw_unchecked(
-    points: &[f64],
-    curves: &[u32],
-    reals: &[f64],
-    parts: &[u32],
-    ranges: &[f64],
-    edge: Edge,
+    drawing: &Drawing<'_>,
     options: Options,
     first: &mut [f64],
     second: &mut [f64],
-) -> Drawn
-    requires { length (curve_knots (tree (lent points curves reals parts ranges) edge.curve)) ≤ most_knots }
-    ensures { DrawnInto (in_buffers (given points curves reals parts ranges) edge options (length first.old) (length second.old)) first.old second.old result first.new second.new }
+) -> Result<Drawn, Refusal>
+    ensures { DrawnInto (in_buffers (lent drawing.now.tables.now) drawing.now.edge options (length first.old) (length second.old)) first.old second.old result first.new second.new }
 {
     if first.len() < edge_record::SHORTEST || second.len() < edge_record::SHORTEST {
-        return Drawn::Refused(7);
+        return Err(Refusal::ShortBuffer);
     }
-    let usable = edge_range::usable_range(
-        points, curves, reals, parts, ranges, edge.curve, edge.range,
-    );
-    if draw_straight(points, curves, edge, usable, options, first, second) {
-        return Drawn::Chain(Way::AsDrawn, 2);
+    if draw_straight(drawing, options, first, second) {
+        return Ok(Drawn {
+            way: Way::AsDrawn,
+            count: 2,
+        });
     }
-    let r = local_options(points, curves, reals, parts, ranges, edge, usable, options);
-    drawn_in(
-        points, curves, reals, parts, ranges, edge, usable, r, first, second,
-    )
+    let r = local_options(drawing, options);
+    drawn_in(drawing, r, first, second)
 }
 
 // Draws an edge over tables of any content, to a depth that is bounded. Evaluation calls itself once for each composite inside a
 // composite, and only the tables' whole verdict says how many these can be: where there is one they are gone through after all.
 // Where there is none, no evaluation is deeper than a composite and a segment of it. (Trims are followed in a loop.)
 fn draw_bounded(
-    points: &[f64],
-    curves: &[u32],
-    reals: &[f64],
-    parts: &[u32],
-    ranges: &[f64],
-    edge: Edge,
+    drawing: &Drawing<'_>,
     options: Options,
     first: &mut [f64],
     second: &mut [f64],
-) -> Drawn
-    requires { length (curve_knots (tree (lent points curves reals parts ranges) edge.curve)) ≤ most_knots }
-    ensures { DrawnInto (drawn_bounded (given points curves reals parts ranges) edge options (length first.old) (length second.old)) first.old second.old result first.new second.new }
+) -> Result<Drawn, Refusal>
+    ensures { DrawnInto (drawn_bounded (lent drawing.now.tables.now) drawing.now.edge options (length first.old) (length second.old)) first.old second.old result first.new second.new }
 {
-    if curve_nests::nests(curves, parts, edge.curve) {
-        return draw(
-            points, curves, reals, parts, ranges, edge, options, first, second,
-        );
+    let tables = drawing.tables;
+    let edge = drawing.edge;
+    if curve_nests::nests(tables.curves, tables.parts, edge.curve) {
+        return draw(tables, edge, options, first, second);
     }
-    draw_unchecked(
-        points, curves, reals, parts, ranges, edge, options, first, second,
-    )
+    draw_unchecked(drawing, options, first, second)
 }
 
 // Draws an edge over tables that `causes::check_tables` has accepted, for many edges over the same tables: of the tables only the
 // lengths are looked at, unless composites nest. Any others are drawn as their rows read, or refused: a run of more segments than a
 // table may have is turned away before its segments are gone through.
 pub fn draw_over(
-    points: &[f64],
-    curves: &[u32],
-    reals: &[f64],
-    parts: &[u32],
-    ranges: &[f64],
+    tables: &LentTables<'_>,
     edge: Edge,
     options: Options,
     first: &mut [f64],
     second: &mut [f64],
-) -> Drawn
-    ensures { Over (given points curves reals parts ranges) edge options first.old second.old result first.new second.new }
+) -> Result<Drawn, Refusal>
+    ensures { Over (lent tables.now) edge options first.old second.old result first.new second.new }
 {
-    binary64(reals, ranges, edge.range);
-    if causes::oversize(points, curves, reals, parts, ranges) {
-        return Drawn::Refused(1);
+    binary64(tables.reals, tables.ranges, edge.range);
+    if causes::oversize(tables) {
+        return Err(Refusal::Oversize);
     }
-    let verdict = causes::check_over(points, curves, reals, parts, ranges, edge, options);
-    match verdict {
-        Verdict::Refused(cause) => Drawn::Refused(cause),
-        Verdict::Accepted => {
-            let knots = knots::knot_count(points, curves, reals, parts, ranges, edge.curve);
-            if knots_sort::MOST_KNOTS < knots {
-                return Drawn::Refused(3);
-            }
-            if knots == 0 {
-                // It has no segments, so that nothing nests.
-                return draw_unchecked(
-                    points, curves, reals, parts, ranges, edge, options, first, second,
-                );
-            }
-            draw_bounded(
-                points, curves, reals, parts, ranges, edge, options, first, second,
-            )
-        }
+    causes::check_over(tables, edge, options)?;
+    let knots = knots::knot_count(tables, edge.curve);
+    if knots_sort::MOST_KNOTS < knots {
+        return Err(Refusal::IllFormed);
     }
+    let drawing = Drawing::new(tables, edge);
+    if knots == 0 {
+        // It has no segments, so that nothing nests.
+        return draw_unchecked(&drawing, options, first, second);
+    }
+    draw_bounded(&drawing, options, first, second)
 }
 
 // THE ENTRY POINT: looks at the tables, the edge and the options, and draws the edge's chain into one of the buffers.
 pub fn draw(
-    points: &[f64],
-    curves: &[u32],
-    reals: &[f64],
-    parts: &[u32],
-    ranges: &[f64],
+    tables: &LentTables<'_>,
     edge: Edge,
     options: Options,
     first: &mut [f64],
     second: &mut [f64],
-) -> Drawn
-    ensures { Outcome (given points curves reals parts ranges) edge options first.old second.old result first.new second.new }
+) -> Result<Drawn, Refusal>
+    ensures { Outcome (lent tables.now) edge options first.old second.old result first.new second.new }
 {
-    binary64(reals, ranges, edge.range);
-    let verdict = causes::check(points, curves, reals, parts, ranges, edge, options);
-    match verdict {
-        Verdict::Refused(n) => Drawn::Refused(n),
-        Verdict::Accepted => draw_unchecked(
-            points, curves, reals, parts, ranges, edge, options, first, second,
-        ),
-    }
+    binary64(tables.reals, tables.ranges, edge.range);
+    causes::check(tables, edge, options)?;
+    draw_unchecked(&Drawing::new(tables, edge), options, first, second)
 }

@@ -1,4 +1,5 @@
 -- The statements of specs/Asked.antt. Assumes nothing.
+use Rattle.std.specs.Prelude.{Some, None}
 use mathlib.Core.Path.{◌≡◌, refl, sym, ap, ◌∙◌}
 use mathlib.Core.Bool.{Bool, true, false, cond}
 use mathlib.Core.List.{List, [], ◌∷◌, ◌++◌, map}
@@ -30,7 +31,6 @@ use Rattle.edge_params.specs.Params.{Move, asks, adds, asked, midpoint, subdivid
 use Rattle.edge_params.specs.Work.{some_far}
 use Rattle.edge_params.proofs.Asks.{asked_append, some_far-first, asking_answers, forming_kept}
 use Rattle.edge_params.proofs.Lists.{steps_length}
-use Rattle.edge_range.specs.declared.Usable.TheVariants.{Range, Unusable}
 use Rattle.edge_record.specs.declared.Sample.{Sample}
 use Rattle.edge_subdivide.specs.Bisect.{end_at, is_within, within_budget}
 use Rattle.draw_spec.specs.Edge.{located, probed, extent_box}
@@ -109,7 +109,7 @@ pub probes_asked : ProbesAsked
 unfolding extent_box box_over probes
 probes_asked = record {
   probed = λ c range b. probed_over c range b 9;
-  box = λ c usable b. elim usable as (λ k. extent_box c k b ≡ box_over b (map (point_at c) (probes k))) [ Range range ↦ probed_over c range b 9 | Unusable ↦ refl ];
+  box = λ c usable b. elim usable as (λ k. extent_box c k b ≡ box_over b (map (point_at c) (probes k))) [ Some range ↦ probed_over c range b 9 | None ↦ refl ];
 }
 
 -- ---- the sweep

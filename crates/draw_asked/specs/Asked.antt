@@ -3,10 +3,9 @@
 -- `AnsweredNear`: what comes to an answer has asked for nothing too far. `NeedsNone`: what asks for nothing too far needs no cosh and no sinh beyond 100.
 -- The others tie each recorded list to what is evaluated: `probes`, `sweep`, `break_asks`, the `asks` of bisection. The chain's own points are `located`
 -- of the list that `listed` asks for, and a closed form asks no hyperbola for anything (`ClosedNeverFar` in crates/edge_sample/specs/Claims.antt).
-use Rattle.std.specs.Prelude.{◌≡◌, Bool, false, cond, ◌&&◌, List, [], ◌∷◌, map, ℕ, zero, suc, ◌≤◌, get_or, Float}
+use Rattle.std.specs.Prelude.{◌≡◌, Bool, false, cond, ◌&&◌, List, [], ◌∷◌, map, ℕ, zero, suc, ◌≤◌, get_or, Float, Option, Ok}
 use Rattle.std.specs.Float.{nan}
 use Rattle.std.specs.Float.Ieee.{lt, le}
-use Rattle.base_lists.specs.Result.{got}
 use Rattle.base_lists.specs.All.{All}
 use Rattle.arith_trig.specs.Trig.{sin_of, cos_of}
 use Rattle.arith_exp.specs.Exp.{cosh_of, sinh_of}
@@ -24,7 +23,6 @@ use Rattle.knots.specs.Knots.{curve_breaks, worst_of_three, deviation}
 use Rattle.knots_thin.specs.Thin.{kept_breaks, deviation_asks, break_asks}
 use Rattle.edge_params.specs.Work.{Work, asking}
 use Rattle.edge_params.specs.Params.{Move, asked, midpoint, subdividing, forming, evenly}
-use Rattle.edge_range.specs.declared.Usable.{Usable}
 use Rattle.edge_record.specs.declared.Sample.{Sample}
 use Rattle.edge_subdivide.specs.Bisect.{sag_of, tangent_turn, within_budget}
 use Rattle.draw_spec.specs.Edge.{located, probed, extent_box}
@@ -34,8 +32,8 @@ use Rattle.draw_spec.specs.Draw.{probes}
 -- ---- what is recorded
 -- a work that comes to an answer has asked for nothing too far: neither among listed parameters, nor in moves that form a list
 pub record AnsweredNear : Type 1 where
-  pub listed : {A : Type 0} (far : Float → Bool) (ts : List Float) (w : Work A) (a : A) → (asking far ts w).end ≡ got a → All (λ t. far t ≡ false) ts
-  pub moved : (far : Float → Bool) (k : ℕ) (moves : List Move) (l : List Float) → (forming far k moves).end ≡ got l → All (λ t. far t ≡ false) (asked moves)
+  pub listed : {A : Type 0} (far : Float → Bool) (ts : List Float) (w : Work A) (a : A) → (asking far ts w).end ≡ Ok a → All (λ t. far t ≡ false) ts
+  pub moved : (far : Float → Bool) (k : ℕ) (moves : List Move) (l : List Float) → (forming far k moves).end ≡ Ok l → All (λ t. far t ≡ false) (asked moves)
 
 -- ---- point_at and derivative_at with other functions for cosh and sinh
 -- `point_at` but for the hyperbola's line
@@ -96,7 +94,7 @@ box_over b (p ∷ ps) = box_over (cond (v_finite p) (add_point b p) b) ps
 -- the extent's box is that of the curve's points at the recorded probes, and of no other of its points
 pub record ProbesAsked : Type 0 where
   pub probed : (c : CurveTree) (range : Interval) (b : Aabb) → probed c range b 9 ≡ box_over b (map (point_at c) (evenly range 8))
-  pub box : (c : CurveTree) (usable : Usable) (b : Aabb) → extent_box c usable b ≡ box_over b (map (point_at c) (probes usable))
+  pub box : (c : CurveTree) (usable : Option Interval) (b : Aabb) → extent_box c usable b ≡ box_over b (map (point_at c) (probes usable))
 
 -- ---- the short arc's sweep
 -- the parameter of the sample nearest to the target: of `best` and those of a list, the first of equals

@@ -8,6 +8,7 @@ use Rattle.arith.specs.Notation.{bits, plus_zero}
 use Rattle.math.specs.declared.Vec3.{Vec3}
 use Rattle.math.specs.declared.Interval.{Interval}
 use Rattle.math.specs.Math.{distance, at, span_of, v_add, v_sub, v_scale, v_dot, v_length}
+use Rattle.brep.specs.Kind.{kind_numbered}
 use Rattle.brep.specs.Rows.{point_of, kind_of, curve_of}
 use Rattle.brep.specs.Tree.{CurveTree, tree, below, grown}
 use Rattle.curve.specs.Eval.{point_at, natural_range}
@@ -51,22 +52,22 @@ quarters c natural target quarter e f g h = to 384 (to 256 (to 128 e ∙ f) ∙ 
 -- ---- this line's sweep to either vertex, part by part; 0 is its index 256
 first : (nearest_of (edge_curve boxed escaping) (natural_range (edge_curve boxed escaping)) (edge_start boxed escaping) 128 ≡ bits 0xC25D1A94A2000000)
     × (nearest_of (edge_curve boxed escaping) (natural_range (edge_curve boxed escaping)) (edge_end boxed escaping) 128 ≡ bits 0xC25D1A94A2000000)
-unfolding nearest_of point_at natural_range at v_add v_sub v_scale v_dot v_length root_of root_units near_root isqrt tree below grown curve_of kind_of point_of add sub mul div neg lt le eq of_bits of_int
+unfolding nearest_of point_at natural_range at v_add v_sub v_scale v_dot v_length root_of root_units near_root isqrt tree below grown curve_of kind_of kind_numbered point_of add sub mul div neg lt le eq of_bits of_int
 first = (refl, refl)
 
 second : (swept (edge_curve boxed escaping) (natural_range (edge_curve boxed escaping)) (edge_start boxed escaping) 128 (bits 0xC25D1A94A2000000) 128 ≡ plus_zero)
     × (swept (edge_curve boxed escaping) (natural_range (edge_curve boxed escaping)) (edge_end boxed escaping) 128 (bits 0xC25D1A94A2000000) 128 ≡ plus_zero)
-unfolding swept point_at natural_range at v_add v_sub v_scale v_dot v_length root_of root_units near_root isqrt tree below grown curve_of kind_of point_of add sub mul div neg lt le eq of_bits of_int
+unfolding swept point_at natural_range at v_add v_sub v_scale v_dot v_length root_of root_units near_root isqrt tree below grown curve_of kind_of kind_numbered point_of add sub mul div neg lt le eq of_bits of_int
 second = (refl, refl)
 
 third : (swept (edge_curve boxed escaping) (natural_range (edge_curve boxed escaping)) (edge_start boxed escaping) 256 plus_zero 128 ≡ plus_zero)
     × (swept (edge_curve boxed escaping) (natural_range (edge_curve boxed escaping)) (edge_end boxed escaping) 256 plus_zero 128 ≡ plus_zero)
-unfolding swept point_at natural_range at v_add v_sub v_scale v_dot v_length root_of root_units near_root isqrt tree below grown curve_of kind_of point_of add sub mul div neg lt le eq of_bits of_int
+unfolding swept point_at natural_range at v_add v_sub v_scale v_dot v_length root_of root_units near_root isqrt tree below grown curve_of kind_of kind_numbered point_of add sub mul div neg lt le eq of_bits of_int
 third = (refl, refl)
 
 fourth : (swept (edge_curve boxed escaping) (natural_range (edge_curve boxed escaping)) (edge_start boxed escaping) 384 plus_zero 128 ≡ plus_zero)
     × (swept (edge_curve boxed escaping) (natural_range (edge_curve boxed escaping)) (edge_end boxed escaping) 384 plus_zero 128 ≡ plus_zero)
-unfolding swept point_at natural_range at v_add v_sub v_scale v_dot v_length root_of root_units near_root isqrt tree below grown curve_of kind_of point_of add sub mul div neg lt le eq of_bits of_int
+unfolding swept point_at natural_range at v_add v_sub v_scale v_dot v_length root_of root_units near_root isqrt tree below grown curve_of kind_of kind_numbered point_of add sub mul div neg lt le eq of_bits of_int
 fourth = (refl, refl)
 
 from_start : nearest_of (edge_curve boxed escaping) (natural_range (edge_curve boxed escaping)) (edge_start boxed escaping) 512 ≡ plus_zero
@@ -89,7 +90,7 @@ chosen b arc e = ap (λ (t : Bool). elim t [ true ↦ arc | false ↦ done (runa
 
 -- a line asks no hyperbola for anything
 never_far : (t : Float) → asks_far (edge_curve boxed escaping) t ≡ false
-unfolding asks_far tree below grown curve_of kind_of
+unfolding asks_far tree below grown curve_of kind_of kind_numbered
 never_far t = refl
 
 -- and the chord is left, whatever the options are

@@ -1,7 +1,6 @@
 -- The examples of the scope that are proved, as one list under one claim. Definitions only.
-use Rattle.std.specs.Prelude.{◌≡◌, false, cond, List, [], ◌∷◌, ℕ, ◌+◌, ◌*◌, ◌^◌, length, Float}
+use Rattle.std.specs.Prelude.{◌≡◌, false, cond, List, [], ◌∷◌, ℕ, ◌+◌, ◌*◌, ◌^◌, length, Float, Some, Err, Ok}
 use Rattle.std.specs.Float.Ieee.{eq, neg}
-use Rattle.base_lists.specs.Result.{Result, refused, got}
 use Rattle.base_lists.specs.All.{All}
 use Rattle.base_lists.specs.Room.{filled}
 use Rattle.arith.specs.Notation.{◌⊗◌, plus_zero, half, one, two, count}
@@ -21,13 +20,15 @@ use Rattle.edge_record.specs.Chain.{flat}
 use Rattle.edge_merge.specs.Merge.{merge_floor}
 use Rattle.edge_sample.specs.Sample.{sampled}
 use Rattle.edge_thin_loop.specs.Loop.{Returns}
-use Rattle.edge_range.specs.declared.Usable.TheVariants.{Range}
 use Rattle.edge_range.specs.Usable.{usable_range}
 use Rattle.draw_spec.specs.declared.Way.{Way}
 use Rattle.draw_spec.specs.declared.Way.TheVariants.{AsDrawn, Chord, Runaway}
 use Rattle.draw_spec.specs.Edge.{edge_curve, placed}
 use Rattle.draw_spec.specs.Repair.{Got, by}
 use Rattle.draw_spec.specs.Draw.{program_floats, local_options, drawn, in_first, first_after, second_after}
+use Rattle.refusal.specs.Answer.{Answer}
+use Rattle.refusal.specs.declared.Refusal.{Refusal}
+use Rattle.refusal.specs.declared.Refusal.TheVariants.{Endless}
 
 -- what an example says
 pub data Example : Type 0 where
@@ -43,37 +44,37 @@ pub data Example : Type 0 where
   differ : Float → Float → Example
   -- an edge's chain and the way in which it is got, in two buffers of 2,048 points
   draws : Tables → Edge → Options → Way → List Sample → Example
-  -- the number of a refusal above 7, in the same
-  refuses : Tables → Edge → Options → ℕ → Example
+  -- a refusal with a number above 7, in the same
+  refuses : Tables → Edge → Options → Refusal → Example
   -- the Rust never returns from `thin`, at the parameters that it takes of an edge's range
   never : Tables → Edge → Options → List Float → Example
 
 -- what is drawn into two buffers of 2,048 points, whatever they held: these floats from the start of the first and of the second, and +0.0 behind them
-pub record Leaves (d : Result Got) (one two : List Float) : Type 0 where
+pub record Leaves (d : Answer Got) (one two : List Float) : Type 0 where
   pub in_first : (first : List Float) → length first ≡ program_floats → first_after first d ≡ filled program_floats one
   pub in_second : (second : List Float) → length second ≡ program_floats → second_after second d ≡ filled program_floats two
 
 -- a chain that is got this way, in its buffer
-pub record DrawsChain (d : Result Got) (way : Way) (chain : List Sample) : Type 0 where
-  pub gets : d ≡ got (by way chain)
+pub record DrawsChain (d : Answer Got) (way : Way) (chain : List Sample) : Type 0 where
+  pub gets : d ≡ Ok (by way chain)
   pub buffers : Leaves d (cond (in_first way) (flat chain) []) (cond (in_first way) [] (flat chain))
 
--- a refusal with this number, which leaves both buffers all +0.0
-pub record RefusesLate (d : Result Got) (n : ℕ) : Type 0 where
-  pub number : d ≡ refused n
+-- this refusal, which leaves both buffers all +0.0
+pub record RefusesLate (d : Answer Got) (n : Refusal) : Type 0 where
+  pub refused : d ≡ Err n
   pub buffers : Leaves d [] []
 
 -- sampling the edge's range comes to these parameters, and `thin` over the chain that is placed at them never returns
 pub record NeverReturns (T : Tables) (e : Edge) (r : Resolved) (params : List Float) : Type 0 where
-  pub usable : usable_range (edge_curve T e) e.range ≡ Range e.range
-  pub comes_to : (sampled (edge_curve T e) e.range r).end ≡ got params
+  pub usable : usable_range (edge_curve T e) e.range ≡ Some e.range
+  pub comes_to : (sampled (edge_curve T e) e.range r).end ≡ Ok params
   pub never : (l : List Sample) → Returns (r.sag ⊗ hundredth) r.angle (r.segments + 1) (placed T e params) l → ⊥
 
 -- an example holds of the definitions
 unfoldable pub ExampleHolds : Example → Type 0
 ExampleHolds (sag o extent s) = (for_extent (resolve o) extent).sag ≡ s
 ExampleHolds (floor T e o f) = merge_floor e.tolerance (local_options T e o).sag ≡ f
-ExampleHolds (usable T range used) = usable_range (tree T 0) range ≡ Range used
+ExampleHolds (usable T range used) = usable_range (tree T 0) range ≡ Some used
 ExampleHolds (point T t p) = point_at (tree T 0) t ≡ p
 ExampleHolds (differ a b) = eq a b ≡ false
 ExampleHolds (draws T e o way chain) = DrawsChain (drawn T e o program_floats program_floats) way chain
@@ -228,7 +229,7 @@ examples =
     ∷ floor corner round (absolute two narrow 1 1) one
     ∷ draws corner round (absolute two narrow 1 1) AsDrawn (corner_start ∷ corner_end ∷ [])
     ∷ draws boxed escaping close Runaway (on_axis plus_zero plus_zero ∷ on_axis hundred plus_zero ∷ [])
-    ∷ refuses tiny_corner over_corner (absolute one narrow 1 1) 9
+    ∷ refuses tiny_corner over_corner (absolute one narrow 1 1) Endless
     ∷ never tiny_corner over_corner (absolute one narrow 1 1) (plus_zero ∷ one ∷ two ∷ [])
     ∷ []
 

@@ -1,7 +1,6 @@
 -- A drawing that hands its chain back as a part of a lent buffer, with both buffers and the answer's numbers. Definitions only.
-use Rattle.std.specs.Prelude.{◌≡◌, cond, List, [], ◌∷◌, map, ℕ, length, Float}
+use Rattle.std.specs.Prelude.{◌≡◌, cond, List, [], ◌∷◌, map, ℕ, length, Float, Err, Ok}
 use Rattle.std.specs.Borrow.{Bor, MutBor}
-use Rattle.base_lists.specs.Result.{Result, refused, got}
 use Rattle.brep.specs.declared.Edge.{Edge}
 use Rattle.brep.specs.Rows.{Tables}
 use Rattle.options.specs.declared.Options.{Options}
@@ -9,14 +8,15 @@ use Rattle.edge_record.specs.Chain.{flat}
 use Rattle.draw_spec.specs.Repair.{Got}
 use Rattle.draw_spec.specs.Draw.{drawn, answer_of, lies_in_first, first_after, second_after, Outcome}
 use Rattle.ffi_numbers.specs.Numbers.{codes_of}
+use Rattle.refusal.specs.Answer.{Answer}
 
 -- the floats of the chain that drawing came to; none for a refusal
-unfoldable pub chain_of : Result Got → List Float
-chain_of (refused n) = []
-chain_of (got g) = flat g.chain
+unfoldable pub chain_of : Answer Got → List Float
+chain_of (Err n) = []
+chain_of (Ok g) = flat g.chain
 
 -- what drawing D, into buffers first and second, hands back: the chain, the first buffer and the second, and the answer's three numbers
-pub record HandedBy (D : Result Got) (first second : MutBor (List Float)) (refusal way count : ℕ) (parts : List (Bor (List Float))) : Type 0 where
+pub record HandedBy (D : Answer Got) (first second : MutBor (List Float)) (refusal way count : ℕ) (parts : List (Bor (List Float))) : Type 0 where
   -- every float of all three
   pub hold : map (λ x. x.now) parts ≡ chain_of D ∷ first_after first.now D ∷ second_after second.now D ∷ []
   -- nothing is copied: each begins where its buffer does

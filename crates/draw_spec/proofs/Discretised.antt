@@ -1,4 +1,5 @@
 -- The five clauses of every chain that `discretise` gives, of a range that can be sampled. Assumes nothing.
+use Rattle.std.specs.Prelude.{Option, Some, None, Err, Ok}
 use mathlib.Core.Path.{◌≡◌, refl, ap, subst, ◌∙◌}
 use mathlib.Core.Bool.{Bool, true, false}
 use mathlib.Core.List.{List, [], ◌∷◌}
@@ -8,7 +9,6 @@ use lib.ListN.{length, get_or}
 use lib.Ieee.{Float}
 use Rattle.arith.specs.Notation.{◌⊗◌}
 use Rattle.arith.specs.Constants.{hundredth}
-use Rattle.base_lists.specs.Result.{Result, refused, got, each}
 use Rattle.base_lists.specs.All.{none}
 use Rattle.base_lists.proofs.Order.{sub_length}
 use Rattle.base_lists.proofs.Joined.{sub_map}
@@ -30,8 +30,6 @@ use Rattle.edge_record.proofs.Shorter.{Shorter, shorter_same, shorter_trans, sho
 use Rattle.edge_merge.specs.Merge.{merge_floor, merged, one}
 use Rattle.edge_merge.proofs.Laws.{merge_shorter, merge_apart}
 use Rattle.edge_thin.proofs.Laws.{thin_shorter, thin_refused}
-use Rattle.edge_range.specs.declared.Usable.{Usable}
-use Rattle.edge_range.specs.declared.Usable.TheVariants.{Range, Unusable}
 use Rattle.edge_range.specs.Usable.{usable_range}
 use Rattle.edge_sample.specs.Sample.{sampler, sampled}
 use Rattle.edge_sample.specs.Own.Answered.{sampled_in}
@@ -42,6 +40,9 @@ use Rattle.draw_spec.proofs.Tame.{Tame}
 use Rattle.draw_spec.proofs.Ranges.{Ends, Goods, usable_goods}
 use Rattle.draw_spec.proofs.Placed.{Own, Placed, placed_holds, placed_length}
 use Rattle.draw_spec.proofs.Answers.{Answered, Answers, answer, nine, answers_ends, answers_then, answers_asking, answers_eleven}
+use Rattle.refusal.specs.Answer.{Answer, each}
+use Rattle.refusal.specs.declared.Refusal.{Refusal}
+use Rattle.refusal.specs.declared.Refusal.TheVariants.{Endless}
 
 -- a chain that fits the room, and of which the five clauses hold, given H
 pub record Chained (H : Type 0) (t : Tables) (e : Edge) (floor : Float) (room : ℕ) (l : List Sample) : Type 0 where
@@ -84,7 +85,7 @@ last_at d [] h = absurd (omega arith)
 last_at d (p ∷ l) h = let z : length (p ∷ l) - 1 ≡ length l = omega arith in rw z (end-at d p l)
 
 module _ (r : Resolved) (l : List Sample) (two : 2 ≤ length l) where
-  thinned_shorter : (b : Bool) (k : List Sample) → thinned_if b r l ≡ got k → Shorter k l
+  thinned_shorter : (b : Bool) (k : List Sample) → thinned_if b r l ≡ Ok k → Shorter k l
   unfolding thinned_if
   thinned_shorter true k q = thin_shorter (r.sag ⊗ hundredth) r.angle (r.segments + 1) l k two q
   thinned_shorter false k q = let x : l ≡ k = cc in subst (λ (m : List Sample). Shorter m l) x (itself l two)
@@ -94,7 +95,7 @@ module _ (r : Resolved) (l : List Sample) (two : 2 ≤ length l) where
       itself (a ∷ []) h = absurd (omega arith)
       itself (a ∷ b ∷ l) h = shorter_same a b l
 
-  thinned_refused : (b : Bool) (n : ℕ) → thinned_if b r l ≡ refused n → n ≡ 9
+  thinned_refused : (b : Bool) (n : Refusal) → thinned_if b r l ≡ Err n → n ≡ Endless
   unfolding thinned_if
   thinned_refused true n q = thin_refused (r.sag ⊗ hundredth) r.angle (r.segments + 1) l n q
   thinned_refused false n q = absurd (let z : ◌≡◌ {A = ℕ} 0 1 = cc in omega arith)
@@ -132,16 +133,16 @@ module _ (t : Tables) (e : Edge) (r : Resolved) where
       long : 2 ≤ length (placed t e params)
       long = omega (arith, placed_length t e params, p.two)
 
-      go : (x : Result (List Sample)) → thinned_if (is_sampled (edge_curve t e)) r (placed t e params) ≡ x
+      go : (x : Answer (List Sample)) → thinned_if (is_sampled (edge_curve t e)) r (placed t e params) ≡ x
           → Answered (Chained H t e edge_floor room) false (each (merged edge_floor) x)
-      go (got k) q =
+      go (Ok k) q =
           let l = placed t e params in
           let u = thinned_shorter r l long (is_sampled (edge_curve t e)) k q in
           answer (record {
             sound = λ x. merged_sound t e l (placed_holds t e params p.two (p.steady x)) edge_floor k u;
             fits = omega (arith, merged_length r l long edge_floor k u, placed_length t e params, p.fits);
           })
-      go (refused k) q = let z = thinned_refused r (placed t e params) long (is_sampled (edge_curve t e)) k q in rw z nine
+      go (Err k) q = let z = thinned_refused r (placed t e params) long (is_sampled (edge_curve t e)) k q in rw z nine
 
 -- ---- the parameters
 module _ (range : Interval) where
@@ -174,7 +175,7 @@ module _ (H : Type 0) (t : Tables) (e : Edge) (tame : H → Tame (edge_curve t e
     abbrev c : CurveTree
     c = edge_curve t e
 
-    list_steady : (l : List Float) → sampled_in room c range r ≡ got l → H → Steady l
+    list_steady : (l : List Float) → sampled_in room c range r ≡ Ok l → H → Steady l
     unfolding sampled_in sampler curve_breaks
     list_steady l q x =
         sampled_steady (sampler c range r) range
@@ -184,7 +185,7 @@ module _ (H : Type 0) (t : Tables) (e : Edge) (tame : H → Tame (edge_curve t e
     listed_answers : Answers room (Parameters H room) (listed c range r)
     listed_answers =
         answers_then room (sampled c range r) (λ l. asking (asks_far c) (at_least_two range l) (done (at_least_two range l)))
-        (answers_eleven {P = λ l. sampled_in room c range r ≡ got l} room (sampled c range r) (sampled_refused c range r) (sampled_kept room c range r))
+        (answers_eleven {P = λ l. sampled_in room c range r ≡ Ok l} room (sampled c range r) (sampled_refused c range r) (sampled_kept room c range r))
         (λ l q. answers_asking room (asks_far c) (at_least_two range l) (done (at_least_two range l)) (answers_ends room (answer (record {
           two = at_least_two_lem range l;
           fits = at_most range room fine.least l (sampled_room room c range r l q);
@@ -195,13 +196,13 @@ module _ (H : Type 0) (t : Tables) (e : Edge) (tame : H → Tame (edge_curve t e
   unfolding discretised
   discretised_answers = go (usable_range (edge_curve t e) e.range) refl
     where
-      go : (u : Usable) → usable_range (edge_curve t e) e.range ≡ u
+      go : (u : Option Interval) → usable_range (edge_curve t e) e.range ≡ u
           → Answers room (Chained H t e (merge_floor e.tolerance r.sag) room) (elim u [
-            | Unusable ↦ done (chord_of t e e.range.lo e.range.hi)
-            | Range range ↦ over_range t e r range
+            | None ↦ done (chord_of t e e.range.lo e.range.hi)
+            | Some range ↦ over_range t e r range
           ])
-      go Unusable q = answers_ends room (answer (chord_chained H t e (merge_floor e.tolerance r.sag) room fine.least e.range.lo e.range.hi))
-      go (Range range) q =
+      go None q = answers_ends room (answer (chord_chained H t e (merge_floor e.tolerance r.sag) room fine.least e.range.lo e.range.hi))
+      go (Some range) q =
           answers_then room (listed (edge_curve t e) range r) (λ params. ends (finished t e r params))
           (listed_answers range (λ x. usable_goods (edge_curve t e) (tame x) range e.range (own x) q))
           (finished_answers t e r H room)

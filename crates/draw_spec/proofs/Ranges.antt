@@ -1,4 +1,5 @@
 -- The ranges that are sampled: their ends are no further from 0 than sampling can halve. Assumes nothing.
+use Rattle.std.specs.Prelude.{Option, Float, Some, None}
 use mathlib.Core.Path.{◌≡◌, refl, subst}
 use mathlib.Core.Bool.{Bool, true, false, cond, not, ◌&&◌, ◌||◌, beq}
 use Prim.Native.Nat.{ℕ, zero, suc, ◌≤◌}
@@ -16,12 +17,9 @@ use Rattle.math.specs.declared.Vec3.{Vec3}
 use Rattle.math.specs.declared.Interval.{Interval}
 use Rattle.math.specs.Math.{distance, interval, span_of}
 use Rattle.brep.specs.Tree.{CurveTree}
-use Rattle.curve.specs.declared.Repeats.{Repeats}
-use Rattle.curve.specs.declared.Repeats.TheVariants.{Every, Never}
 use Rattle.curve.specs.Eval.{natural_range, period, point_at}
 use Rattle.edge_params.proofs.Runs.{Good}
 use Rattle.edge_params.proofs.Ends.{Size, size_grows, size_good, abs_size, good_either, add_size, sub_size, Unit, part_size, at_good}
-use Rattle.edge_range.specs.declared.Usable.TheVariants.{Range, Unusable}
 use Rattle.edge_range.specs.Usable.{own_range, clamped_to_domain, within_domain, is_no_range, usable_range}
 use Rattle.draw_spec.specs.Repair.{sweep_at, nearest_of, nearest, ordered_interval}
 use Rattle.draw_spec.proofs.Tame.{Reach, Tame}
@@ -70,36 +68,36 @@ module _ (natural : Interval) (r : Reach natural) where
             (size_good 42 (natural.hi ⊕ slack) (omega arith) (add-fits binary64 natural.hi slack) high) g.high;
       }
 
-found_is : (a b : Interval) → Range a ≡ Range b → Goods a → Goods b
+found_is : (a b : Interval) → Some a ≡ Some b → Goods a → Goods b
 found_is a b e g = let q : a ≡ b = cc in subst Goods q g
 
-no_range : (a : Interval) → Unusable ≡ Range a → Goods a
+no_range : (a : Interval) → None ≡ Some a → Goods a
 no_range a e = absurd (let z : ◌≡◌ {A = ℕ} 0 1 = cc in omega arith)
 
 module _ (c : CurveTree) (tame : Tame c) (found : Interval) where
-  own_goods : own_range (natural_range c) ≡ Range found → Goods found
+  own_goods : own_range (natural_range c) ≡ Some found → Goods found
   unfolding own_range
   own_goods = go (finite (span_of (natural_range c)) && lt (abs_of (span_of (natural_range c))) billion)
     where
-      go : (b : Bool) → cond b (Range (natural_range c)) Unusable ≡ Range found → Goods found
+      go : (b : Bool) → cond b (Some (natural_range c)) None ≡ Some found → Goods found
       go true e = found_is (natural_range c) found e (reach_goods (natural_range c) tame.own)
       go false e = no_range found e
 
-  domain_goods : (range : Interval) → Goods range → (p : Repeats) → Goods (within_domain p (natural_range c) range)
+  domain_goods : (range : Interval) → Goods range → (p : Option Float) → Goods (within_domain p (natural_range c) range)
   unfolding within_domain
-  domain_goods range g (Every p) = g
-  domain_goods range g Never = clamped_goods (natural_range c) tame.own range g
+  domain_goods range g (Some p) = g
+  domain_goods range g None = clamped_goods (natural_range c) tame.own range g
 
   both_finite : (a b s : Bool) → not a || (not b || s) ≡ false → T a × T b
   both_finite true true s e = (tt, tt)
   both_finite true false s e = absurd (let z : ◌≡◌ {A = ℕ} 0 1 = cc in omega arith)
   both_finite false b s e = absurd (let z : ◌≡◌ {A = ℕ} 0 1 = cc in omega arith)
 
-  pub usable_goods : (range : Interval) → Ends range → usable_range c range ≡ Range found → Goods found
+  pub usable_goods : (range : Interval) → Ends range → usable_range c range ≡ Some found → Goods found
   unfolding usable_range
   usable_goods range h = go (is_no_range range) refl
     where
-      go : (b : Bool) → is_no_range range ≡ b → cond b (own_range (natural_range c)) (Range (within_domain (period c) (natural_range c) range)) ≡ Range found → Goods found
+      go : (b : Bool) → is_no_range range ≡ b → cond b (own_range (natural_range c)) (Some (within_domain (period c) (natural_range c) range)) ≡ Some found → Goods found
       go true q e = own_goods e
       go false q e =
           let f = both_finite (finite range.lo) (finite range.hi) (le (span_of range) plus_zero) q in

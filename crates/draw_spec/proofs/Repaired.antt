@@ -1,4 +1,5 @@
 -- The five clauses of every chain that `repair_runaway` leaves or puts in another's place. Assumes nothing.
+use Rattle.std.specs.Prelude.{Option, Float, Some, None}
 use mathlib.Core.Path.{◌≡◌, refl}
 use mathlib.Core.Bool.{Bool, true, false, cond}
 use mathlib.Core.List.{List}
@@ -11,8 +12,6 @@ use Rattle.math.specs.declared.Interval.{Interval}
 use Rattle.math.specs.Math.{span_of}
 use Rattle.brep.specs.declared.Edge.{Edge}
 use Rattle.brep.specs.Rows.{Tables}
-use Rattle.curve.specs.declared.Repeats.{Repeats}
-use Rattle.curve.specs.declared.Repeats.TheVariants.{Every, Never}
 use Rattle.curve.specs.Eval.{natural_range, period}
 use Rattle.options.specs.declared.Resolved.{Resolved}
 use Rattle.curve_asks.specs.Asks.{asks_far}
@@ -23,7 +22,8 @@ use Rattle.edge_merge.specs.Merge.{merge_floor}
 use Rattle.edge_range.specs.Usable.{usable_range}
 use Rattle.draw_spec.specs.declared.Way.TheVariants.{Complement, ShortArc}
 use Rattle.draw_spec.specs.Edge.{edge_curve, edge_start, edge_end, discretised}
-use Rattle.draw_spec.specs.Repair.{Got, by, with_range, reference, escapes, runaway, serves, arc_or_chord, short_range, sweep, has_short_arc, short_arc_tried, by_short_arc, complement_or_short, complement_range, by_complement, by_period, stays, repaired}
+use Rattle.edge_drawing.specs.Range.{with_range}
+use Rattle.draw_spec.specs.Repair.{Got, by, reference, escapes, runaway, serves, arc_or_chord, short_range, sweep, has_short_arc, short_arc_tried, by_short_arc, complement_or_short, complement_range, by_complement, by_period, stays, repaired}
 use Rattle.draw_spec.specs.Draw.{first_way, probes, drawn_repaired, referenced}
 use Rattle.draw_spec.proofs.Tame.{Tame}
 use Rattle.draw_spec.proofs.Ranges.{Ends, goods_ends, complement_ends, short_goods}
@@ -101,10 +101,10 @@ module _ (H : Type 0) (t : Tables) (e : Edge) (tame : H → Tame (edge_curve t e
           (λ arc c. kept arc c (escapes (reference t e) r arc))
       go false = short_answers
 
-  period_answers : (p : Repeats) → period (edge_curve t e) ≡ p → Answers room Fine (by_period t e r p)
+  period_answers : (p : Option Float) → period (edge_curve t e) ≡ p → Answers room Fine (by_period t e r p)
   unfolding by_period
-  period_answers (Every p) q = complement_answers p (λ x. (tame x).every p q)
-  period_answers Never q = short_answers
+  period_answers (Some p) q = complement_answers p (λ x. (tame x).every p q)
+  period_answers None q = short_answers
 
   repaired_answers : (g : Got) → Fine g → Answers room Fine (repaired t e r g)
   unfolding repaired

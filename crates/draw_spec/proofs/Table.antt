@@ -1,17 +1,15 @@
 -- The table of causes: what refusal an edge has, and that it has one exactly where a cause applies. Assumes nothing.
+use Rattle.std.specs.Prelude.{⊤, Ok, Err}
 use mathlib.Core.Path.{◌≡◌, refl, sym, ap, subst, ◌∙◌}
 use mathlib.Core.Logic.{◌⊎◌, inl, inr}
 use mathlib.Core.Bool.{Bool, true, false, cond}
 use Prim.Native.Nat.{ℕ, ◌≤◌}
 use native.Mathlib.Omega.{arith}
-use Rattle.base_lists.specs.Result.{Result, refused, got}
 use Rattle.brep.specs.declared.Edge.{Edge}
 use Rattle.brep.specs.Rows.{Tables}
 use Rattle.options.specs.declared.Options.{Options}
 use Rattle.causes_bounds.specs.Bounds.{unbounded}
 use Rattle.causes_form.specs.Forms.{ill_formed}
-use Rattle.causes.specs.declared.Verdict.{Verdict}
-use Rattle.causes.specs.declared.Verdict.TheVariants.{Accepted, Refused}
 use Rattle.causes.specs.Causes.{oversize, unordered, too_deep, missing, verdict}
 use Rattle.causes.proofs.Checked.{causes_of, verdict_numbers}
 use Rattle.edge_params.specs.Work.{Work, overflows}
@@ -21,17 +19,21 @@ use Rattle.draw_spec.specs.Draw.{local_options, referenced, room_of, too_short, 
 use Rattle.draw_spec.proofs.Accepted.{Accepts, accepts, Refuses, by_tables, by_buffers, by_drawing, refuses, given}
 use Rattle.draw_spec.proofs.Answers.{Cause, longer, endless, too_far}
 use Rattle.draw_spec.proofs.Sound.{drawn_late}
+use Rattle.refusal.specs.Answer.{Answer}
+use Rattle.refusal.specs.declared.Refusal.TheVariants.{Oversize, Unbounded, IllFormed, Unordered, TooDeep, Missing, NoRoom, Endless, TooFar}
+use Rattle.refusal.specs.declared.Refusal.{Refusal}
+use Rattle.refusal.specs.Refusal.{number_of}
 
 -- ---- a verdict of at most k
-record AtMost (k : ℕ) (v : Verdict) : Type 0 where
-  pub number : ℕ
-  pub is : v ≡ Refused number
-  pub most : number ≤ k
+record AtMost (k : ℕ) (v : Answer ⊤) : Type 0 where
+  pub number : Refusal
+  pub is : v ≡ Err number
+  pub most : number_of number ≤ k
 
-hit : (b : Bool) (k : ℕ) (v : Verdict) → b ≡ true → AtMost k (cond b (Refused k) v)
-hit b k v e = record { number = k; is = ap (λ (x : Bool). cond x (Refused k) v) e; most = omega arith }
+hit : (b : Bool) (k : Refusal) (v : Answer ⊤) → b ≡ true → AtMost (number_of k) (cond b (Err k) v)
+hit b k v e = record { number = k; is = ap (λ (x : Bool). cond x (Err k) v) e; most = omega arith }
 
-pass : (b : Bool) (i k : ℕ) (v : Verdict) → i ≤ k → AtMost k v → AtMost k (cond b (Refused i) v)
+pass : (b : Bool) (i : Refusal) (k : ℕ) (v : Answer ⊤) → number_of i ≤ k → AtMost k v → AtMost k (cond b (Err i) v)
 pass true i k v h a = record { number = i; is = refl; most = h }
 pass false i k v h a = a
 
@@ -54,113 +56,113 @@ module _ (t : Tables) (e : Edge) (o : Options) (first second : ℕ) where
   abbrev g : Bool
   g = missing t e
 
-  abbrev v6 : Verdict
-  v6 = cond g (Refused 6) Accepted
+  abbrev v6 : Answer ⊤
+  v6 = cond g (Err Missing) (Ok tt)
 
-  abbrev v5 : Verdict
-  v5 = cond f (Refused 5) v6
+  abbrev v5 : Answer ⊤
+  v5 = cond f (Err TooDeep) v6
 
-  abbrev v4 : Verdict
-  v4 = cond d (Refused 4) v5
+  abbrev v4 : Answer ⊤
+  v4 = cond d (Err Unordered) v5
 
-  abbrev v3 : Verdict
-  v3 = cond c (Refused 3) v4
+  abbrev v3 : Answer ⊤
+  v3 = cond c (Err IllFormed) v4
 
-  abbrev v2 : Verdict
-  v2 = cond b (Refused 2) v3
+  abbrev v2 : Answer ⊤
+  v2 = cond b (Err Unbounded) v3
 
   abbrev work : Work Got
   work = referenced t e (local_options t e o)
 
   -- ---- a cause that applies is not passed over
-  refused_by : (k : ℕ) → k ≤ 6 → AtMost k (verdict t e o) → (n : ℕ) → drawn t e o first second ≡ refused n → n ≤ k
+  refused_by : (k : ℕ) → k ≤ 6 → AtMost k (verdict t e o) → (n : Refusal) → drawn t e o first second ≡ Err n → number_of n ≤ k
   refused_by k h m n q =
-      let y = given t e o first second (Refused m.number) (too_short first second) m.is refl in
+      let y = given t e o first second (Err m.number) (too_short first second) m.is refl in
       let z : m.number ≡ n = cc in
-      omega (arith, m.most)
+      rw z at m.most
 
-  short_by : too_short first second ≡ true → (n : ℕ) → drawn t e o first second ≡ refused n → n ≤ 7
+  short_by : too_short first second ≡ true → (n : Refusal) → drawn t e o first second ≡ Err n → number_of n ≤ 7
   short_by h n q = go (refuses t e o first second n q)
     where
-      go : Refuses t e o first second n → n ≤ 7
-      go (by_tables x) = omega (arith, verdict_numbers t e o n x)
-      go (by_buffers x y z) = omega (arith, z)
+      go : Refuses t e o first second n → number_of n ≤ 7
+      go (by_tables x) = let k = verdict_numbers t e o n x in omega (arith, k.1)
+      go (by_buffers x y z) = rw z (omega arith)
       go (by_drawing x y z) = absurd (let w : ◌≡◌ {A = ℕ} 0 1 = cc in omega arith)
 
-  room_by : overflows (room_of first second) work.acts ≡ true → (n : ℕ) → drawn t e o first second ≡ refused n → n ≤ 8
+  room_by : overflows (room_of first second) work.acts ≡ true → (n : Refusal) → drawn t e o first second ≡ Err n → number_of n ≤ 8
   room_by h n q = go (refuses t e o first second n q)
     where
-      go : Refuses t e o first second n → n ≤ 8
-      go (by_tables x) = omega (arith, verdict_numbers t e o n x)
-      go (by_buffers x y z) = omega (arith, z)
-      go (by_drawing x y z) = let w : ◌≡◌ {A = Result Got} (refused 8) (refused n) = sym (ap (λ (b : Bool). cond b (refused 8) work.end) h) ∙ z in let k : 8 ≡ n = cc in omega arith
+      go : Refuses t e o first second n → number_of n ≤ 8
+      go (by_tables x) = let k = verdict_numbers t e o n x in omega (arith, k.1)
+      go (by_buffers x y z) = rw z (omega arith)
+      go (by_drawing x y z) = let w : ◌≡◌ {A = Answer Got} (Err NoRoom) (Err n) = sym (ap (λ (b : Bool). cond b (Err NoRoom) work.end) h) ∙ z in let k : NoRoom ≡ n = cc in rw⁻¹ k (omega arith)
 
-  end_by : (k : ℕ) → 8 ≤ k → work.end ≡ refused k → (n : ℕ) → drawn t e o first second ≡ refused n → n ≤ k
+  end_by : (k : Refusal) → 8 ≤ number_of k → work.end ≡ Err k → (n : Refusal) → drawn t e o first second ≡ Err n → number_of n ≤ number_of k
   end_by k h w n q = go (refuses t e o first second n q)
     where
-      own : ((n ≡ 8) × (overflows (room_of first second) work.acts ≡ true)) ⊎ (work.end ≡ refused n) → n ≤ k
-      own (inl z) = omega (arith, z.0)
-      own (inr x) = let z : k ≡ n = cc in omega arith
+      own : ((n ≡ NoRoom) × (overflows (room_of first second) work.acts ≡ true)) ⊎ (work.end ≡ Err n) → number_of n ≤ number_of k
+      own (inl z) = rw z.0 h
+      own (inr x) = let z : k ≡ n = cc in rw z (omega arith)
 
-      go : Refuses t e o first second n → n ≤ k
-      go (by_tables x) = omega (arith, verdict_numbers t e o n x)
-      go (by_buffers x y z) = omega (arith, z)
+      go : Refuses t e o first second n → number_of n ≤ number_of k
+      go (by_tables x) = let k = verdict_numbers t e o n x in omega (arith, k.1)
+      go (by_buffers x y z) = rw z (omega (arith, h))
       go (by_drawing x y z) = own (within_refused (room_of first second) work n z)
 
-  no_later : (m : ℕ) → Applies t e o first second m → (n : ℕ) → drawn t e o first second ≡ refused n → n ≤ m
+  no_later : (m : ℕ) → Applies t e o first second m → (n : Refusal) → drawn t e o first second ≡ Err n → number_of n ≤ m
   unfolding verdict
-  no_later m (one h) = refused_by 1 (omega arith) (hit a 1 v2 h)
-  no_later m (two h) = refused_by 2 (omega arith) (pass a 1 2 v2 (omega arith) (hit b 2 v3 h))
-  no_later m (three h) = refused_by 3 (omega arith) (pass a 1 3 v2 (omega arith) (pass b 2 3 v3 (omega arith) (hit c 3 v4 h)))
-  no_later m (four h) = refused_by 4 (omega arith) (pass a 1 4 v2 (omega arith) (pass b 2 4 v3 (omega arith) (pass c 3 4 v4 (omega arith) (hit d 4 v5 h))))
+  no_later m (one h) = refused_by 1 (omega arith) (hit a Oversize v2 h)
+  no_later m (two h) = refused_by 2 (omega arith) (pass a Oversize 2 v2 (omega arith) (hit b Unbounded v3 h))
+  no_later m (three h) = refused_by 3 (omega arith) (pass a Oversize 3 v2 (omega arith) (pass b Unbounded 3 v3 (omega arith) (hit c IllFormed v4 h)))
+  no_later m (four h) = refused_by 4 (omega arith) (pass a Oversize 4 v2 (omega arith) (pass b Unbounded 4 v3 (omega arith) (pass c IllFormed 4 v4 (omega arith) (hit d Unordered v5 h))))
   no_later m (five h) =
       refused_by 5 (omega arith)
-      (pass a 1 5 v2 (omega arith) (pass b 2 5 v3 (omega arith) (pass c 3 5 v4 (omega arith) (pass d 4 5 v5 (omega arith) (hit f 5 v6 h)))))
+      (pass a Oversize 5 v2 (omega arith) (pass b Unbounded 5 v3 (omega arith) (pass c IllFormed 5 v4 (omega arith) (pass d Unordered 5 v5 (omega arith) (hit f TooDeep v6 h)))))
   no_later m (six h) =
       refused_by 6 (omega arith)
-      (pass a 1 6 v2 (omega arith) (pass b 2 6 v3 (omega arith) (pass c 3 6 v4 (omega arith) (pass d 4 6 v5 (omega arith) (pass f 5 6 v6 (omega arith) (hit g 6 Accepted h))))))
+      (pass a Oversize 6 v2 (omega arith) (pass b Unbounded 6 v3 (omega arith) (pass c IllFormed 6 v4 (omega arith) (pass d Unordered 6 v5 (omega arith) (pass f TooDeep 6 v6 (omega arith) (hit g Missing (Ok tt) h))))))
   no_later m (seven h) = short_by h
   no_later m (eight h) = room_by h
-  no_later m (nine h) = end_by 9 (omega arith) h
-  no_later m (eleven h) = end_by 11 (omega arith) h
+  no_later m (nine h) = end_by Endless (omega arith) h
+  no_later m (eleven h) = end_by TooFar (omega arith) h
 
   -- ---- a refusal is that of a cause that applies
-  step : (x : Bool) (k n : ℕ) (v : Verdict) → (x ≡ true → Applies t e o first second k) → (v ≡ Refused n → Applies t e o first second n)
-      → cond x (Refused k) v ≡ Refused n → Applies t e o first second n
-  step true k n v here on h = let z : k ≡ n = cc in subst (Applies t e o first second) z (here refl)
+  step : (x : Bool) (k n : Refusal) (v : Answer ⊤) → (x ≡ true → Applies t e o first second (number_of k)) → (v ≡ Err n → Applies t e o first second (number_of n))
+      → cond x (Err k) v ≡ Err n → Applies t e o first second (number_of n)
+  step true k n v here on h = let z : k ≡ n = cc in subst (λ r. Applies t e o first second (number_of r)) z (here refl)
   step false k n v here on h = on h
 
-  by_verdict : (n : ℕ) → verdict t e o ≡ Refused n → Applies t e o first second n
+  by_verdict : (n : Refusal) → verdict t e o ≡ Err n → Applies t e o first second (number_of n)
   unfolding verdict
   by_verdict n =
-      step a 1 n v2 one (step b 2 n v3 two (step c 3 n v4 three (step d 4 n v5 four (step f 5 n v6 five (step g 6 n Accepted six
-      λ h. absurd (let z : ◌≡◌ {A = ℕ} 0 1 = cc in omega arith))))))
+      step a Oversize n v2 one (step b Unbounded n v3 two (step c IllFormed n v4 three (step d Unordered n v5 four (step f TooDeep n v6 five (step g Missing n (Ok tt) six
+      λ h. cc)))))
 
-  applying : (n : ℕ) → Refuses t e o first second n → Applies t e o first second n
+  applying : (n : Refusal) → Refuses t e o first second n → Applies t e o first second (number_of n)
   applying n (by_tables h) = by_verdict n h
-  applying n (by_buffers x y z) = subst (Applies t e o first second) (sym z) (seven y)
+  applying n (by_buffers x y z) = rw z (seven y)
   applying n (by_drawing x y q) = go (drawn_late t e o first second n q x y)
     where
-      go : Cause (overflows (room_of first second) work.acts) work.end n → Applies t e o first second n
-      go (longer z h) = subst (Applies t e o first second) (sym z) (eight h)
-      go (endless z h) = subst (Applies t e o first second) (sym z) (nine h)
-      go (too_far z h) = subst (Applies t e o first second) (sym z) (eleven h)
+      go : Cause (overflows (room_of first second) work.acts) work.end n → Applies t e o first second (number_of n)
+      go (longer z h) = rw z (eight h)
+      go (endless z h) = rw z (nine h)
+      go (too_far z h) = rw z (eleven h)
 
   -- an edge is refused with the lowest cause that applies
-  pub lowest : (n : ℕ) → drawn t e o first second ≡ refused n → Lowest t e o first second n
+  pub lowest : (n : Refusal) → drawn t e o first second ≡ Err n → Lowest t e o first second (number_of n)
   lowest n q = record {
     applies = applying n (refuses t e o first second n q);
     lowest = λ m h x. let z = no_later m x n q in omega (arith, z, h);
   }
 
   -- and accepted only where none applies
-  pub none_applies : (k : Got) → drawn t e o first second ≡ got k → (m : ℕ) → Applies t e o first second m → ⊥
+  pub none_applies : (k : Got) → drawn t e o first second ≡ Ok k → (m : ℕ) → Applies t e o first second m → ⊥
   none_applies k q m x = go m x
     where
       s : Accepts t e o first second k
       s = accepts t e o first second k q
 
-      own : (overflows (room_of first second) work.acts ≡ false) × (work.end ≡ got k)
+      own : (overflows (room_of first second) work.acts ≡ false) × (work.end ≡ Ok k)
       own = within_got (room_of first second) work k s.made
 
       differ : {x : Bool} → x ≡ true → x ≡ false → ⊥

@@ -1,5 +1,6 @@
 -- What is known of a curve of accepted tables: how far the ends of its own range and its period lie from 0, and that its knots
 -- are binary64 floats. Assumes nothing.
+use Rattle.std.specs.Prelude.{Some, None}
 use mathlib.Core.Path.{◌≡◌, refl, subst}
 use mathlib.Core.Bool.{Bool, true, false, cond, ◌&&◌}
 use mathlib.Core.List.{List, [], ◌∷◌}
@@ -7,7 +8,7 @@ use Prim.Native.Nat.{ℕ, zero, suc, ◌+◌, ◌-◌, ◌*◌, ◌<◌, ◌≤�
 use native.Mathlib.Omega.{arith}
 use lib.IntN.{pos}
 use lib.ListN.{length, get_or}
-use lib.Dec.{T, eqb}
+use lib.Dec.{T}
 use lib.Ieee.{Float, nan, binary64, fits, le, lt, neg, of_bits, of_int}
 use lib.Ieee.Scale.{finite}
 use lib.Ieee.Fits.{of_int-fits}
@@ -20,6 +21,8 @@ use Rattle.math.specs.declared.Frame.{Frame}
 use Rattle.math.specs.declared.Interval.{Interval}
 use Rattle.math.specs.Math.{interval, span_of}
 use Rattle.base_lists.specs.All.{All, none, more}
+use Rattle.brep.specs.declared.Kind.{Kind}
+use Rattle.brep.specs.declared.Kind.TheVariants as kinds
 use Rattle.brep.specs.declared.Curve.{Curve}
 use Rattle.brep.specs.declared.Curve.TheVariants.{Line, Circle, Ellipse, Parabola, Polyline, Trimmed, Composite, Hyperbola}
 use Rattle.brep.specs.declared.Edge.{Edge}
@@ -27,11 +30,10 @@ use Rattle.brep.specs.Rows.{Tables, segment_of, most_points, kind_of, curve_of}
 use Rattle.brep.specs.Tree.{CurveTree, polyline, run, segments, row_in, grown, below, tree}
 use Rattle.brep.proofs.Laws.{lower, length_run}
 use Rattle.causes_bounds.specs.Bounds.{largest}
-use Rattle.causes_form.specs.Forms.{point_count, curve_count, segment_count, targets}
+use Rattle.causes_form.specs.Forms.{curve_count, targets}
 use Rattle.options.specs.declared.Options.{Options}
 use Rattle.causes.proofs.Checked.{Bounded, Checked}
 use Rattle.draw_spec.specs.Own.Binary.{AllBinary64}
-use Rattle.curve.specs.declared.Repeats.TheVariants.{Every, Never}
 use Rattle.curve.specs.Eval.{tau, natural_range, closes, every_span, period}
 use Rattle.curve.proofs.Laws.{count_segments}
 use Rattle.knots.specs.Knots.{segment_knots, curve_knots}
@@ -114,20 +116,20 @@ parabola_reach = record { low = (tt, tt); low_fits = tt; high = (tt, tt); high_f
 -- ---- what sampling and repair ask of a curve
 pub record Tame (c : CurveTree) : Type 0 where
   pub own : Reach (natural_range c)
-  pub every : (p : Float) → period c ≡ Every p → Size 40 p
+  pub every : (p : Float) → period c ≡ Some p → Size 40 p
   pub knots : All (λ k. T (fits binary64 k)) (curve_knots c)
 
-no_period : (p : Float) → Never ≡ Every p → Size 40 p
+no_period : (p : Float) → None ≡ Some p → Size 40 p
 no_period p e = absurd (let z : ◌≡◌ {A = ℕ} 0 1 = cc in omega arith)
 
-turn_period : (p : Float) → Every tau ≡ Every p → Size 40 p
+turn_period : (p : Float) → Some tau ≡ Some p → Size 40 p
 turn_period p e = let q : tau ≡ p = cc in subst (Size 40) q facts.turn
 
-span_period : (span p : Float) → Size 40 span → every_span span ≡ Every p → Size 40 p
+span_period : (span p : Float) → Size 40 span → every_span span ≡ Some p → Size 40 p
 unfolding every_span
 span_period span p s = go (lt plus_zero span && finite span)
   where
-    go : (b : Bool) → cond b (Every span) Never ≡ Every p → Size 40 p
+    go : (b : Bool) → cond b (Some span) None ≡ Some p → Size 40 p
     go true e = let q : span ≡ p = cc in subst (Size 40) q s
     go false e = no_period p e
 
@@ -135,7 +137,7 @@ polyline_tame : (ps : List Vec3) → length ps - 1 ≤ most_points → Tame (pol
 unfolding natural_range period curve_knots span_of
 polyline_tame ps h = record { own = count_reach (length ps - 1) h; every = λ p. go p (closes ps); knots = none }
   where
-    go : (p : Float) (b : Bool) → cond b (every_span (span_of (interval plus_zero (count (length ps - 1))))) Never ≡ Every p → Size 40 p
+    go : (p : Float) (b : Bool) → cond b (every_span (span_of (interval plus_zero (count (length ps - 1))))) None ≡ Some p → Size 40 p
     go p true e =
         span_period (count (length ps - 1) ⊖ plus_zero) p
         (size_grows 17 40 (count (length ps - 1) ⊖ plus_zero) (omega arith)
@@ -153,19 +155,11 @@ data Row : Curve → Type 0 where
   a_composite : {first n : ℕ} → n ≤ most_points → Row (Composite first n)
   a_hyperbola : {f : Frame} {a b : Float} → Row (Hyperbola f a b)
 
-pick : (b : Bool) {x y : Curve} → Row x → Row y → Row (cond b x y)
-pick true u v = u
-pick false u v = v
-
 module _ (t : Tables) (e : Edge) (o : Options) (h : Checked t e o) (reals : AllBinary64 t.reals) (ranges : AllBinary64 t.ranges) where
-  room_size : (kind : ℕ) → targets t kind ≤ most_points
-  unfolding targets
-  room_size kind = go (eqb kind 6) (eqb kind 7)
-    where
-      go : (a b : Bool) → cond a (curve_count t) (cond b (segment_count t) (point_count t)) ≤ most_points
-      go true b = omega (arith, h.curves_at_most)
-      go false true = omega (arith, h.segments_at_most)
-      go false false = h.points_at_most
+  room_size : (kind : Kind) → targets t kind ≤ most_points
+  room_size kinds.Trimmed = omega (arith, h.curves_at_most)
+  room_size kinds.Composite = omega (arith, h.segments_at_most)
+  room_size _ = h.points_at_most
 
   real_size : (i : ℕ) → i < length t.reals → Size 40 (get_or t.reals i nan)
   real_size i l = size_grows 30 40 (get_or t.reals i nan) (omega arith) (bounded_size (get_or t.reals i nan) (h.reals_bounded i l))
@@ -173,23 +167,27 @@ module _ (t : Tables) (e : Edge) (o : Options) (h : Checked t e o) (reals : AllB
   row_is : (i : ℕ) → i < curve_count t → Row (row_in t i)
   unfolding curve_of kind_of
   row_is i l =
-      let kind = get_or t.curves (i * 3) 0 in
-      let n : get_or t.curves (i * 3 + 2) 0 ≤ most_points = omega (arith, h.run_inside i l, room_size kind) in
-      let m = h.reals_as_many in
-      pick (eqb kind 1) a_line
-      (pick (eqb kind 2) a_circle
-      (pick (eqb kind 3) an_ellipse
-      (pick (eqb kind 4) a_parabola
-      (pick (eqb kind 5) (a_polyline n)
-      (pick (eqb kind 6)
-      (a_trim (record {
-        low = real_size (i * 2) (omega arith);
-        low_fits = reals (i * 2);
-        high = real_size (i * 2 + 1) (omega arith);
-        high_fits = reals (i * 2 + 1);
-      }))
-      (pick (eqb kind 7) (a_composite n)
-      (pick (eqb kind 8) a_hyperbola (a_polyline (omega arith)))))))))
+      let x = h.run_inside i l in
+      let n : get_or t.curves (i * 3 + 2) 0 ≤ most_points = omega (arith, x.2, room_size x.0) in
+      rw x.1 (go n x.0)
+    where
+      go : get_or t.curves (i * 3 + 2) 0 ≤ most_points → (kind : Kind)
+          → Row (kind_of t.points (Some kind) (get_or t.curves (i * 3 + 1) 0) (get_or t.curves (i * 3 + 2) 0) (get_or t.reals (i * 2) nan) (get_or t.reals (i * 2 + 1) nan))
+      go n kinds.Line = a_line
+      go n kinds.Circle = a_circle
+      go n kinds.Ellipse = an_ellipse
+      go n kinds.Parabola = a_parabola
+      go n kinds.Polyline = a_polyline n
+      go n kinds.Trimmed =
+          let m = h.reals_as_many in
+          a_trim (record {
+            low = real_size (i * 2) (omega arith);
+            low_fits = reals (i * 2);
+            high = real_size (i * 2 + 1) (omega arith);
+            high_fits = reals (i * 2 + 1);
+          })
+      go n kinds.Composite = a_composite n
+      go n kinds.Hyperbola = a_hyperbola
 
   knots_fit : (f : ℕ → CurveTree) (first n : ℕ) → All (λ k. T (fits binary64 k)) (segment_knots (segments t f first n))
   unfolding segment_knots segments segment_of

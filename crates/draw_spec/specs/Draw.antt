@@ -1,8 +1,7 @@
 -- Drawing an edge: the answer, what both chain buffers hold afterwards, and what holds of every chain. Definitions only.
-use Rattle.std.specs.Prelude.{◌≡◌, Bool, true, false, cond, ◌||◌, ℕ, ◌<◌, ◌≤◌, ◌-◌, ◌*◌, ◌/◌, min, length, ltb, leb, Float}
+use Rattle.std.specs.Prelude.{◌≡◌, Bool, true, false, cond, ◌||◌, ℕ, ◌<◌, ◌≤◌, ◌-◌, ◌*◌, ◌/◌, min, length, ltb, leb, Float, Option, Some, None, Ok, Err}
 use mathlib.Core.List.{List, [], map, drop_last}
 use Rattle.std.specs.Float.Ieee.{lt}
-use Rattle.base_lists.specs.Result.{Result, refused, got}
 use Rattle.base_lists.specs.All.{All}
 use Rattle.base_lists.specs.Room.{filled}
 use Rattle.arith.specs.Notation.{plus_zero}
@@ -12,7 +11,6 @@ use Rattle.curve.specs.Eval.{point_at}
 use Rattle.options.specs.declared.Options.{Options}
 use Rattle.options.specs.declared.Resolved.{Resolved}
 use Rattle.options.specs.Options.{resolve, for_extent}
-use Rattle.causes.specs.declared.Verdict.TheVariants as verdicts
 use Rattle.causes_bounds.specs.Bounds.{unbounded}
 use Rattle.causes_form.specs.Forms.{ill_formed}
 use Rattle.causes.specs.Causes.{oversize, unordered, too_deep, missing, verdict}
@@ -23,15 +21,17 @@ use Rattle.edge_params.specs.OneWay.{OneWay}
 use Rattle.edge_record.specs.declared.Sample.{Sample}
 use Rattle.edge_record.specs.Chain.{width, shortest, most, flat, samples, sample_point, inner_samples}
 use Rattle.edge_merge.specs.Merge.{merge_floor, Apart}
-use Rattle.edge_range.specs.declared.Usable.{Usable}
-use Rattle.edge_range.specs.declared.Usable.TheVariants.{Range, Unusable}
 use Rattle.edge_range.specs.Usable.{usable_range}
 use Rattle.draw_spec.specs.declared.Way.{Way}
 use Rattle.draw_spec.specs.declared.Way.TheVariants.{AsDrawn, Chord, Complement, ShortArc, Runaway}
-use Rattle.draw_spec.specs.declared.Drawn.{Drawn}
-use Rattle.draw_spec.specs.declared.Drawn.TheVariants.{Refused, Chain}
 use Rattle.draw_spec.specs.Edge.{edge_curve, edge_start, edge_end, edge_extent, discretised}
 use Rattle.draw_spec.specs.Repair.{Got, by, repaired}
+use Rattle.math.specs.declared.Interval.{Interval}
+use Rattle.draw_spec.specs.declared.Drawn.{Drawn}
+use Rattle.refusal.specs.Answer.{Answer}
+use Rattle.refusal.specs.Refusal.{number_of}
+use Rattle.refusal.specs.declared.Refusal.{Refusal}
+use Rattle.refusal.specs.declared.Refusal.TheVariants.{ShortBuffer, Endless, TooFar}
 
 -- ---- the closure inside discretise_all
 -- options.for_extent(edge_extent(solid, e))
@@ -39,14 +39,14 @@ unfoldable pub local_options : Tables → Edge → Options → Resolved
 local_options T e o = for_extent (resolve o) (edge_extent T e)
 
 -- the way of the first drawing
-unfoldable pub first_way : Usable → Way
-first_way (Range range) = AsDrawn
-first_way Unusable = Chord
+unfoldable pub first_way : Option Interval → Way
+first_way (Some range) = AsDrawn
+first_way None = Chord
 
 -- the parameters at which edge_extent asks for the curve's points, whether or not the options use the extent
-unfoldable pub probes : Usable → List Float
-probes (Range range) = evenly range 8
-probes Unusable = []
+unfoldable pub probes : Option Interval → List Float
+probes (Some range) = evenly range 8
+probes None = []
 
 -- discretise, then repair_runaway
 abbrev pub drawn_repaired : Tables → Edge → Resolved → Work Got
@@ -75,22 +75,26 @@ abbrev pub too_short : ℕ → ℕ → Bool
 too_short first second = ltb first shortest || ltb second shortest
 
 -- drawing into two buffers of so many floats: 7 where one is too short; else the reference in the room: 8, 9, 11, or the chain and its way
-abbrev pub in_buffers : Tables → Edge → Options → ℕ → ℕ → Result Got
+abbrev pub in_buffers : Tables → Edge → Options → ℕ → ℕ → Answer Got
 in_buffers T e o first second =
-    cond (too_short first second) (refused 7) (within (room_of first second) (referenced T e (local_options T e o)))
+    cond (too_short first second) (Err ShortBuffer) (within (room_of first second) (referenced T e (local_options T e o)))
 
 -- the refusal with the lowest number from 1 to 6; else drawing into the buffers
-unfoldable pub drawn : Tables → Edge → Options → ℕ → ℕ → Result Got
+unfoldable pub drawn : Tables → Edge → Options → ℕ → ℕ → Answer Got
 drawn T e o first second =
     elim (verdict T e o) [
-      | verdicts.Refused n ↦ refused n
-      | verdicts.Accepted ↦ in_buffers T e o first second
+      | Err n ↦ Err n
+      | Ok t ↦ in_buffers T e o first second
     ]
 
+-- a chain got in a way, of so many points
+abbrev pub drawn_as : Way → ℕ → Answer Drawn
+drawn_as way n = Ok (record { way = way; count = n })
+
 -- the answer
-unfoldable pub answer_of : Result Got → Drawn
-answer_of (refused n) = Refused n
-answer_of (got g) = Chain g.way (length g.chain)
+unfoldable pub answer_of : Answer Got → Answer Drawn
+answer_of (Err n) = Err n
+answer_of (Ok g) = drawn_as g.way (length g.chain)
 
 -- ---- the buffers afterwards
 -- a chain lies in the first buffer where it was kept as first drawn, in the second where repair replaced it
@@ -102,33 +106,33 @@ in_first ShortArc = false
 in_first Runaway = false
 
 -- an answer's chain lies in the first buffer; the empty chain of a refusal counts as lying there
-abbrev pub lies_in_first : Drawn → Bool
-lies_in_first (Refused n) = true
-lies_in_first (Chain way n) = in_first way
+abbrev pub lies_in_first : Answer Drawn → Bool
+lies_in_first (Err n) = true
+lies_in_first (Ok chain) = in_first chain.way
 
 -- how many floats an answer's chain has
-abbrev pub chain_floats : Drawn → ℕ
-chain_floats (Refused n) = 0
-chain_floats (Chain way n) = width * n
+abbrev pub chain_floats : Answer Drawn → ℕ
+chain_floats (Err n) = 0
+chain_floats (Ok chain) = width * chain.count
 
 -- 1 to 7 leave a buffer as before, 8, 9 and 11 leave it all +0.0
-abbrev pub after_refusal : ℕ → List Float → List Float
-after_refusal n entry = cond (leb n 7) entry (filled (length entry) [])
+abbrev pub after_refusal : Refusal → List Float → List Float
+after_refusal cause entry = cond (leb (number_of cause) 7) entry (filled (length entry) [])
 
 -- the first buffer: a chain that lies there, and +0.0 behind it; all +0.0 where the chain lies in the second
-unfoldable pub first_after : List Float → Result Got → List Float
-first_after entry (refused n) = after_refusal n entry
-first_after entry (got g) = filled (length entry) (cond (in_first g.way) (flat g.chain) [])
+unfoldable pub first_after : List Float → Answer Got → List Float
+first_after entry (Err n) = after_refusal n entry
+first_after entry (Ok g) = filled (length entry) (cond (in_first g.way) (flat g.chain) [])
 
 -- the second buffer: a chain that lies there, and +0.0 behind it; all +0.0 where the chain lies in the first
-unfoldable pub second_after : List Float → Result Got → List Float
-second_after entry (refused n) = after_refusal n entry
-second_after entry (got g) = filled (length entry) (cond (in_first g.way) [] (flat g.chain))
+unfoldable pub second_after : List Float → Answer Got → List Float
+second_after entry (Err n) = after_refusal n entry
+second_after entry (Ok g) = filled (length entry) (cond (in_first g.way) [] (flat g.chain))
 
 -- the chain as the buffers hold it
-unfoldable pub chain_in : List Float → List Float → Drawn → List Sample
-chain_in first second (Refused n) = []
-chain_in first second (Chain way n) = samples n (cond (in_first way) first second)
+unfoldable pub chain_in : List Float → List Float → Answer Drawn → List Sample
+chain_in first second (Err n) = []
+chain_in first second (Ok chain) = samples chain.count (cond (in_first chain.way) first second)
 
 -- ---- the five clauses that hold of every chain
 -- what holds of every chain of an edge, whichever way it was got, with its merge floor
@@ -164,9 +168,9 @@ pub data Applies (T : Tables) (e : Edge) (o : Options) (first second : ℕ) : �
   -- a parameter list formed on the reference's way is longer than the room
   eight : overflows (room_of first second) (referenced T e (local_options T e o)).acts ≡ true → Applies T e o first second 8
   -- the reference never ends: `thin` reaches a span that it splits for ever
-  nine : (referenced T e (local_options T e o)).end ≡ refused 9 → Applies T e o first second 9
+  nine : (referenced T e (local_options T e o)).end ≡ Err Endless → Applies T e o first second 9
   -- the reference would ask a hyperbola for a parameter beyond 100 in magnitude
-  eleven : (referenced T e (local_options T e o)).end ≡ refused 11 → Applies T e o first second 11
+  eleven : (referenced T e (local_options T e o)).end ≡ Err TooFar → Applies T e o first second 11
 
 -- cause n applies, and no lower one. (8, 9 and 11 need no order of their own: whatever is recorded of the reference's work comes before the span at
 -- which it never ends, and before the parameter that it may not ask for.)
@@ -175,12 +179,12 @@ pub record Lowest (T : Tables) (e : Edge) (o : Options) (first second n : ℕ) :
   pub lowest : (m : ℕ) → m < n → Applies T e o first second m → ⊥
 
 -- the outcome of drawing: answer and buffers by the definition, and the five clauses of the chain that the buffers hold
-pub record Outcome (T : Tables) (e : Edge) (o : Options) (first second : List Float) (answer : Drawn) (first' second' : List Float) : Type 0 where
+pub record Outcome (T : Tables) (e : Edge) (o : Options) (first second : List Float) (answer : Answer Drawn) (first' second' : List Float) : Type 0 where
   pub answered : answer ≡ answer_of (drawn T e o (length first) (length second))
   pub first_holds : first' ≡ first_after first (drawn T e o (length first) (length second))
   pub second_holds : second' ≡ second_after second (drawn T e o (length first) (length second))
   -- a refusal is that of a cause that applies, the lowest; a chain is answered exactly where none applies
-  pub refuses : (n : ℕ) → answer ≡ Refused n → Lowest T e o (length first) (length second) n
-  pub accepts : (way : Way) (n : ℕ) → answer ≡ Chain way n → (m : ℕ) → Applies T e o (length first) (length second) m → ⊥
-  pub sound : (way : Way) (n : ℕ) → answer ≡ Chain way n
+  pub refuses : (cause : Refusal) → answer ≡ Err cause → Lowest T e o (length first) (length second) (number_of cause)
+  pub accepts : (chain : Drawn) → answer ≡ Ok chain → (m : ℕ) → Applies T e o (length first) (length second) m → ⊥
+  pub sound : (chain : Drawn) → answer ≡ Ok chain
       → Sound T e (merge_floor e.tolerance (local_options T e o).sag) (chain_in first' second' answer)

@@ -1,7 +1,6 @@
 -- edge.rs: edge_extent and discretise. Definitions only.
-use Rattle.std.specs.Prelude.{Bool, true, false, cond, not, List, [], ◌∷◌, reverse, ℕ, zero, suc, ◌+◌, eqb, Float}
+use Rattle.std.specs.Prelude.{Bool, true, false, cond, not, List, [], ◌∷◌, reverse, ℕ, zero, suc, ◌+◌, eqb, Float, Option, Some, None, Ok}
 use Rattle.std.specs.Float.Ieee.{lt, le}
-use Rattle.base_lists.specs.Result.{Result, got, each}
 use Rattle.arith.specs.Notation.{◌⊗◌, ◌⊘◌, count}
 use Rattle.arith.specs.Constants.{eight, ten, hundredth}
 use Rattle.arith.specs.Pick.{max_of}
@@ -20,10 +19,9 @@ use Rattle.edge_merge.specs.Merge.{merge_floor, merged}
 use Rattle.edge_thin.specs.Thin.{thinned}
 use Rattle.curve_asks.specs.Asks.{asks_far}
 use Rattle.edge_params.specs.Work.{Work, ends, done, and_then, asking}
-use Rattle.edge_range.specs.declared.Usable.{Usable}
-use Rattle.edge_range.specs.declared.Usable.TheVariants.{Range, Unusable}
 use Rattle.edge_range.specs.Usable.{usable_range}
 use Rattle.edge_sample.specs.Sample.{sampled}
+use Rattle.refusal.specs.Answer.{Answer, each}
 unfoldable pub use Rattle.edge_closed_form.specs.Located.{located}
 
 -- ---- the edge's curve, vertices and sense
@@ -51,9 +49,9 @@ probed c range b (suc n) =
     cond (v_finite p) (add_point (probed c range b n) p) (probed c range b n)
 
 -- with the probes of a usable range
-unfoldable pub extent_box : CurveTree → Usable → Aabb → Aabb
-extent_box c (Range range) b = probed c range b 9
-extent_box c Unusable b = b
+unfoldable pub extent_box : CurveTree → Option Interval → Aabb → Aabb
+extent_box c (Some range) b = probed c range b 9
+extent_box c None b = b
 
 -- the largest side of the box
 unfoldable pub edge_extent : Tables → Edge → Float
@@ -99,9 +97,9 @@ pinned start end [] = []
 pinned start end (s ∷ l) = last_pinned end (moved_to start s) l
 
 -- thinned where the curve is a polyline or a trim of one
-unfoldable pub thinned_if : Bool → Resolved → List Sample → Result (List Sample)
+unfoldable pub thinned_if : Bool → Resolved → List Sample → Answer (List Sample)
 thinned_if true r l = thinned (r.sag ⊗ hundredth) r.angle (r.segments + 1) l
-thinned_if false r l = got l
+thinned_if false r l = Ok l
 
 -- the two-vertex chord with two parameters
 abbrev pub chord_of : Tables → Edge → Float → Float → List Sample
@@ -118,11 +116,11 @@ unfoldable pub placed : Tables → Edge → List Float → List Sample
 placed T e params = pinned (edge_start T e) (edge_end T e) (oriented T e (located (edge_curve T e) params))
 
 -- a placed chain, thinned and merged
-abbrev pub thinned_merged : Tables → Edge → Resolved → List Sample → Result (List Sample)
+abbrev pub thinned_merged : Tables → Edge → Resolved → List Sample → Answer (List Sample)
 thinned_merged T e r l = each (merged (merge_floor e.tolerance r.sag)) (thinned_if (is_sampled (edge_curve T e)) r l)
 
 -- the parameters' chain
-unfoldable pub finished : Tables → Edge → Resolved → List Float → Result (List Sample)
+unfoldable pub finished : Tables → Edge → Resolved → List Float → Answer (List Sample)
 finished T e r params = thinned_merged T e r (placed T e params)
 
 -- the parameters over a usable range, at least two, and the curve asked for its points at them
@@ -137,6 +135,6 @@ over_range T e r range = and_then (listed (edge_curve T e) range r) (λ params. 
 unfoldable pub discretised : Tables → Edge → Resolved → Work (List Sample)
 discretised T e r =
     elim (usable_range (edge_curve T e) e.range) [
-      | Unusable ↦ done (chord_of T e e.range.lo e.range.hi)
-      | Range range ↦ over_range T e r range
+      | None ↦ done (chord_of T e e.range.lo e.range.hi)
+      | Some range ↦ over_range T e r range
     ]

@@ -1,5 +1,5 @@
 -- edge.rs: repair_runaway. Definitions only.
-use Rattle.std.specs.Prelude.{Bool, true, false, cond, not, ◌&&◌, ◌||◌, List, [], ◌∷◌, ℕ, zero, suc, Float}
+use Rattle.std.specs.Prelude.{Bool, true, false, cond, not, ◌&&◌, ◌||◌, List, [], ◌∷◌, ℕ, zero, suc, Float, Option, Some, None}
 use Rattle.std.specs.Float.Ieee.{lt, le}
 use Rattle.std.specs.Float.Ieee.Scale.{finite}
 use Rattle.arith.specs.Notation.{◌⊕◌, ◌⊗◌, ◌⊘◌, count, plus_zero}
@@ -12,8 +12,6 @@ use Rattle.math.specs.Math.{distance, is_empty, diagonal, centre, interval, span
 use Rattle.brep.specs.declared.Edge.{Edge}
 use Rattle.brep.specs.Rows.{Tables, point_of}
 use Rattle.brep.specs.Tree.{CurveTree}
-use Rattle.curve.specs.declared.Repeats.{Repeats}
-use Rattle.curve.specs.declared.Repeats.TheVariants.{Every, Never}
 use Rattle.curve.specs.Eval.{natural_range, period, point_at}
 use Rattle.options.specs.declared.Resolved.{Resolved}
 use Rattle.curve_asks.specs.Asks.{asks_far}
@@ -23,6 +21,7 @@ use Rattle.edge_record.specs.declared.Sample.{Sample}
 use Rattle.draw_spec.specs.Edge.{edge_curve, edge_start, edge_end, chord_of, discretised}
 use Rattle.draw_spec.specs.declared.Way.{Way}
 use Rattle.draw_spec.specs.declared.Way.TheVariants.{Complement, ShortArc, Runaway}
+use Rattle.edge_drawing.specs.Range.{with_range}
 
 -- a chain, and the way that it was got
 pub record Got : Type 0 where
@@ -32,19 +31,6 @@ pub record Got : Type 0 where
 -- a chain that was got this way
 abbrev pub by : Way → List Sample → Got
 by way chain = record { way = way; chain = chain }
-
--- Edge { range, ..edge.clone() }
-abbrev pub with_range : Edge → Interval → Edge
-with_range e range = record {
-  curve = e.curve;
-  start = e.start;
-  end = e.end;
-  sense = e.sense;
-  range = range;
-  tolerance = e.tolerance;
-  low = e.low;
-  high = e.high;
-}
 
 -- the reference box, as the caller gives it
 abbrev pub reference : Tables → Edge → Aabb
@@ -147,9 +133,9 @@ by_complement T e r p =
 
 -- ---- repair_runaway
 -- the complementary arc where the curve has a period, else the short arc
-unfoldable pub by_period : Tables → Edge → Resolved → Repeats → Work Got
-by_period T e r (Every p) = by_complement T e r p
-by_period T e r Never = by_short_arc T e r
+unfoldable pub by_period : Tables → Edge → Resolved → Option Float → Work Got
+by_period T e r (Some p) = by_complement T e r p
+by_period T e r None = by_short_arc T e r
 
 -- a chain stays where the box has no extent or holds it
 abbrev pub stays : Tables → Edge → Resolved → List Sample → Bool

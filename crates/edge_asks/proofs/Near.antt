@@ -1,4 +1,5 @@
 -- A hyperbola over a range whose ends are near: nothing that sampling asks for is too far. And what may ask has no closed form. Assumes nothing.
+use Rattle.std.specs.Prelude.{None}
 use Rattle.std.proofs.Common.{◌≡◌, ℕ, zero, suc, Bool, true, false, ◌&&◌, T, ◌⊎◌, List, [], ◌∷◌, ◌++◌, reverse, length, sym, refl, ap, ◌∙◌, inl, inr, append-nil, arith}
 use lib.Ieee.{Float, binary64, of_bits, fits, neg, le, lt}
 use lib.Ieee.Fits.{mul-fits}
@@ -12,7 +13,6 @@ use Rattle.curve_asks.specs.Asks.{farthest, is_far, asks_far}
 use Rattle.curve_asks.specs.Own.Risk.{in_reach, is_hyperbola, may_ask}
 use Rattle.curve_asks.proofs.Calm.{Near, near, not_far, near_modest}
 use Rattle.knots.specs.Knots.{curve_knots}
-use Rattle.edge_params.specs.declared.Closed.TheVariants.{Unknown}
 use Rattle.edge_params.specs.Work.{some_far}
 use Rattle.edge_params.specs.Params.{midpoint, Move, adds, asked, subdividing, Sampler, breaks_along, walking, bisecting}
 use Rattle.edge_params.specs.Own.Bisected.{NothingFar}
@@ -31,7 +31,7 @@ both false b e = no e
 
 -- ---- by the kind of a curve
 -- only lines, circles and ellipses have a closed form, and they ask for nothing
-pub may_open : (rows : Bool) (c : CurveTree) → may_ask rows c ≡ true → (range : Interval) (r : Resolved) → analytic_segments c range r ≡ Unknown
+pub may_open : (rows : Bool) (c : CurveTree) → may_ask rows c ≡ true → (range : Interval) (r : Resolved) → analytic_segments c range r ≡ None
 unfolding may_ask is_hyperbola analytic_segments
 may_open rows (analytic (line o d)) h range r = no h
 may_open rows (analytic (circle f a)) h range r = no h

@@ -1,34 +1,25 @@
 #![tactic(auto)]
 // What drawing would ask a curve for, told before a chain is made of it: whether some of it is too far, and whether refusal 8 or 11 comes first. Where
 // a look at the rows says that no hyperbola can be asked for a parameter that is too far, nothing is gone through.
-ghost use Rattle.std.specs.Prelude.{◌≡◌, ℕ, ◌<◌, ◌≤◌, ◌&&◌, List, length, nat_lt, Float};
-ghost use Rattle.brep.specs.Rows.{tables, lent, given};
+ghost use Rattle.std.specs.Prelude.{◌≡◌, ℕ, ◌<◌, ◌≤◌, ◌&&◌, List, nat_lt, Float, Some, None};
+ghost use Rattle.brep.specs.Rows.{tables};
 ghost use Rattle.brep.specs.Tree.{tree};
 ghost use Rattle.curve_asks.specs.Asks.{asks_far};
 ghost use Rattle.curve_asks.specs.Own.Risk.{in_reach, is_hyperbola};
-ghost use Rattle.knots_sort.specs.Own.Sortable.{most_knots};
-ghost use Rattle.knots.specs.Knots.{curve_knots};
 ghost use Rattle.edge_params.specs.Work.{some_far, asking, within};
 ghost use Rattle.edge_params.specs.Params.{evenly};
-ghost use Rattle.edge_params.specs.declared.Closed.TheVariants.{Unknown};
-ghost use Rattle.edge_range.specs.declared.Usable.TheVariants.{Range};
 ghost use Rattle.edge_range.specs.Usable.{analytic_segments};
+ghost use Rattle.edge_drawing.specs.Drawing.{drawn_curve};
 ghost use Rattle.edge_record.specs.Chain.{most};
 ghost use Rattle.edge_sample.specs.Own.Answered.{sampled_in};
 ghost use Rattle.draw_spec.specs.Edge.{listed};
 ghost use Rattle.draw_spec.specs.Repair.{sweep};
 ghost use Rattle.edge_asks.specs.Own.Told.{asked_first, told_of};
 
-use edge_record::Counted;
+use edge_drawing::Drawing;
 use math::Interval;
 use options::Resolved;
-
-// What is told of a range: nothing is too far, and it can be sampled as if nothing could be; or the refusal that comes first.
-#[derive(Clone, Copy)]
-pub enum Told {
-    Clear,
-    Refused(u32),
-}
+use refusal::Refusal;
 
 // Whether one of the parameters that divide a range evenly is too far: n steps, both ends included. Each is looked at.
 fn steps_far(
@@ -77,7 +68,7 @@ fn probes_far(
     range: Interval,
     probes_first: bool,
 ) -> bool
-    ensures { (points reals : List Float) → result ≡ some_far (asks_far (tree (tables points curves.now reals parts.now ranges.now) row)) (asked_first probes_first (Range range)) }
+    ensures { (points reals : List Float) → result ≡ some_far (asks_far (tree (tables points curves.now reals parts.now ranges.now) row)) (asked_first probes_first (Some range)) }
 {
     probes_first && steps_far(curves, parts, ranges, row, range, 8)
 }
@@ -125,70 +116,72 @@ fn floor_far(
 
 // What a pass over the moves of sampling tells, and then the segment floor.
 fn tell_by_count(
-    points: &[f64],
-    curves: &[u32],
-    reals: &[f64],
-    parts: &[u32],
-    ranges: &[f64],
-    row: u32,
+    drawing: &Drawing<'_>,
     range: Interval,
     r: Resolved,
     room: usize,
-) -> Told
-    requires { (length (curve_knots (tree (lent points curves reals parts ranges) row)) ≤ most_knots) × (0 < r.depth) × (room ≤ most)
-        × (analytic_segments (tree (lent points curves reals parts ranges) row) range r ≡ Unknown) }
-    ensures { within room (listed (tree (given points curves reals parts ranges) row) range r) ≡ told_of result (sampled_in room (tree (given points curves reals parts ranges) row) range r) }
+) -> Result<(), Refusal>
+    requires { (0 < r.depth) × (room ≤ most)
+        × (analytic_segments (drawn_curve drawing.now) range r ≡ None) }
+    ensures { within room (listed (drawn_curve drawing.now) range r) ≡ told_of result (sampled_in room (drawn_curve drawing.now) range r) }
 {
-    let counted = edge_count::count_range(
-        points, curves, reals, parts, ranges, row, range, r, room,
-    );
+    let tables = drawing.tables;
+    let row = drawing.edge.curve;
+    let counted = edge_count::count_range(drawing, range, r, room);
     match counted {
-        Counted::Refused(cause) => Told::Refused(cause),
-        Counted::Count(n) => {
+        Err(cause) => Err(cause),
+        Ok(n) => {
             // Two parameters at least are counted, so that these are fewer segments than the floor.
             if n as u64 <= r.segments
-                && floor_far(curves, parts, ranges, row, range, r.segments, room)
+                && floor_far(
+                    tables.curves,
+                    tables.parts,
+                    tables.ranges,
+                    row,
+                    range,
+                    r.segments,
+                    room,
+                )
             {
-                return Told::Refused(11);
+                return Err(Refusal::TooFar);
             }
-            Told::Clear
+            Ok(())
         }
     }
 }
 
-// What sampling a range in a room comes to, as far as what may not be asked goes, behind the probes or not: `Clear` where the list is the one that
+// What sampling a range in a room comes to, as far as what may not be asked goes, behind the probes or not: `Ok` where the list is the one that
 // sampling makes without looking, or the refusal that comes first. Where a list passes the room before anything that is too far is asked for, either
 // may be told: sampling then refuses it.
 pub fn tell(
-    points: &[f64],
-    curves: &[u32],
-    reals: &[f64],
-    parts: &[u32],
-    ranges: &[f64],
-    row: u32,
+    drawing: &Drawing<'_>,
     range: Interval,
     probes_first: bool,
     r: Resolved,
     room: usize,
-) -> Told
-    requires { (length (curve_knots (tree (lent points curves reals parts ranges) row)) ≤ most_knots) × (0 < r.depth) × (room ≤ most) }
-    ensures { within room (asking (asks_far (tree (given points curves reals parts ranges) row)) (asked_first probes_first (Range range)) (listed (tree (given points curves reals parts ranges) row) range r)) ≡ told_of result (sampled_in room (tree (given points curves reals parts ranges) row) range r) }
+) -> Result<(), Refusal>
+    requires { (0 < r.depth) × (room ≤ most) }
+    ensures { within room (asking (asks_far (drawn_curve drawing.now)) (asked_first probes_first (Some range)) (listed (drawn_curve drawing.now) range r)) ≡ told_of result (sampled_in room (drawn_curve drawing.now) range r) }
 {
+    let curves = drawing.tables.curves;
+    let parts = drawing.tables.parts;
+    let ranges = drawing.tables.ranges;
+    let row = drawing.edge.curve;
     // Most rows are told by their number, read in place.
     if curve_asks::never_asks(curves, row) {
-        return Told::Clear;
+        return Ok(());
     }
     if !curve_asks::may_ask(curves, parts, ranges, row) {
-        return Told::Clear;
+        return Ok(());
     }
     if probes_far(curves, parts, ranges, row, range, probes_first) {
-        return Told::Refused(11);
+        return Err(Refusal::TooFar);
     }
     if is_near_hyperbola(curves, row, range) {
         // A list has a segment at least, so that a floor of one changes nothing.
         if r.segments < 2 || !floor_far(curves, parts, ranges, row, range, r.segments, room) {
-            return Told::Clear;
+            return Ok(());
         }
     }
-    tell_by_count(points, curves, reals, parts, ranges, row, range, r, room)
+    tell_by_count(drawing, range, r, room)
 }

@@ -1,12 +1,12 @@
 #![tactic(auto)]
 // The check of a closed form: how far a curve's middles lie from those of its chords. The points at its parameters are left in
 // the chain, where they are wanted if the form is good enough.
-ghost use Rattle.std.specs.Prelude.{◌≡◌, true, ◌*◌, ◌≤◌, length, take};
+ghost use Rattle.std.specs.Prelude.{◌≡◌, true, ◌*◌, ◌≤◌, length};
 ghost use Rattle.std.proofs.lemmas.List.Edits.{sets};
 ghost use Rattle.std.specs.Float.Ieee.{le};
 ghost use Rattle.arith.specs.Notation.{plus_zero};
 ghost use Rattle.arith_root.specs.Root.{root_of};
-ghost use Rattle.brep.specs.Rows.{lent, given};
+ghost use Rattle.brep.specs.Rows.{lent};
 ghost use Rattle.brep.specs.Tree.{CurveTree, tree};
 ghost use Rattle.curve_prepared.specs.Own.Prepared.{prepared_of, is_plain, plain_point};
 ghost use Rattle.edge_record.specs.Chain.{width, flat};
@@ -15,6 +15,7 @@ ghost use Rattle.edge_closed_form.specs.Located.{located};
 ghost use Rattle.edge_closed_form.specs.Own.Worst.{miss_square, larger_of, Alike};
 
 use arith_root_limit::Limit;
+use brep::LentTables;
 use curve_prepared::Prepared;
 use edge_record::Sample;
 use math::Vec3;
@@ -72,26 +73,14 @@ fn worst_square(prepared: Prepared, params: &[f64], chain: &mut [f64]) -> f64
     worst
 }
 
-// Whether the chords between the first n parameters stay within the sag, of a curve that needs no tables. The chain then holds
-// the points at those.
-pub fn meets(
-    points: &[f64],
-    curves: &[u32],
-    reals: &[f64],
-    parts: &[u32],
-    ranges: &[f64],
-    row: u32,
-    out: &[f64],
-    n: usize,
-    sag: f64,
-    chain: &mut [f64],
-) -> bool
-    requires { (n ≤ length out.now) × (width * n ≤ length chain.old) × (is_plain (prepared_of (tree (lent points curves reals parts ranges) row)) ≡ true) }
-    ensures { (result ≡ le (worst_miss (tree (given points curves reals parts ranges) row) plus_zero (take n out.now)) sag)
-        × (chain.new ≡ sets chain.old 0 (flat (located (tree (given points curves reals parts ranges) row) (take n out.now)))) }
+// Whether the chords between the parameters stay within the sag, of a curve that needs no tables. The chain then holds the points at
+// those.
+pub fn meets(tables: &LentTables<'_>, row: u32, params: &[f64], sag: f64, chain: &mut [f64]) -> bool
+    requires { (width * length params.now ≤ length chain.old) × (is_plain (prepared_of (tree (lent tables.now) row)) ≡ true) }
+    ensures { (result ≡ le (worst_miss (tree (lent tables.now) row) plus_zero params.now) sag)
+        × (chain.new ≡ sets chain.old 0 (flat (located (tree (lent tables.now) row) params.now))) }
 {
-    let params = &out[..n];
-    let prepared = curve_prepared::prepare(points, curves, reals, parts, ranges, row);
+    let prepared = curve_prepared::prepare(tables, row);
     // The largest of the roots is the root of the largest.
     let worst = worst_square(prepared, params, chain);
     Limit::new(sag).is_root_within(worst)

@@ -1,5 +1,6 @@
 -- A count of moves, by the tests that the code makes: one parameter more, and the ways out of is_halved, count_subdivided and count_span.
 -- Assumes nothing.
+use Rattle.std.specs.Prelude.{Option, ℕ, Some, None, Err, Ok}
 use mathlib.Core.Path.{◌≡◌, refl, sym, ap, ◌∙◌}
 use mathlib.Core.Bool.{Bool, true, false, not, not-not, cond}
 use mathlib.Core.List.{List, [], ◌∷◌, ◌++◌, map}
@@ -10,7 +11,6 @@ use lib.ListN.{length}
 use lib.Dec.{eqb}
 use lib.Ieee.{Float, ne}
 use borrow.Author.Tests.{lt-ltb, le-ltb}
-use Rattle.base_lists.specs.Result.{Result, refused, got, bind}
 use Rattle.math.specs.declared.Interval.{Interval}
 use Rattle.brep.specs.Tree.{CurveTree}
 use Rattle.options.specs.declared.Resolved.{Resolved}
@@ -19,38 +19,36 @@ use Rattle.edge_params.specs.Params.{midpoint, Move, asks, adds, subdividing, un
 use Rattle.edge_params.specs.Own.Bisected.{subdivided}
 use Rattle.edge_params.specs.Own.Counted.{counted}
 use Rattle.edge_params.specs.Own.Written.{ListAppended}
-use Rattle.edge_params.specs.declared.Listed.{Listed}
-use Rattle.edge_params.specs.declared.Listed.TheVariants as listed
 use Rattle.edge_params.proofs.Asks.{counted_append}
 use Rattle.edge_params.proofs.Written.{behind_count, behind_full}
-use Rattle.edge_record.specs.declared.Counted.{Counted}
-use Rattle.edge_record.specs.declared.Counted.TheVariants.{Refused, Count}
 use Rattle.edge_subdivide.specs.declared.End.{End}
 use Rattle.edge_subdivide.specs.Bisect.{end_at, within_budget}
 use Rattle.edge_subdivide.proofs.Laws.{end_t}
 use Rattle.edge_sample.proofs.Walking.{not_hi, is_hi}
-use Rattle.edge_count.specs.Own.Said.{count_said}
+use Rattle.refusal.specs.Answer.{Answer, bind}
+use Rattle.refusal.specs.declared.Refusal.{Refusal}
+use Rattle.refusal.specs.declared.Refusal.TheVariants.{NoRoom, TooFar}
 
 -- ---- an answer, and what is counted behind it
-module _ {w : Counted} {x : Result ℕ} (W : count_said w ≡ x) (f : ℕ → Result ℕ) {n : ℕ} where
+module _ {x : Answer ℕ} (f : ℕ → Answer ℕ) where
   -- a refusal stands
-  pub stands : w ≡ Refused n → count_said w ≡ bind x f
-  stands e = ap count_said e ∙ ap (λ (y : Result ℕ). bind y f) (sym (ap count_said e) ∙ W)
+  pub stands : {n : Refusal} → Err n ≡ x → Err n ≡ bind x f
+  stands e = ap (λ (y : Answer ℕ). bind y f) e
 
-  pub goes_on : w ≡ Count n → f n ≡ bind x f
-  goes_on e = ap (λ (y : Result ℕ). bind y f) (sym (ap count_said e) ∙ W)
+  pub goes_on : {n : ℕ} → Ok n ≡ x → f n ≡ bind x f
+  goes_on e = ap (λ (y : Answer ℕ). bind y f) e
 
 -- ---- a move
 module _ (far : Float → Bool) (room k : ℕ) (t : Float) where
-  pub one_fits : k < room → got (k + 1) ≡ counted far room k (adds t ∷ [])
+  pub one_fits : k < room → Ok (k + 1) ≡ counted far room k (adds t ∷ [])
   unfolding counted
   one_fits h = sym (rw (lt-ltb k room h, counted, add-one k))
 
-  pub one_over : room ≤ k → refused 8 ≡ counted far room k (adds t ∷ [])
+  pub one_over : room ≤ k → Err NoRoom ≡ counted far room k (adds t ∷ [])
   unfolding counted
   one_over h = sym (rw (le-ltb k room h, counted))
 
-  ask_far : (l : List Move) → far t ≡ true → refused 11 ≡ counted far room k (asks t ∷ l)
+  ask_far : (l : List Move) → far t ≡ true → Err TooFar ≡ counted far room k (asks t ∷ l)
   unfolding counted
   ask_far l e = sym (rw (e, counted))
 
@@ -63,9 +61,9 @@ counted_three : (far : Float → Bool) (room k : ℕ) (a : List Move) (t : Float
     → bind (counted far room k a) (λ (n : ℕ). bind (counted far room n (adds t ∷ [])) (λ (p : ℕ). counted far room p b)) ≡ counted far room k (a ++ adds t ∷ b)
 counted_three far room k a t b = go (counted far room k a) ∙ sym (counted_append far room k a (adds t ∷ b))
   where
-    go : (x : Result ℕ) → bind x (λ (n : ℕ). bind (counted far room n (adds t ∷ [])) (λ (p : ℕ). counted far room p b)) ≡ bind x (λ (n : ℕ). counted far room n (adds t ∷ b))
-    go (refused n) = refl
-    go (got n) = sym (counted_append far room n (adds t ∷ []) b)
+    go : (x : Answer ℕ) → bind x (λ (n : ℕ). bind (counted far room n (adds t ∷ [])) (λ (p : ℕ). counted far room p b)) ≡ bind x (λ (n : ℕ). counted far room n (adds t ∷ b))
+    go (Err n) = refl
+    go (Ok n) = sym (counted_append far room n (adds t ∷ []) b)
 
 -- ---- bisection of a span
 module _ (within : Float → Float → Bool) (depth : ℕ) (a b : Float) where
@@ -87,10 +85,10 @@ module _ (within : Float → Float → Bool) (depth : ℕ) (a b : Float) where
       ap (λ (n : ℕ). subdividing within n a b) d
 
 module _ (far : Float → Bool) (within : Float → Float → Bool) (depth : ℕ) (a b : Float) (room k : ℕ) where
-  abbrev all : Result ℕ
+  abbrev all : Answer ℕ
   all = counted far room k (subdividing within depth a b)
 
-  at_end : depth ≡ 0 → got k ≡ all
+  at_end : depth ≡ 0 → Ok k ≡ all
   unfolding subdividing counted
   at_end h = rw h
 
@@ -101,21 +99,21 @@ module _ (far : Float → Bool) (within : Float → Float → Bool) (depth : ℕ
     begun : counted far room k (asks a ∷ asks b ∷ asks (midpoint a b) ∷ next) ≡ all
     begun = ap (counted far room k) (opened within depth a b deep)
 
-    at_left : far a ≡ true → refused 11 ≡ all
+    at_left : far a ≡ true → Err TooFar ≡ all
     at_left f = ask_far far room k a (asks b ∷ asks (midpoint a b) ∷ next) f ∙ begun
 
     module _ (fa : far a ≡ false) where
       past_left : counted far room k (asks b ∷ asks (midpoint a b) ∷ next) ≡ all
       past_left = ask_near far room k a (asks b ∷ asks (midpoint a b) ∷ next) fa ∙ begun
 
-      at_right : far b ≡ true → refused 11 ≡ all
+      at_right : far b ≡ true → Err TooFar ≡ all
       at_right f = ask_far far room k b (asks (midpoint a b) ∷ next) f ∙ past_left
 
       module _ (fb : far b ≡ false) where
         past_right : counted far room k (asks (midpoint a b) ∷ next) ≡ all
         past_right = ask_near far room k b (asks (midpoint a b) ∷ next) fb ∙ past_left
 
-        at_middle : far (midpoint a b) ≡ true → refused 11 ≡ all
+        at_middle : far (midpoint a b) ≡ true → Err TooFar ≡ all
         at_middle f = ask_far far room k (midpoint a b) next f ∙ past_right
 
         past_middle : far (midpoint a b) ≡ false → (v : Bool) → within a b ≡ v → counted far room k (after within depth a b v) ≡ all
@@ -123,7 +121,7 @@ module _ (far : Float → Bool) (within : Float → Float → Bool) (depth : ℕ
             ap (λ (v : Bool). counted far room k (after within depth a b v)) (sym e) ∙ ask_near far room k (midpoint a b) next f ∙ past_right
 
 -- ---- the ways out of is_halved: the list that a depth of one makes of a span, in a buffer of one place
-module _ (within : Float → Float → Bool) (a b : Float) {out after : List Float} (room : length out ≡ 1) {w : Listed}
+module _ (within : Float → Float → Bool) (a b : Float) {out after : List Float} (room : length out ≡ 1) {w : Option ℕ}
     (h : ListAppended out 0 (subdivided within 1 a b) w after) where
   -- the middle, or nothing
   long : length (subdivided within 1 a b) ≡ cond (within a b) 0 1
@@ -134,14 +132,14 @@ module _ (within : Float → Float → Bool) (a b : Float) {out after : List Flo
       go true = refl
       go false = refl
 
-  pub not_refused : w ≡ listed.Refused → ⊥
+  pub not_refused : w ≡ None → ⊥
   not_refused e = go (within a b) (rw long at (behind_full out 0 (subdivided within 1 a b) after h (omega arith) e))
     where
       go : (v : Bool) → length out < 0 + cond v 0 1 → ⊥
       go true g = omega arith
       go false g = omega arith
 
-  pub is_halved : {n : ℕ} → w ≡ listed.Count n → not (eqb n 0) ≡ not (within a b)
+  pub is_halved : {n : ℕ} → w ≡ Some n → not (eqb n 0) ≡ not (within a b)
   is_halved {n} e = go (within a b) (behind_count out 0 (subdivided within 1 a b) after h (omega arith) n e ∙ ap (λ (i : ℕ). 0 + i) long)
     where
       go : (v : Bool) → n ≡ 0 + cond v 0 1 → not (eqb n 0) ≡ not v
@@ -154,14 +152,14 @@ end_near c x m M F near = ap (asks_far c) (end_t c x m M) ∙ sym F ∙ near
 
 -- ---- the ways out of count_subdivided
 module _ (c : CurveTree) (r : Resolved) (depth : ℕ) (a b : End) (fa : asks_far c a.t ≡ false) (fb : asks_far c b.t ≡ false) (room k : ℕ) where
-  abbrev span : Result ℕ
+  abbrev span : Answer ℕ
   span = all (asks_far c) (within_budget c r) depth a.t b.t room k
 
-  pub out_end : depth ≡ 0 → got k ≡ span
+  pub out_end : depth ≡ 0 → Ok k ≡ span
   out_end h = at_end (asks_far c) (within_budget c r) depth a.t b.t room k h
 
   module _ (deep : depth ≡ 0 → ⊥) {v : Bool} (F : v ≡ asks_far c (midpoint a.t b.t)) where
-    pub out_far : v ≡ true → refused 11 ≡ span
+    pub out_far : v ≡ true → Err TooFar ≡ span
     out_far e = at_middle (asks_far c) (within_budget c r) depth a.t b.t room k deep fa fb (sym F ∙ e)
 
     module _ (near : v ≡ false) {w : Bool} (W : w ≡ not (within_budget c r a.t b.t)) where
@@ -172,59 +170,78 @@ module _ (c : CurveTree) (r : Resolved) (depth : ℕ) (a b : End) (fa : asks_far
       on : (v : Bool) → within_budget c r a.t b.t ≡ v → counted (asks_far c) room k (after (within_budget c r) depth a.t b.t v) ≡ span
       on = past_middle (asks_far c) (within_budget c r) depth a.t b.t room k deep fa fb (sym F ∙ near)
 
-      pub out_within : not w ≡ true → got k ≡ span
+      pub out_within : not w ≡ true → Ok k ≡ span
       unfolding counted
       out_within e = on true (told ∙ e)
 
       -- the first half, the middle, the other half
-      pub halves : not w ≡ false → (m : End) → m ≡ end_at c (midpoint a.t b.t)
-          → bind (counted (asks_far c) room k (subdividing (within_budget c r) (depth - 1) a.t m.t))
-          (λ (n : ℕ). bind (counted (asks_far c) room n (adds m.t ∷ [])) (λ (p : ℕ). counted (asks_far c) room p (subdividing (within_budget c r) (depth - 1) m.t b.t)))
-          ≡ span
-      unfolding left right
-      halves e m M =
-          rw (end_t c (midpoint a.t b.t) m M)
-          (counted_three (asks_far c) room k (subdividing (within_budget c r) (depth - 1) a.t (midpoint a.t b.t)) (midpoint a.t b.t)
-          (subdividing (within_budget c r) (depth - 1) (midpoint a.t b.t) b.t)
-          ∙ on false (told ∙ e))
+      module _ (split : not w ≡ false) (m : End) (M : m ≡ end_at c (midpoint a.t b.t)) where
+        abbrev first : Answer ℕ
+        first = counted (asks_far c) room k (subdividing (within_budget c r) (depth - 1) a.t m.t)
+
+        abbrev middle : ℕ → Answer ℕ
+        middle n = counted (asks_far c) room n (adds m.t ∷ [])
+
+        abbrev second : ℕ → Answer ℕ
+        second p = counted (asks_far c) room p (subdividing (within_budget c r) (depth - 1) m.t b.t)
+
+        abbrev behind : ℕ → Answer ℕ
+        behind n = bind (middle n) second
+
+        halves : bind first behind ≡ span
+        unfolding left right
+        halves =
+            rw (end_t c (midpoint a.t b.t) m M)
+            (counted_three (asks_far c) room k (subdividing (within_budget c r) (depth - 1) a.t (midpoint a.t b.t)) (midpoint a.t b.t)
+            (subdividing (within_budget c r) (depth - 1) (midpoint a.t b.t) b.t)
+            ∙ on false (told ∙ split))
+
+        pub first_refused : {i : Refusal} → Err i ≡ first → Err i ≡ span
+        first_refused q = stands behind q ∙ halves
+
+        module _ {n : ℕ} (N : Ok n ≡ first) where
+          pub middle_refused : {i : Refusal} → Err i ≡ middle n → Err i ≡ span
+          middle_refused q = stands second q ∙ goes_on behind N ∙ halves
+
+          pub both_counted : {p : ℕ} → Ok p ≡ middle n → {x : Answer ℕ} → x ≡ second p → x ≡ span
+          both_counted P X = X ∙ goes_on second P ∙ goes_on behind N ∙ halves
 
 -- ---- the ways out of count_span
 -- what bisection puts inside a span, then its end
-abbrev pub span_moves : CurveTree → Interval → Resolved → Float → Float → List Move
-span_moves c range r a b = subdividing (within_budget c r) r.depth a b ++ map adds (unless_hi range b)
+abbrev pub span_moves : CurveTree → Interval → Resolved → ℕ → Float → Float → List Move
+span_moves c range r depth a b = subdividing (within_budget c r) depth a b ++ map adds (unless_hi range b)
 
-module _ (c : CurveTree) (range : Interval) (r : Resolved) (a b : Float) (room k : ℕ) where
+module _ (c : CurveTree) (range : Interval) (r : Resolved) (depth : ℕ) (a b : Float) (room k : ℕ) where
   -- what count_span answers
-  abbrev answer : Result ℕ
-  answer = counted (asks_far c) room k (span_moves c range r a b)
+  abbrev answer : Answer ℕ
+  answer = counted (asks_far c) room k (span_moves c range r depth a b)
 
-  abbrev inside : Result ℕ
-  inside = all (asks_far c) (within_budget c r) r.depth a b room k
+  abbrev inside : Answer ℕ
+  inside = all (asks_far c) (within_budget c r) depth a b room k
 
-  abbrev ended : ℕ → Result ℕ
+  abbrev ended : ℕ → Answer ℕ
   ended n = counted (asks_far c) room n (map adds (unless_hi range b))
 
   joined : bind inside ended ≡ answer
-  joined = sym (counted_append (asks_far c) room k (subdividing (within_budget c r) r.depth a b) (map adds (unless_hi range b)))
+  joined = sym (counted_append (asks_far c) room k (subdividing (within_budget c r) depth a b) (map adds (unless_hi range b)))
 
   -- an end that is too far is asked for first
-  module _ (deep : 0 < r.depth) {v : Bool} (F : v ≡ asks_far c a) where
-    pub span_left : v ≡ true → refused 11 ≡ answer
+  module _ (deep : 0 < depth) {v : Bool} (F : v ≡ asks_far c a) where
+    pub span_left : v ≡ true → Err TooFar ≡ answer
     span_left e =
-        ap (λ (x : Result ℕ). bind x ended) (at_left (asks_far c) (within_budget c r) r.depth a b room k (λ z. omega arith) (sym F ∙ e)) ∙ joined
+        ap (λ (x : Answer ℕ). bind x ended) (at_left (asks_far c) (within_budget c r) depth a b room k (λ z. omega arith) (sym F ∙ e)) ∙ joined
 
-    pub span_right : v ≡ false → {w : Bool} → w ≡ asks_far c b → w ≡ true → refused 11 ≡ answer
+    pub span_right : v ≡ false → {w : Bool} → w ≡ asks_far c b → w ≡ true → Err TooFar ≡ answer
     span_right e G h =
-        ap (λ (x : Result ℕ). bind x ended) (at_right (asks_far c) (within_budget c r) r.depth a b room k (λ z. omega arith) (sym F ∙ e) (sym G ∙ h)) ∙ joined
+        ap (λ (x : Answer ℕ). bind x ended) (at_right (asks_far c) (within_budget c r) depth a b room k (λ z. omega arith) (sym F ∙ e) (sym G ∙ h)) ∙ joined
 
-  module _ {w : Counted} (W : count_said w ≡ inside) {n : ℕ} where
-    pub span_refused : w ≡ Refused n → count_said w ≡ answer
-    span_refused e = stands W ended e ∙ joined
+  pub span_refused : {n : Refusal} → Err n ≡ inside → Err n ≡ answer
+  span_refused e = stands ended e ∙ joined
 
-    module _ (e : w ≡ Count n) where
-      pub span_more : ne b range.hi ≡ true → {x : Result ℕ} → x ≡ counted (asks_far c) room n (adds b ∷ []) → x ≡ answer
-      span_more h X = X ∙ ap (λ (l : List Float). counted (asks_far c) room n (map adds l)) (not_hi range b h) ∙ goes_on W ended e ∙ joined
+  module _ {n : ℕ} (e : Ok n ≡ inside) where
+    pub span_more : ne b range.hi ≡ true → {x : Answer ℕ} → x ≡ counted (asks_far c) room n (adds b ∷ []) → x ≡ answer
+    span_more h X = X ∙ ap (λ (l : List Float). counted (asks_far c) room n (map adds l)) (not_hi range b h) ∙ goes_on ended e ∙ joined
 
-      pub span_hi : ne b range.hi ≡ false → got n ≡ answer
-      unfolding counted
-      span_hi h = ap (λ (l : List Float). counted (asks_far c) room n (map adds l)) (is_hi range b h) ∙ goes_on W ended e ∙ joined
+    pub span_hi : ne b range.hi ≡ false → Ok n ≡ answer
+    unfolding counted
+    span_hi h = ap (λ (l : List Float). counted (asks_far c) room n (map adds l)) (is_hi range b h) ∙ goes_on ended e ∙ joined

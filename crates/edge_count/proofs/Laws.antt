@@ -1,5 +1,6 @@
 -- The ways out of count_breaks and count_range; and, for callers, that `range_counted` is the length of the list that the reference forms, or
 -- its refusal. Assumes nothing.
+use Rattle.std.specs.Prelude.{Err, Ok}
 use mathlib.Core.Path.{◌≡◌, refl, sym, ap, ◌∙◌}
 use mathlib.Core.Bool.{Bool, true, false}
 use mathlib.Core.List.{List, []}
@@ -8,7 +9,6 @@ use native.Mathlib.Omega.{arith}
 use lib.ListN.{length}
 use lib.Ieee.{Float, lt}
 use Rattle.arith.specs.Notation.{plus_zero}
-use Rattle.base_lists.specs.Result.{Result, refused, got, each}
 use Rattle.math.specs.declared.Interval.{Interval}
 use Rattle.brep.specs.Tree.{CurveTree}
 use Rattle.options.specs.declared.Resolved.{Resolved}
@@ -23,6 +23,8 @@ use Rattle.edge_params.proofs.Asks.{some_far-none, within_asking, counted_formin
 use Rattle.edge_sample.specs.Sample.{sampler}
 use Rattle.edge_sample.proofs.Broken.{none_found}
 use Rattle.edge_count.specs.Own.Said.{range_counted}
+use Rattle.refusal.specs.Answer.{Answer, each}
+use Rattle.refusal.specs.declared.Refusal.TheVariants.{TooFar}
 
 -- ---- a curve without knots has no breaks to thin
 pub no_asks : (c : CurveTree) (lo hi sag : Float) → 0 ≡ length (curve_knots c) → break_asks c lo hi sag ≡ []
@@ -37,13 +39,13 @@ module _ (room : ℕ) (c : CurveTree) (range : Interval) (r : Resolved) where
   abbrev asks_of : List Float
   asks_of = break_asks c range.lo range.hi r.sag
 
-  abbrev walk : Result ℕ
+  abbrev walk : Answer ℕ
   walk = counted (asks_far c) room 0 (bisecting (sampler c range r) range)
 
   -- ---- by what thin_far answered
-  range_told : (v : Bool) → some_far (asks_far c) asks_of ≡ v → elim v [ true ↦ refused 11 | false ↦ walk ] ≡ range_counted room c range r
+  range_told : (v : Bool) → some_far (asks_far c) asks_of ≡ v → elim v [ true ↦ Err TooFar | false ↦ walk ] ≡ range_counted room c range r
   unfolding range_counted
-  range_told v e = ap (λ (v : Bool). elim v [ true ↦ refused 11 | false ↦ walk ]) (sym e)
+  range_told v e = ap (λ (v : Bool). elim v [ true ↦ Err TooFar | false ↦ walk ]) (sym e)
 
   module _ {bs : List Float} (B : bs ≡ curve_breaks c range.lo range.hi) {v : Bool}
       (F : v ≡ some_far (asks_far c) (thinning_asks c bs range.lo range.hi r.sag)) where
@@ -51,7 +53,7 @@ module _ (room : ℕ) (c : CurveTree) (range : Interval) (r : Resolved) where
     told =
         F ∙ ap (λ (l : List Float). some_far (asks_far c) (thinning_asks c l range.lo range.hi r.sag)) B
 
-    pub range_far : v ≡ true → refused 11 ≡ range_counted room c range r
+    pub range_far : v ≡ true → Err TooFar ≡ range_counted room c range r
     range_far e = range_told true (sym told ∙ e)
 
     pub range_near : v ≡ false → walk ≡ range_counted room c range r
@@ -68,10 +70,10 @@ module _ (room : ℕ) (c : CurveTree) (range : Interval) (r : Resolved) where
       list : Work (List Float)
       list = forming (asks_far c) 0 (bisecting (sampler c range r) range)
 
-      long : (x : Result (List Float)) → each (λ (l : List Float). 0 + length l) x ≡ each length x
-      long (refused n) = refl
-      long (got l) = ap got (omega arith)
+      long : (x : Answer (List Float)) → each (λ (l : List Float). 0 + length l) x ≡ each length x
+      long (Err n) = refl
+      long (Ok l) = ap Ok (omega arith)
 
-      go : (v : Bool) → elim v [ true ↦ refused 11 | false ↦ walk ] ≡ each (length {A = Float}) (elim v [ true ↦ refused 11 | false ↦ within room list ])
+      go : (v : Bool) → elim v [ true ↦ Err TooFar | false ↦ walk ] ≡ each (length {A = Float}) (elim v [ true ↦ Err TooFar | false ↦ within room list ])
       go true = refl
       go false = counted_forming (asks_far c) room 0 (bisecting (sampler c range r) range) (omega arith) ∙ long (within room list)

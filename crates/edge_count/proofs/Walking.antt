@@ -1,10 +1,10 @@
 -- The walk over the stops: what is counted, then what the rest of the walk adds, is the whole. Assumes nothing.
+use Rattle.std.specs.Prelude.{ℕ, Err, Ok}
 use mathlib.Core.Path.{◌≡◌, refl, sym, ap, ◌∙◌}
 use mathlib.Core.List.{List, [], ◌∷◌, ◌++◌, append_assoc}
 use Prim.Native.Nat.{ℕ, ◌+◌, ◌≤◌}
 use lib.ListN.{length, get_or, drop}
 use lib.Ieee.{Float, nan}
-use Rattle.base_lists.specs.Result.{Result, bind}
 use Rattle.math.specs.declared.Interval.{Interval}
 use Rattle.brep.specs.Tree.{CurveTree}
 use Rattle.options.specs.declared.Resolved.{Resolved}
@@ -13,8 +13,6 @@ use Rattle.knots_thin.specs.Thin.{kept_breaks}
 use Rattle.edge_params.specs.Params.{Move, adds, breaks_along, walking, bisecting}
 use Rattle.edge_params.specs.Own.Counted.{counted}
 use Rattle.edge_params.proofs.Asks.{counted_append}
-use Rattle.edge_record.specs.declared.Counted.{Counted}
-use Rattle.edge_record.specs.declared.Counted.TheVariants.{Refused, Count}
 use Rattle.edge_subdivide.specs.declared.End.{End}
 use Rattle.edge_subdivide.specs.Bisect.{end_at}
 use Rattle.edge_subdivide.proofs.Laws.{end_t}
@@ -22,8 +20,9 @@ pub use Rattle.edge_subdivide.proofs.Laws.{end_own}
 use Rattle.edge_sample.specs.Sample.{sampler}
 use Rattle.edge_sample.specs.Own.Answered.{stops}
 use Rattle.edge_sample.proofs.Stops.{stops_from, stops_past}
-use Rattle.edge_count.specs.Own.Said.{count_said}
 use Rattle.edge_count.proofs.Counting.{stands, goes_on, span_moves}
+use Rattle.refusal.specs.Answer.{Answer, bind}
+use Rattle.refusal.specs.declared.Refusal.{Refusal}
 
 module _ (c : CurveTree) (range : Interval) (r : Resolved) where
   -- what the walk does from left on, with range.hi
@@ -34,16 +33,16 @@ module _ (c : CurveTree) (range : Interval) (r : Resolved) where
   unfolding onwards walking
   onwards_none left = refl
 
-  onwards_more : (left b : Float) (bs : List Float) → span_moves c range r left b ++ onwards b bs ≡ onwards left (b ∷ bs)
+  onwards_more : (left b : Float) (bs : List Float) → span_moves c range r r.depth left b ++ onwards b bs ≡ onwards left (b ∷ bs)
   unfolding onwards walking sampler
   onwards_more left b bs = simp append_assoc
 
 module _ (c : CurveTree) (range : Interval) (r : Resolved) (room : ℕ) where
   -- the number of parameters in the end, where there are k so far
-  abbrev onward : ℕ → Float → List Float → Result ℕ
+  abbrev onward : ℕ → Float → List Float → Answer ℕ
   onward k left bs = counted (asks_far c) room k (onwards c range r left bs)
 
-  abbrev whole : Result ℕ
+  abbrev whole : Answer ℕ
   whole = counted (asks_far c) room 0 (bisecting (sampler c range r) range)
 
   -- left is the end at the last stop, i the number of the next one
@@ -63,16 +62,15 @@ module _ (c : CurveTree) (range : Interval) (r : Resolved) (room : ℕ) where
           sym (counted_append (asks_far c) room 0 (adds range.lo ∷ []) (onwards c range r range.lo (stops range breaks)))
           ∙ ap (counted (asks_far c) room 0) moves
 
-      module _ (w : Counted) (W : count_said w ≡ counted (asks_far c) room 0 (adds range.lo ∷ [])) {n : ℕ} where
-        pub low_refused : w ≡ Refused n → count_said w ≡ whole
-        low_refused e = stands W (λ (n : ℕ). onward n range.lo (stops range breaks)) e ∙ begun
+      pub low_refused : {n : Refusal} → Err n ≡ counted (asks_far c) room 0 (adds range.lo ∷ []) → Err n ≡ whole
+      low_refused e = stands (λ (n : ℕ). onward n range.lo (stops range breaks)) e ∙ begun
 
-        pub walking_start : w ≡ Count n → (low : End) → low ≡ end_at c range.lo → Walking breaks low n 0
-        walking_start e low L = record {
-          own = end_own c range.lo low L;
-          all = ap (λ (x : Float). onward n x (stops range breaks)) (end_t c range.lo low L)
-              ∙ goes_on W (λ (n : ℕ). onward n range.lo (stops range breaks)) e ∙ begun;
-        }
+      pub walking_start : {m : ℕ} → Ok m ≡ counted (asks_far c) room 0 (adds range.lo ∷ []) → (low : End) → low ≡ end_at c range.lo → Walking breaks low m 0
+      walking_start {m} e low L = record {
+        own = end_own c range.lo low L;
+        all = ap (λ (x : Float). onward m x (stops range breaks)) (end_t c range.lo low L)
+            ∙ goes_on (λ (n : ℕ). onward n range.lo (stops range breaks)) e ∙ begun;
+      }
 
     module _ {left : End} {k i : ℕ} (s : Walking breaks left k i) where
       -- one stop more
@@ -80,23 +78,22 @@ module _ (c : CurveTree) (range : Interval) (r : Resolved) (room : ℕ) where
         behind : right.t ∷ drop (i + 1) (stops range breaks) ≡ drop i (stops range breaks)
         behind = ap (λ (x : Float). x ∷ drop (i + 1) (stops range breaks)) (end_t c b right own ∙ is) ∙ stops_from range breaks i h
 
-        abbrev rest : ℕ → Result ℕ
+        abbrev rest : ℕ → Answer ℕ
         rest n = onward n right.t (drop (i + 1) (stops range breaks))
 
-        split : bind (counted (asks_far c) room k (span_moves c range r left.t right.t)) rest ≡ whole
+        split : bind (counted (asks_far c) room k (span_moves c range r r.depth left.t right.t)) rest ≡ whole
         split =
-            sym (counted_append (asks_far c) room k (span_moves c range r left.t right.t) (onwards c range r right.t (drop (i + 1) (stops range breaks))))
+            sym (counted_append (asks_far c) room k (span_moves c range r r.depth left.t right.t) (onwards c range r right.t (drop (i + 1) (stops range breaks))))
             ∙ ap (counted (asks_far c) room k) (onwards_more c range r left.t right.t (drop (i + 1) (stops range breaks)) ∙ ap (onwards c range r left.t) behind)
             ∙ s.all
 
-        module _ (w : Counted) (W : count_said w ≡ counted (asks_far c) room k (span_moves c range r left.t right.t)) {n : ℕ} where
-          pub walking_refused : w ≡ Refused n → count_said w ≡ whole
-          walking_refused e = stands W rest e ∙ split
+        pub walking_refused : {n : Refusal} → Err n ≡ counted (asks_far c) room k (span_moves c range r r.depth left.t right.t) → Err n ≡ whole
+        walking_refused e = stands rest e ∙ split
 
-          pub walking_next : w ≡ Count n → Walking breaks right n (i + 1)
-          walking_next e = record { own = end_own c b right own; all = goes_on W rest e ∙ split }
+        pub walking_next : {n : ℕ} → Ok n ≡ counted (asks_far c) room k (span_moves c range r r.depth left.t right.t) → Walking breaks right n (i + 1)
+        walking_next e = record { own = end_own c b right own; all = goes_on rest e ∙ split }
 
       -- range.hi
-      pub walking_done : i ≡ length breaks + 1 → {x : Result ℕ} → x ≡ counted (asks_far c) room k (adds range.hi ∷ []) → x ≡ whole
+      pub walking_done : i ≡ length breaks + 1 → {x : Answer ℕ} → x ≡ counted (asks_far c) room k (adds range.hi ∷ []) → x ≡ whole
       walking_done e W =
           W ∙ ap (counted (asks_far c) room k) (sym (ap (onwards c range r left.t) (stops_past range breaks i e) ∙ onwards_none c range r left.t)) ∙ s.all

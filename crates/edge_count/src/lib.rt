@@ -1,67 +1,51 @@
 #![tactic(auto)]
 // Sampling without its lists: how many parameters bisection would form, or refusal 8 or 11, whichever comes first. It asks for what
 // sample_params asks for, in its order. Only curves that may lead to a hyperbola's parameter that is too far are gone through so.
-ghost use Rattle.std.specs.Prelude.{◌≡◌, Bool, false, not, List, [], ◌∷◌, ◌++◌, map, ◌<◌, ◌≤◌, length, Float};
-ghost use Rattle.brep.specs.Rows.{tables, lent, given};
+ghost use Rattle.std.specs.Prelude.{◌≡◌, Bool, false, not, List, [], ◌∷◌, ◌++◌, map, ◌<◌, Float};
+ghost use Rattle.brep.specs.Rows.{tables, lent};
 ghost use Rattle.brep.specs.Tree.{tree};
 ghost use Rattle.options.specs.declared.Resolved.{Resolved};
 ghost use Rattle.curve_asks.specs.Asks.{asks_far};
-ghost use Rattle.curve_prepared.specs.Own.Prepared.{prepared_of};
-ghost use Rattle.knots_sort.specs.Own.Sortable.{most_knots};
-ghost use Rattle.knots.specs.Knots.{curve_knots};
+ghost use Rattle.curve_prepared.specs.Own.PreparedCurve.{curve_of};
+ghost use Rattle.edge_drawing.specs.Drawing.{drawn_curve};
 ghost use Rattle.knots_thin.specs.Thin.{kept_breaks, deviation_asks, thinning_asks};
 ghost use Rattle.edge_params.specs.Work.{some_far};
 ghost use Rattle.edge_params.specs.Params.{adds, subdividing, unless_hi, bisecting};
 ghost use Rattle.edge_params.specs.Own.Counted.{counted};
-ghost use Rattle.edge_subdivide.specs.Own.Limits.{limits_of, OfOptions};
 ghost use Rattle.edge_subdivide.specs.Bisect.{end_at, within_budget};
 ghost use Rattle.edge_sample.specs.Sample.{sampler};
-ghost use Rattle.edge_count.specs.Own.Said.{count_said, range_counted};
+ghost use Rattle.edge_count.specs.Own.Said.{range_counted};
 
-use curve_prepared::Prepared;
-use edge_params::Listed;
-use edge_record::Counted;
+use brep::LentTables;
+use curve_prepared::PreparedCurve;
+use edge_drawing::Drawing;
 use edge_subdivide::{End, Limits};
-use knots::Knots;
 use math::Interval;
 use options::Resolved;
+use refusal::Refusal;
 
 // One parameter more than k, or refusal 8 where there is no room for it.
-fn count_one(room: usize, k: usize) -> Counted
-    ensures { (far : Float → Bool) (t : Float) → count_said result ≡ counted far room k (adds t ∷ []) }
+fn count_one(room: usize, k: usize) -> Result<usize, Refusal>
+    ensures { (far : Float → Bool) (t : Float) → result ≡ counted far room k (adds t ∷ []) }
 {
     if k < room {
-        return Counted::Count(k + 1);
+        return Ok(k + 1);
     }
-    Counted::Refused(8)
+    Err(Refusal::NoRoom)
 }
 
 // Whether bisection halves the span from a to b, by the list that it makes of the span with a depth of one: the middle, or nothing. (With a
 // second caller, what `subdivide` decides this by would not be read in place there any more, and every bisected curve would pay.)
-fn is_halved(
-    points: &[f64],
-    curves: &[u32],
-    reals: &[f64],
-    parts: &[u32],
-    ranges: &[f64],
-    row: u32,
-    prepared: Prepared,
-    l: &Limits,
-    a: End,
-    b: End,
-) -> bool
-    requires { (prepared ≡ prepared_of (tree (lent points curves reals parts ranges) row)) × OfOptions l.now
-        × (a ≡ end_at (tree (lent points curves reals parts ranges) row) a.t)
-        × (b ≡ end_at (tree (lent points curves reals parts ranges) row) b.t) }
-    ensures { (r : Resolved) → l.now ≡ limits_of r → result ≡ not (within_budget (tree (given points curves reals parts ranges) row) r a.t b.t) }
+fn is_halved(curve: &PreparedCurve<'_>, limits: &Limits, a: End, b: End) -> bool
+    requires { (a ≡ end_at (curve_of curve.now) a.t)
+        × (b ≡ end_at (curve_of curve.now) b.t) }
+    ensures { result ≡ not (within_budget (curve_of curve.now) limits.now.options a.t b.t) }
 {
     let mut list = [0.0; 1];
     let mut chain = [0.0; edge_record::WIDTH];
-    let listed = edge_subdivide::subdivide(
-        points, curves, reals, parts, ranges, row, prepared, l, a, b, 1, &mut list, &mut chain, 0,
-    );
+    let listed = edge_subdivide::subdivide(curve, limits, a, b, 1, &mut list, &mut chain, 0);
     // Never else: there is room for one.
-    let Listed::Count(n) = listed else {
+    let Some(n) = listed else {
         return true;
     };
     n != 0
@@ -69,88 +53,46 @@ fn is_halved(
 
 // How many parameters there are after bisection between a and b, where there were k before it.
 fn count_subdivided(
-    points: &[f64],
-    curves: &[u32],
-    reals: &[f64],
-    parts: &[u32],
-    ranges: &[f64],
-    row: u32,
-    prepared: Prepared,
-    l: &Limits,
+    curve: &PreparedCurve<'_>,
+    limits: &Limits,
     a: End,
     b: End,
     depth: u32,
     room: usize,
     k: usize,
-) -> Counted
-    requires { (prepared ≡ prepared_of (tree (lent points curves reals parts ranges) row)) × OfOptions l.now
-        × (a ≡ end_at (tree (lent points curves reals parts ranges) row) a.t)
-        × (b ≡ end_at (tree (lent points curves reals parts ranges) row) b.t)
-        × (asks_far (tree (lent points curves reals parts ranges) row) a.t ≡ false)
-        × (asks_far (tree (lent points curves reals parts ranges) row) b.t ≡ false) }
-    ensures { (r : Resolved) → l.now ≡ limits_of r
-        → count_said result ≡ counted (asks_far (tree (given points curves reals parts ranges) row)) room k
-        (subdividing (within_budget (tree (given points curves reals parts ranges) row) r) depth a.t b.t) }
+) -> Result<usize, Refusal>
+    requires { (a ≡ end_at (curve_of curve.now) a.t)
+        × (b ≡ end_at (curve_of curve.now) b.t)
+        × (asks_far (curve_of curve.now) a.t ≡ false)
+        × (asks_far (curve_of curve.now) b.t ≡ false) }
+    ensures { result ≡ counted (asks_far (curve_of curve.now)) room k
+        (subdividing (within_budget (curve_of curve.now) limits.now.options) depth a.t b.t) }
 {
     if depth == 0 {
-        return Counted::Count(k);
+        return Ok(k);
     }
     let t = 0.5 * (a.t + b.t);
-    if curve_asks::far_at(curves, parts, ranges, row, t) {
-        return Counted::Refused(11);
+    if curve_asks::far_at(
+        curve.tables.curves,
+        curve.tables.parts,
+        curve.tables.ranges,
+        curve.row,
+        t,
+    ) {
+        return Err(Refusal::TooFar);
     }
-    if !is_halved(points, curves, reals, parts, ranges, row, prepared, l, a, b) {
-        return Counted::Count(k);
+    if !is_halved(curve, limits, a, b) {
+        return Ok(k);
     }
-    let m = edge_subdivide::end_at(points, curves, reals, parts, ranges, row, prepared, t);
-    let before = count_subdivided(
-        points,
-        curves,
-        reals,
-        parts,
-        ranges,
-        row,
-        prepared,
-        l,
-        a,
-        m,
-        depth - 1,
-        room,
-        k,
-    );
-    let Counted::Count(n) = before else {
-        return before;
-    };
-    let pushed = count_one(room, n);
-    let Counted::Count(next) = pushed else {
-        return pushed;
-    };
-    count_subdivided(
-        points,
-        curves,
-        reals,
-        parts,
-        ranges,
-        row,
-        prepared,
-        l,
-        m,
-        b,
-        depth - 1,
-        room,
-        next,
-    )
+    let m = edge_subdivide::end_at(curve, t);
+    let n = count_subdivided(curve, limits, a, m, depth - 1, room, k)?;
+    let next = count_one(room, n)?;
+    count_subdivided(curve, limits, m, b, depth - 1, room, next)
 }
 
 // A span of the walk: what bisection puts inside it, then its end, unless that is range.hi, which stands once at the list's end.
 fn count_span(
-    points: &[f64],
-    curves: &[u32],
-    reals: &[f64],
-    parts: &[u32],
-    ranges: &[f64],
-    row: u32,
-    prepared: Prepared,
+    curve: &PreparedCurve<'_>,
     range: Interval,
     r: Resolved,
     limits: &Limits,
@@ -158,67 +100,57 @@ fn count_span(
     right: End,
     room: usize,
     k: usize,
-) -> Counted
-    requires { (prepared ≡ prepared_of (tree (lent points curves reals parts ranges) row)) × (limits.now ≡ limits_of r)
-        × (left ≡ end_at (tree (lent points curves reals parts ranges) row) left.t) × (right ≡ end_at (tree (lent points curves reals parts ranges) row) right.t) × (0 < r.depth) }
-    ensures { count_said result ≡ counted (asks_far (tree (given points curves reals parts ranges) row)) room k
-        (subdividing (within_budget (tree (given points curves reals parts ranges) row) r) r.depth left.t right.t ++ map adds (unless_hi range right.t)) }
+) -> Result<usize, Refusal>
+    requires { (left ≡ end_at (curve_of curve.now) left.t) × (right ≡ end_at (curve_of curve.now) right.t) × (0 < r.depth) }
+    ensures { result ≡ counted (asks_far (curve_of curve.now)) room k
+        (subdividing (within_budget (curve_of curve.now) limits.now.options) r.depth left.t right.t ++ map adds (unless_hi range right.t)) }
 {
-    if curve_asks::far_at(curves, parts, ranges, row, left.t) {
-        return Counted::Refused(11);
+    if curve_asks::far_at(
+        curve.tables.curves,
+        curve.tables.parts,
+        curve.tables.ranges,
+        curve.row,
+        left.t,
+    ) {
+        return Err(Refusal::TooFar);
     }
-    if curve_asks::far_at(curves, parts, ranges, row, right.t) {
-        return Counted::Refused(11);
+    if curve_asks::far_at(
+        curve.tables.curves,
+        curve.tables.parts,
+        curve.tables.ranges,
+        curve.row,
+        right.t,
+    ) {
+        return Err(Refusal::TooFar);
     }
-    let inside = count_subdivided(
-        points, curves, reals, parts, ranges, row, prepared, limits, left, right, r.depth, room, k,
-    );
-    let Counted::Count(n) = inside else {
-        return inside;
-    };
+    let n = count_subdivided(curve, limits, left, right, r.depth, room, k)?;
     if right.t != range.hi {
         return count_one(room, n);
     }
-    Counted::Count(n)
+    Ok(n)
 }
 
 // range.lo, the spans between the stops, range.hi.
 fn count_walk(
-    points: &[f64],
-    curves: &[u32],
-    reals: &[f64],
-    parts: &[u32],
-    ranges: &[f64],
-    row: u32,
+    drawing: &Drawing<'_>,
     range: Interval,
     r: Resolved,
     breaks: &[f64],
     room: usize,
-) -> Counted
-    requires { (breaks.now ≡ kept_breaks (tree (lent points curves reals parts ranges) row) range.lo range.hi r.sag) × (0 < r.depth) }
-    ensures { count_said result ≡ counted (asks_far (tree (given points curves reals parts ranges) row)) room 0 (bisecting (sampler (tree (given points curves reals parts ranges) row) range r) range) }
+) -> Result<usize, Refusal>
+    requires { (breaks.now ≡ kept_breaks (drawn_curve drawing.now) range.lo range.hi r.sag) × (0 < r.depth) }
+    ensures { result ≡ counted (asks_far (drawn_curve drawing.now)) room 0 (bisecting (sampler (drawn_curve drawing.now) range r) range) }
 {
-    let prepared = curve_prepared::prepare(points, curves, reals, parts, ranges, row);
+    let curve = PreparedCurve::new(drawing.tables, drawing.edge.curve);
     let limits = edge_subdivide::limits_of(r);
-    let pushed = count_one(room, 0);
-    let Counted::Count(first) = pushed else {
-        return pushed;
-    };
+    let first = count_one(room, 0)?;
     let mut k = first;
-    let mut left = edge_subdivide::end_at(
-        points, curves, reals, parts, ranges, row, prepared, range.lo,
-    );
+    let mut left = edge_subdivide::end_at(&curve, range.lo);
     let mut i = 0usize;
     while i <= breaks.len() {
         let b = edge_sample::stop_at(range, breaks, i);
-        let right = edge_subdivide::end_at(points, curves, reals, parts, ranges, row, prepared, b);
-        let stepped = count_span(
-            points, curves, reals, parts, ranges, row, prepared, range, r, &limits, left, right,
-            room, k,
-        );
-        let Counted::Count(n) = stepped else {
-            return stepped;
-        };
+        let right = edge_subdivide::end_at(&curve, b);
+        let n = count_span(&curve, range, r, &limits, left, right, room, k)?;
         k = n;
         left = right;
         i += 1;
@@ -239,19 +171,8 @@ fn span_far(curves: &[u32], parts: &[u32], ranges: &[f64], row: u32, a: f64, b: 
 }
 
 // Whether thin_breaks asks for a parameter that is too far.
-fn thin_far(
-    points: &[f64],
-    curves: &[u32],
-    reals: &[f64],
-    parts: &[u32],
-    ranges: &[f64],
-    row: u32,
-    lo: f64,
-    hi: f64,
-    sag: f64,
-    breaks: &[f64],
-) -> bool
-    ensures { result ≡ some_far (asks_far (tree (given points curves reals parts ranges) row)) (thinning_asks (tree (given points curves reals parts ranges) row) breaks.now lo hi sag) }
+fn thin_far(tables: &LentTables<'_>, row: u32, lo: f64, hi: f64, sag: f64, breaks: &[f64]) -> bool
+    ensures { result ≡ some_far (asks_far (tree (lent tables.now) row)) (thinning_asks (tree (lent tables.now) row) breaks.now lo hi sag) }
 {
     if 0.0 < sag {
         let mut start = lo;
@@ -259,13 +180,11 @@ fn thin_far(
         while i < breaks.len() {
             let b = breaks[i];
             let next = knots_thin::next_of(breaks, i, hi);
-            if span_far(curves, parts, ranges, row, start, next) {
+            if span_far(tables.curves, tables.parts, tables.ranges, row, start, next) {
                 return true;
             }
-            let pa = curve::point_at(points, curves, reals, parts, ranges, row, start);
-            let d = knots_thin::deviation(
-                points, curves, reals, parts, ranges, row, start, next, pa,
-            );
+            let pa = curve::point_at(tables, row, start);
+            let d = knots_thin::deviation(tables, row, start, next, pa);
             i += 1;
             if sag < d {
                 start = b;
@@ -277,110 +196,59 @@ fn thin_far(
 
 // The count of a curve that has knots.
 fn count_breaks(
-    points: &[f64],
-    curves: &[u32],
-    reals: &[f64],
-    parts: &[u32],
-    ranges: &[f64],
-    row: u32,
+    drawing: &Drawing<'_>,
     range: Interval,
     r: Resolved,
     room: usize,
-) -> Counted
-    requires { (length (curve_knots (tree (lent points curves reals parts ranges) row)) ≤ most_knots) × (0 < r.depth) }
-    ensures { count_said result ≡ range_counted room (tree (given points curves reals parts ranges) row) range r }
+) -> Result<usize, Refusal>
+    requires { (0 < r.depth) }
+    ensures { result ≡ range_counted room (drawn_curve drawing.now) range r }
 {
     let mut breaks = [0.0; knots_sort::MOST_KNOTS];
     let lo = range.lo;
     let hi = range.hi;
-    let found = knots::curve_breaks(
-        points,
-        curves,
-        reals,
-        parts,
-        ranges,
-        row,
-        lo,
-        hi,
-        &mut breaks,
-    );
+    let found = knots::curve_breaks(drawing.tables, drawing.edge.curve, range, &mut breaks);
     // Never else, here and below: the knots fit.
-    let Knots::Count(n) = found else {
-        return Counted::Refused(8);
+    let Some(n) = found else {
+        return Err(Refusal::NoRoom);
     };
     if thin_far(
-        points,
-        curves,
-        reals,
-        parts,
-        ranges,
-        row,
+        drawing.tables,
+        drawing.edge.curve,
         lo,
         hi,
         r.sag,
         &breaks[..n],
     ) {
-        return Counted::Refused(11);
+        return Err(Refusal::TooFar);
     }
     let kept = knots_thin::kept_breaks(
-        points,
-        curves,
-        reals,
-        parts,
-        ranges,
-        row,
-        lo,
-        hi,
+        drawing.tables,
+        drawing.edge.curve,
+        range,
         r.sag,
         &mut breaks,
     );
-    let Knots::Count(m) = kept else {
-        return Counted::Refused(8);
+    let Some(m) = kept else {
+        return Err(Refusal::NoRoom);
     };
-    count_walk(
-        points,
-        curves,
-        reals,
-        parts,
-        ranges,
-        row,
-        range,
-        r,
-        &breaks[..m],
-        room,
-    )
+    count_walk(drawing, range, r, &breaks[..m], room)
 }
 
 // How many parameters sample_params would form over a range before its segment floor, of a curve that has no closed form; or refusal 8
 // or 11, whichever comes first. Most curves have no knots, and need no room for breaks.
 pub fn count_range(
-    points: &[f64],
-    curves: &[u32],
-    reals: &[f64],
-    parts: &[u32],
-    ranges: &[f64],
-    row: u32,
+    drawing: &Drawing<'_>,
     range: Interval,
     r: Resolved,
     room: usize,
-) -> Counted
-    requires { (length (curve_knots (tree (lent points curves reals parts ranges) row)) ≤ most_knots) × (0 < r.depth) }
-    ensures { count_said result ≡ range_counted room (tree (given points curves reals parts ranges) row) range r }
+) -> Result<usize, Refusal>
+    requires { (0 < r.depth) }
+    ensures { result ≡ range_counted room (drawn_curve drawing.now) range r }
 {
-    if knots::knot_count(points, curves, reals, parts, ranges, row) == 0 {
+    if knots::knot_count(drawing.tables, drawing.edge.curve) == 0 {
         let none = [0.0; 1];
-        return count_walk(
-            points,
-            curves,
-            reals,
-            parts,
-            ranges,
-            row,
-            range,
-            r,
-            &none[..0],
-            room,
-        );
+        return count_walk(drawing, range, r, &none[..0], room);
     }
-    count_breaks(points, curves, reals, parts, ranges, row, range, r, room)
+    count_breaks(drawing, range, r, room)
 }

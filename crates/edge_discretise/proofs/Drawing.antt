@@ -1,4 +1,5 @@
 -- The ways through `draw_sampled`, `draw_range` and `discretise_usable`. Assumes nothing.
+use Rattle.std.specs.Prelude.{Option, Some, None, Err, Ok, ⊤}
 use mathlib.Core.Path.{◌≡◌, refl, sym, ap, subst, ◌∙◌}
 use mathlib.Core.Bool.{Bool, true, false}
 use mathlib.Core.List.{List, [], ◌++◌}
@@ -7,7 +8,6 @@ use native.Mathlib.Omega.{arith}
 use lib.ListN.{length, take, drop, replicate, length-append, length-replicate, replicate-append-replicate, take-append-drop}
 use lib.Seq.{sets, length-sets, length-take-le, take_at}
 use lib.Ieee.{Float, binary64, of_bits}
-use Rattle.base_lists.specs.Result.{Result, refused, got, bind, each}
 use Rattle.base_lists.specs.Room.{filled}
 use Rattle.base_lists.proofs.Filled.{filled_length, filled_front, filled_part}
 use Rattle.math.specs.declared.Interval.{Interval}
@@ -15,19 +15,13 @@ use Rattle.brep.specs.declared.Edge.{Edge}
 use Rattle.brep.specs.Rows.{Tables}
 use Rattle.brep.specs.Tree.{CurveTree}
 use Rattle.options.specs.declared.Resolved.{Resolved}
-use Rattle.edge_params.specs.declared.Listed.{Listed}
-use Rattle.edge_params.specs.declared.Listed.TheVariants as counts
 use Rattle.curve_asks.specs.Asks.{asks_far}
 use Rattle.edge_params.specs.Work.{Work, some_far, asking, overflows, within}
 use Rattle.edge_params.proofs.Asks.{some_far-none, asking_clear, within_asking}
 use Rattle.edge_params.specs.Own.Written.{said}
 use Rattle.edge_record.specs.declared.Sample.{Sample}
-use Rattle.edge_record.specs.declared.Counted.{Counted}
-use Rattle.edge_record.specs.declared.Counted.TheVariants.{Refused, Count}
 use Rattle.edge_record.specs.Own.Stored.{counted_of}
 use Rattle.edge_record.specs.Chain.{width, most, flat, samples}
-use Rattle.edge_range.specs.declared.Usable.{Usable}
-use Rattle.edge_range.specs.declared.Usable.TheVariants.{Range, Unusable}
 use Rattle.edge_range.specs.Usable.{usable_range}
 use Rattle.edge_subdivide.specs.Own.Recorded.{Room}
 use Rattle.base_lists.specs.Own.ListOf.{list_of}
@@ -39,21 +33,22 @@ use Rattle.edge_closed_form.specs.Located.{located}
 use Rattle.draw_spec.specs.Edge.{edge_curve, chord_of, placed, thinned_merged, finished, listed, over_range, discretised}
 use Rattle.draw_spec.specs.Draw.{probes, room_of}
 use Rattle.draw_spec.proofs.Listed.{over_within}
-use Rattle.edge_asks.specs.declared.Told.{Told}
-use Rattle.edge_asks.specs.declared.Told.TheVariants as asks
 use Rattle.edge_asks.specs.Own.Told.{asked_first, told_of}
 use Rattle.edge_asks.proofs.Telling.{told_clear}
 use Rattle.edge_place.proofs.Records.{read_back}
 use Rattle.edge_place.proofs.Laws.{placed_length}
 use Rattle.edge_discretise.specs.Own.Discretised.{ChainInto, asked_discretised, DiscretisedInto}
+use Rattle.refusal.specs.Answer.{Answer, bind, each}
+use Rattle.refusal.specs.declared.Refusal.{Refusal}
+use Rattle.refusal.specs.declared.Refusal.TheVariants.{NoRoom, TooFar}
 
-into_is : (n m : ℕ) (D E : Result (List Sample)) {w : Counted} {g : List Float} → n ≡ m → D ≡ E → ChainInto n D w g → ChainInto m E w g
+into_is : (n m : ℕ) (D E : Answer (List Sample)) {w : Answer ℕ} {g : List Float} → n ≡ m → D ≡ E → ChainInto n D w g → ChainInto m E w g
 into_is n m D E k e p = record {
   answered = p.answered ∙ ap counted_of e;
-  holds = p.holds ∙ ap (λ (i : ℕ). filled i (flat (list_of D))) k ∙ ap (λ (x : Result (List Sample)). filled m (flat (list_of x))) e;
+  holds = p.holds ∙ ap (λ (i : ℕ). filled i (flat (list_of D))) k ∙ ap (λ (x : Answer (List Sample)). filled m (flat (list_of x))) e;
 }
 
-pub into_as : {n m : ℕ} {D : Result (List Sample)} {w : Counted} {g : List Float} → n ≡ m → ChainInto n D w g → ChainInto m D w g
+pub into_as : {n m : ℕ} {D : Answer (List Sample)} {w : Answer ℕ} {g : List Float} → n ≡ m → ChainInto n D w g → ChainInto m D w g
 into_as {n} {m} {D} e p = into_is n m D D e refl p
 
 -- ---- `draw_sampled`
@@ -66,27 +61,27 @@ module _ (scratch chain : List Float) (fits : width * length scratch ≤ length 
   records_room = record { taken = omega arith; wide = records_length }
 
 -- out is the buffer after sample_params, which counted n parameters
-pub record Sampling (room : ℕ) (S : Result (List Float)) (n : ℕ) (out : List Float) : Type 0 where
+pub record Sampling (room : ℕ) (S : Answer (List Float)) (n : ℕ) (out : List Float) : Type 0 where
   pub params : List Float
-  pub is : S ≡ got params
+  pub is : S ≡ Ok params
   pub size : length params ≡ n
   pub two : 2 ≤ n
   pub fits : n ≤ room
   pub floats : out ≡ filled room params
 
-pub sampling_some : (room : ℕ) (c : CurveTree) (range : Interval) (r : Resolved) (w : Listed) (n : ℕ) (out : List Float)
-    → SampledInto room (sampled_in room c range r) w out → w ≡ counts.Count n → Sampling room (sampled_in room c range r) n out
+pub sampling_some : (room : ℕ) (c : CurveTree) (range : Interval) (r : Resolved) (w : Option ℕ) (n : ℕ) (out : List Float)
+    → SampledInto room (sampled_in room c range r) w out → w ≡ Some n → Sampling room (sampled_in room c range r) n out
 sampling_some room c range r w n out p e = go (sampled_in room c range r) (λ l q. sampled_two room c range r l q) (λ l q. sampled_room room c range r l q) p
   where
-    go : (S : Result (List Float)) → ((l : List Float) → S ≡ got l → 2 ≤ length l) → ((l : List Float) → S ≡ got l → length l ≤ room)
+    go : (S : Answer (List Float)) → ((l : List Float) → S ≡ Ok l → 2 ≤ length l) → ((l : List Float) → S ≡ Ok l → length l ≤ room)
         → SampledInto room S w out → Sampling room S n out
-    go (refused x) f g a = let q : got n ≡ refused x = ap said (sym e) ∙ a.0 in let z : ◌≡◌ {A = ℕ} 0 1 = cc in absurd (omega arith)
-    go (got l) f g a =
-        let q : got n ≡ got (length l) = ap said (sym e) ∙ a.0 in
+    go (Err x) f g a = let q : ◌≡◌ {A = Answer ℕ} (Ok n) (Err x) = ap said (sym e) ∙ a.0 in cc
+    go (Ok l) f g a =
+        let q : ◌≡◌ {A = Answer ℕ} (Ok n) (Ok (length l)) = ap said (sym e) ∙ a.0 in
         let k : n ≡ length l = cc in
         record { params = l; is = refl; size = sym k; two = omega (arith, f l refl); fits = omega (arith, g l refl); floats = a.1 }
 
-module _ {room : ℕ} {S : Result (List Float)} {n : ℕ} {out : List Float} (s : Sampling room S n out) where
+module _ {room : ℕ} {S : Answer (List Float)} {n : ℕ} {out : List Float} (s : Sampling room S n out) where
   pub part_room : n ≤ length out
   part_room = omega (arith, s.fits, s.size, ap length s.floats, filled_length room s.params (omega (arith, s.fits, s.size)))
 
@@ -105,9 +100,9 @@ module _ {room : ℕ} {S : Result (List Float)} {n : ℕ} {out : List Float} (s 
 -- a range drawn in a room, where nothing asked for is too far: the parameters that fit it, finished
 module _ (T : Tables) (e : Edge) (r : Resolved) (range : Interval) (room : ℕ) (near : within room (listed (edge_curve T e) range r) ≡ sampled_in room (edge_curve T e) range r) where
   over_in : within room (over_range T e r range) ≡ bind (sampled_in room (edge_curve T e) range r) (finished T e r)
-  over_in = over_within T e r range room ∙ ap (λ (x : Result (List Float)). bind x (finished T e r)) near
+  over_in = over_within T e r range room ∙ ap (λ (x : Answer (List Float)). bind x (finished T e r)) near
 
-  pub into_over : {n : ℕ} {w : Counted} {g : List Float} → ChainInto n (bind (sampled_in room (edge_curve T e) range r) (finished T e r)) w g
+  pub into_over : {n : ℕ} {w : Answer ℕ} {g : List Float} → ChainInto n (bind (sampled_in room (edge_curve T e) range r) (finished T e r)) w g
       → ChainInto n (within room (over_range T e r range)) w g
   into_over {n} = into_is n n _ _ refl (sym over_in)
 
@@ -127,9 +122,9 @@ module _ {room : ℕ} (T : Tables) (e : Edge) (r : Resolved) (range : Interval) 
     over_some : thinned_merged T e r (samples n d) ≡ within room (over_range T e r range)
     unfolding finished
     over_some =
-        ap (thinned_merged T e r) reads_placed ∙ ap (λ (x : Result (List Float)). bind x (finished T e r)) (sym s.is) ∙ sym (over_in T e r range room near)
+        ap (thinned_merged T e r) reads_placed ∙ ap (λ (x : Answer (List Float)). bind x (finished T e r)) (sym s.is) ∙ sym (over_in T e r range room near)
 
-    pub into_some : (w : Counted) (g : List Float) → ChainInto (length d) (thinned_merged T e r (samples n d)) w g → ChainInto (length chain) (within room (over_range T e r range)) w g
+    pub into_some : (w : Answer ℕ) (g : List Float) → ChainInto (length d) (thinned_merged T e r (samples n d)) w g → ChainInto (length chain) (within room (over_range T e r range)) w g
     into_some w g = into_is (length d) (length chain) _ _ (ap length p ∙ length-sets chain 0 (flat (placed T e (take n out)))) over_some
 
 -- what sample_params left in the part of the chain that it was lent, where it says that these are the parameters' records
@@ -142,19 +137,19 @@ module _ {room : ℕ} (T : Tables) (e : Edge) (r : Resolved) (range : Interval) 
       ∙ reads_held (edge_curve T e) s.params room range r part more wide s.is (sym (ap (λ (t : Traced). t.known) p) ∙ h)
       ∙ ap (located (edge_curve T e)) (sym (params_of s))
 
-pub into_none : (S : Result (List Float)) (f : List Float → Result (List Sample)) (w : Listed) (chain g : List Float) → said w ≡ each length S → w ≡ counts.Refused
-    → g ≡ filled (length chain) (take 0 chain) → ChainInto (length chain) (bind S f) (Refused 8) g
+pub into_none : (S : Answer (List Float)) (f : List Float → Answer (List Sample)) (w : Option ℕ) (chain g : List Float) → said w ≡ each length S → w ≡ None
+    → g ≡ filled (length chain) (take 0 chain) → ChainInto (length chain) (bind S f) (Err NoRoom) g
 unfolding flat
-into_none (refused n) f w chain g a e b = let q : refused 8 ≡ refused n = ap said (sym e) ∙ a in record { answered = cc; holds = b }
-into_none (got l) f w chain g a e b = let q : refused 8 ≡ got (length l) = ap said (sym e) ∙ a in let z : ◌≡◌ {A = ℕ} 0 1 = cc in absurd (omega arith)
+into_none (Err n) f w chain g a e b = let q : ◌≡◌ {A = Answer ℕ} (Err NoRoom) (Err n) = ap said (sym e) ∙ a in record { answered = cc; holds = b }
+into_none (Ok l) f w chain g a e b = let q : ◌≡◌ {A = Answer ℕ} (Err NoRoom) (Ok (length l)) = ap said (sym e) ∙ a in cc
 
-pub none_listed : (room : ℕ) (S : Result (List Float)) (w : Listed) {out : List Float} → said w ≡ each length S → w ≡ counts.Refused → out ≡ filled room (list_of S) → out ≡ filled room []
-none_listed room (refused n) w a e h = h
-none_listed room (got l) w a e h = let q : refused 8 ≡ got (length l) = ap said (sym e) ∙ a in let z : ◌≡◌ {A = ℕ} 0 1 = cc in absurd (omega arith)
+pub none_listed : (room : ℕ) (S : Answer (List Float)) (w : Option ℕ) {out : List Float} → said w ≡ each length S → w ≡ None → out ≡ filled room (list_of S) → out ≡ filled room []
+none_listed room (Err n) w a e h = h
+none_listed room (Ok l) w a e h = let q : ◌≡◌ {A = Answer ℕ} (Err NoRoom) (Ok (length l)) = ap said (sym e) ∙ a in cc
 
 -- ---- `draw_range`
 -- by what is told of the range, after some parameters were asked for: the refusal that comes first, or that nothing asked for is too far
-module _ (T : Tables) (e : Edge) (r : Resolved) (range : Interval) (room : ℕ) (before : List Float) (w : Told)
+module _ (T : Tables) (e : Edge) (r : Resolved) (range : Interval) (room : ℕ) (before : List Float) (w : Answer ⊤)
     (own : within room (asking (asks_far (edge_curve T e)) before (listed (edge_curve T e) range r)) ≡ told_of w (sampled_in room (edge_curve T e) range r)) where
   abbrev far : Float → Bool
   far = asks_far (edge_curve T e)
@@ -165,24 +160,24 @@ module _ (T : Tables) (e : Edge) (r : Resolved) (range : Interval) (room : ℕ) 
   over_asked : within room asked ≡ bind (within room (asking far before (listed (edge_curve T e) range r))) (finished T e r)
   over_asked =
       within_asking far before (over_range T e r range) room ∙ go (some_far far before)
-      ∙ sym (ap (λ (x : Result (List Float)). bind x (finished T e r)) (within_asking far before (listed (edge_curve T e) range r) room))
+      ∙ sym (ap (λ (x : Answer (List Float)). bind x (finished T e r)) (within_asking far before (listed (edge_curve T e) range r) room))
     where
-      go : (v : Bool) → elim v [ true ↦ refused 11 | false ↦ within room (over_range T e r range) ]
-          ≡ bind (elim v [ true ↦ refused 11 | false ↦ within room (listed (edge_curve T e) range r) ]) (finished T e r)
+      go : (v : Bool) → elim v [ true ↦ Err TooFar | false ↦ within room (over_range T e r range) ]
+          ≡ bind (elim v [ true ↦ Err TooFar | false ↦ within room (listed (edge_curve T e) range r) ]) (finished T e r)
       go true = refl
       go false = over_within T e r range room
 
-  pub clear : w ≡ asks.Clear → (some_far far before ≡ false) × (within room (listed (edge_curve T e) range r) ≡ sampled_in room (edge_curve T e) range r)
-  clear q = told_clear room (edge_curve T e) range r before (own ∙ ap (λ (v : Told). told_of v (sampled_in room (edge_curve T e) range r)) q)
+  pub clear : w ≡ Ok tt → (some_far far before ≡ false) × (within room (listed (edge_curve T e) range r) ≡ sampled_in room (edge_curve T e) range r)
+  clear q = told_clear room (edge_curve T e) range r before (own ∙ ap (λ (v : Answer ⊤). told_of v (sampled_in room (edge_curve T e) range r)) q)
 
-  pub into_clear : {k : ℕ} {a : Counted} {g : List Float} → w ≡ asks.Clear → ChainInto k (within room (over_range T e r range)) a g → ChainInto k (within room asked) a g
+  pub into_clear : {k : ℕ} {a : Answer ℕ} {g : List Float} → w ≡ Ok tt → ChainInto k (within room (over_range T e r range)) a g → ChainInto k (within room asked) a g
   into_clear {k} q = into_is k k _ _ refl (sym (ap (within room) (asking_clear far before (over_range T e r range) (clear q).0)))
 
-  pub into_told : (n k : ℕ) (g : List Float) → w ≡ asks.Refused n → g ≡ filled k [] → ChainInto k (within room asked) (Refused n) g
+  pub into_told : (n : Refusal) (k : ℕ) (g : List Float) → w ≡ Err n → g ≡ filled k [] → ChainInto k (within room asked) (Err n) g
   unfolding flat
   into_told n k g q h =
-      let x : within room asked ≡ refused n = over_asked ∙ ap (λ (x : Result (List Float)). bind x (finished T e r)) (own ∙ ap (λ (v : Told). told_of v (sampled_in room (edge_curve T e) range r)) q) in
-      into_is k k (refused n) _ refl (sym x) (record { answered = refl; holds = h })
+      let x : within room asked ≡ Err n = over_asked ∙ ap (λ (x : Answer (List Float)). bind x (finished T e r)) (own ∙ ap (λ (v : Answer ⊤). told_of v (sampled_in room (edge_curve T e) range r)) q) in
+      into_is k k (Err n) _ refl (sym x) (record { answered = refl; holds = h })
 
 -- ---- `discretise_usable`
 -- n is the room that both buffers give, and scratch's first n floats are lent
@@ -223,39 +218,39 @@ cleared_whole n left scratch h l q =
     ∙ filled_twice (length scratch) n h
 
 -- an edge that is not probed is discretised, and no more
-pub unprobed : (T : Tables) (e : Edge) (r : Resolved) {chain scratch : List Float} {w : Counted} {f g : List Float}
+pub unprobed : (T : Tables) (e : Edge) (r : Resolved) {chain scratch : List Float} {w : Answer ℕ} {f g : List Float}
     → DiscretisedInto (asked_discretised false T e r) chain scratch w f g → DiscretisedInto (discretised T e r) chain scratch w f g
 unprobed T e r {chain} {scratch} {w} {f} {g} =
     let far = asks_far (edge_curve T e) in
     subst (λ (D : Work (List Sample)). DiscretisedInto D chain scratch w f g) (asking_clear far [] (discretised T e r) (some_far-none far))
 
 -- what has no range is not probed
-nothing_first : (far : Float → Bool) (probes_first : Bool) → some_far far (asked_first probes_first Unusable) ≡ false
+nothing_first : (far : Float → Bool) (probes_first : Bool) → some_far far (asked_first probes_first None) ≡ false
 unfolding probes
 nothing_first far true = some_far-none far
 nothing_first far false = some_far-none far
 
-module _ (room : ℕ) (T : Tables) (e : Edge) (probes_first : Bool) (r : Resolved) (k : ℕ) {w : Counted} {g : List Float} (u : Usable) (own : u ≡ usable_range (edge_curve T e) e.range) where
-  pub into_range : (range : Interval) (j : ℕ) → u ≡ Range range → j ≡ room → ChainInto k (within j (asking (asks_far (edge_curve T e)) (asked_first probes_first (Range range)) (over_range T e r range))) w g
+module _ (room : ℕ) (T : Tables) (e : Edge) (probes_first : Bool) (r : Resolved) (k : ℕ) {w : Answer ℕ} {g : List Float} (u : Option Interval) (own : u ≡ usable_range (edge_curve T e) e.range) where
+  pub into_range : (range : Interval) (j : ℕ) → u ≡ Some range → j ≡ room → ChainInto k (within j (asking (asks_far (edge_curve T e)) (asked_first probes_first (Some range)) (over_range T e r range))) w g
       → ChainInto k (within room (asked_discretised probes_first T e r)) w g
   unfolding discretised
   into_range range j q h =
       let far = asks_far (edge_curve T e) in
-      let is : Range range ≡ usable_range (edge_curve T e) e.range = sym q ∙ own in
+      let is : Some range ≡ usable_range (edge_curve T e) e.range = sym q ∙ own in
       let s : over_range T e r range ≡ discretised T e r = rw (sym is, discretised) in
       into_is k k _ _ refl
-      (ap (λ (i : ℕ). within i (asking far (asked_first probes_first (Range range)) (over_range T e r range))) h
-      ∙ ap (λ (x : Usable). within room (asking far (asked_first probes_first x) (over_range T e r range))) is
+      (ap (λ (i : ℕ). within i (asking far (asked_first probes_first (Some range)) (over_range T e r range))) h
+      ∙ ap (λ (x : Option Interval). within room (asking far (asked_first probes_first x) (over_range T e r range))) is
       ∙ ap (λ (x : Work (List Sample)). within room (asking far (asked_first probes_first (usable_range (edge_curve T e) e.range)) x)) s)
 
-  pub into_chord : u ≡ Unusable → w ≡ Count 2 → g ≡ filled k (flat (chord_of T e e.range.lo e.range.hi)) → ChainInto k (within room (asked_discretised probes_first T e r)) w g
+  pub into_chord : u ≡ None → w ≡ Ok 2 → g ≡ filled k (flat (chord_of T e e.range.lo e.range.hi)) → ChainInto k (within room (asked_discretised probes_first T e r)) w g
   unfolding discretised overflows
   into_chord q a b =
       let far = asks_far (edge_curve T e) in
-      let is : usable_range (edge_curve T e) e.range ≡ Unusable = sym own ∙ q in
+      let is : usable_range (edge_curve T e) e.range ≡ None = sym own ∙ q in
       let chord : ChainInto k (within room (discretised T e r)) w g = rw (is, discretised) (record { answered = a; holds = b }) in
       into_is k k _ _ refl
       (sym
       (ap (within room)
-      (asking_clear far (asked_first probes_first (usable_range (edge_curve T e) e.range)) (discretised T e r) (ap (λ (x : Usable). some_far far (asked_first probes_first x)) is ∙ nothing_first far probes_first))))
+      (asking_clear far (asked_first probes_first (usable_range (edge_curve T e) e.range)) (discretised T e r) (ap (λ (x : Option Interval). some_far far (asked_first probes_first x)) is ∙ nothing_first far probes_first))))
       chord

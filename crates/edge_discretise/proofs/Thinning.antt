@@ -1,4 +1,5 @@
 -- The ways through `thin_sampled` and `finish`. Assumes nothing.
+use Rattle.std.specs.Prelude.{Err, Ok}
 use mathlib.Core.Path.{◌≡◌, refl, sym, ap, subst, ◌∙◌}
 use mathlib.Core.Bool.{Bool, true, false, cond, not, ◌||◌}
 use mathlib.Core.List.{List, [], ◌∷◌}
@@ -8,7 +9,6 @@ use lib.ListN.{length, take, set, replicate, length-set, length-replicate}
 use lib.Seq.{sets, length-sets}
 use lib.Dec.{ltb}
 use lib.Ieee.{Float, lt}
-use Rattle.base_lists.specs.Result.{Result, refused, got, each}
 use Rattle.base_lists.specs.Room.{filled}
 use Rattle.base_lists.proofs.Order.{sub_length}
 use Rattle.arith.specs.Notation.{◌⊗◌, plus_zero}
@@ -16,8 +16,6 @@ use Rattle.arith.specs.Constants.{hundredth}
 use Rattle.math.specs.declared.Vec3.{Vec3}
 use Rattle.options.specs.declared.Resolved.{Resolved}
 use Rattle.edge_record.specs.declared.Sample.{Sample}
-use Rattle.edge_record.specs.declared.Counted.{Counted}
-use Rattle.edge_record.specs.declared.Counted.TheVariants.{Refused, Count}
 use Rattle.edge_record.specs.Own.Stored.{counted_of, after, ChainStored}
 use Rattle.edge_record.specs.Chain.{width, most, flat, sample_point, samples}
 use Rattle.edge_record.proofs.Laws.{samples_from-length, samples_own, rest_cleared}
@@ -32,15 +30,17 @@ use Rattle.edge_thin.proofs.Laws.{thin_shorter}
 use Rattle.draw_spec.specs.Edge.{thinned_if}
 use Rattle.edge_place.proofs.Records.{read_back}
 use Rattle.edge_discretise.specs.Own.Discretised.{ChainInto}
+use Rattle.refusal.specs.Answer.{Answer, each}
+use Rattle.refusal.specs.declared.Refusal.{Refusal}
 
 -- ---- a floor above the most samples says nothing more
-flagged_length : (points : ℕ → Vec3) (tolerance angle : Float) (n : ℕ) (keep : List Bool) → flagged points tolerance angle n ≡ got keep → length keep ≡ n
+flagged_length : (points : ℕ → Vec3) (tolerance angle : Float) (n : ℕ) (keep : List Bool) → flagged points tolerance angle n ≡ Ok keep → length keep ≡ n
 unfolding flagged
 flagged_length points tolerance angle n keep e = go (kept (decision points tolerance angle) 0 (n - 1)) e
   where
-    go : (r : Result (List ℕ)) → each (marks (set (set (replicate n false) 0 true) (n - 1) true)) r ≡ got keep → length keep ≡ n
-    go (refused x) q = absurd (let z : ◌≡◌ {A = ℕ} 0 1 = cc in omega arith)
-    go (got l) q =
+    go : (r : Answer (List ℕ)) → each (marks (set (set (replicate n false) 0 true) (n - 1) true)) r ≡ Ok keep → length keep ≡ n
+    go (Err x) q = cc
+    go (Ok l) q =
         let w : keep ≡ marks (set (set (replicate n false) 0 true) (n - 1) true) l = cc in
         ap length w ∙ length_marks _ l ∙ simp length-set (length-replicate n false)
 
@@ -48,24 +48,24 @@ pub thin_capped : (tolerance angle : Float) (segments floor : ℕ) (l : List Sam
     → thinned tolerance angle (floor + 1) l ≡ thinned tolerance angle (segments + 1) l
 unfolding thinned
 thin_capped tolerance angle segments floor l h e =
-    ap (λ (x : Result (List Sample)). cond (ltb (length l) 3 || not (lt plus_zero tolerance)) (got l) x)
+    ap (λ (x : Answer (List Sample)). cond (ltb (length l) 3 || not (lt plus_zero tolerance)) (Ok l) x)
     (go (flagged (sample_point l) tolerance angle (length l)) (flagged_length (sample_point l) tolerance angle (length l)))
   where
-    go : (x : Result (List Bool)) → ((keep : List Bool) → x ≡ got keep → length keep ≡ length l)
+    go : (x : Answer (List Bool)) → ((keep : List Bool) → x ≡ Ok keep → length keep ≡ length l)
         → each (λ keep. retained_by (with_floor (floor + 1) keep) l) x ≡ each (λ keep. retained_by (with_floor (segments + 1) keep) l) x
-    go (refused n) f = refl
-    go (got keep) f =
+    go (Err n) f = refl
+    go (Ok keep) f =
         let k : length keep ≤ most = omega (arith, f keep refl) in
         let m : min (floor + 1) (length keep) ≡ min (segments + 1) (length keep) = omega arith in
-        ap (λ (n : ℕ). got (retained_by (restored n keep) l)) m
+        ap (λ (n : ℕ). Ok (retained_by (restored n keep) l)) m
 
 -- ---- `thin_sampled`
 -- r and d are the answer of a pass over the buffer c and what it leaves, by X
-abbrev pub Passed : List Float → Result (List Sample) → Counted → List Float → Type 0
+abbrev pub Passed : List Float → Answer (List Sample) → Answer ℕ → List Float → Type 0
 Passed c X w d = (w ≡ counted_of X) × (d ≡ after c X)
 
 module _ (r : Resolved) (c : List Float) (n : ℕ) (b sampled : Bool) (own : b ≡ sampled) where
-  pub passed_thinned : (floor : ℕ) (w : Counted) (d : List Float) → b ≡ true → n ≤ most → floor ≡ min r.segments most
+  pub passed_thinned : (floor : ℕ) (w : Answer ℕ) (d : List Float) → b ≡ true → n ≤ most → floor ≡ min r.segments most
       → Passed c (thinned (r.sag ⊗ hundredth) r.angle (floor + 1) (samples n c)) w d
       → Passed c (thinned_if sampled r (samples n c)) w d
   unfolding thinned_if
@@ -75,11 +75,11 @@ module _ (r : Resolved) (c : List Float) (n : ℕ) (b sampled : Bool) (own : b �
       ∙ ap (λ (v : Bool). thinned_if v r (samples n c)) (sym t ∙ own) in
       (p.0 ∙ ap counted_of q, p.1 ∙ ap (after c) q)
 
-  pub passed_over : b ≡ false → Passed c (thinned_if sampled r (samples n c)) (Count n) c
+  pub passed_over : b ≡ false → Passed c (thinned_if sampled r (samples n c)) (Ok n) c
   unfolding thinned_if
   passed_over f =
-      let q : got (samples n c) ≡ thinned_if sampled r (samples n c) = ap (λ (v : Bool). thinned_if v r (samples n c)) (sym f ∙ own) in
-      (ap Count (sym (samples_from-length c 0 n)) ∙ ap counted_of q, sym (samples_own c 0 n) ∙ ap (after c) q)
+      let q : ◌≡◌ {A = Answer (List Sample)} (Ok (samples n c)) (thinned_if sampled r (samples n c)) = ap (λ (v : Bool). thinned_if v r (samples n c)) (sym f ∙ own) in
+      (ap Ok (sym (samples_from-length c 0 n)) ∙ ap counted_of q, sym (samples_own c 0 n) ∙ ap (after c) q)
 
 -- ---- `finish`
 shorter_own : (l : List Sample) → 2 ≤ length l → Shorter l l
@@ -87,28 +87,28 @@ shorter_own [] h = absurd (omega arith)
 shorter_own (p ∷ []) h = absurd (omega arith)
 shorter_own (p ∷ q ∷ l) h = shorter_same p q l
 
-thinned_shorter : (b : Bool) (r : Resolved) (l m : List Sample) → 2 ≤ length l → thinned_if b r l ≡ got m → Shorter m l
+thinned_shorter : (b : Bool) (r : Resolved) (l m : List Sample) → 2 ≤ length l → thinned_if b r l ≡ Ok m → Shorter m l
 unfolding thinned_if
 thinned_shorter true r l m h e = thin_shorter _ _ _ l m h e
 thinned_shorter false r l m h e = let q : l ≡ m = cc in subst (λ (k : List Sample). Shorter k l) q (shorter_own l h)
 
 -- a chain of two and more records, thinned, as the buffer d then holds it
-pub record Thin (c : List Float) (X : Result (List Sample)) (m : ℕ) (d : List Float) : Type 0 where
+pub record Thin (c : List Float) (X : Answer (List Sample)) (m : ℕ) (d : List Float) : Type 0 where
   pub chain : List Sample
-  pub is : X ≡ got chain
+  pub is : X ≡ Ok chain
   pub size : length chain ≡ m
   pub two : 2 ≤ length chain
   pub fits : width * length chain ≤ length c
   pub floats : d ≡ sets c 0 (flat chain)
 
-pub thin_some : (b : Bool) (r : Resolved) (c : List Float) (n : ℕ) (w : Counted) (m : ℕ) (d : List Float) → 2 ≤ n → width * n ≤ length c
-    → Passed c (thinned_if b r (samples n c)) w d → w ≡ Count m → Thin c (thinned_if b r (samples n c)) m d
+pub thin_some : (b : Bool) (r : Resolved) (c : List Float) (n : ℕ) (w : Answer ℕ) (m : ℕ) (d : List Float) → 2 ≤ n → width * n ≤ length c
+    → Passed c (thinned_if b r (samples n c)) w d → w ≡ Ok m → Thin c (thinned_if b r (samples n c)) m d
 thin_some b r c n w m d two room p e =
     go (thinned_if b r (samples n c)) (λ k q. thinned_shorter b r (samples n c) k (omega (arith, samples_from-length c 0 n)) q) (sym e ∙ p.0) p.1
   where
-    go : (X : Result (List Sample)) → ((k : List Sample) → X ≡ got k → Shorter k (samples n c)) → Count m ≡ counted_of X → d ≡ after c X → Thin c X m d
-    go (refused x) f a b = let z : ◌≡◌ {A = ℕ} 0 1 = cc in absurd (omega arith)
-    go (got k) f a b =
+    go : (X : Answer (List Sample)) → ((k : List Sample) → X ≡ Ok k → Shorter k (samples n c)) → Ok m ≡ counted_of X → d ≡ after c X → Thin c X m d
+    go (Err x) f a b = cc
+    go (Ok k) f a b =
         let s = f k refl in
         record {
           chain = k;
@@ -119,7 +119,7 @@ thin_some b r c n w m d two room p e =
           floats = b;
         }
 
-module _ {c : List Float} {X : Result (List Sample)} {m : ℕ} {d : List Float} (t : Thin c X m d) where
+module _ {c : List Float} {X : Answer (List Sample)} {m : ℕ} {d : List Float} (t : Thin c X m d) where
   pub thin_length : length d ≡ length c
   thin_length = ap length t.floats ∙ length-sets c 0 (flat t.chain)
 
@@ -150,18 +150,18 @@ module _ {c : List Float} {X : Result (List Sample)} {m : ℕ} {d : List Float} 
     merged_room = omega (arith, stored.count, merged_fits, merged_length)
 
     pub finished_some : (g : List Float) → g ≡ filled (length f) (take (width * k) f)
-        → ChainInto (length c) (each (merged floor) X) (Count k) g
+        → ChainInto (length c) (each (merged floor) X) (Ok k) g
     finished_some g e =
         let M = merged floor t.chain in
         let w : g ≡ filled (length c) (flat M) =
         e ∙ ap (λ (n : ℕ). filled (length f) (take (width * n) f)) stored.count
         ∙ ap (λ (l : List Float). filled (length l) (take (width * length M) l)) stored.floats
         ∙ rest_cleared d M merged_fits ∙ ap (λ (n : ℕ). filled n (flat M)) thin_length in
-        rw t.is (record { answered = ap Count stored.count; holds = w })
+        rw t.is (record { answered = ap Ok stored.count; holds = w })
 
-pub finished_none : (c : List Float) (X : Result (List Sample)) (floor : Float) (w : Counted) (n : ℕ) (d g : List Float) → Passed c X w d → w ≡ Refused n
+pub finished_none : (c : List Float) (X : Answer (List Sample)) (floor : Float) (w : Answer ℕ) (n : Refusal) (d g : List Float) → Passed c X w d → w ≡ Err n
     → g ≡ filled (length d) (take 0 d)
-    → ChainInto (length c) (each (merged floor) X) (Refused n) g
+    → ChainInto (length c) (each (merged floor) X) (Err n) g
 unfolding flat
-finished_none c (refused x) floor w n d g p e q = record { answered = sym e ∙ p.0; holds = q ∙ ap (λ (l : List Float). filled (length l) []) p.1 }
-finished_none c (got l) floor w n d g p e q = let z : ◌≡◌ {A = ℕ} 0 1 = cc in absurd (omega arith)
+finished_none c (Err x) floor w n d g p e q = record { answered = sym e ∙ p.0; holds = q ∙ ap (λ (l : List Float). filled (length l) []) p.1 }
+finished_none c (Ok l) floor w n d g p e q = let z : ◌≡◌ {A = Answer ℕ} (Err n) (Ok (length l)) = sym e ∙ p.0 in cc

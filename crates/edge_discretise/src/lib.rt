@@ -1,16 +1,12 @@
 #![tactic(auto)]
 // The chain of an edge: discretise of edge.rs, on rows.
-ghost use Rattle.std.specs.Prelude.{◌≡◌, [], ◌*◌, ◌<◌, ◌≤◌, min, length};
+ghost use Rattle.std.specs.Prelude.{◌≡◌, [], ◌*◌, ◌<◌, ◌≤◌, min, length, Some};
 ghost use Rattle.base_lists.specs.Room.{filled};
-ghost use Rattle.brep.specs.Rows.{lent, given};
+ghost use Rattle.brep.specs.Rows.{lent};
 ghost use Rattle.brep.specs.Tree.{tree};
 ghost use Rattle.curve.specs.Eval.{is_sampled};
-ghost use Rattle.knots_sort.specs.Own.Sortable.{most_knots};
-ghost use Rattle.knots.specs.Knots.{curve_knots};
 ghost use Rattle.curve_asks.specs.Asks.{asks_far};
 ghost use Rattle.edge_params.specs.Work.{asking, within};
-ghost use Rattle.edge_range.specs.declared.Usable.TheVariants.{Range};
-ghost use Rattle.edge_range.specs.Usable.{usable_range};
 ghost use Rattle.edge_sample.specs.Own.Answered.{sampled_in};
 ghost use Rattle.edge_record.specs.Own.Stored.{counted_of, after};
 ghost use Rattle.edge_record.specs.Chain.{width, shortest, most, samples};
@@ -19,14 +15,12 @@ ghost use Rattle.draw_spec.specs.Draw.{room_of};
 ghost use Rattle.edge_asks.specs.Own.Told.{asked_first};
 ghost use Rattle.edge_discretise.specs.Own.Discretised.{ChainInto, asked_discretised, DiscretisedInto};
 
-use brep::Edge;
-use edge_asks::Told;
-use edge_params::Listed;
-use edge_range::Usable;
-use edge_record::Counted;
+use brep::{Edge, LentTables};
+use edge_drawing::Drawing;
 use edge_sample::sample_params;
 use math::Interval;
 use options::Resolved;
+use refusal::Refusal;
 
 // The smaller of two.
 fn least(a: usize, b: usize) -> usize
@@ -47,56 +41,46 @@ fn room(first: usize, second: usize) -> usize
 
 // Thins the first n records where the curve of the row is a polyline or a trim of one.
 fn thin_sampled(
-    points: &[f64],
-    curves: &[u32],
-    reals: &[f64],
-    parts: &[u32],
-    ranges: &[f64],
+    tables: &LentTables<'_>,
     row: u32,
     r: Resolved,
     chain: &mut [f64],
     n: usize,
-) -> Counted
+) -> Result<usize, Refusal>
     requires { (n ≤ most) × (width * n ≤ length chain.old) }
-    ensures { (result ≡ counted_of (thinned_if (is_sampled (tree (given points curves reals parts ranges) row)) r (samples n chain.old)))
-        × (chain.new ≡ after chain.old (thinned_if (is_sampled (tree (given points curves reals parts ranges) row)) r (samples n chain.old))) }
+    ensures { (result ≡ counted_of (thinned_if (is_sampled (tree (lent tables.now) row)) r (samples n chain.old)))
+        × (chain.new ≡ after chain.old (thinned_if (is_sampled (tree (lent tables.now) row)) r (samples n chain.old))) }
 {
-    if curve::is_sampled(points, curves, reals, parts, ranges, row) {
+    if curve::is_sampled(tables, row) {
         // A chain has no more than MOST records, so that a higher floor says nothing more.
         let floor = least(r.segments as usize, edge_record::MOST) + 1;
         return edge_thin::thin(chain, n, r.sag * 0.01, r.angle, floor);
     }
-    Counted::Count(n)
+    Ok(n)
 }
 
 // Thins and merges the first n records, and leaves +0.0 behind what is kept, or everywhere where thinning refuses.
 fn finish(
-    points: &[f64],
-    curves: &[u32],
-    reals: &[f64],
-    parts: &[u32],
-    ranges: &[f64],
+    tables: &LentTables<'_>,
     edge: Edge,
     r: Resolved,
     chain: &mut [f64],
     n: usize,
-) -> Counted
+) -> Result<usize, Refusal>
     requires { (2 ≤ n) × (n ≤ most) × (width * n ≤ length chain.old) }
-    ensures { ChainInto (length chain.old) (thinned_merged (given points curves reals parts ranges) edge r (samples n chain.old)) result chain.new }
+    ensures { ChainInto (length chain.old) (thinned_merged (lent tables.now) edge r (samples n chain.old)) result chain.new }
 {
-    let thinned = thin_sampled(
-        points, curves, reals, parts, ranges, edge.curve, r, chain, n,
-    );
+    let thinned = thin_sampled(tables, edge.curve, r, chain, n);
     match thinned {
-        Counted::Count(m) => {
+        Ok(m) => {
             let floor = edge_merge::merge_floor(edge.tolerance, r.sag);
             let k = edge_merge::merge(chain, m, floor);
             base_lists::clear_from(chain, edge_record::WIDTH * k);
-            Counted::Count(k)
+            Ok(k)
         }
-        Counted::Refused(cause) => {
+        Err(cause) => {
             base_lists::clear_from(chain, 0);
-            Counted::Refused(cause)
+            Err(cause)
         }
     }
 }
@@ -104,87 +88,57 @@ fn finish(
 // Samples a usable range, of which it is known that nothing asked for is too far, into scratch, whose length is the room; finishes the chain,
 // and leaves scratch cleared.
 fn draw_sampled(
-    points: &[f64],
-    curves: &[u32],
-    reals: &[f64],
-    parts: &[u32],
-    ranges: &[f64],
-    edge: Edge,
+    drawing: &Drawing<'_>,
     range: Interval,
     r: Resolved,
     chain: &mut [f64],
     scratch: &mut [f64],
-) -> Counted
+) -> Result<usize, Refusal>
     requires { (length scratch.old ≤ most) × (width * length scratch.old ≤ length chain.old)
-        × (length (curve_knots (tree (lent points curves reals parts ranges) edge.curve)) ≤ most_knots)
-        × (within (length scratch.old) (listed (tree (lent points curves reals parts ranges) edge.curve) range r) ≡ sampled_in (length scratch.old) (tree (lent points curves reals parts ranges) edge.curve) range r) }
-    ensures { ChainInto (length chain.old) (within (length scratch.old) (over_range (given points curves reals parts ranges) edge r range)) result chain.new
+        × (within (length scratch.old) (listed (tree (lent drawing.now.tables.now) drawing.now.edge.curve) range r) ≡ sampled_in (length scratch.old) (tree (lent drawing.now.tables.now) drawing.now.edge.curve) range r) }
+    ensures { ChainInto (length chain.old) (within (length scratch.old) (over_range (lent drawing.now.tables.now) drawing.now.edge r range)) result chain.new
         × (scratch.new ≡ filled (length scratch.old) []) }
 {
-    let row = edge.curve;
     let wide = edge_record::WIDTH * scratch.len();
     let records = &mut chain[..wide];
-    let sampled = sample_params(
-        points, curves, reals, parts, ranges, row, range, r, scratch, records,
-    );
+    let sampled = sample_params(drawing, range, r, scratch, records);
     let known = sampled.known;
     let listed = sampled.listed;
-    let Listed::Count(n) = listed else {
+    let Some(n) = listed else {
         base_lists::clear_from(chain, 0);
-        return Counted::Refused(8);
+        return Err(Refusal::NoRoom);
     };
     let params = &scratch[..n];
-    edge_place::place(
-        points, curves, reals, parts, ranges, edge, params, known, chain,
-    );
+    edge_place::place(drawing.tables, drawing.edge, params, known, chain);
     let used = &mut scratch[..n];
     base_lists::clear_from(used, 0);
-    finish(points, curves, reals, parts, ranges, edge, r, chain, n)
+    finish(drawing.tables, drawing.edge, r, chain, n)
 }
 
 // The chain over a usable range, which is probed before that or not. Whether something asked for is too far, and comes before the room is full,
 // is told first.
 fn draw_range(
-    points: &[f64],
-    curves: &[u32],
-    reals: &[f64],
-    parts: &[u32],
-    ranges: &[f64],
-    edge: Edge,
+    drawing: &Drawing<'_>,
     range: Interval,
     probes_first: bool,
     r: Resolved,
     chain: &mut [f64],
     scratch: &mut [f64],
-) -> Counted
+) -> Result<usize, Refusal>
     requires { (length scratch.old ≤ most) × (width * length scratch.old ≤ length chain.old)
-        × (length (curve_knots (tree (lent points curves reals parts ranges) edge.curve)) ≤ most_knots) × (0 < r.depth) }
-    ensures { ChainInto (length chain.old) (within (length scratch.old) (asking (asks_far (tree (given points curves reals parts ranges) edge.curve)) (asked_first probes_first (Range range)) (over_range (given points curves reals parts ranges) edge r range))) result chain.new
+        × (0 < r.depth) }
+    ensures { ChainInto (length chain.old) (within (length scratch.old) (asking (asks_far (tree (lent drawing.now.tables.now) drawing.now.edge.curve)) (asked_first probes_first (Some range)) (over_range (lent drawing.now.tables.now) drawing.now.edge r range))) result chain.new
         × (scratch.new ≡ filled (length scratch.old) []) }
 {
-    let row = edge.curve;
     let room = scratch.len();
-    let told = edge_asks::tell(
-        points,
-        curves,
-        reals,
-        parts,
-        ranges,
-        row,
-        range,
-        probes_first,
-        r,
-        room,
-    );
+    let told = edge_asks::tell(drawing, range, probes_first, r, room);
     match told {
-        Told::Refused(cause) => {
+        Err(cause) => {
             base_lists::clear_from(chain, 0);
             base_lists::clear_from(scratch, 0);
-            Counted::Refused(cause)
+            Err(cause)
         }
-        Told::Clear => draw_sampled(
-            points, curves, reals, parts, ranges, edge, range, r, chain, scratch,
-        ),
+        Ok(()) => draw_sampled(drawing, range, r, chain, scratch),
     }
 }
 
@@ -192,66 +146,43 @@ fn draw_range(
 // it is refused; +0.0 in all of scratch. Before an edge is first drawn its range is probed for its extent: what the probes may not ask for
 // is looked at here, together with the rest.
 pub fn discretise_usable(
-    points: &[f64],
-    curves: &[u32],
-    reals: &[f64],
-    parts: &[u32],
-    ranges: &[f64],
-    edge: Edge,
-    usable: Usable,
+    drawing: &Drawing<'_>,
     probes_first: bool,
     r: Resolved,
     chain: &mut [f64],
     scratch: &mut [f64],
-) -> Counted
-    requires { (shortest ≤ length chain.old) × (shortest ≤ length scratch.old) × (length (curve_knots (tree (lent points curves reals parts ranges) edge.curve)) ≤ most_knots)
-        × (0 < r.depth) × (usable ≡ usable_range (tree (lent points curves reals parts ranges) edge.curve) edge.range) }
-    ensures { DiscretisedInto (asked_discretised probes_first (given points curves reals parts ranges) edge r) chain.old scratch.old result chain.new scratch.new }
+) -> Result<usize, Refusal>
+    requires { (shortest ≤ length chain.old) × (shortest ≤ length scratch.old)
+        × (0 < r.depth) }
+    ensures { DiscretisedInto (asked_discretised probes_first (lent drawing.now.tables.now) drawing.now.edge r) chain.old scratch.old result chain.new scratch.new }
 {
-    let Usable::Range(range) = usable else {
-        edge_place::chord(points, edge, edge.range.lo, edge.range.hi, chain);
+    let Some(range) = drawing.usable else {
+        edge_place::chord(
+            drawing.tables.points,
+            drawing.edge,
+            drawing.edge.range.lo,
+            drawing.edge.range.hi,
+            chain,
+        );
         base_lists::clear_from(scratch, 0);
-        return Counted::Count(2);
+        return Ok(2);
     };
     let n = room(chain.len(), scratch.len());
     let part = &mut scratch[..n];
-    let drawn = draw_range(
-        points,
-        curves,
-        reals,
-        parts,
-        ranges,
-        edge,
-        range,
-        probes_first,
-        r,
-        chain,
-        part,
-    );
+    let drawn = draw_range(drawing, range, probes_first, r, chain, part);
     base_lists::clear_from(scratch, n);
     drawn
 }
 
 // The edge's chain from the start of chain, and +0.0 behind it, or everywhere where it is refused; +0.0 in all of scratch.
-// The usable range is worked out first.
 pub fn discretise(
-    points: &[f64],
-    curves: &[u32],
-    reals: &[f64],
-    parts: &[u32],
-    ranges: &[f64],
-    edge: Edge,
+    drawing: &Drawing<'_>,
     r: Resolved,
     chain: &mut [f64],
     scratch: &mut [f64],
-) -> Counted
-    requires { (shortest ≤ length chain.old) × (shortest ≤ length scratch.old) × (length (curve_knots (tree (lent points curves reals parts ranges) edge.curve)) ≤ most_knots) × (0 < r.depth) }
-    ensures { DiscretisedInto (discretised (given points curves reals parts ranges) edge r) chain.old scratch.old result chain.new scratch.new }
+) -> Result<usize, Refusal>
+    requires { (shortest ≤ length chain.old) × (shortest ≤ length scratch.old) × (0 < r.depth) }
+    ensures { DiscretisedInto (discretised (lent drawing.now.tables.now) drawing.now.edge r) chain.old scratch.old result chain.new scratch.new }
 {
-    let usable = edge_range::usable_range(
-        points, curves, reals, parts, ranges, edge.curve, edge.range,
-    );
-    discretise_usable(
-        points, curves, reals, parts, ranges, edge, usable, false, r, chain, scratch,
-    )
+    discretise_usable(drawing, false, r, chain, scratch)
 }

@@ -11,9 +11,6 @@ use Rattle.math.specs.declared.Interval.{Interval}
 use Rattle.math.specs.Math.{v_length, distance}
 use Rattle.brep.specs.Tree.{CurveTree}
 use Rattle.curve.specs.Eval.{natural_range, point_at}
-use Rattle.curve_prepared.specs.declared.Prepared.{Prepared}
-use Rattle.curve_prepared.specs.Own.Prepared.{prepared_of, prepared_point}
-use Rattle.curve_prepared.proofs.Laws.{own_point}
 use Rattle.draw_spec.specs.Repair.{sweep_at, nearest_of, nearest}
 use Rattle.edge_escape.specs.declared.Best.{Best}
 use Rattle.edge_escape.specs.Own.Best.{measured, nearer_of}
@@ -50,13 +47,13 @@ unfolding nearest_of
 nearest_more c natural target n = nearer_own c target (nearest_of c natural target n) (sweep_at natural (suc n))
 
 module _ {c : CurveTree} {natural : Interval} {target : Vec3} where
-  pub swept_first : (t : Float) (p : Vec3) (r : Prepared) {b : Best} → t ≡ sweep_at natural 0 → r ≡ prepared_of c → p ≡ prepared_point r c t → b ≡ measured target t p → Swept c natural target 0 b
+  pub swept_first : (t : Float) (p : Vec3) {b : Best} → t ≡ sweep_at natural 0 → p ≡ point_at c t → b ≡ measured target t p → Swept c natural target 0 b
   unfolding nearest_of
-  swept_first t p r e d f g = record { held = cc (own_point c t d f) }
+  swept_first t p d f g = record { held = cc }
 
   module _ {n : ℕ} {b : Best} (w : Swept c natural target n b) where
-    pub swept_more : (t : Float) (p : Vec3) (r : Prepared) {x : Best} → t ≡ sweep_at natural (n + 1) → r ≡ prepared_of c → p ≡ prepared_point r c t → x ≡ nearer_of b (measured target t p) → Swept c natural target (n + 1) x
-    swept_more t p r e d f g = record { held = rw add-one (cc (nearest_more c natural target n, w.held, rw add-one at e, own_point c t d f)) }
+    pub swept_more : (t : Float) (p : Vec3) {x : Best} → t ≡ sweep_at natural (n + 1) → p ≡ point_at c t → x ≡ nearer_of b (measured target t p) → Swept c natural target (n + 1) x
+    swept_more t p e f g = record { held = rw add-one (cc (nearest_more c natural target n, w.held, rw add-one at e)) }
 
     pub swept_all : natural ≡ natural_range c → n ≤ 512 → 512 ≤ n → b.param ≡ nearest c target
     unfolding measured

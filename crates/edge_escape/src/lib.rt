@@ -4,14 +4,15 @@ ghost use Rattle.std.specs.Prelude.{◌≡◌, true, false, [], ◌∷◌, ◌*�
 ghost use Rattle.std.specs.Float.Ieee.{le};
 ghost use Rattle.arith.specs.Notation.{plus_zero};
 ghost use Rattle.arith_root.specs.Root.{root_of};
-ghost use Rattle.brep.specs.Rows.{given};
+ghost use Rattle.brep.specs.Rows.{lent};
 ghost use Rattle.brep.specs.Tree.{tree};
 ghost use Rattle.edge_record.specs.Chain.{width, samples};
 ghost use Rattle.draw_spec.specs.Repair.{escape_limit, escapes, reaches, sweep_at, nearest};
 ghost use Rattle.edge_escape.specs.Own.Best.{measured, nearer_of};
 
 use arith_root_limit::Limit;
-use brep::Edge;
+use brep::{Edge, LentTables};
+use curve_prepared::PreparedCurve;
 use math::{Aabb, Interval, Vec3};
 use options::Resolved;
 
@@ -144,29 +145,20 @@ fn sweep_at(natural: Interval, i: u32) -> f64
 }
 
 // Of 513 parameters spread evenly over the natural range, those whose points are nearest to the two vertices, the first of equals.
-pub fn nearest(
-    points: &[f64],
-    curves: &[u32],
-    reals: &[f64],
-    parts: &[u32],
-    ranges: &[f64],
-    row: u32,
-    start: Vec3,
-    end: Vec3,
-) -> Ends
-    ensures { (result.start ≡ nearest (tree (given points curves reals parts ranges) row) start) × (result.end ≡ nearest (tree (given points curves reals parts ranges) row) end) }
+pub fn nearest(tables: &LentTables<'_>, row: u32, start: Vec3, end: Vec3) -> Ends
+    ensures { (result.start ≡ nearest (tree (lent tables.now) row) start) × (result.end ≡ nearest (tree (lent tables.now) row) end) }
 {
-    let natural = curve::natural_range(points, curves, reals, parts, ranges, row);
-    let prepared = curve_prepared::prepare(points, curves, reals, parts, ranges, row);
+    let natural = curve::natural_range(tables, row);
+    let curve = PreparedCurve::new(tables, row);
     let first = sweep_at(natural, 0);
-    let p = curve_prepared::point_of(prepared, points, curves, reals, parts, ranges, row, first);
+    let p = curve.point(first);
     let mut a = measured(start, first, p);
     let mut b = measured(end, first, p);
     let mut i = 0u32;
     while i < STEPS {
         i += 1;
         let t = sweep_at(natural, i);
-        let q = curve_prepared::point_of(prepared, points, curves, reals, parts, ranges, row, t);
+        let q = curve.point(t);
         a = nearer(a, start, t, q);
         b = nearer(b, end, t, q);
     }

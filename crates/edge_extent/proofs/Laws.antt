@@ -1,5 +1,6 @@
 -- The probes, one after the other. Assumes nothing.
-use mathlib.Core.Path.{◌≡◌, refl, sym, ap, ◌∙◌}
+use Rattle.std.specs.Prelude.{Option}
+use mathlib.Core.Path.{◌≡◌, refl, ap, ◌∙◌}
 use mathlib.Core.Bool.{Bool, true, false, cond, ◌||◌}
 use Prim.Native.Nat.{ℕ, suc, ◌+◌, ◌≤◌}
 use native.Mathlib.Omega.{arith}
@@ -13,31 +14,42 @@ use Rattle.arith.specs.Pick.{min_of, max_of}
 use Rattle.math.specs.declared.Vec3.{Vec3}
 use Rattle.math.specs.declared.Aabb.{Aabb}
 use Rattle.math.specs.declared.Interval.{Interval}
-use Rattle.math.specs.Math.{v_finite, v_min, v_max, empty_box, add_point, box_size, at}
+use Rattle.math.specs.Math.{v_add, v_scale, v_finite, v_min, v_max, empty_box, add_point, box_size, at}
 use Rattle.brep.specs.declared.Edge.{Edge}
-use Rattle.brep.specs.Rows.{Tables}
-use Rattle.brep.specs.Tree.{CurveTree}
-use Rattle.curve_prepared.specs.declared.Prepared.{Prepared}
-use Rattle.curve_prepared.specs.Own.Prepared.{prepared_of, prepared_point}
-use Rattle.curve_prepared.proofs.Laws.{point_by, prepared_point_lem}
-use Rattle.edge_range.specs.declared.Usable.{Usable}
+use Rattle.brep.specs.declared.LentTables.{LentTables}
+use Rattle.brep.specs.Rows.{Tables, lent}
+use Rattle.brep.specs.Tree.{CurveTree, tree}
+use Rattle.curve.specs.Eval.{point_at}
+use Rattle.curve_prepared.specs.declared.Prepared.TheVariants.{Line}
+use Rattle.curve_prepared.specs.declared.PreparedCurve.{PreparedCurve}
+use Rattle.curve_prepared.specs.Own.Prepared.{prepared_of, is_plain, plain_point}
+use Rattle.curve_prepared.specs.Own.PreparedCurve.{curve_of}
+use Rattle.curve_prepared.proofs.Laws.{plain_point_lem}
 use Rattle.edge_range.specs.Usable.{usable_range}
 use Rattle.draw_spec.specs.Edge.{edge_curve, edge_start, edge_end, probed, extent_box, edge_extent}
 
+-- a line's point
+pub line_point : (c : CurveTree) {o d : Vec3} → prepared_of c ≡ Line o d → (t : Float) → v_add o (v_scale d t) ≡ point_at c t
+unfolding is_plain plain_point
+line_point c R t = plain_point_lem c t R refl refl
+
+-- the curve of a row that was prepared
+pub of_row : (curve : PreparedCurve) {slices : LentTables} {row : ℕ} → curve.tables.now ≡ slices → curve.row ≡ row → curve_of curve ≡ tree (lent slices) row
+of_row curve {slices} {row} e f = ap (λ (t : LentTables). tree (lent t) curve.row) e ∙ ap (tree (lent slices)) f
+
 module _ (c : CurveTree) (range : Interval) (b : Aabb) (i : ℕ) {found : Aabb} (e : found ≡ probed c range b i) where
-  -- the curve was prepared once
-  pub one_more : {r : Prepared} → r ≡ prepared_of c → {t : Float} → t ≡ at range (count i ⊘ eight) → {p : Vec3} → p ≡ prepared_point r c t → {next : Aabb} → next ≡ cond (v_finite p) (add_point found p) found → next ≡ probed c range b (i + 1)
+  pub one_more : {t : Float} → t ≡ at range (count i ⊘ eight) → {p : Vec3} → p ≡ point_at c t → {next : Aabb} → next ≡ cond (v_finite p) (add_point found p) found → next ≡ probed c range b (i + 1)
   unfolding probed
-  one_more made et ep en =
+  one_more et ep en =
       let one : suc i ≡ i + 1 = omega arith in
-      en ∙ rw (point_by c _ (sym made) ep ∙ prepared_point_lem c _, et, e) (ap (probed c range b) one)
+      en ∙ rw (ep, et, e) (ap (probed c range b) one)
 
   pub all_nine : i ≤ 9 → 9 ≤ i → found ≡ probed c range b 9
   all_nine h k = e ∙ ap (probed c range b) (omega arith)
 
 -- edge_extent, step by step
 module _ (T : Tables) (edge : Edge) where
-  pub longest_side : {p q : Vec3} {b₀ b₁ b₂ b : Aabb} {found : Usable} {size : Vec3} {m r : Float} → p ≡ edge_start T edge → q ≡ edge_end T edge → b₀ ≡ empty_box → b₁ ≡ add_point b₀ p → b₂ ≡ add_point b₁ q → found ≡ usable_range (edge_curve T edge) edge.range → b ≡ extent_box (edge_curve T edge) found b₂ → size ≡ box_size b → m ≡ max_of size.x size.y → r ≡ max_of m size.z → r ≡ edge_extent T edge
+  pub longest_side : {p q : Vec3} {b₀ b₁ b₂ b : Aabb} {found : Option Interval} {size : Vec3} {m r : Float} → p ≡ edge_start T edge → q ≡ edge_end T edge → b₀ ≡ empty_box → b₁ ≡ add_point b₀ p → b₂ ≡ add_point b₁ q → found ≡ usable_range (edge_curve T edge) edge.range → b ≡ extent_box (edge_curve T edge) found b₂ → size ≡ box_size b → m ≡ max_of size.x size.y → r ≡ max_of m size.z → r ≡ edge_extent T edge
   unfolding edge_extent
   longest_side ep eq e₀ e₁ e₂ ef eb es em er = rw (er, em, es, eb, ef, e₂, e₁, e₀, eq, ep)
 

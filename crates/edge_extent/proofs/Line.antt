@@ -19,10 +19,9 @@ use Rattle.math.specs.declared.Interval.{Interval}
 use Rattle.math.specs.Math.{v_add, v_scale, at}
 use Rattle.brep.specs.Tree.{CurveTree}
 use Rattle.curve_prepared.specs.declared.Prepared.TheVariants.{Line}
-use Rattle.curve_prepared.specs.Own.Prepared.{prepared_of, prepared_point}
-use Rattle.curve_prepared.proofs.Laws.{prepared_point_lem}
+use Rattle.curve_prepared.specs.Own.Prepared.{prepared_of}
 use Rattle.draw_spec.specs.Edge.{probed}
-use Rattle.edge_extent.proofs.Laws.{inside}
+use Rattle.edge_extent.proofs.Laws.{line_point, inside}
 
 -- one coordinate
 module _ (o d first last low high t : Float) (P : T (finite (o ⊕ d ⊗ first))) (Q : T (finite (o ⊕ d ⊗ last)))
@@ -85,13 +84,13 @@ module _ (o d : Vec3) (range : Interval) (b : Aabb) (c : CurveTree) (R : prepare
   to_last n k = rises range.lo range.hi 8 n 8 l h (omega arith) (lit≤ tt) k (omega arith) g
 
   first_ones : (n : ℕ) → n ≤ 9 → b ≡ probed c range b n
-  unfolding probed prepared_point v_add v_scale
+  unfolding probed v_add v_scale
   first_ones zero k = refl
   first_ones (suc n) k =
       let t = at range (count n ⊘ eight) in
       let f = from_first n (omega arith) in
       let e = to_last n (omega arith) in
-      rw (sym (first_ones n (omega arith)), sym (prepared_point_lem c t), R)
+      rw (sym (first_ones n (omega arith)), sym (line_point c R t))
       (inside b (v_add o (v_scale d t)) (X t f e).0 (X t f e).1 (Y t f e).0 (Y t f e).1 (Z t f e).0 (Z t f e).1)
 
   pub all_inside : b ≡ probed c range b 9

@@ -4,16 +4,16 @@ ghost use Rattle.std.specs.Prelude.{◌≡◌, true, cond, T, Float};
 ghost use Rattle.std.specs.Float.Ieee.{le};
 ghost use Rattle.arith.specs.Notation.{◌⊕◌, ◌⊗◌};
 ghost use Rattle.math.specs.Math.{v_finite, add_point};
-ghost use Rattle.brep.specs.Rows.{lent, given};
+ghost use Rattle.brep.specs.Rows.{lent};
 ghost use Rattle.brep.specs.Tree.{CurveTree, tree};
 ghost use Rattle.curve_prepared.specs.declared.Prepared.TheVariants.{Line};
 ghost use Rattle.curve_prepared.specs.Own.Prepared.{prepared_of};
+ghost use Rattle.curve_prepared.specs.Own.PreparedCurve.{curve_of};
 ghost use Rattle.edge_range.specs.Usable.{usable_range};
 ghost use Rattle.draw_spec.specs.Edge.{probed, extent_box, edge_extent};
 
-use brep::Edge;
-use curve_prepared::Prepared;
-use edge_range::Usable;
+use brep::{Edge, LentTables};
+use curve_prepared::{Prepared, PreparedCurve};
 use math::{Aabb, Interval, Vec3};
 
 // The range is probed at each eighth, both ends included: nine probes, from 0 on.
@@ -104,25 +104,14 @@ fn probe_line(origin: Vec3, direction: Vec3, range: Interval, b: Aabb) -> Aabb
 }
 
 // The box with the points of a curve prepared at each eighth of a range.
-fn probe_each(
-    prepared: Prepared,
-    points: &[f64],
-    curves: &[u32],
-    reals: &[f64],
-    parts: &[u32],
-    ranges: &[f64],
-    row: u32,
-    range: Interval,
-    b: Aabb,
-) -> Aabb
-    requires { prepared ≡ prepared_of (tree (lent points curves reals parts ranges) row) }
-    ensures { result ≡ probed (tree (given points curves reals parts ranges) row) range b 9 }
+fn probe_each(curve: &PreparedCurve<'_>, range: Interval, b: Aabb) -> Aabb
+    ensures { result ≡ probed (curve_of curve.now) range b 9 }
 {
     let mut found = b;
     let mut i: u32 = 0;
     while i <= LAST_PROBE {
         let t = range.at(i as f64 / EIGHTHS);
-        let p = curve_prepared::point_of(prepared, points, curves, reals, parts, ranges, row, t);
+        let p = curve.point(t);
         found = add_finite(found, p);
         i += 1;
     }
@@ -130,84 +119,47 @@ fn probe_each(
 }
 
 // The box with the curve's points at each eighth of a range.
-fn probe(
-    points: &[f64],
-    curves: &[u32],
-    reals: &[f64],
-    parts: &[u32],
-    ranges: &[f64],
-    row: u32,
-    range: Interval,
-    b: Aabb,
-) -> Aabb
-    ensures { result ≡ probed (tree (given points curves reals parts ranges) row) range b 9 }
+fn probe(tables: &LentTables<'_>, row: u32, range: Interval, b: Aabb) -> Aabb
+    ensures { result ≡ probed (tree (lent tables.now) row) range b 9 }
 {
-    let prepared = curve_prepared::prepare(points, curves, reals, parts, ranges, row);
-    if let Prepared::Line { origin, direction } = prepared {
+    let curve = PreparedCurve::new(tables, row);
+    if let Prepared::Line { origin, direction } = curve.prepared {
         if is_line_inside(origin, direction, range, b) {
             return b;
         }
         return probe_line(origin, direction, range, b);
     }
-    probe_each(
-        prepared, points, curves, reals, parts, ranges, row, range, b,
-    )
+    probe_each(&curve, range, b)
 }
 
 // A curve with no usable range is not probed: the vertices are all there is.
-fn extent_box(
-    points: &[f64],
-    curves: &[u32],
-    reals: &[f64],
-    parts: &[u32],
-    ranges: &[f64],
-    row: u32,
-    usable: Usable,
-    b: Aabb,
-) -> Aabb
-    ensures { result ≡ extent_box (tree (given points curves reals parts ranges) row) usable b }
+fn extent_box(tables: &LentTables<'_>, row: u32, usable: Option<Interval>, b: Aabb) -> Aabb
+    ensures { result ≡ extent_box (tree (lent tables.now) row) usable b }
 {
     match usable {
-        Usable::Range(range) => probe(points, curves, reals, parts, ranges, row, range, b),
-        Usable::Unusable => b,
+        Some(range) => probe(tables, row, range, b),
+        None => b,
     }
 }
 
 // The longest side of the box of the vertices and the probes, where the usable range is known.
-pub fn extent_usable(
-    points: &[f64],
-    curves: &[u32],
-    reals: &[f64],
-    parts: &[u32],
-    ranges: &[f64],
-    edge: Edge,
-    usable: Usable,
-) -> f64
-    requires { usable ≡ usable_range (tree (lent points curves reals parts ranges) edge.curve) edge.range }
-    ensures { result ≡ edge_extent (given points curves reals parts ranges) edge }
+pub fn extent_usable(tables: &LentTables<'_>, edge: Edge, usable: Option<Interval>) -> f64
+    requires { usable ≡ usable_range (tree (lent tables.now) edge.curve) edge.range }
+    ensures { result ≡ edge_extent (lent tables.now) edge }
 {
-    let start = brep::point(points, edge.start);
-    let end = brep::point(points, edge.end);
-    let vertices = Aabb::empty().add_point(start).add_point(end);
+    let start = brep::point(tables.points, edge.start);
+    let end = brep::point(tables.points, edge.end);
+    let vertices = Aabb::EMPTY.add_point(start).add_point(end);
     let row = edge.curve;
-    let b = extent_box(points, curves, reals, parts, ranges, row, usable, vertices);
+    let b = extent_box(tables, row, usable, vertices);
     let size = b.size();
     arith::max(arith::max(size.x, size.y), size.z)
 }
 
 // The extent of an edge, whose usable range is worked out first.
-pub fn edge_extent(
-    points: &[f64],
-    curves: &[u32],
-    reals: &[f64],
-    parts: &[u32],
-    ranges: &[f64],
-    edge: Edge,
-) -> f64
-    ensures { result ≡ edge_extent (given points curves reals parts ranges) edge }
+pub fn edge_extent(tables: &LentTables<'_>, edge: Edge) -> f64
+    ensures { result ≡ edge_extent (lent tables.now) edge }
 {
-    let usable = edge_range::usable_range(
-        points, curves, reals, parts, ranges, edge.curve, edge.range,
-    );
-    extent_usable(points, curves, reals, parts, ranges, edge, usable)
+    let usable = edge_range::usable_range(tables, edge.curve, edge.range);
+    extent_usable(tables, edge, usable)
 }

@@ -1,14 +1,18 @@
 -- The laws of what may not be asked: refusal 11 only refuses. The list that moves form is the list that they add, wherever one is formed;
 -- nothing is refused where nothing is too far; a count of the moves is the length of their list, or its refusal; and bisection asks for
 -- whatever it adds. Assumes nothing.
+use Rattle.std.specs.Prelude.{Err, Ok}
 use Rattle.std.proofs.Common.{◌≡◌, ℕ, zero, suc, ◌+◌, ◌<◌, ◌≤◌, Bool, true, false, cond, ◌||◌, ltb, List, [], ◌∷◌, ◌++◌, map, length, sym, refl, ap, ◌∙◌, arith, ltb-false, ltb-true, le-ltb, lt-ltb}
+use Rattle.std.proofs.lemmas.Bool.{or_parts}
 use lib.Ieee.{Float, ne}
-use Rattle.base_lists.specs.Result.{Result, refused, got, bind, each}
 use Rattle.math.specs.declared.Interval.{Interval}
 use Rattle.edge_params.specs.Work.{Work, joins, ends, and_then, joining, some_far, asking, overflows, within}
 use Rattle.edge_params.specs.Params.{midpoint, Move, asks, adds, asked, subdividing, forming, Sampler, breaks_along, unless_hi, walking, bisecting}
 use Rattle.edge_params.specs.Own.Bisected.{added, subdivided, walked, through, bisected, NothingFar}
 use Rattle.edge_params.specs.Own.Counted.{counted}
+use Rattle.refusal.specs.Answer.{Answer, bind, each}
+use Rattle.refusal.specs.declared.Refusal.TheVariants.{TooFar, NoRoom}
+use Rattle.refusal.specs.declared.Refusal.{Refusal}
 
 -- ---- what moves add, and what they ask for
 pub added_append : (a b : List Move) → added (a ++ b) ≡ added a ++ added b
@@ -67,12 +71,8 @@ module _ (s : Sampler) (range : Interval) where
 
 -- ---- too far
 -- what a work comes to, of a work that is told by cases
-abbrev end_of : {A : Type 0} → Work A → Result A
+abbrev end_of : {A : Type 0} → Work A → Answer A
 end_of w = w.end
-
-neither : (a b : Bool) → a || b ≡ false → (a ≡ false) × (b ≡ false)
-neither true b e = absurd (let z : ◌≡◌ {A = ℕ} 0 1 = cc in omega arith)
-neither false b e = (refl, e)
 
 module _ (far : Float → Bool) where
   pub some_far-++ : (a b : List Float) → some_far far (a ++ b) ≡ some_far far a || some_far far b
@@ -86,14 +86,14 @@ module _ (far : Float → Bool) where
 
   -- nothing of two lists together is too far exactly where nothing of either is
   pub some_far-parts : (a b : List Float) → some_far far (a ++ b) ≡ false → (some_far far a ≡ false) × (some_far far b ≡ false)
-  some_far-parts a b e = neither (some_far far a) (some_far far b) (sym (some_far-++ a b) ∙ e)
+  some_far-parts a b e = or_parts (some_far far a) (some_far far b) (sym (some_far-++ a b) ∙ e)
 
   pub some_far-join : (a b : List Float) → some_far far a ≡ false → some_far far b ≡ false → some_far far (a ++ b) ≡ false
   some_far-join a b e f = some_far-++ a b ∙ rw (e, f)
 
   pub some_far-first : (t : Float) (l : List Float) → some_far far (t ∷ l) ≡ false → (far t ≡ false) × (some_far far l ≡ false)
   unfolding some_far
-  some_far-first t l e = neither (far t) (some_far far l) e
+  some_far-first t l e = or_parts (far t) (some_far far l) e
 
   pub some_far-more : (t : Float) (l : List Float) → far t ≡ false → some_far far l ≡ false → some_far far (t ∷ l) ≡ false
   unfolding some_far
@@ -116,25 +116,25 @@ module _ (far : Float → Bool) where
     unfolding asking
     asking_clear e = rw (e, asking)
 
-    pub asking_far : some_far far ts ≡ true → asking far ts w ≡ ends (refused 11)
+    pub asking_far : some_far far ts ≡ true → asking far ts w ≡ ends (Err TooFar)
     unfolding asking
     asking_far e = rw (e, asking)
 
     -- an answer means that nothing is too far
-    pub asking_answers : (a : A) → (asking far ts w).end ≡ got a → some_far far ts ≡ false
+    pub asking_answers : (a : A) → (asking far ts w).end ≡ Ok a → some_far far ts ≡ false
     unfolding asking
     asking_answers a = go (some_far far ts)
       where
-        go : (v : Bool) → end_of {A = A} (elim v [ true ↦ ends (refused 11) | false ↦ w ]) ≡ got a → v ≡ false
-        go true q = absurd (let z : ◌≡◌ {A = ℕ} 0 1 = cc in omega arith)
+        go : (v : Bool) → end_of {A = A} (elim v [ true ↦ ends (Err TooFar) | false ↦ w ]) ≡ Ok a → v ≡ false
+        go true q = cc
         go false q = refl
 
     -- a refusal is 11, or the work's own
-    pub asking_refused : (n : ℕ) → (w.end ≡ refused n → n ≡ 11) → (asking far ts w).end ≡ refused n → n ≡ 11
+    pub asking_refused : (n : Refusal) → (w.end ≡ Err n → n ≡ TooFar) → (asking far ts w).end ≡ Err n → n ≡ TooFar
     unfolding asking
     asking_refused n h = go (some_far far ts)
       where
-        go : (v : Bool) → end_of {A = A} (elim v [ true ↦ ends (refused 11) | false ↦ w ]) ≡ refused n → n ≡ 11
+        go : (v : Bool) → end_of {A = A} (elim v [ true ↦ ends (Err TooFar) | false ↦ w ]) ≡ Err n → n ≡ TooFar
         go true q = cc
         go false q = h q
 
@@ -143,31 +143,31 @@ module _ (far : Float → Bool) where
     unfolding asking
     asking_then {B} f = go (some_far far ts)
       where
-        go : (v : Bool) → ◌≡◌ {A = Work B} (elim v [ true ↦ ends (refused 11) | false ↦ and_then w f ]) (and_then (elim v [ true ↦ ends (refused 11) | false ↦ w ]) f)
+        go : (v : Bool) → ◌≡◌ {A = Work B} (elim v [ true ↦ ends (Err TooFar) | false ↦ and_then w f ]) (and_then (elim v [ true ↦ ends (Err TooFar) | false ↦ w ]) f)
         go true = refl
         go false = refl
 
     -- in a room: 11 comes before whatever the work comes to
-    pub within_asking : (room : ℕ) → within room (asking far ts w) ≡ elim (some_far far ts) [ true ↦ refused 11 | false ↦ within room w ]
+    pub within_asking : (room : ℕ) → within room (asking far ts w) ≡ elim (some_far far ts) [ true ↦ Err TooFar | false ↦ within room w ]
     unfolding asking overflows
     within_asking room = go (some_far far ts)
       where
-        go : (v : Bool) → within {A = A} room (elim v [ true ↦ ends (refused 11) | false ↦ w ]) ≡ elim v [ true ↦ refused 11 | false ↦ within room w ]
+        go : (v : Bool) → within {A = A} room (elim v [ true ↦ ends (Err TooFar) | false ↦ w ]) ≡ elim v [ true ↦ Err TooFar | false ↦ within room w ]
         go true = refl
         go false = refl
 
     -- an answer is the work's own, and nothing is too far
-    pub asking_got : (room : ℕ) (a : A) → within room (asking far ts w) ≡ got a → (some_far far ts ≡ false) × (within room w ≡ got a)
+    pub asking_got : (room : ℕ) (a : A) → within room (asking far ts w) ≡ Ok a → (some_far far ts ≡ false) × (within room w ≡ Ok a)
     asking_got room a q = go (some_far far ts) (sym (within_asking room) ∙ q)
       where
-        go : (v : Bool) → elim v [ true ↦ refused 11 | false ↦ within room w ] ≡ got a → (v ≡ false) × (within room w ≡ got a)
-        go true q = absurd (let z : ◌≡◌ {A = ℕ} 0 1 = cc in omega arith)
+        go : (v : Bool) → ◌≡◌ {A = Answer A} (elim v [ true ↦ Err TooFar | false ↦ within room w ]) (Ok a) → (v ≡ false) × (within room w ≡ Ok a)
+        go true q = cc
         go false q = (refl, q)
 
   -- ---- the list that moves form
   -- nothing that they ask for is too far: what they add joins it, one by one
   pub forming_clear : (k : ℕ) (moves : List Move) → some_far far (asked moves) ≡ false
-      → forming far k moves ≡ record { acts = joining (suc k) (added moves); end = got (added moves) }
+      → forming far k moves ≡ record { acts = joining (suc k) (added moves); end = Ok (added moves) }
   unfolding forming asked added joining
   forming_clear k [] e = refl
   forming_clear k (asks t ∷ moves) e =
@@ -177,42 +177,42 @@ module _ (far : Float → Bool) where
       ap (λ (w : Work (List Float)). record { acts = joins (suc k) t ∷ w.acts; end = each (λ l. t ∷ l) w.end }) (forming_clear (suc k) moves e)
 
   -- a list that is formed: nothing was too far
-  pub forming_kept : (k : ℕ) (moves : List Move) (l : List Float) → (forming far k moves).end ≡ got l → some_far far (asked moves) ≡ false
+  pub forming_kept : (k : ℕ) (moves : List Move) (l : List Float) → (forming far k moves).end ≡ Ok l → some_far far (asked moves) ≡ false
   unfolding forming asked some_far
   forming_kept k [] l q = refl
   forming_kept k (asks t ∷ moves) l q = go (far t) refl (forming_kept k moves l) q
     where
-      go : (v : Bool) → far t ≡ v → ((forming far k moves).end ≡ got l → some_far far (asked moves) ≡ false)
-          → end_of {A = List Float} (elim v [ true ↦ ends (refused 11) | false ↦ forming far k moves ]) ≡ got l → some_far far (t ∷ asked moves) ≡ false
-      go true e on q = absurd (let z : ◌≡◌ {A = ℕ} 0 1 = cc in omega arith)
+      go : (v : Bool) → far t ≡ v → ((forming far k moves).end ≡ Ok l → some_far far (asked moves) ≡ false)
+          → end_of {A = List Float} (elim v [ true ↦ ends (Err TooFar) | false ↦ forming far k moves ]) ≡ Ok l → some_far far (t ∷ asked moves) ≡ false
+      go true e on q = cc
       go false e on q = some_far-more t (asked moves) e (on q)
   forming_kept k (adds t ∷ moves) l q = go (forming far (suc k) moves).end (forming_kept (suc k) moves) q
     where
-      go : (x : Result (List Float)) → ((m : List Float) → x ≡ got m → some_far far (asked moves) ≡ false) → each (λ m. t ∷ m) x ≡ got l → some_far far (asked moves) ≡ false
-      go (refused n) on q = absurd (let z : ◌≡◌ {A = ℕ} 0 1 = cc in omega arith)
-      go (got m) on q = on m refl
+      go : (x : Answer (List Float)) → ((m : List Float) → x ≡ Ok m → some_far far (asked moves) ≡ false) → each (λ m. t ∷ m) x ≡ Ok l → some_far far (asked moves) ≡ false
+      go (Err n) on q = cc
+      go (Ok m) on q = on m refl
 
   -- and it is the list that they add
-  pub forming_list : (k : ℕ) (moves : List Move) (l : List Float) → (forming far k moves).end ≡ got l → l ≡ added moves
+  pub forming_list : (k : ℕ) (moves : List Move) (l : List Float) → (forming far k moves).end ≡ Ok l → l ≡ added moves
   forming_list k moves l q =
-      let w : got (added moves) ≡ got l = sym (ap (λ (w : Work (List Float)). w.end) (forming_clear k moves (forming_kept k moves l q))) ∙ q in
+      let w : Ok (added moves) ≡ Ok l = sym (ap (λ (w : Work (List Float)). w.end) (forming_clear k moves (forming_kept k moves l q))) ∙ q in
       cc
 
   -- it is refused with 11 alone
-  pub forming_refused : (k : ℕ) (moves : List Move) (n : ℕ) → (forming far k moves).end ≡ refused n → n ≡ 11
+  pub forming_refused : (k : ℕ) (moves : List Move) (n : Refusal) → (forming far k moves).end ≡ Err n → n ≡ TooFar
   unfolding forming
-  forming_refused k [] n q = absurd (let z : ◌≡◌ {A = ℕ} 0 1 = cc in omega arith)
+  forming_refused k [] n q = cc
   forming_refused k (asks t ∷ moves) n q = go (far t) (forming_refused k moves n) q
     where
-      go : (v : Bool) → ((forming far k moves).end ≡ refused n → n ≡ 11)
-          → end_of {A = List Float} (elim v [ true ↦ ends (refused 11) | false ↦ forming far k moves ]) ≡ refused n → n ≡ 11
+      go : (v : Bool) → ((forming far k moves).end ≡ Err n → n ≡ TooFar)
+          → end_of {A = List Float} (elim v [ true ↦ ends (Err TooFar) | false ↦ forming far k moves ]) ≡ Err n → n ≡ TooFar
       go true on q = cc
       go false on q = on q
   forming_refused k (adds t ∷ moves) n q = go (forming far (suc k) moves).end (forming_refused (suc k) moves n) q
     where
-      go : (x : Result (List Float)) → (x ≡ refused n → n ≡ 11) → each (λ m. t ∷ m) x ≡ refused n → n ≡ 11
-      go (refused i) on q = on (cc)
-      go (got m) on q = absurd (let z : ◌≡◌ {A = ℕ} 0 1 = cc in omega arith)
+      go : (x : Answer (List Float)) → (x ≡ Err n → n ≡ TooFar) → each (λ m. t ∷ m) x ≡ Err n → n ≡ TooFar
+      go (Err i) on q = on (cc)
+      go (Ok m) on q = cc
 
   -- ---- a count of the moves
   -- one part after another
@@ -222,13 +222,13 @@ module _ (far : Float → Bool) where
   counted_append room k (asks t ∷ a) b = go (far t) (counted_append room k a b)
     where
       go : (v : Bool) → counted far room k (a ++ b) ≡ bind (counted far room k a) (λ n. counted far room n b)
-          → elim v [ true ↦ refused 11 | false ↦ counted far room k (a ++ b) ] ≡ bind (elim v [ true ↦ refused 11 | false ↦ counted far room k a ]) (λ n. counted far room n b)
+          → elim v [ true ↦ Err TooFar | false ↦ counted far room k (a ++ b) ] ≡ bind (elim v [ true ↦ Err TooFar | false ↦ counted far room k a ]) (λ n. counted far room n b)
       go true e = refl
       go false e = e
   counted_append room k (adds t ∷ a) b = go (ltb k room) (counted_append room (suc k) a b)
     where
       go : (v : Bool) → counted far room (suc k) (a ++ b) ≡ bind (counted far room (suc k) a) (λ n. counted far room n b)
-          → elim v [ true ↦ counted far room (suc k) (a ++ b) | false ↦ refused 8 ] ≡ bind (elim v [ true ↦ counted far room (suc k) a | false ↦ refused 8 ]) (λ n. counted far room n b)
+          → elim v [ true ↦ counted far room (suc k) (a ++ b) | false ↦ Err NoRoom ] ≡ bind (elim v [ true ↦ counted far room (suc k) a | false ↦ Err NoRoom ]) (λ n. counted far room n b)
       go true e = e
       go false e = refl
 
@@ -236,28 +236,28 @@ module _ (far : Float → Bool) where
   pub counted_forming : (room k : ℕ) (moves : List Move) → k ≤ room
       → counted far room k moves ≡ each (λ (l : List Float). k + length l) (within room (forming far k moves))
   unfolding counted forming overflows
-  counted_forming room k [] h = ap got (omega arith)
+  counted_forming room k [] h = ap Ok (omega arith)
   counted_forming room k (asks t ∷ moves) h = go (far t) (counted_forming room k moves h)
     where
       go : (v : Bool) → counted far room k moves ≡ each (λ (l : List Float). k + length l) (within room (forming far k moves))
-          → elim v [ true ↦ refused 11 | false ↦ counted far room k moves ]
-          ≡ each (λ (l : List Float). k + length l) (within room (elim v [ true ↦ ends (refused 11) | false ↦ forming far k moves ]))
+          → elim v [ true ↦ Err TooFar | false ↦ counted far room k moves ]
+          ≡ each (λ (l : List Float). k + length l) (within room (elim v [ true ↦ ends (Err TooFar) | false ↦ forming far k moves ]))
       go true e = refl
       go false e = e
   counted_forming room k (adds t ∷ moves) h = go (ltb k room) refl (counted_forming room (suc k) moves)
     where
-      more : (v : Bool) (x : Result (List Float)) → each (λ (l : List Float). suc k + length l) (cond v (refused 8) x)
-          ≡ each (λ (l : List Float). k + length l) (cond v (refused 8) (each (λ l. t ∷ l) x))
+      more : (v : Bool) (x : Answer (List Float)) → each (λ (l : List Float). suc k + length l) (cond v (Err NoRoom) x)
+          ≡ each (λ (l : List Float). k + length l) (cond v (Err NoRoom) (each (λ l. t ∷ l) x))
       more true x = refl
-      more false (refused n) = refl
-      more false (got l) = ap got (omega arith)
+      more false (Err n) = refl
+      more false (Ok l) = ap Ok (omega arith)
 
       w : Work (List Float)
       w = forming far (suc k) moves
 
       go : (v : Bool) → ltb k room ≡ v → (suc k ≤ room → counted far room (suc k) moves ≡ each (λ (l : List Float). suc k + length l) (within room w))
-          → elim v [ true ↦ counted far room (suc k) moves | false ↦ refused 8 ]
-          ≡ each (λ (l : List Float). k + length l) (cond (ltb room (suc k) || overflows room w.acts) (refused 8) (each (λ l. t ∷ l) w.end))
+          → elim v [ true ↦ counted far room (suc k) moves | false ↦ Err NoRoom ]
+          ≡ each (λ (l : List Float). k + length l) (cond (ltb room (suc k) || overflows room w.acts) (Err NoRoom) (each (λ l. t ∷ l) w.end))
       go true e on =
           let i = ltb-true k room e in
           rw (le-ltb room (suc k) (omega arith)) (on (omega arith) ∙ more (overflows room w.acts) w.end)
@@ -270,7 +270,7 @@ module _ (far : Float → Bool) where
   unfolding subdividing subdivided asked some_far
   subdividing_asked budget zero a b e = refl
   subdividing_asked budget (suc depth) a b e =
-      go (budget a b) (subdividing_asked budget depth a m) (subdividing_asked budget depth m b) (neither (far m) _ (neither (far b) _ (neither (far a) _ e).1).1)
+      go (budget a b) (subdividing_asked budget depth a m) (subdividing_asked budget depth m b) (or_parts (far m) _ (or_parts (far b) _ (or_parts (far a) _ e).1).1)
     where
       m : Float
       m = midpoint a b
@@ -299,7 +299,7 @@ module _ (s : Sampler) (range : Interval) (deep : 0 < s.depth) where
     where
       go : (d : ℕ) → 0 < d → some_far s.far (asked (subdividing s.within d a b)) ≡ false → (s.far a ≡ false) × (s.far b ≡ false)
       go zero h e = absurd (omega arith)
-      go (suc d) h e = let p = neither (s.far a) _ e in (p.0, (neither (s.far b) _ p.1).0)
+      go (suc d) h e = let p = or_parts (s.far a) _ e in (p.0, (or_parts (s.far b) _ p.1).0)
 
   -- what a walk asks for: its first span, and the rest
   walk_parts : (left b : Float) (bs : List Float) → some_far s.far (asked (walking s range left (b ∷ bs))) ≡ false

@@ -1,14 +1,14 @@
 -- What holds of even steps and of bisection holds of the parameters that sampling gives; they fit the room, and no refusal but 8,
 -- for the room, is made. Assumes nothing.
+use Rattle.std.specs.Prelude.{Option, ℕ, None, Some, Err, Ok}
 use Rattle.std.proofs.Common.{◌≡◌, ℕ, zero, suc, ◌-◌, ◌≤◌, Bool, true, false, ltb, leb, List, [], ◌∷◌, ◌++◌, length, refl, subst, add-one, arith, length-append, leb-true}
 use lib.Ieee.{Float}
-use Rattle.base_lists.specs.Result.{Result, refused, got, bind}
 use Rattle.math.specs.declared.Interval.{Interval}
-use Rattle.edge_params.specs.declared.Closed.{Closed}
-use Rattle.edge_params.specs.declared.Closed.TheVariants.{Unknown, Segments}
 use Rattle.edge_params.specs.Params.{midpoint, Sampler, steps, evenly}
 use Rattle.edge_params.specs.Own.Bisected.{subdivided, bisected}
 use Rattle.edge_params.specs.Own.InRoom.{fitting, floored_in, refined_in, sample_params_in}
+use Rattle.refusal.specs.Answer.{Answer, bind}
+use Rattle.refusal.specs.declared.Refusal.TheVariants.{NoRoom}
 
 pub steps_length : (range : Interval) (n k : ℕ) → length (steps range n k) ≡ k
 unfolding steps
@@ -40,15 +40,15 @@ module _ (within : Float → Float → Bool) (depth : ℕ) (a b : Float) where
       (rw (e, subdivided))
 
 -- ---- `Gives P r`: r is a list that holds P, or refusal 8
-pub data Gives (P : List Float → Type 0) : Result (List Float) → Type 0 where
-  list : {l : List Float} → P l → Gives P (got l)
-  eight : Gives P (refused 8)
+pub data Gives (P : List Float → Type 0) : Answer (List Float) → Type 0 where
+  list : {l : List Float} → P l → Gives P (Ok l)
+  eight : Gives P (Err NoRoom)
 
-pub gives_got : {P : List Float → Type 0} {r : Result (List Float)} (l : List Float) → Gives P r → r ≡ got l → P l
+pub gives_got : {P : List Float → Type 0} {r : Answer (List Float)} (l : List Float) → Gives P r → r ≡ Ok l → P l
 gives_got {P} l (list {l = k} p) e = let q : k ≡ l = cc in subst P q p
-gives_got l eight e = let z : ◌≡◌ {A = ℕ} 0 1 = cc in absurd (omega arith)
+gives_got l eight e = cc
 
-gives_bind : {P Q : List Float → Type 0} {r : Result (List Float)} (f : List Float → Result (List Float)) → Gives P r
+gives_bind : {P Q : List Float → Type 0} {r : Answer (List Float)} (f : List Float → Answer (List Float)) → Gives P r
     → ((l : List Float) → P l → Gives Q (f l)) → Gives Q (bind r f)
 gives_bind f (list {l = l} p) g = g l p
 gives_bind f eight g = eight
@@ -61,7 +61,7 @@ module _ (P : List Float → Type 0) (room : ℕ) (s : Sampler) (range : Interva
   unfolding fitting
   fitting_gives l h = go (leb (length l) room) refl
     where
-      go : (t : Bool) → leb (length l) room ≡ t → Gives P (elim t [ true ↦ got l | false ↦ refused 8 ])
+      go : (t : Bool) → leb (length l) room ≡ t → Gives P (elim t [ true ↦ Ok l | false ↦ Err NoRoom ])
       go true e = list (h (leb-true (length l) room e))
       go false e = eight
 
@@ -72,7 +72,7 @@ module _ (P : List Float → Type 0) (room : ℕ) (s : Sampler) (range : Interva
   unfolding floored_in
   floored_gives l p = go (ltb (length l - 1) s.least)
     where
-      go : (t : Bool) → Gives P (elim t [ true ↦ fitting room (evenly range s.least) | false ↦ got l ])
+      go : (t : Bool) → Gives P (elim t [ true ↦ fitting room (evenly range s.least) | false ↦ Ok l ])
       go true = even_gives s.least
       go false = list p
 
@@ -84,20 +84,20 @@ module _ (P : List Float → Type 0) (room : ℕ) (s : Sampler) (range : Interva
   unfolding sample_params_in
   sampled_gives = go s.closed
     where
-      checked : (l : List Float) → P l → (t : Bool) → Gives P (elim t [ true ↦ got l | false ↦ refined_in room s range ])
+      checked : (l : List Float) → P l → (t : Bool) → Gives P (elim t [ true ↦ Ok l | false ↦ refined_in room s range ])
       checked l p true = list p
       checked l p false = refined_gives
 
-      go : (c : Closed) → Gives P (elim c [
-        | Unknown ↦ refined_in room s range
-        | Segments n ↦ bind (fitting room (evenly range n)) (λ l. elim (s.meets l) [ true ↦ got l | false ↦ refined_in room s range ])
+      go : (c : Option ℕ) → Gives P (elim c [
+        | None ↦ refined_in room s range
+        | Some n ↦ bind (fitting room (evenly range n)) (λ l. elim (s.meets l) [ true ↦ Ok l | false ↦ refined_in room s range ])
       ])
-      go Unknown = refined_gives
-      go (Segments n) =
-          gives_bind (λ l. elim (s.meets l) [ true ↦ got l | false ↦ refined_in room s range ]) (even_gives n)
+      go None = refined_gives
+      go (Some n) =
+          gives_bind (λ l. elim (s.meets l) [ true ↦ Ok l | false ↦ refined_in room s range ]) (even_gives n)
           (λ l p. checked l p (s.meets l))
 
 -- ---- at most as many as the room has
-pub sampled_length : (room : ℕ) (s : Sampler) (range : Interval) (l : List Float) → sample_params_in room s range ≡ got l → length l ≤ room
+pub sampled_length : (room : ℕ) (s : Sampler) (range : Interval) (l : List Float) → sample_params_in room s range ≡ Ok l → length l ≤ room
 sampled_length room s range l e =
     gives_got l (sampled_gives (λ l. length l ≤ room) room s range (λ n h. omega (arith, steps_length range n (suc n))) (λ h. h)) e

@@ -1,10 +1,10 @@
 -- The parameters that sampling gives stand in one order. Assumes nothing.
+use Rattle.std.specs.Prelude.{Ok}
 use Rattle.std.proofs.Common.{◌≡◌, ℕ, ◌^◌, ◌≤◌, Bool, true, false, cond, T, List, [], ◌∷◌, reverse, refl, arith}
 use lib.Ieee.{Float, binary64, fits, le, lt}
 use Rattle.arith.specs.Notation.{plus_zero}
 use Rattle.math.specs.declared.Interval.{Interval}
 use Rattle.arith_order.proofs.Laws.{lt→le, nlt→le}
-use Rattle.base_lists.specs.Result.{got}
 use Rattle.base_lists.specs.Own.Way.{Up, Down}
 use Rattle.base_lists.specs.All.{All}
 use Rattle.base_lists.specs.Own.Sub.{Sub, end, keep, skip}
@@ -66,7 +66,7 @@ module _ (s : Sampler) (range : Interval) (sampleable : Sampleable s range) wher
           (goods sampleable.low sampleable.high sampleable.fit w) (rising_ends e) w.from w.to w.pairs)
 
   -- ---- what a caller cites
-  module _ (room : ℕ) (small : room ≤ 2 ^ 53) (l : List Float) (e : sample_params_in room s range ≡ got l) where
+  module _ (room : ℕ) (small : room ≤ 2 ^ 53) (l : List Float) (e : sample_params_in room s range ≡ Ok l) where
     pub sampled_steady : Steady l
     sampled_steady =
         gives_got l

@@ -1,13 +1,12 @@
 -- The parameters of an edge: sample_params and subdivide of edge.rs, over what they ask of the curve. Definitions only.
-use Rattle.std.specs.Prelude.{ℕ, zero, suc, ◌-◌, Bool, true, false, List, [], ◌∷◌, ◌++◌, map, reverse, length, nat_lt, Float}
+use Rattle.std.specs.Prelude.{ℕ, zero, suc, ◌-◌, Bool, true, false, List, [], ◌∷◌, ◌++◌, map, reverse, length, nat_lt, Float, Option, None, Some, Err}
 use Rattle.std.specs.Float.Ieee.{lt, ne}
 use Rattle.arith.specs.Notation.{◌⊕◌, ◌⊗◌, ◌⊘◌, count, half}
 use Rattle.math.specs.declared.Interval.{Interval}
 use Rattle.math.specs.Math.{at}
-use Rattle.edge_params.specs.declared.Closed.{Closed}
-use Rattle.edge_params.specs.declared.Closed.TheVariants.{Unknown, Segments}
-use Rattle.base_lists.specs.Result.{refused, each}
 use Rattle.edge_params.specs.Work.{Work, joins, ends, done, forms, and_then, asking}
+use Rattle.refusal.specs.Answer.{each}
+use Rattle.refusal.specs.declared.Refusal.TheVariants.{TooFar}
 
 -- ---- subdivide of edge.rs
 -- 0.5 * (a + b)
@@ -42,7 +41,7 @@ unfoldable pub forming : (Float → Bool) → ℕ → List Move → Work (List F
 forming far k [] = done []
 forming far k (asks t ∷ moves) =
     elim (far t) [
-      | true ↦ ends (refused 11)
+      | true ↦ ends (Err TooFar)
       | false ↦ forming far k moves
     ]
 forming far k (adds t ∷ moves) =
@@ -53,7 +52,7 @@ forming far k (adds t ∷ moves) =
 -- what it asks of the curve and the options
 pub record Sampler : Type 0 where
   -- analytic_segments
-  pub closed : Closed
+  pub closed : Option ℕ
   -- worst <= options.sag, of the closed form's list
   pub meets : List Float → Bool
   -- deviation <= options.sag && turn <= options.angle, of a span
@@ -126,6 +125,6 @@ refined s range = asking s.far s.break_asks (and_then (forming s.far 0 (bisectin
 unfoldable pub sample_params : Sampler → Interval → Work (List Float)
 sample_params s range =
     elim s.closed [
-      | Unknown ↦ refined s range
-      | Segments n ↦ and_then (forms (evenly range n)) (λ l. elim (s.meets l) [ true ↦ done l | false ↦ refined s range ])
+      | None ↦ refined s range
+      | Some n ↦ and_then (forms (evenly range n)) (λ l. elim (s.meets l) [ true ↦ done l | false ↦ refined s range ])
     ]

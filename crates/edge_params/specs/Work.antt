@@ -1,6 +1,7 @@
 -- What the reference does on its way to an answer, in order, and what it comes to. It has no room: a room only looks at the record. Definitions only.
-use Rattle.std.specs.Prelude.{ℕ, suc, Bool, true, false, cond, ◌||◌, List, [], ◌∷◌, ◌++◌, nat_lt, Float}
-use Rattle.base_lists.specs.Result.{Result, refused, got, bind}
+use Rattle.std.specs.Prelude.{ℕ, suc, Bool, true, false, cond, ◌||◌, List, [], ◌∷◌, ◌++◌, nat_lt, Float, Err, Ok}
+use Rattle.refusal.specs.Answer.{Answer, bind}
+use Rattle.refusal.specs.declared.Refusal.TheVariants.{TooFar, NoRoom}
 
 -- an act that a refusal looks at
 pub data Act : Type 0 where
@@ -11,15 +12,15 @@ pub data Act : Type 0 where
 -- hyperbola for a parameter beyond 100 in magnitude, behind which nothing is looked at
 pub record Work (A : Type 0) : Type 0 where
   pub acts : List Act
-  pub end : Result A
+  pub end : Answer A
 
 -- no act, and an end
-abbrev pub ends : {A : Type 0} → Result A → Work A
+abbrev pub ends : {A : Type 0} → Answer A → Work A
 ends x = record { acts = []; end = x }
 
 -- no act, and an answer
 abbrev pub done : {A : Type 0} → A → Work A
-done a = ends (got a)
+done a = ends (Ok a)
 
 -- the parameters of a list join it one by one, the first as its k-th
 unfoldable pub joining : ℕ → List Float → List Act
@@ -28,12 +29,12 @@ joining k (t ∷ l) = joins k t ∷ joining (suc k) l
 
 -- a list is formed
 abbrev pub forms : List Float → Work (List Float)
-forms l = record { acts = joining 1 l; end = got l }
+forms l = record { acts = joining 1 l; end = Ok l }
 
 -- the acts that follow an end; nothing follows a refusal
-abbrev pub acts_after : {A B : Type 0} → Result A → (A → Work B) → List Act
-acts_after (refused n) f = []
-acts_after (got a) f = (f a).acts
+abbrev pub acts_after : {A B : Type 0} → Answer A → (A → Work B) → List Act
+acts_after (Err n) f = []
+acts_after (Ok a) f = (f a).acts
 
 -- one work after the other
 abbrev pub and_then : {A B : Type 0} → Work A → (A → Work B) → Work B
@@ -49,7 +50,7 @@ some_far far (t ∷ ts) = far t || some_far far ts
 unfoldable pub asking : {A : Type 0} → (Float → Bool) → List Float → Work A → Work A
 asking far ts next =
     elim (some_far far ts) [
-      | true ↦ ends (refused 11)
+      | true ↦ ends (Err TooFar)
       | false ↦ next
     ]
 
@@ -64,5 +65,5 @@ overflows room [] = false
 overflows room (a ∷ acts) = passes room a || overflows room acts
 
 -- the work in a room: 8 where some list is longer than it, else what the reference comes to. So 8 or 11 is the one that comes first
-abbrev pub within : {A : Type 0} → ℕ → Work A → Result A
-within room w = cond (overflows room w.acts) (refused 8) w.end
+abbrev pub within : {A : Type 0} → ℕ → Work A → Answer A
+within room w = cond (overflows room w.acts) (Err NoRoom) w.end

@@ -7,46 +7,30 @@ ghost use Rattle.edge_params.specs.Own.Written.{ListWritten, ListAppended};
 
 use math::Interval;
 
-// What the closed form of a curve gives: a number of segments, or nothing where the curve has none.
-#[derive(Clone, Copy)]
-pub enum Closed {
-    Unknown,
-    Segments(u64),
-}
-
-// How many parameters the buffer then holds, or refusal 8.
-#[derive(Clone, Copy)]
-pub enum Listed {
-    Count(usize),
-    Refused,
-}
-
-// x behind the first k floats.
-pub fn push(out: &mut [f64], k: usize, x: f64) -> Listed
+// x behind the first k floats. The length goes beside the buffer, which is lent since memory is fixed; bisection counts a chain's
+// records by the same k.
+pub fn push(out: &mut [f64], k: usize, x: f64) -> Option<usize>
     requires { k ≤ length out.old }
     ensures { ListAppended out.old k (x ∷ []) result out.new }
 {
     if k >= out.len() {
-        return Listed::Refused;
+        return None;
     }
     out[k] = x;
-    Listed::Count(k + 1)
+    Some(k + 1)
 }
 
 // range.at(i / n) for each i from 0 to n.
-pub fn evenly(range: Interval, n: u64, out: &mut [f64]) -> Listed
+pub fn evenly(range: Interval, n: u64, out: &mut [f64]) -> Option<usize>
     ensures { ListWritten out.old (evenly range n) result out.new }
 {
     let total = std::num::nearest_u64_to_f64(n);
-    let mut i = 0u64;
-    while i <= n {
-        let k = i as usize;
-        if out.len() <= k {
-            return Listed::Refused;
+    for i in 0..=n {
+        let at = i as usize;
+        if at >= out.len() {
+            return None;
         }
-        let part = std::num::nearest_u64_to_f64(i) / total;
-        out[k] = range.at(part);
-        i += 1;
+        out[at] = range.at(std::num::nearest_u64_to_f64(i) / total);
     }
-    Listed::Count(i as usize)
+    Some(n as usize + 1)
 }

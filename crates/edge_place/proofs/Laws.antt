@@ -13,7 +13,11 @@ use Rattle.base_lists.specs.Room.{filled}
 use Rattle.math.specs.declared.Vec3.{Vec3}
 use Rattle.math.specs.Math.{v_sub, v_length_squared}
 use Rattle.brep.specs.declared.Edge.{Edge}
-use Rattle.brep.specs.Rows.{Tables}
+use Rattle.brep.specs.declared.LentTables.{LentTables}
+use Rattle.brep.specs.Rows.{Tables, lent}
+use Rattle.brep.specs.Tree.{tree}
+use Rattle.curve_prepared.specs.declared.PreparedCurve.{PreparedCurve}
+use Rattle.curve_prepared.specs.Own.PreparedCurve.{curve_of}
 use Rattle.edge_record.specs.declared.Sample.{Sample}
 use Rattle.edge_record.specs.Chain.{width, shortest, row, flat, sample_at, samples_from, samples, last_of}
 use Rattle.edge_record.specs.Own.Stored.{record_point}
@@ -22,6 +26,10 @@ use Rattle.edge_closed_form.proofs.Located.{located_length}
 use Rattle.draw_spec.specs.Edge.{edge_curve, edge_start, edge_end, located, near_squared, degenerate_ends, is_reversed, oriented, moved_to, last_pinned, pinned, chord_of, placed}
 use Rattle.edge_place.specs.Own.Place.{of_points, chord_between}
 use Rattle.edge_place.proofs.Records.{pass, put_at, read_at, own_samples}
+
+-- the curve of a row that was prepared
+pub of_row : (curve : PreparedCurve) {slices : LentTables} {row : ℕ} → curve.tables.now ≡ slices → curve.row ≡ row → curve_of curve ≡ tree (lent slices) row
+of_row curve {slices} e f = ap (λ (t : LentTables). tree (lent t) curve.row) e ∙ ap (tree (lent slices)) f
 
 -- ---- pinned
 last_pinned-set : (end : Vec3) (s : Sample) (l : List Sample) (d : Sample)

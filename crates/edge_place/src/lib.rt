@@ -4,14 +4,15 @@
 ghost use Rattle.std.specs.Prelude.{◌≡◌, true, reverse, ◌+◌, ◌-◌, ◌*◌, ◌<◌, ◌≤◌, length};
 ghost use Rattle.std.proofs.lemmas.List.Edits.{sets};
 ghost use Rattle.base_lists.specs.Room.{filled};
-ghost use Rattle.brep.specs.Rows.{Tables, lent, given};
+ghost use Rattle.brep.specs.Rows.{Tables, lent};
 ghost use Rattle.brep.specs.Tree.{tree};
 ghost use Rattle.edge_record.specs.Chain.{width, shortest, row, flat, sample_at, samples};
 ghost use Rattle.edge_record.specs.Own.Stored.{record_point};
 ghost use Rattle.draw_spec.specs.Edge.{edge_curve, edge_start, edge_end, located, is_reversed, oriented, moved_to, pinned, chord_of, placed};
 ghost use Rattle.edge_place.specs.Own.Place.{of_points, chord_between};
 
-use brep::Edge;
+use brep::{Edge, LentTables};
+use curve_prepared::PreparedCurve;
 use edge_record::Sample;
 use math::Vec3;
 
@@ -101,54 +102,33 @@ fn pin_ends(points: &[f64], edge: Edge, n: usize, chain: &mut [f64])
 }
 
 // Evaluates the curve of a row at each parameter: the chain's first records are its points there.
-fn locate(
-    points: &[f64],
-    curves: &[u32],
-    reals: &[f64],
-    parts: &[u32],
-    ranges: &[f64],
-    row: u32,
-    params: &[f64],
-    chain: &mut [f64],
-)
+fn locate(tables: &LentTables<'_>, row: u32, params: &[f64], chain: &mut [f64])
     requires { width * length params.now ≤ length chain.old }
-    ensures { chain.new ≡ sets chain.old 0 (flat (located (tree (given points curves reals parts ranges) row) params.now)) }
+    ensures { chain.new ≡ sets chain.old 0 (flat (located (tree (lent tables.now) row) params.now)) }
 {
-    let prepared = curve_prepared::prepare(points, curves, reals, parts, ranges, row);
+    let curve = PreparedCurve::new(tables, row);
     let n = params.len();
     for i in 0..n {
         let param = params[i];
-        let point = curve_prepared::point_of(
-            prepared, points, curves, reals, parts, ranges, row, param,
-        );
+        let point = curve.point(param);
         edge_record::put(chain, i, Sample { point, param });
     }
 }
 
 // Writes a record for each parameter, from the chain's start. Where `known`, the records hold the curve's points and the
 // parameters already, and nothing is evaluated: a chain that runs back is turned round where it stands.
-pub fn place(
-    points: &[f64],
-    curves: &[u32],
-    reals: &[f64],
-    parts: &[u32],
-    ranges: &[f64],
-    edge: Edge,
-    params: &[f64],
-    known: bool,
-    chain: &mut [f64],
-)
+pub fn place(tables: &LentTables<'_>, edge: Edge, params: &[f64], known: bool, chain: &mut [f64])
     requires { (2 ≤ length params.now) × (width * length params.now ≤ length chain.old)
-        × (known ≡ true → samples (length params.now) chain.old ≡ located (edge_curve (lent points curves reals parts ranges) edge) params.now) }
-    ensures { chain.new ≡ sets chain.old 0 (flat (placed (given points curves reals parts ranges) edge params.now)) }
+        × (known ≡ true → samples (length params.now) chain.old ≡ located (edge_curve (lent tables.now) edge) params.now) }
+    ensures { chain.new ≡ sets chain.old 0 (flat (placed (lent tables.now) edge params.now)) }
 {
     let n = params.len();
     if !known {
         let row = edge.curve;
-        locate(points, curves, reals, parts, ranges, row, params, chain);
+        locate(tables, row, params, chain);
     }
-    orient(points, edge, n, chain);
-    pin_ends(points, edge, n, chain);
+    orient(tables.points, edge, n, chain);
+    pin_ends(tables.points, edge, n, chain);
 }
 
 // The chord of two points with the parameters a and b, and +0.0 behind it.

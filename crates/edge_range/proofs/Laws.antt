@@ -1,4 +1,5 @@
 -- The definitions at what the code has at hand. Assumes nothing.
+use Rattle.std.specs.Prelude.{Option, Float, Some, ℕ, None}
 use mathlib.Core.Path.{◌≡◌, refl, ◌∙◌}
 use mathlib.Core.Bool.{Bool, true, false, ◌&&◌}
 use Prim.Native.Nat.{ℕ}
@@ -12,7 +13,6 @@ use Rattle.math.specs.Math.{span_of}
 use Rattle.brep.specs.Rows.{Tables}
 use Rattle.brep.specs.Tree.{CurveTree, tree}
 use Rattle.brep.proofs.ByKind.{row_kind, at_line, at_circle, at_ellipse, at_parabola, at_polyline, at_trim, at_composite, at_hyperbola, at_unknown}
-use Rattle.curve.specs.declared.Repeats.{Repeats}
 use Rattle.curve.specs.Eval.{natural_range, period}
 use Rattle.curve_parameter.specs.Own.Under.{under}
 use Rattle.curve.proofs.Under.{under_same, under_rest}
@@ -20,9 +20,6 @@ use Rattle.options.specs.declared.Mode.{Mode}
 use Rattle.options.specs.declared.Mode.TheVariants.{Reference, Strict}
 use Rattle.options.specs.declared.Resolved.{Resolved}
 use Rattle.options.specs.Options.{segments_for_arc}
-use Rattle.edge_params.specs.declared.Closed.{Closed}
-use Rattle.edge_params.specs.declared.Closed.TheVariants.{Unknown, Segments}
-use Rattle.edge_range.specs.declared.Usable.TheVariants.{Range}
 use Rattle.edge_range.specs.Usable.{own_range, within_domain, is_no_range, usable_range, is_open_conic, has_no_domain, ellipse_radius, analytic_segments}
 
 -- usable_range, of the curve's own range and its period
@@ -31,7 +28,7 @@ module _ (c : CurveTree) (range : Interval) {natural : Interval} (e : natural �
   unfolding usable_range
   by_own h = rw (h, e)
 
-  pub by_edge : is_no_range range ≡ false → {p : Repeats} → p ≡ period c → Range (within_domain p natural range) ≡ usable_range c range
+  pub by_edge : is_no_range range ≡ false → {p : Option Float} → p ≡ period c → Some (within_domain p natural range) ≡ usable_range c range
   unfolding usable_range
   by_edge h g = rw (h, e, g)
 
@@ -46,19 +43,19 @@ module _ (major minor : Float) {m n a b : Float} (em : m ≡ abs_of major) (en :
   of_none h = rw (← em, ← en, ← ea, ← eb, h)
 
 -- the segments of an arc
-pub arc : (r : Resolved) (range : Interval) {radius of total : Float} → radius ≡ of → total ≡ span_of range → Segments (segments_for_arc r radius total) ≡ Segments (segments_for_arc r of (span_of range))
+pub arc : (r : Resolved) (range : Interval) {radius of total : Float} → radius ≡ of → total ≡ span_of range → Some (segments_for_arc r radius total) ≡ Some (segments_for_arc r of (span_of range))
 arc r range e g = rw (e, g)
 
 -- the curves whose curvature is not known: all but the first three kinds, at the row that the trims lead down to
 module _ (T : Tables) (range : Interval) (s : Resolved) (row : ℕ) {r kind : ℕ} (u : r ≡ under T.curves row) (k : kind ≡ row_kind T r) where
-  abbrev segments_at : CurveTree → Closed
+  abbrev segments_at : CurveTree → Option ℕ
   segments_at c = analytic_segments c range s
 
-  pub unknown : ((Unit {0} × (kind ≡ 1 → ⊥)) × (kind ≡ 2 → ⊥)) × (kind ≡ 3 → ⊥) → Unknown ≡ analytic_segments (tree T row) range s
+  pub unknown : ((Unit {0} × (kind ≡ 1 → ⊥)) × (kind ≡ 2 → ⊥)) × (kind ≡ 3 → ⊥) → None ≡ analytic_segments (tree T row) range s
   unfolding analytic_segments
   unknown n = go (eqb kind 4) (eqb kind 5) (eqb kind 7) (eqb kind 8) refl refl refl refl
     where
-      go : (a b c d : Bool) → eqb kind 4 ≡ a → eqb kind 5 ≡ b → eqb kind 7 ≡ c → eqb kind 8 ≡ d → Unknown ≡ segments_at (tree T row)
+      go : (a b c d : Bool) → eqb kind 4 ≡ a → eqb kind 5 ≡ b → eqb kind 7 ≡ c → eqb kind 8 ≡ d → None ≡ segments_at (tree T row)
       go true b c d h i j l = at_parabola segments_at T r k (eqb-true kind 4 h) refl refl ∙ under_same segments_at (λ b r. refl) T row u
       go false true c d h i j l = at_polyline segments_at T r k (eqb-true kind 5 i) refl refl ∙ under_same segments_at (λ b r. refl) T row u
       go false false true d h i j l = at_composite segments_at T r k (eqb-true kind 7 j) refl refl ∙ under_same segments_at (λ b r. refl) T row u

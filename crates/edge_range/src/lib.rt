@@ -1,40 +1,31 @@
 #![tactic(auto)]
 // usable_range and analytic_segments of edge.rs, on rows.
-ghost use Rattle.std.specs.Prelude.{◌≡◌, List, ℕ, max, Float};
+ghost use Rattle.std.specs.Prelude.{◌≡◌, List, ℕ, max, Float, Some, None};
 ghost use Rattle.arith.specs.Notation.{plus_zero};
 ghost use Rattle.math.specs.Math.{interval};
-ghost use Rattle.brep.specs.Rows.{tables, given};
+ghost use Rattle.brep.specs.Rows.{tables, lent};
 ghost use Rattle.brep.specs.Tree.{CurveTree, tree};
-ghost use Rattle.curve.specs.declared.Repeats.TheVariants.{Every, Never};
 ghost use Rattle.curve.specs.Eval.{tau, natural_range, period};
 ghost use Rattle.edge_range.specs.Usable.{own_range, clamped_to_domain, within_domain, is_no_range, usable_range, has_no_domain, ellipse_radius, analytic_segments};
 
-use curve::Repeats;
-use edge_params::Closed;
+use brep::LentTables;
 use math::Interval;
 use options::{Mode, Resolved};
 
 // 2π
 const TAU: f64 = 6.283185307179586;
 
-// What `usable_range` finds: the range to sample, or none.
-#[derive(Clone, Copy)]
-pub enum Usable {
-    Range(Interval),
-    Unusable,
-}
-
 // Only a real domain will do: a line's spans the whole of model space.
-fn own_range(natural: Interval) -> Usable
+fn own_range(natural: Interval) -> Option<Interval>
     ensures { result ≡ own_range natural }
 {
     let span = natural.span();
     if arith::is_finite(span) {
         if arith::abs(span) < 1e9 {
-            return Usable::Range(natural);
+            return Some(natural);
         }
     }
-    Usable::Unusable
+    None
 }
 
 // The edge's range, clamped to the curve's own with a slack.
@@ -49,12 +40,12 @@ fn clamped_to_domain(natural: Interval, range: Interval) -> Interval
 }
 
 // A periodic curve may run past its own range.
-fn within_domain(repeats: Repeats, natural: Interval, range: Interval) -> Interval
+fn within_domain(repeats: Option<f64>, natural: Interval, range: Interval) -> Interval
     ensures { result ≡ within_domain repeats natural range }
 {
     match repeats {
-        Repeats::Every(_) => range,
-        Repeats::Never => clamped_to_domain(natural, range),
+        Some(_) => range,
+        None => clamped_to_domain(natural, range),
     }
 }
 
@@ -71,60 +62,44 @@ fn is_no_range(range: Interval) -> bool
 }
 
 // usable_range of a curve that never repeats, by its natural range.
-fn usable_once(natural: Interval, range: Interval) -> Usable
-    ensures { (c : CurveTree) → natural ≡ natural_range c → Never ≡ period c → result ≡ usable_range c range }
+fn usable_once(natural: Interval, range: Interval) -> Option<Interval>
+    ensures { (c : CurveTree) → natural ≡ natural_range c → None ≡ period c → result ≡ usable_range c range }
 {
     if is_no_range(range) {
         return own_range(natural);
     }
-    Usable::Range(clamped_to_domain(natural, range))
+    Some(clamped_to_domain(natural, range))
 }
 
 // usable_range of a circle or an ellipse.
-fn usable_round(range: Interval) -> Usable
-    ensures { (c : CurveTree) → interval plus_zero tau ≡ natural_range c → Every tau ≡ period c → result ≡ usable_range c range }
+fn usable_round(range: Interval) -> Option<Interval>
+    ensures { (c : CurveTree) → interval plus_zero tau ≡ natural_range c → Some tau ≡ period c → result ≡ usable_range c range }
 {
     if is_no_range(range) {
         return own_range(Interval { lo: 0.0, hi: TAU });
     }
-    Usable::Range(range)
+    Some(range)
 }
 
 // usable_range of any curve.
-fn usable_any(
-    points: &[f64],
-    curves: &[u32],
-    reals: &[f64],
-    parts: &[u32],
-    ranges: &[f64],
-    row: u32,
-    range: Interval,
-) -> Usable
-    ensures { result ≡ usable_range (tree (given points curves reals parts ranges) row) range }
+fn usable_any(tables: &LentTables<'_>, row: u32, range: Interval) -> Option<Interval>
+    ensures { result ≡ usable_range (tree (lent tables.now) row) range }
 {
-    let natural = curve::natural_range(points, curves, reals, parts, ranges, row);
+    let natural = curve::natural_range(tables, row);
     if is_no_range(range) {
         return own_range(natural);
     }
-    let repeats = curve::period(points, curves, reals, parts, ranges, row);
-    Usable::Range(within_domain(repeats, natural, range))
+    let repeats = curve::period(tables, row);
+    Some(within_domain(repeats, natural, range))
 }
 
 // usable_range: the edge's own range, where a curve can be drawn over it; else the curve's natural one, where that is short enough. A
 // line, a circle, an ellipse or a parabola is told by its kind alone, as curve::natural_range and curve::period have it; so the commonest
 // rows cost a few compares.
-pub fn usable_range(
-    points: &[f64],
-    curves: &[u32],
-    reals: &[f64],
-    parts: &[u32],
-    ranges: &[f64],
-    row: u32,
-    range: Interval,
-) -> Usable
-    ensures { result ≡ usable_range (tree (given points curves reals parts ranges) row) range }
+pub fn usable_range(tables: &LentTables<'_>, row: u32, range: Interval) -> Option<Interval>
+    ensures { result ≡ usable_range (tree (lent tables.now) row) range }
 {
-    let kind = brep::int_at(curves, row as usize * 3);
+    let kind = brep::int_at(tables.curves, row as usize * 3);
     match kind {
         1 => usable_once(
             Interval {
@@ -136,7 +111,7 @@ pub fn usable_range(
         2 => usable_round(range),
         3 => usable_round(range),
         4 => usable_once(Interval { lo: -1e6, hi: 1e6 }, range),
-        _ => usable_any(points, curves, reals, parts, ranges, row, range),
+        _ => usable_any(tables, row, range),
     }
 }
 
@@ -180,32 +155,28 @@ fn ellipse_radius(semi_major: f64, semi_minor: f64) -> f64
 
 // The number of segments of a curve whose curvature is known in closed form.
 pub fn analytic_segments(
-    points: &[f64],
-    curves: &[u32],
-    reals: &[f64],
-    parts: &[u32],
-    ranges: &[f64],
+    tables: &LentTables<'_>,
     row: u32,
     range: Interval,
     r: Resolved,
-) -> Closed
-    ensures { result ≡ analytic_segments (tree (given points curves reals parts ranges) row) range r }
+) -> Option<u64>
+    ensures { result ≡ analytic_segments (tree (lent tables.now) row) range r }
 {
-    let base = curve::under_trims(curves, row);
-    let kind = brep::int_at(curves, base as usize * 3);
+    let base = curve::under_trims(tables.curves, row);
+    let kind = brep::int_at(tables.curves, base as usize * 3);
     let at = base as usize * 2;
     match kind {
-        1 => Closed::Segments(at_least_one(r.segments)),
+        1 => Some(at_least_one(r.segments)),
         2 => {
-            let radius = brep::float_at(reals, at);
-            Closed::Segments(r.segments_for_arc(radius, range.span()))
+            let radius = brep::float_at(tables.reals, at);
+            Some(r.segments_for_arc(radius, range.span()))
         }
         3 => {
-            let semi_major = brep::float_at(reals, at);
-            let semi_minor = brep::float_at(reals, at + 1);
+            let semi_major = brep::float_at(tables.reals, at);
+            let semi_minor = brep::float_at(tables.reals, at + 1);
             let radius = ellipse_radius(semi_major, semi_minor);
-            Closed::Segments(r.segments_for_arc(radius, range.span()))
+            Some(r.segments_for_arc(radius, range.span()))
         }
-        _ => Closed::Unknown,
+        _ => None,
     }
 }

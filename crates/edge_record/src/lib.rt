@@ -1,8 +1,9 @@
 #![tactic(auto)]
-// A chain's records in a lent buffer: a point and its parameter, four floats, x y z t.
-ghost use Rattle.std.specs.Prelude.{◌≡◌, ◌+◌, ◌*◌, ◌≤◌, length};
+// A chain's records in a lent buffer: a point and its parameter, four floats, x y z t. A record is reached by its index, as a slice's
+// element is, and each contract has the one fact that it is there: a struct of buffer and index would be made anew at each access.
+ghost use Rattle.std.specs.Prelude.{◌≡◌, ◌*◌};
 ghost use Rattle.std.proofs.lemmas.List.Edits.{sets};
-ghost use Rattle.edge_record.specs.Own.Stored.{record_point};
+ghost use Rattle.edge_record.specs.Own.Stored.{HasRecord, record_point};
 ghost use Rattle.edge_record.specs.Chain.{width, row, sample_at};
 
 use math::Vec3;
@@ -23,16 +24,10 @@ pub struct Sample {
     pub param: f64,
 }
 
-// What a pass that may refuse answers: its refusal's number, or how many samples the chain has now.
-#[derive(Clone, Copy)]
-pub enum Counted {
-    Refused(u32),
-    Count(usize),
-}
-
 // The point of record i.
+#[tactic(auto, unfolding(crate::specs::Chain::sample_at))]
 pub fn record_point(chain: &[f64], i: usize) -> Vec3
-    requires { width * i + width ≤ length chain.now }
+    requires { HasRecord chain.now i }
     ensures { result ≡ record_point chain.now i }
 {
     let at = WIDTH * i;
@@ -44,20 +39,20 @@ pub fn record_point(chain: &[f64], i: usize) -> Vec3
 }
 
 // The sample of record i.
+#[tactic(auto, unfolding(crate::specs::Chain::sample_at))]
 pub fn sample_at(chain: &[f64], i: usize) -> Sample
-    requires { width * i + width ≤ length chain.now }
+    requires { HasRecord chain.now i }
     ensures { result ≡ sample_at chain.now i }
 {
-    let p = record_point(chain, i);
     Sample {
-        point: p,
+        point: record_point(chain, i),
         param: chain[WIDTH * i + 3],
     }
 }
 
 // Stores s as record i.
 pub fn put(chain: &mut [f64], i: usize, s: Sample)
-    requires { width * i + width ≤ length chain.old }
+    requires { HasRecord chain.old i }
     ensures { chain.new ≡ sets chain.old (width * i) (row s) }
 {
     let at = WIDTH * i;

@@ -1,4 +1,5 @@
 -- What the buffers hold of a repair, from what they hold of its parts. Assumes nothing.
+use Rattle.std.specs.Prelude.{Ok, Err}
 use mathlib.Core.Path.{◌≡◌, refl, sym, ap, ◌∙◌}
 use mathlib.Core.Bool.{Bool, true, false}
 use mathlib.Core.List.{List, []}
@@ -8,7 +9,6 @@ use lib.ListN.{length, replicate}
 use lib.Dec.{leb}
 use lib.Ieee.{Float, binary64, of_bits}
 use borrow.Author.Tests.{leb-true}
-use Rattle.base_lists.specs.Result.{Result, refused, got, bind}
 use Rattle.base_lists.specs.Own.ListOf.{list_of}
 use Rattle.base_lists.specs.Room.{filled}
 use Rattle.base_lists.proofs.Filled.{filled_most}
@@ -18,22 +18,22 @@ use Rattle.brep.specs.Rows.{Tables}
 use Rattle.options.specs.declared.Resolved.{Resolved}
 use Rattle.edge_params.specs.Work.{Work, within}
 use Rattle.edge_record.specs.declared.Sample.{Sample}
-use Rattle.edge_record.specs.declared.Counted.{Counted}
-use Rattle.edge_record.specs.declared.Counted.TheVariants as counts
 use Rattle.edge_record.specs.Chain.{width, shortest, flat, samples}
 use Rattle.edge_record.specs.Own.Stored.{counted_of as counted}
 use Rattle.edge_record.proofs.Laws.{length_flat, reads, samples_from-length}
 use Rattle.draw_spec.specs.declared.Way.{Way}
-use Rattle.draw_spec.specs.declared.Drawn.{Drawn}
-use Rattle.draw_spec.specs.declared.Drawn.TheVariants.{Refused, Chain}
 use Rattle.draw_spec.specs.declared.Way.TheVariants.{Runaway}
 use Rattle.draw_spec.specs.Edge.{chord_of, discretised}
 use Rattle.draw_spec.specs.Repair.{Got, by, escapes, runaway}
-use Rattle.draw_spec.specs.Draw.{room_of, answer_of, in_first, first_after, second_after}
+use Rattle.draw_spec.specs.Draw.{room_of, answer_of, in_first, first_after, second_after, drawn_as}
 use Rattle.draw_spec.proofs.Answers.{late_above, answers_refused}
 use Rattle.draw_spec.proofs.Discretised.{Room, discretised_answers}
 use Rattle.edge_discretise.specs.Own.Discretised.{DiscretisedInto}
 use Rattle.edge_repair.specs.Own.Redrawn.{RedrawnChain, RedrawnInto, DrawnInto, InSecond}
+use Rattle.draw_spec.specs.declared.Drawn.{Drawn}
+use Rattle.refusal.specs.Answer.{Answer, bind}
+use Rattle.refusal.specs.declared.Refusal.{Refusal}
+use Rattle.refusal.specs.Refusal.{number_of}
 
 -- ---- `discretise` into the second buffer
 room_swap : (a b : ℕ) → room_of a b ≡ room_of b a
@@ -44,27 +44,27 @@ enough : (a b : ℕ) → shortest ≤ a → shortest ≤ b → Room (room_of a b
 unfolding room_of
 enough a b h k = record { least = omega arith; most = omega arith }
 
-discretised_late : (T : Tables) (e : Edge) (r : Resolved) (a b n : ℕ) → shortest ≤ a → shortest ≤ b → within (room_of a b) (discretised T e r) ≡ refused n → 7 < n
+discretised_late : (T : Tables) (e : Edge) (r : Resolved) (a b : ℕ) (n : Refusal) → shortest ≤ a → shortest ≤ b → within (room_of a b) (discretised T e r) ≡ Err n → 7 < number_of n
 discretised_late T e r a b n h k q =
     late_above (answers_refused n (discretised_answers ⊥ T e (λ x. absurd x) (λ x. absurd x) (room_of a b) (enough a b h k) r) q)
 
-pub redrawn_chain : (T : Tables) (e d : Edge) (r : Resolved) {first second : List Float} {w : Counted} {first' second' : List Float} → shortest ≤ length first → shortest ≤ length second → e ≡ d
-    → DiscretisedInto (discretised T e r) second first w second' first'
+pub redrawn_chain : (T U : Tables) (e d : Edge) (r : Resolved) {first second : List Float} {w : Answer ℕ} {first' second' : List Float} → shortest ≤ length first → shortest ≤ length second → U ≡ T → e ≡ d
+    → DiscretisedInto (discretised U e r) second first w second' first'
     → RedrawnChain (within (room_of (length first) (length second)) (discretised T d r)) first second w first' second'
-redrawn_chain T e d r {first} {second} h k s p =
-    let q : within (room_of (length second) (length first)) (discretised T e r) ≡ within (room_of (length first) (length second)) (discretised T d r) =
-    rw (s, room_swap (length second) (length first)) in
+redrawn_chain T U e d r {first} {second} h k t s p =
+    let q : within (room_of (length second) (length first)) (discretised U e r) ≡ within (room_of (length first) (length second)) (discretised T d r) =
+    rw (t, s, room_swap (length second) (length first)) in
     let a = p.drawn.answered ∙ ap counted q in
     record {
       answered = a;
       first_holds = p.cleared;
-      second_holds = p.drawn.holds ∙ ap (λ (X : Result (List Sample)). filled (length second) (flat (list_of X))) q;
+      second_holds = p.drawn.holds ∙ ap (λ (X : Answer (List Sample)). filled (length second) (flat (list_of X))) q;
       late = λ n t. go n (within (room_of (length first) (length second)) (discretised T d r)) (discretised_late T d r (length first) (length second) n h k) (sym t ∙ a);
     }
   where
-    go : (n : ℕ) (X : Result (List Sample)) → (X ≡ refused n → 7 < n) → counts.Refused n ≡ counted X → 7 < n
-    go n (refused m) f e = f (cc)
-    go n (got l) f e = absurd (let z : ◌≡◌ {A = ℕ} 0 1 = cc in omega arith)
+    go : (n : Refusal) (X : Answer (List Sample)) → (X ≡ Err n → 7 < number_of n) → Err n ≡ counted X → 7 < number_of n
+    go n (Err m) f e = f (cc)
+    go n (Ok l) f e = absurd (let z : ◌≡◌ {A = ℕ} 0 1 = cc in omega arith)
 
 -- ---- no refusal leaves a buffer as before
 above : (n : ℕ) → 7 < n → leb n 7 ≡ false
@@ -75,34 +75,34 @@ above n h = go (leb n 7) refl
     go false q = q
 
 -- ---- a chain that was drawn
-pub record DrawnChain (X : Result (List Sample)) (n : ℕ) (c : List Float) : Type 0 where
+pub record DrawnChain (X : Answer (List Sample)) (n : ℕ) (c : List Float) : Type 0 where
   pub chain : List Sample
-  pub is : X ≡ got chain
+  pub is : X ≡ Ok chain
   pub size : n ≡ length chain
   pub floats : c ≡ filled (length c) (flat chain)
 
-module _ {X : Result (List Sample)} {first second : List Float} {w : Counted} {first' second' : List Float} (d : RedrawnChain X first second w first' second') where
-  pub drawn_chain : (n : ℕ) → w ≡ counts.Count n → length second' ≡ length second → DrawnChain X n second'
+module _ {X : Answer (List Sample)} {first second : List Float} {w : Answer ℕ} {first' second' : List Float} (d : RedrawnChain X first second w first' second') where
+  pub drawn_chain : (n : ℕ) → w ≡ Ok n → length second' ≡ length second → DrawnChain X n second'
   drawn_chain n t e = go X (sym t ∙ d.answered) d.second_holds
     where
-      go : (Y : Result (List Sample)) → counts.Count n ≡ counted Y → second' ≡ filled (length second) (flat (list_of Y)) → DrawnChain Y n second'
-      go (refused m) a b = absurd (let z : ◌≡◌ {A = ℕ} 0 1 = cc in omega arith)
-      go (got l) a b = record { chain = l; is = refl; size = cc; floats = b ∙ ap (λ (k : ℕ). filled k (flat l)) (sym e) }
+      go : (Y : Answer (List Sample)) → Ok n ≡ counted Y → second' ≡ filled (length second) (flat (list_of Y)) → DrawnChain Y n second'
+      go (Err m) a b = absurd (let z : ◌≡◌ {A = ℕ} 0 1 = cc in omega arith)
+      go (Ok l) a b = record { chain = l; is = refl; size = cc; floats = b ∙ ap (λ (k : ℕ). filled k (flat l)) (sym e) }
 
   -- a refusal is carried on
-  pub redrawn_refused : (D : Work Got) (f : List Sample → Result Got) (n : ℕ) → w ≡ counts.Refused n
-      → within (room_of (length first) (length second)) D ≡ bind X f → RedrawnInto D first second (Refused n) first' second'
+  pub redrawn_refused : (D : Work Got) (f : List Sample → Answer Got) (n : Refusal) → w ≡ Err n
+      → within (room_of (length first) (length second)) D ≡ bind X f → RedrawnInto D first second (Err n) first' second'
   unfolding answer_of first_after second_after flat
   redrawn_refused D f n t q = go X (sym t ∙ d.answered) d.second_holds q
     where
-      go : (Y : Result (List Sample)) → counts.Refused n ≡ counted Y → second' ≡ filled (length second) (flat (list_of Y)) → within (room_of (length first) (length second)) D ≡ bind Y f → RedrawnInto D first second (Refused n) first' second'
-      go (refused m) a b q =
+      go : (Y : Answer (List Sample)) → Err n ≡ counted Y → second' ≡ filled (length second) (flat (list_of Y)) → within (room_of (length first) (length second)) D ≡ bind Y f → RedrawnInto D first second (Err n) first' second'
+      go (Err m) a b q =
           let z : n ≡ m = cc in
-          let l = above m (omega (arith, d.late n t)) in
-          record { drawn = rw q (record { answered = ap Refused z; first_holds = rw l d.first_holds; second_holds = rw l b }); late = λ k u. let v : n ≡ k = cc in rw (sym v) (d.late n t) }
-      go (got l) a b q = absurd (let z : ◌≡◌ {A = ℕ} 0 1 = cc in omega arith)
+          let l = above (number_of m) (rw z at (d.late n t)) in
+          record { drawn = rw q (record { answered = ap (λ (x : Refusal). Err x) z; first_holds = rw l d.first_holds; second_holds = rw l b }); late = λ k u. let v : n ≡ k = cc in rw v at (d.late n t) }
+      go (Ok l) a b q = absurd (let z : ◌≡◌ {A = ℕ} 0 1 = cc in omega arith)
 
-module _ {X : Result (List Sample)} {n : ℕ} {c : List Float} (d : DrawnChain X n c) where
+module _ {X : Answer (List Sample)} {n : ℕ} {c : List Float} (d : DrawnChain X n c) where
   pub chain_room : width * n ≤ length c
   chain_room = omega (arith, d.size, length_flat d.chain, filled_most (length c) (flat d.chain) (sym (ap length d.floats)))
 
@@ -118,27 +118,27 @@ module _ {X : Result (List Sample)} {n : ℕ} {c : List Float} (d : DrawnChain X
 
 -- ---- a chain that is in the second buffer
 pub kept_second : (way : Way) (n : ℕ) (second : List Float) → in_first way ≡ false → second ≡ filled (length second) (flat (samples n second))
-    → InSecond (by way (samples n second)) (length second) (Chain way n) second
+    → InSecond (by way (samples n second)) (length second) (drawn_as way n) second
 unfolding answer_of
-kept_second way n second w q = record { answered = ap (Chain way) (sym (samples_from-length second 0 n)); holds = q; there = w }
+kept_second way n second w q = record { answered = ap (drawn_as way) (sym (samples_from-length second 0 n)); holds = q; there = w }
 
 pub chord_second : (T : Tables) (e : Edge) (n : ℕ) (second : List Float) → second ≡ filled n (flat (chord_of T e e.range.lo e.range.lo))
-    → InSecond (runaway T e) n (Chain Runaway 2) second
+    → InSecond (runaway T e) n (drawn_as Runaway 2) second
 unfolding answer_of
 chord_second T e n second q = record { answered = refl; holds = q; there = refl }
 
-module _ {g : Got} {n : ℕ} {w : Drawn} {second' : List Float} (i : InSecond g n w second') where
+module _ {g : Got} {n : ℕ} {w : Answer Drawn} {second' : List Float} (i : InSecond g n w second') where
   -- another name for it
   pub second_is : (h : Got) → g ≡ h → InSecond h n w second'
   second_is h q = record {
-    answered = i.answered ∙ ap (λ (x : Got). answer_of (got x)) q;
+    answered = i.answered ∙ ap (λ (x : Got). answer_of (Ok x)) q;
     holds = i.holds ∙ ap (λ (x : Got). filled n (flat x.chain)) q;
     there = ap (λ (x : Got). in_first x.way) (sym q) ∙ i.there;
   }
 
   -- with the first buffer cleared it is a repair's answer
   pub redrawn_second : (D : Work Got) (first second first' : List Float) → n ≡ length second → first' ≡ filled (length first) []
-      → got g ≡ within (room_of (length first) (length second)) D → RedrawnInto D first second w first' second'
+      → Ok g ≡ within (room_of (length first) (length second)) D → RedrawnInto D first second w first' second'
   unfolding answer_of first_after second_after
   redrawn_second D first second first' m p q = record {
     drawn = rw (← q) (record { answered = i.answered; first_holds = rw i.there p; second_holds = rw i.there (i.holds ∙ ap (λ (k : ℕ). filled k (flat g.chain)) m) });
@@ -146,15 +146,15 @@ module _ {g : Got} {n : ℕ} {w : Drawn} {second' : List Float} (i : InSecond g 
   }
 
 -- ---- a refusal that is answered at once, with both buffers cleared
-pub redrawn_cleared : (D : Work Got) (first second : List Float) (n : ℕ) {first' second' : List Float} → 7 < n → first' ≡ filled (length first) [] → second' ≡ filled (length second) []
-    → refused n ≡ within (room_of (length first) (length second)) D → RedrawnInto D first second (Refused n) first' second'
+pub redrawn_cleared : (D : Work Got) (first second : List Float) (n : Refusal) {first' second' : List Float} → 7 < number_of n → first' ≡ filled (length first) [] → second' ≡ filled (length second) []
+    → Err n ≡ within (room_of (length first) (length second)) D → RedrawnInto D first second (Err n) first' second'
 unfolding answer_of first_after second_after
 redrawn_cleared D first second n h p s q =
-    let l = above n h in
-    record { drawn = rw (← q) (record { answered = refl; first_holds = rw l p; second_holds = rw l s }); late = λ k u. let v : n ≡ k = cc in rw (sym v) h }
+    let l = above (number_of n) h in
+    record { drawn = rw (← q) (record { answered = refl; first_holds = rw l p; second_holds = rw l s }); late = λ k u. let v : n ≡ k = cc in rw v at h }
 
 -- ---- another name for the answer, and buffers that were as long
-module _ {D : Work Got} {first second : List Float} {w : Drawn} {first' second' : List Float} (d : RedrawnInto D first second w first' second') where
+module _ {D : Work Got} {first second : List Float} {w : Answer Drawn} {first' second' : List Float} (d : RedrawnInto D first second w first' second') where
   pub redrawn_is : (E : Work Got) → within (room_of (length first) (length second)) D ≡ within (room_of (length first) (length second)) E → RedrawnInto E first second w first' second'
   redrawn_is E q = record { drawn = rw (← q) d.drawn; late = d.late }
 
@@ -164,15 +164,15 @@ module _ {D : Work Got} {first second : List Float} {w : Drawn} {first' second' 
       let q : room_of (length first) (length second) ≡ room_of (length a) (length b) = rw (e, f) in
       record { drawn = rw (← q) (go (within (room_of (length first) (length second)) D) d.drawn); late = d.late }
     where
-      go : (X : Result Got) → DrawnInto X first second w first' second' → DrawnInto X a b w first' second'
-      go (refused n) x =
-          let l = above n (d.late n x.answered) in
+      go : (X : Answer Got) → DrawnInto X first second w first' second' → DrawnInto X a b w first' second'
+      go (Err n) x =
+          let l = above (number_of n) (d.late n x.answered) in
           record { answered = x.answered; first_holds = rw (l, ← e) (rw l at x.first_holds); second_holds = rw (l, ← f) (rw l at x.second_holds) }
-      go (got g) x = record { answered = x.answered; first_holds = rw (← e) x.first_holds; second_holds = rw (← f) x.second_holds }
+      go (Ok g) x = record { answered = x.answered; first_holds = rw (← e) x.first_holds; second_holds = rw (← f) x.second_holds }
 
 -- ---- a chain that stays in the first
-pub kept_after_lem : (D : Result Got) (way : Way) (n : ℕ) (first second : List Float) → D ≡ got (by way (samples n first)) → in_first way ≡ true
+pub kept_after_lem : (D : Answer Got) (way : Way) (n : ℕ) (first second : List Float) → D ≡ Ok (by way (samples n first)) → in_first way ≡ true
     → first ≡ filled (length first) (flat (samples n first)) → second ≡ filled (length second) []
-    → DrawnInto D first second (Chain way n) first second
+    → DrawnInto D first second (drawn_as way n) first second
 unfolding answer_of first_after second_after
-kept_after_lem D way n first second q w p s = rw q (record { answered = ap (Chain way) (sym (samples_from-length first 0 n)); first_holds = rw w p; second_holds = rw w s })
+kept_after_lem D way n first second q w p s = rw q (record { answered = ap (drawn_as way) (sym (samples_from-length first 0 n)); first_holds = rw w p; second_holds = rw w s })

@@ -1,4 +1,5 @@
 -- The ways through repair_runaway, by the tests that lead there. Assumes nothing.
+use Rattle.std.specs.Prelude.{Option, Some, None, Err, Ok}
 use mathlib.Core.Path.{◌≡◌, refl, sym, ap, ◌∙◌}
 use mathlib.Core.Bool.{Bool, true, false, cond, not, ◌||◌}
 use mathlib.Core.List.{List}
@@ -6,15 +7,12 @@ use Prim.Native.Nat.{ℕ}
 use lib.Ieee.{Float, lt, le}
 use lib.Ieee.Scale.{finite}
 use Rattle.arith.specs.Notation.{plus_zero}
-use Rattle.base_lists.specs.Result.{Result, refused, got, bind}
 use Rattle.math.specs.Math.{interval, span_of, is_empty, diagonal}
 use Rattle.math.specs.declared.Interval.{Interval}
 use Rattle.math.specs.declared.Aabb.{Aabb}
 use Rattle.math.specs.declared.Vec3.{Vec3}
 use Rattle.brep.specs.declared.Edge.{Edge}
 use Rattle.brep.specs.Rows.{Tables}
-use Rattle.curve.specs.declared.Repeats.{Repeats}
-use Rattle.curve.specs.declared.Repeats.TheVariants.{Every, Never}
 use Rattle.curve.specs.Eval.{natural_range, period}
 use Rattle.options.specs.declared.Resolved.{Resolved}
 use Rattle.curve_asks.specs.Asks.{asks_far}
@@ -24,8 +22,11 @@ use Rattle.edge_params.proofs.Work.{within_then}
 use Rattle.edge_record.specs.declared.Sample.{Sample}
 use Rattle.draw_spec.specs.declared.Way.TheVariants.{Complement, ShortArc}
 use Rattle.draw_spec.specs.Edge.{edge_curve, edge_start, edge_end, discretised}
-use Rattle.draw_spec.specs.Repair.{Got, by, with_range, reference, escapes, reaches, nearest, ordered_interval, runaway, serves, arc_or_chord, short_range, sweep, has_short_arc, short_arc_tried, by_short_arc, complement_or_short, complement_range, by_complement, by_period, stays, repaired}
+use Rattle.edge_drawing.specs.Range.{with_range}
+use Rattle.draw_spec.specs.Repair.{Got, by, reference, escapes, reaches, nearest, ordered_interval, runaway, serves, arc_or_chord, short_range, sweep, has_short_arc, short_arc_tried, by_short_arc, complement_or_short, complement_range, by_complement, by_period, stays, repaired}
 use Rattle.edge_place.specs.Own.Place.{of_points}
+use Rattle.refusal.specs.Answer.{Answer, bind}
+use Rattle.refusal.specs.declared.Refusal.TheVariants.{TooFar}
 
 -- ---- the short arc
 module _ (T : Tables) (e : Edge) where
@@ -75,26 +76,26 @@ module _ (T : Tables) (e : Edge) (r : Resolved) where
 
   module _ (room : ℕ) where
     -- ---- the short arc
-    pub short_chord : has_short_arc T e ≡ false → got (runaway (of_points T.points) e) ≡ within room (short_arc_tried T e r)
+    pub short_chord : has_short_arc T e ≡ false → Ok (runaway (of_points T.points) e) ≡ within room (short_arc_tried T e r)
     unfolding short_arc_tried overflows
     short_chord h = rw (h, short_arc_tried)
 
     module _ {short : Interval} (h : has_short_arc T e ≡ true) (s : short ≡ short_range T e) where
-      pub short_bind : within room (short_arc_tried T e r) ≡ bind (within room (discretised T (with_range e short) r)) (λ arc. got (arc_or_chord T e r arc))
+      pub short_bind : within room (short_arc_tried T e r) ≡ bind (within room (discretised T (with_range e short) r)) (λ arc. Ok (arc_or_chord T e r arc))
       unfolding short_arc_tried overflows
       short_bind =
           let q : short_arc_tried T e r ≡ and_then (discretised T (with_range e short) r) (λ arc. done (arc_or_chord T e r arc)) = rw (h, short_arc_tried, s) in
           ap (within room) q ∙ within_then room (discretised T (with_range e short) r) (λ arc. done (arc_or_chord T e r arc))
 
-      pub short_drawn : (arc : List Sample) → within room (discretised T (with_range e short) r) ≡ got arc → got (arc_or_chord T e r arc) ≡ within room (short_arc_tried T e r)
-      short_drawn arc d = sym (short_bind ∙ ap (λ (X : Result (List Sample)). bind X (λ arc. got (arc_or_chord T e r arc))) d)
+      pub short_drawn : (arc : List Sample) → within room (discretised T (with_range e short) r) ≡ Ok arc → Ok (arc_or_chord T e r arc) ≡ within room (short_arc_tried T e r)
+      short_drawn arc d = sym (short_bind ∙ ap (λ (X : Answer (List Sample)). bind X (λ arc. Ok (arc_or_chord T e r arc))) d)
 
     -- swept first: a parameter that is too far is refused, and otherwise it is tried
     module _ {natural : Interval} {w : Bool} (p : natural ≡ natural_range (edge_curve T e)) (own : w ≡ some_far (asks_far (edge_curve T e)) (sweep natural)) where
       sweep_is : (v : Bool) → w ≡ v → some_far (asks_far (edge_curve T e)) (sweep (natural_range (edge_curve T e))) ≡ v
       sweep_is v h = ap (λ (i : Interval). some_far (asks_far (edge_curve T e)) (sweep i)) (sym p) ∙ sym own ∙ h
 
-      pub short_far : w ≡ true → refused 11 ≡ within room (by_short_arc T e r)
+      pub short_far : w ≡ true → Err TooFar ≡ within room (by_short_arc T e r)
       unfolding overflows
       short_far h = sym (ap (within room) (asking_far (asks_far (edge_curve T e)) _ (short_arc_tried T e r) (sweep_is true h)))
 
@@ -121,33 +122,33 @@ module _ (T : Tables) (e : Edge) (r : Resolved) where
             let q : by_complement T e r p ≡ and_then (discretised T (with_range e (complement_range e p)) r) (λ arc. complement_or_short T e r arc) = rw (complement_long h, by_complement) in
             ap (within room) q ∙ within_then room (discretised T (with_range e (complement_range e p)) r) (λ arc. complement_or_short T e r arc)
 
-        module _ (arc : List Sample) (q : within room (discretised T (with_range e (complement_range e p)) r) ≡ got arc) where
+        module _ (arc : List Sample) (q : within room (discretised T (with_range e (complement_range e p)) r) ≡ Ok arc) where
           complement_drawn : within room (by_complement T e r p) ≡ within room (complement_or_short T e r arc)
-          complement_drawn = complement_bind ∙ ap (λ (X : Result (List Sample)). bind X (λ arc. within room (complement_or_short T e r arc))) q
+          complement_drawn = complement_bind ∙ ap (λ (X : Answer (List Sample)). bind X (λ arc. within room (complement_or_short T e r arc))) q
 
           pub complement_escapes : escapes (reference T e) r arc ≡ true → within room (by_short_arc T e r) ≡ within room (by_complement T e r p)
           complement_escapes k = sym (complement_drawn ∙ rw (k, complement_or_short))
 
-          pub complement_stays : escapes (reference T e) r arc ≡ false → got (by Complement arc) ≡ within room (by_complement T e r p)
+          pub complement_stays : escapes (reference T e) r arc ≡ false → Ok (by Complement arc) ≡ within room (by_complement T e r p)
           unfolding overflows
           complement_stays k = sym (complement_drawn ∙ rw (k, complement_or_short))
 
     -- ---- the repair
     module _ (g : Got) where
-      pub repaired_kept : stays (of_points T.points) e r g.chain ≡ true → within room (repaired T e r g) ≡ got g
+      pub repaired_kept : stays (of_points T.points) e r g.chain ≡ true → within room (repaired T e r g) ≡ Ok g
       unfolding repaired overflows
       repaired_kept h = rw (h, repaired)
 
-      module _ (h : stays (of_points T.points) e r g.chain ≡ false) {u : Repeats} (own : u ≡ period (edge_curve T e)) where
+      module _ (h : stays (of_points T.points) e r g.chain ≡ false) {u : Option Float} (own : u ≡ period (edge_curve T e)) where
         repaired_by : by_period T e r u ≡ repaired T e r g
         unfolding repaired
         repaired_by = rw (own, h, repaired)
 
-        pub repaired_complement : (p : Float) → u ≡ Every p → within room (by_complement T e r p) ≡ within room (repaired T e r g)
+        pub repaired_complement : (p : Float) → u ≡ Some p → within room (by_complement T e r p) ≡ within room (repaired T e r g)
         unfolding by_period
         repaired_complement p q = ap (within room) (sym (ap (by_period T e r) q) ∙ repaired_by)
 
-        pub repaired_short : u ≡ Never → within room (by_short_arc T e r) ≡ within room (repaired T e r g)
+        pub repaired_short : u ≡ None → within room (by_short_arc T e r) ≡ within room (repaired T e r g)
         unfolding by_period
         repaired_short q = ap (within room) (sym (ap (by_period T e r) q) ∙ repaired_by)
 

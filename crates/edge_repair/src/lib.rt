@@ -4,41 +4,24 @@ ghost use Rattle.std.specs.Prelude.{◌≡◌, true, [], ◌*◌, ◌<◌, ◌�
 ghost use Rattle.std.specs.Float.Ieee.{le};
 ghost use Rattle.base_lists.specs.Room.{filled};
 ghost use Rattle.arith.specs.Notation.{plus_zero};
-ghost use Rattle.brep.specs.Rows.{lent, given};
+ghost use Rattle.brep.specs.Rows.{lent};
 ghost use Rattle.brep.specs.Tree.{tree};
 ghost use Rattle.curve.specs.Eval.{natural_range};
-ghost use Rattle.knots_sort.specs.Own.Sortable.{most_knots};
-ghost use Rattle.knots.specs.Knots.{curve_knots};
 ghost use Rattle.edge_params.specs.Work.{within};
 ghost use Rattle.edge_record.specs.Chain.{width, shortest, flat, samples};
 ghost use Rattle.draw_spec.specs.Edge.{discretised};
-ghost use Rattle.draw_spec.specs.Repair.{by, with_range, reference, runaway, serves, arc_or_chord, short_range, has_short_arc, short_arc_tried, by_short_arc, by_complement, stays, repaired};
+ghost use Rattle.edge_drawing.specs.Range.{with_range};
+ghost use Rattle.draw_spec.specs.Repair.{by, reference, runaway, serves, arc_or_chord, short_range, has_short_arc, short_arc_tried, by_short_arc, by_complement, stays, repaired};
 ghost use Rattle.draw_spec.specs.Draw.{room_of, in_first};
 ghost use Rattle.edge_place.specs.Own.Place.{of_points, chord_between};
 ghost use Rattle.edge_repair.specs.Own.Redrawn.{RedrawnChain, InSecond, RedrawnInto, DrawnInto};
 
-use brep::Edge;
-use curve::Repeats;
+use brep::{Edge, LentTables};
 use draw_spec::{Drawn, Way};
-use edge_record::Counted;
+use edge_drawing::Drawing;
 use math::{Aabb, Interval, Vec3};
 use options::Resolved;
-
-// The edge with another range.
-fn with_range(edge: Edge, range: Interval) -> Edge
-    ensures { result ≡ with_range edge range }
-{
-    Edge {
-        curve: edge.curve,
-        start: edge.start,
-        end: edge.end,
-        sense: edge.sense,
-        range,
-        tolerance: edge.tolerance,
-        low: edge.low,
-        high: edge.high,
-    }
-}
+use refusal::Refusal;
 
 // The box that the caller gives.
 fn reference(points: &[f64], edge: Edge) -> Aabb
@@ -51,12 +34,15 @@ fn reference(points: &[f64], edge: Edge) -> Aabb
 }
 
 // The chord of the vertices in the second buffer. Its parameters are lo twice: it runs through nothing of the curve.
-fn runaway(points: &[f64], edge: Edge, second: &mut [f64]) -> Drawn
+fn runaway(points: &[f64], edge: Edge, second: &mut [f64]) -> Result<Drawn, Refusal>
     requires { shortest ≤ length second.old }
     ensures { InSecond (runaway (of_points points.now) edge) (length second.old) result second.new }
 {
     edge_place::chord(points, edge, edge.range.lo, edge.range.lo, second);
-    Drawn::Chain(Way::Runaway, 2)
+    Ok(Drawn {
+        way: Way::Runaway,
+        count: 2,
+    })
 }
 
 // Whether an arc stays inside and reaches both vertices.
@@ -73,30 +59,32 @@ fn serves(points: &[f64], edge: Edge, r: Resolved, chain: &[f64], n: usize) -> b
 }
 
 // The arc in the second buffer where it serves, else the chord.
-fn arc_or_chord(points: &[f64], edge: Edge, r: Resolved, second: &mut [f64], n: usize) -> Drawn
+fn arc_or_chord(
+    points: &[f64],
+    edge: Edge,
+    r: Resolved,
+    second: &mut [f64],
+    n: usize,
+) -> Result<Drawn, Refusal>
     requires { (shortest ≤ length second.old) × (width * n ≤ length second.old) × (second.old ≡ filled (length second.old) (flat (samples n second.old))) }
     ensures { InSecond (arc_or_chord (of_points points.now) edge r (samples n second.old)) (length second.old) result second.new }
 {
     if serves(points, edge, r, second, n) {
-        return Drawn::Chain(Way::ShortArc, n);
+        return Ok(Drawn {
+            way: Way::ShortArc,
+            count: n,
+        });
     }
     runaway(points, edge, second)
 }
 
 // From the parameter nearest to one vertex to that nearest to the other.
-fn short_range(
-    points: &[f64],
-    curves: &[u32],
-    reals: &[f64],
-    parts: &[u32],
-    ranges: &[f64],
-    edge: Edge,
-) -> Interval
-    ensures { result ≡ short_range (given points curves reals parts ranges) edge }
+fn short_range(tables: &LentTables<'_>, edge: Edge) -> Interval
+    ensures { result ≡ short_range (lent tables.now) edge }
 {
-    let start = brep::point(points, edge.start);
-    let end = brep::point(points, edge.end);
-    let w = edge_escape::nearest(points, curves, reals, parts, ranges, edge.curve, start, end);
+    let start = brep::point(tables.points, edge.start);
+    let end = brep::point(tables.points, edge.end);
+    let w = edge_escape::nearest(tables, edge.curve, start, end);
     if w.start <= w.end {
         return Interval {
             lo: w.start,
@@ -111,143 +99,110 @@ fn short_range(
 
 // Draws the edge over another range, into the second buffer, and clears the first.
 fn redraw(
-    points: &[f64],
-    curves: &[u32],
-    reals: &[f64],
-    parts: &[u32],
-    ranges: &[f64],
-    edge: Edge,
+    drawing: &Drawing<'_>,
     range: Interval,
     r: Resolved,
     first: &mut [f64],
     second: &mut [f64],
-) -> Counted
-    requires { (shortest ≤ length first.old) × (shortest ≤ length second.old) × (length (curve_knots (tree (lent points curves reals parts ranges) edge.curve)) ≤ most_knots) × (0 < r.depth) }
-    ensures { RedrawnChain (within (room_of (length first.old) (length second.old)) (discretised (given points curves reals parts ranges) (with_range edge range) r)) first.old second.old result first.new second.new }
+) -> Result<usize, Refusal>
+    requires { (shortest ≤ length first.old) × (shortest ≤ length second.old) × (0 < r.depth) }
+    ensures { RedrawnChain (within (room_of (length first.old) (length second.old)) (discretised (lent drawing.now.tables.now) (with_range drawing.now.edge range) r)) first.old second.old result first.new second.new }
 {
-    let d = with_range(edge, range);
-    edge_discretise::discretise(points, curves, reals, parts, ranges, d, r, second, first)
+    edge_discretise::discretise(&drawing.with_range(range), r, second, first)
 }
 
 // The short arc, whose range is known, drawn and tried; else the chord.
 fn draw_short(
-    points: &[f64],
-    curves: &[u32],
-    reals: &[f64],
-    parts: &[u32],
-    ranges: &[f64],
-    edge: Edge,
+    drawing: &Drawing<'_>,
     short: Interval,
     r: Resolved,
     first: &mut [f64],
     second: &mut [f64],
-) -> Drawn
-    requires { (shortest ≤ length first.old) × (shortest ≤ length second.old) × (length (curve_knots (tree (lent points curves reals parts ranges) edge.curve)) ≤ most_knots) × (0 < r.depth)
-        × (has_short_arc (lent points curves reals parts ranges) edge ≡ true) × (short ≡ short_range (lent points curves reals parts ranges) edge) }
-    ensures { RedrawnInto (short_arc_tried (given points curves reals parts ranges) edge r) first.old second.old result first.new second.new }
+) -> Result<Drawn, Refusal>
+    requires { (shortest ≤ length first.old) × (shortest ≤ length second.old) × (0 < r.depth)
+        × (has_short_arc (lent drawing.now.tables.now) drawing.now.edge ≡ true) × (short ≡ short_range (lent drawing.now.tables.now) drawing.now.edge) }
+    ensures { RedrawnInto (short_arc_tried (lent drawing.now.tables.now) drawing.now.edge r) first.old second.old result first.new second.new }
 {
-    let drawn = redraw(
-        points, curves, reals, parts, ranges, edge, short, r, first, second,
-    );
-    match drawn {
-        Counted::Refused(cause) => Drawn::Refused(cause),
-        Counted::Count(n) => arc_or_chord(points, edge, r, second, n),
-    }
+    let n = redraw(drawing, short, r, first, second)?;
+    arc_or_chord(drawing.tables.points, drawing.edge, r, second, n)
 }
 
 // The arc between the parameters at which the vertices sit, drawn and tried; else the chord. The curve's natural range is known, and that
 // nothing in it is too far to be asked for.
 fn try_short_arc(
-    points: &[f64],
-    curves: &[u32],
-    reals: &[f64],
-    parts: &[u32],
-    ranges: &[f64],
-    edge: Edge,
+    drawing: &Drawing<'_>,
     natural: Interval,
     r: Resolved,
     first: &mut [f64],
     second: &mut [f64],
-) -> Drawn
-    requires { (shortest ≤ length first.old) × (shortest ≤ length second.old) × (length (curve_knots (tree (lent points curves reals parts ranges) edge.curve)) ≤ most_knots) × (0 < r.depth)
-        × (natural ≡ natural_range (tree (lent points curves reals parts ranges) edge.curve)) }
-    ensures { RedrawnInto (short_arc_tried (given points curves reals parts ranges) edge r) first.old second.old result first.new second.new }
+) -> Result<Drawn, Refusal>
+    requires { (shortest ≤ length first.old) × (shortest ≤ length second.old) × (0 < r.depth)
+        × (natural ≡ natural_range (tree (lent drawing.now.tables.now) drawing.now.edge.curve)) }
+    ensures { RedrawnInto (short_arc_tried (lent drawing.now.tables.now) drawing.now.edge r) first.old second.old result first.new second.new }
 {
     let span = natural.span();
     if arith::is_finite(span) && 0.0 < span {
-        let short = short_range(points, curves, reals, parts, ranges, edge);
+        let short = short_range(drawing.tables, drawing.edge);
         if 0.0 < short.span() {
-            return draw_short(
-                points, curves, reals, parts, ranges, edge, short, r, first, second,
-            );
+            return draw_short(drawing, short, r, first, second);
         }
     }
     base_lists::clear_from(first, 0);
-    runaway(points, edge, second)
+    runaway(drawing.tables.points, drawing.edge, second)
 }
 
 // Where the range itself ran away: the curve is swept for the parameters at which the vertices sit, unless that would ask for one that is too far.
 fn by_short_arc(
-    points: &[f64],
-    curves: &[u32],
-    reals: &[f64],
-    parts: &[u32],
-    ranges: &[f64],
-    edge: Edge,
+    drawing: &Drawing<'_>,
     r: Resolved,
     first: &mut [f64],
     second: &mut [f64],
-) -> Drawn
-    requires { (shortest ≤ length first.old) × (shortest ≤ length second.old) × (length (curve_knots (tree (lent points curves reals parts ranges) edge.curve)) ≤ most_knots) × (0 < r.depth) }
-    ensures { RedrawnInto (by_short_arc (given points curves reals parts ranges) edge r) first.old second.old result first.new second.new }
+) -> Result<Drawn, Refusal>
+    requires { (shortest ≤ length first.old) × (shortest ≤ length second.old) × (0 < r.depth) }
+    ensures { RedrawnInto (by_short_arc (lent drawing.now.tables.now) drawing.now.edge r) first.old second.old result first.new second.new }
 {
-    let natural = curve::natural_range(points, curves, reals, parts, ranges, edge.curve);
-    if edge_asks::sweep_far(curves, parts, ranges, edge.curve, natural) {
+    let natural = curve::natural_range(drawing.tables, drawing.edge.curve);
+    if edge_asks::sweep_far(
+        drawing.tables.curves,
+        drawing.tables.parts,
+        drawing.tables.ranges,
+        drawing.edge.curve,
+        natural,
+    ) {
         base_lists::clear_from(first, 0);
         base_lists::clear_from(second, 0);
-        return Drawn::Refused(11);
+        return Err(Refusal::TooFar);
     }
-    try_short_arc(
-        points, curves, reals, parts, ranges, edge, natural, r, first, second,
-    )
+    try_short_arc(drawing, natural, r, first, second)
 }
 
 // The complementary arc of a curve of period p, from where the range ends back round to where it began, drawn and tried;
 // where there is none, or it escapes too, the short arc.
 fn by_complement(
-    points: &[f64],
-    curves: &[u32],
-    reals: &[f64],
-    parts: &[u32],
-    ranges: &[f64],
-    edge: Edge,
+    drawing: &Drawing<'_>,
     r: Resolved,
     p: f64,
     first: &mut [f64],
     second: &mut [f64],
-) -> Drawn
-    requires { (shortest ≤ length first.old) × (shortest ≤ length second.old) × (length (curve_knots (tree (lent points curves reals parts ranges) edge.curve)) ≤ most_knots) × (0 < r.depth) }
-    ensures { RedrawnInto (by_complement (given points curves reals parts ranges) edge r p) first.old second.old result first.new second.new }
+) -> Result<Drawn, Refusal>
+    requires { (shortest ≤ length first.old) × (shortest ≤ length second.old) × (0 < r.depth) }
+    ensures { RedrawnInto (by_complement (lent drawing.now.tables.now) drawing.now.edge r p) first.old second.old result first.new second.new }
 {
     let complement = Interval {
-        lo: edge.range.hi,
-        hi: edge.range.lo + p,
+        lo: drawing.edge.range.hi,
+        hi: drawing.edge.range.lo + p,
     };
     if !(0.0 < complement.span()) {
-        return by_short_arc(points, curves, reals, parts, ranges, edge, r, first, second);
+        return by_short_arc(drawing, r, first, second);
     }
-    let drawn = redraw(
-        points, curves, reals, parts, ranges, edge, complement, r, first, second,
-    );
-    match drawn {
-        Counted::Refused(cause) => Drawn::Refused(cause),
-        Counted::Count(n) => {
-            if edge_escape::escapes(reference(points, edge), r, second, n) {
-                return by_short_arc(points, curves, reals, parts, ranges, edge, r, first, second);
-            }
-            Drawn::Chain(Way::Complement, n)
-        }
+    let n = redraw(drawing, complement, r, first, second)?;
+    if edge_escape::escapes(reference(drawing.tables.points, drawing.edge), r, second, n) {
+        return by_short_arc(drawing, r, first, second);
     }
+    Ok(Drawn {
+        way: Way::Complement,
+        count: n,
+    })
 }
 
 // Whether a chain stays: a box of no extent cannot say that anything ran away from it.
@@ -280,30 +235,22 @@ pub fn stays_between(points: &[f64], edge: Edge, p: Vec3, q: Vec3) -> bool
 // Keeps the chain of n records that stands alone in the first buffer, or draws another way into the second and clears
 // the first.
 pub fn repair_runaway(
-    points: &[f64],
-    curves: &[u32],
-    reals: &[f64],
-    parts: &[u32],
-    ranges: &[f64],
-    edge: Edge,
+    drawing: &Drawing<'_>,
     r: Resolved,
     way: Way,
     n: usize,
     first: &mut [f64],
     second: &mut [f64],
-) -> Drawn
-    requires { (shortest ≤ length first.old) × (shortest ≤ length second.old) × (length (curve_knots (tree (lent points curves reals parts ranges) edge.curve)) ≤ most_knots) × (0 < r.depth)
+) -> Result<Drawn, Refusal>
+    requires { (shortest ≤ length first.old) × (shortest ≤ length second.old) × (0 < r.depth)
         × (width * n ≤ length first.old) × (first.old ≡ filled (length first.old) (flat (samples n first.old))) × (second.old ≡ filled (length second.old) []) × (in_first way ≡ true) }
-    ensures { DrawnInto (within (room_of (length first.old) (length second.old)) (repaired (given points curves reals parts ranges) edge r (by way (samples n first.old)))) first.old second.old result first.new second.new }
+    ensures { DrawnInto (within (room_of (length first.old) (length second.old)) (repaired (lent drawing.now.tables.now) drawing.now.edge r (by way (samples n first.old)))) first.old second.old result first.new second.new }
 {
-    if stays(points, edge, r, first, n) {
-        return Drawn::Chain(way, n);
+    if stays(drawing.tables.points, drawing.edge, r, first, n) {
+        return Ok(Drawn { way, count: n });
     }
-    let period = curve::period(points, curves, reals, parts, ranges, edge.curve);
-    let Repeats::Every(p) = period else {
-        return by_short_arc(points, curves, reals, parts, ranges, edge, r, first, second);
-    };
-    by_complement(
-        points, curves, reals, parts, ranges, edge, r, p, first, second,
-    )
+    match curve::period(drawing.tables, drawing.edge.curve) {
+        Some(p) => by_complement(drawing, r, p, first, second),
+        None => by_short_arc(drawing, r, first, second),
+    }
 }

@@ -1,4 +1,5 @@
 -- The breaks that the walk is handed: none of a curve without knots, else what `kept_breaks` leaves. Assumes nothing.
+use Rattle.std.specs.Prelude.{Option, ℕ, Some, None}
 use mathlib.Core.Path.{◌≡◌, refl, sym, ap, ◌∙◌}
 use mathlib.Core.Bool.{Bool, true, false, cond}
 use mathlib.Core.List.{List, [], ◌∷◌}
@@ -13,8 +14,6 @@ use Rattle.brep.specs.Tree.{CurveTree}
 use Rattle.knots_sort.specs.Sort.{sorted}
 use Rattle.knots_inside.specs.Breaks.{retained_knots, deduped, inside_upward, inside_of}
 use Rattle.knots_inside.specs.Thinned.{thinned_from, thin_breaks}
-use Rattle.knots.specs.declared.Knots.{Knots}
-use Rattle.knots.specs.declared.Knots.TheVariants.{Count, TooMany}
 use Rattle.knots.specs.Knots.{curve_knots, curve_breaks}
 use Rattle.knots.proofs.Answers.{counted, exceeded, after_fits}
 use Rattle.knots_thin.specs.Own.Kept.{curve_deviation, kept_answer, kept_after}
@@ -58,11 +57,11 @@ module _ (c : CurveTree) (lo hi sag : Float) where
   no_breaks e = thin_none lo hi sag (curve_deviation c) ∙ ap (λ (bs : List Float). curve_thinned c bs lo hi sag) (none_found e)
 
   -- ---- what kept_breaks answered and left of a buffer that the knots fit
-  module _ (room : ℕ) (kept : Knots) (fits : length (curve_knots c) ≤ room) (answered : kept ≡ kept_answer room c lo hi sag) where
-    pub not_many : kept ≡ TooMany → ⊥
+  module _ (room : ℕ) (kept : Option ℕ) (fits : length (curve_knots c) ≤ room) (answered : kept ≡ kept_answer room c lo hi sag) where
+    pub not_many : kept ≡ None → ⊥
     not_many e = omega (arith, exceeded c room (kept_breaks c lo hi sag) (sym answered ∙ e))
 
-    module _ (buffer after : List Float) (long : length buffer ≡ room) (left : after ≡ kept_after buffer c lo hi sag) (m : ℕ) (e : kept ≡ Count m) where
+    module _ (buffer after : List Float) (long : length buffer ≡ room) (left : after ≡ kept_after buffer c lo hi sag) (m : ℕ) (e : kept ≡ Some m) where
       count : m ≡ length (kept_breaks c lo hi sag)
       count = (counted c room (kept_breaks c lo hi sag) m (sym answered ∙ e)).0
 

@@ -1,6 +1,7 @@
 -- What callers cite of `sampled_in`: at least two parameters, and no more than the room has, and that it is `sampled` within the room where
 -- nothing that sampling asks for is too far, and wherever `sampled` answers; and that a curve with a closed form needs no tables, and asks no
 -- hyperbola for anything. Assumes nothing.
+use Rattle.std.specs.Prelude.{Option, ℕ, None, Some, Err, Ok}
 use mathlib.Core.Path.{◌≡◌, refl}
 use mathlib.Core.Logic.{◌⊎◌}
 use mathlib.Core.Bool.{Bool, true, false}
@@ -11,13 +12,10 @@ use lib.Dec.{leb, ltb}
 use lib.ListN.{length}
 use lib.Ieee.{Float}
 use borrow.Author.Tests.{ltb-true}
-use Rattle.base_lists.specs.Result.{Result, refused, got, bind}
 use Rattle.math.specs.declared.Interval.{Interval}
 use Rattle.brep.specs.Tree.{CurveTree, analytic, line, circle, ellipse, parabola, hyperbola, polyline, trimmed, composite}
 use Rattle.options.specs.declared.Resolved.{Resolved}
 use Rattle.options.specs.Options.{segments_for_arc}
-use Rattle.edge_params.specs.declared.Closed.{Closed}
-use Rattle.edge_params.specs.declared.Closed.TheVariants.{Unknown, Segments}
 use Rattle.edge_params.specs.Work.{within}
 use Rattle.edge_params.specs.Params.{Sampler, evenly}
 use Rattle.edge_params.specs.Own.Bisected.{bisected, NothingFar}
@@ -31,15 +29,18 @@ use Rattle.edge_sample.specs.Sample.{sampler, sampled}
 use Rattle.edge_sample.specs.Claims.{ClosedNeverFar}
 use Rattle.edge_sample.specs.Own.Answered.{sampled_in}
 use Rattle.edge_sample.proofs.Settled.{bisected_long}
+use Rattle.refusal.specs.Answer.{Answer, bind}
+use Rattle.refusal.specs.declared.Refusal.TheVariants.{NoRoom, TooFar}
+use Rattle.refusal.specs.declared.Refusal.{Refusal}
 
 -- ---- a closed form has at least one segment
-at_least : (m n : ℕ) → Segments (max m 1) ≡ Segments n → 1 ≤ n
+at_least : (m n : ℕ) → Some (max m 1) ≡ Some n → 1 ≤ n
 at_least m n e = let p : max m 1 ≡ n = cc in omega arith
 
-formless : (n : ℕ) → Unknown ≡ Segments n → 1 ≤ n
+formless : (n : ℕ) → None ≡ Some n → 1 ≤ n
 formless n e = let z : ◌≡◌ {A = ℕ} 0 1 = cc in absurd (omega arith)
 
-form_some : (c : CurveTree) (range : Interval) (r : Resolved) (n : ℕ) → analytic_segments c range r ≡ Segments n → 1 ≤ n
+form_some : (c : CurveTree) (range : Interval) (r : Resolved) (n : ℕ) → analytic_segments c range r ≡ Some n → 1 ≤ n
 unfolding analytic_segments segments_for_arc
 form_some (analytic (line o d)) range r n e = at_least _ n e
 form_some (analytic (circle f radius)) range r n e = at_least _ n e
@@ -51,7 +52,7 @@ form_some (trimmed base own) range r n e = form_some base range r n e
 form_some (composite ss) range r n e = formless n e
 
 -- a curve that has a closed form needs no tables
-pub form_plain : (c : CurveTree) (range : Interval) (r : Resolved) (n : ℕ) → analytic_segments c range r ≡ Segments n → is_plain (prepared_of c) ≡ true
+pub form_plain : (c : CurveTree) (range : Interval) (r : Resolved) (n : ℕ) → analytic_segments c range r ≡ Some n → is_plain (prepared_of c) ≡ true
 unfolding analytic_segments prepared_of is_plain
 form_plain (analytic (line o d)) range r n e = refl
 form_plain (analytic (circle f radius)) range r n e = refl
@@ -83,7 +84,7 @@ module _ (room : ℕ) (s : Sampler) (range : Interval) where
   unfolding fitting
   fitting_long l h = go (leb (length l) room)
     where
-      go : (t : Bool) → Gives Long (elim t [ true ↦ got l | false ↦ refused 8 ])
+      go : (t : Bool) → Gives Long (elim t [ true ↦ Ok l | false ↦ Err NoRoom ])
       go true = list h
       go false = eight
 
@@ -94,11 +95,11 @@ module _ (room : ℕ) (s : Sampler) (range : Interval) where
   unfolding floored_in
   floored_long l h = go (ltb (length l - 1) s.least) refl
     where
-      go : (t : Bool) → ltb (length l - 1) s.least ≡ t → Gives Long (elim t [ true ↦ fitting room (evenly range s.least) | false ↦ got l ])
+      go : (t : Bool) → ltb (length l - 1) s.least ≡ t → Gives Long (elim t [ true ↦ fitting room (evenly range s.least) | false ↦ Ok l ])
       go true p = even_long s.least (omega (arith, ltb-true (length l - 1) s.least p))
       go false p = list h
 
-  then_long : {x : Result (List Float)} (f : List Float → Result (List Float)) → Gives Long x
+  then_long : {x : Answer (List Float)} (f : List Float → Answer (List Float)) → Gives Long x
       → ((l : List Float) → Long l → Gives Long (f l)) → Gives Long (bind x f)
   then_long f (list {l = l} p) g = g l p
   then_long f eight g = eight
@@ -107,23 +108,23 @@ module _ (room : ℕ) (s : Sampler) (range : Interval) where
   unfolding refined_in
   refined_long = then_long (floored_in room s range) (fitting_long (bisected s range) (bisected_long s range)) floored_long
 
-  sampled_long : ((n : ℕ) → s.closed ≡ Segments n → 1 ≤ n) → Gives Long (sample_params_in room s range)
+  sampled_long : ((n : ℕ) → s.closed ≡ Some n → 1 ≤ n) → Gives Long (sample_params_in room s range)
   unfolding sample_params_in
   sampled_long some = go s.closed refl
     where
-      checked : (l : List Float) → Long l → (t : Bool) → Gives Long (elim t [ true ↦ got l | false ↦ refined_in room s range ])
+      checked : (l : List Float) → Long l → (t : Bool) → Gives Long (elim t [ true ↦ Ok l | false ↦ refined_in room s range ])
       checked l h true = list h
       checked l h false = refined_long
 
-      go : (x : Closed) → s.closed ≡ x → Gives Long (elim x [
-        | Unknown ↦ refined_in room s range
-        | Segments n ↦ bind (fitting room (evenly range n)) (λ l. elim (s.meets l) [ true ↦ got l | false ↦ refined_in room s range ])
+      go : (x : Option ℕ) → s.closed ≡ x → Gives Long (elim x [
+        | None ↦ refined_in room s range
+        | Some n ↦ bind (fitting room (evenly range n)) (λ l. elim (s.meets l) [ true ↦ Ok l | false ↦ refined_in room s range ])
       ])
-      go Unknown e = refined_long
-      go (Segments n) e =
-          then_long (λ l. elim (s.meets l) [ true ↦ got l | false ↦ refined_in room s range ]) (even_long n (some n e)) (λ l h. checked l h (s.meets l))
+      go None e = refined_long
+      go (Some n) e =
+          then_long (λ l. elim (s.meets l) [ true ↦ Ok l | false ↦ refined_in room s range ]) (even_long n (some n e)) (λ l h. checked l h (s.meets l))
 
-module _ (room : ℕ) (c : CurveTree) (range : Interval) (r : Resolved) (l : List Float) (e : sampled_in room c range r ≡ got l) where
+module _ (room : ℕ) (c : CurveTree) (range : Interval) (r : Resolved) (l : List Float) (e : sampled_in room c range r ≡ Ok l) where
   pub sampled_two : 2 ≤ length l
   unfolding sampled_in sampler
   sampled_two = gives_got l (sampled_long room (sampler c range r) range (form_some c range r)) e
@@ -140,20 +141,20 @@ module _ (room : ℕ) (c : CurveTree) (range : Interval) (r : Resolved) where
   sampled_in_lem clear = sample_params_in_lem room (sampler c range r) range clear
 
   -- parameters that are answered
-  pub sampled_kept : (l : List Float) → within room (sampled c range r) ≡ got l → sampled_in room c range r ≡ got l
+  pub sampled_kept : (l : List Float) → within room (sampled c range r) ≡ Ok l → sampled_in room c range r ≡ Ok l
   unfolding sampled sampled_in
   sampled_kept l = sample_params_kept room (sampler c range r) range l
 
   -- in a room alone a refusal is 8
-  pub sampled_in_eight : (n : ℕ) → sampled_in room c range r ≡ refused n → n ≡ 8
+  pub sampled_in_eight : (n : Refusal) → sampled_in room c range r ≡ Err n → n ≡ NoRoom
   unfolding sampled_in
   sampled_in_eight = sample_params_eight room (sampler c range r) range
 
   -- a refusal is 8 or 11, and what has no room is refused with 11 alone
-  pub sampled_late : (n : ℕ) → within room (sampled c range r) ≡ refused n → (n ≡ 8) ⊎ (n ≡ 11)
+  pub sampled_late : (n : Refusal) → within room (sampled c range r) ≡ Err n → (n ≡ NoRoom) ⊎ (n ≡ TooFar)
   unfolding sampled
   sampled_late n = sample_params_late room (sampler c range r) range n
 
-pub sampled_refused : (c : CurveTree) (range : Interval) (r : Resolved) (n : ℕ) → (sampled c range r).end ≡ refused n → n ≡ 11
+pub sampled_refused : (c : CurveTree) (range : Interval) (r : Resolved) (n : Refusal) → (sampled c range r).end ≡ Err n → n ≡ TooFar
 unfolding sampled
 sampled_refused c range r n = sample_params_refused (sampler c range r) range n

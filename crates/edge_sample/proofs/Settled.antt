@@ -1,4 +1,5 @@
 -- A list that is held, with the rest of the buffer cleared, and the ways through refine. Assumes nothing.
+use Rattle.std.specs.Prelude.{Option, ℕ, Some, None, Err, Ok}
 use mathlib.Core.Path.{◌≡◌, refl, sym, ap, subst, ◌∙◌}
 use mathlib.Core.Bool.{Bool, true, false, not}
 use mathlib.Core.List.{List, [], ◌∷◌, ◌++◌}
@@ -8,50 +9,49 @@ use lib.Dec.{ltb}
 use lib.ListN.{length, take, length-append}
 use lib.Ieee.{Float}
 use borrow.Author.Tests.{lt-ltb, le-ltb}
-use Rattle.base_lists.specs.Result.{Result, refused, got, each, bind}
 use Rattle.base_lists.specs.Room.{filled}
 use Rattle.math.specs.declared.Interval.{Interval}
 use Rattle.edge_params.specs.Params.{Sampler, evenly, breaks_along}
 use Rattle.edge_params.specs.Own.Bisected.{walked, through, bisected}
 use Rattle.edge_params.specs.Own.InRoom.{fitting, floored_in, refined_in}
-use Rattle.edge_params.specs.declared.Listed.{Listed}
-use Rattle.edge_params.specs.declared.Listed.TheVariants.{Count, Refused}
 use Rattle.edge_params.specs.Own.Written.{said, ListWritten}
 use Rattle.edge_params.proofs.Written.{fitting_fits, Counted, counted, written_count, written_length, written_list}
 use Rattle.base_lists.specs.Own.ListOf.{list_of}
 use Rattle.edge_sample.specs.Own.Traced.{is_enough}
 use Rattle.edge_sample.specs.Own.Answered.{SampledInto, kept_floats}
+use Rattle.refusal.specs.Answer.{Answer, each, bind}
+use Rattle.refusal.specs.declared.Refusal.TheVariants.{NoRoom}
 
-refused_list : (s : Result (List Float)) → refused 8 ≡ each length s → list_of s ≡ []
-refused_list (refused n) e = refl
-refused_list (got k) e = let z : ◌≡◌ {A = ℕ} 0 1 = cc in absurd (omega arith)
+refused_list : (s : Answer (List Float)) → Err NoRoom ≡ each length s → list_of s ≡ []
+refused_list (Err n) e = refl
+refused_list (Ok k) e = let z : ◌≡◌ {A = ℕ} 0 1 = cc in absurd (omega arith)
 
 -- v is the answer of the code that wrote the list l, and w what settle is handed
-module _ {out l after : List Float} (v w : Listed) (e : v ≡ w) (h : ListWritten out l v after) where
+module _ {out l after : List Float} (v w : Option ℕ) (e : v ≡ w) (h : ListWritten out l v after) where
   now_held : ListWritten out l w after
-  now_held = subst (λ (q : Listed). ListWritten out l q after) e h
+  now_held = subst (λ (q : Option ℕ). ListWritten out l q after) e h
 
   pub settle_room : kept_floats w ≤ length after
   settle_room = go w now_held
     where
-      go : (w : Listed) → ListWritten out l w after → kept_floats w ≤ length after
-      go (Count n) h = omega (arith, (written_count h).same, (written_count h).fits, written_length h)
-      go Refused h = omega arith
+      go : (w : Option ℕ) → ListWritten out l w after → kept_floats w ≤ length after
+      go (Some n) h = omega (arith, (written_count h).same, (written_count h).fits, written_length h)
+      go None h = omega arith
 
   -- in a buffer of room floats, where s is what the list stands for
-  module _ (room : ℕ) (s : Result (List Float)) (long : length out ≡ room) (is : fitting room l ≡ s) where
-    pub settled : (w' : Listed) (last : List Float) → w' ≡ w → last ≡ filled (length after) (take (kept_floats w) after) → SampledInto room s w' last
+  module _ (room : ℕ) (s : Answer (List Float)) (long : length out ≡ room) (is : fitting room l ≡ s) where
+    pub settled : (w' : Option ℕ) (last : List Float) → w' ≡ w → last ≡ filled (length after) (take (kept_floats w) after) → SampledInto room s w' last
     settled w' last same b =
-        (ap said (same ∙ sym e) ∙ h.answer ∙ ap (each length) to, b ∙ go w now_held ∙ ap (λ (x : Result (List Float)). filled room (list_of x)) is)
+        (ap said (same ∙ sym e) ∙ h.answer ∙ ap (each length) to, b ∙ go w now_held ∙ ap (λ (x : Answer (List Float)). filled room (list_of x)) is)
       where
         to : fitting (length out) l ≡ s
         to = ap (λ (n : ℕ). fitting n l) long ∙ is
 
-        go : (w : Listed) → ListWritten out l w after → filled (length after) (take (kept_floats w) after) ≡ filled room (list_of (fitting room l))
-        go (Count n) h =
+        go : (w : Option ℕ) → ListWritten out l w after → filled (length after) (take (kept_floats w) after) ≡ filled room (list_of (fitting room l))
+        go (Some n) h =
             ap (filled (length after)) (written_list h) ∙ ap (λ (m : ℕ). filled m l) (written_length h ∙ long)
-            ∙ ap (λ (x : Result (List Float)). filled room (list_of x)) (sym (fitting_fits room l (omega (arith, (written_count h).fits))))
-        go Refused h =
+            ∙ ap (λ (x : Answer (List Float)). filled room (list_of x)) (sym (fitting_fits room l (omega (arith, (written_count h).fits))))
+        go None h =
             ap (λ (m : ℕ). filled m []) (written_length h ∙ long)
             ∙ ap (filled room) (sym (refused_list (fitting room l) (h.answer ∙ ap (λ (n : ℕ). each length (fitting n l)) long)))
 
@@ -64,39 +64,39 @@ pub bisected_long : (s : Sampler) (range : Interval) → 2 ≤ length (bisected 
 bisected_long s range = through_long s range (breaks_along s range)
 
 -- mid is the buffer after bisection, which answered w
-module _ (s : Sampler) (range : Interval) (w : Listed) {out mid : List Float} (h : ListWritten out (bisected s range) w mid) where
-  pub refined_refused : w ≡ Refused → fitting (length out) (bisected s range) ≡ refined_in (length out) s range
+module _ (s : Sampler) (range : Interval) (w : Option ℕ) {out mid : List Float} (h : ListWritten out (bisected s range) w mid) where
+  pub refined_refused : w ≡ None → fitting (length out) (bisected s range) ≡ refined_in (length out) s range
   unfolding refined_in
   refined_refused z = go (fitting (length out) (bisected s range)) (ap said (sym z) ∙ h.answer)
     where
-      go : (x : Result (List Float)) → refused 8 ≡ each length x → x ≡ bind x (floored_in (length out) s range)
-      go (refused n) e = refl
-      go (got k) e = let z : ◌≡◌ {A = ℕ} 0 1 = cc in absurd (omega arith)
+      go : (x : Answer (List Float)) → Err NoRoom ≡ each length x → x ≡ bind x (floored_in (length out) s range)
+      go (Err n) e = refl
+      go (Ok k) e = let z : ◌≡◌ {A = ℕ} 0 1 = cc in absurd (omega arith)
 
-  pub refused_short : w ≡ Refused → false ≡ is_enough s.least (fitting (length out) (bisected s range))
+  pub refused_short : w ≡ None → false ≡ is_enough s.least (fitting (length out) (bisected s range))
   unfolding is_enough
   refused_short z = go (fitting (length out) (bisected s range)) (ap said (sym z) ∙ h.answer)
     where
-      go : (x : Result (List Float)) → refused 8 ≡ each length x → false ≡ is_enough s.least x
-      go (refused n) e = refl
-      go (got k) e = let z : ◌≡◌ {A = ℕ} 0 1 = cc in absurd (omega arith)
+      go : (x : Answer (List Float)) → Err NoRoom ≡ each length x → false ≡ is_enough s.least x
+      go (Err n) e = refl
+      go (Ok k) e = let z : ◌≡◌ {A = ℕ} 0 1 = cc in absurd (omega arith)
 
-  module _ (n : ℕ) (e : w ≡ Count n) where
+  module _ (n : ℕ) (e : w ≡ Some n) where
     is : Counted (length out) (bisected s range) n
     is = counted (length out) (bisected s range) n (ap said (sym e) ∙ h.answer)
 
     pub some : 1 ≤ n
     some = omega (arith, is.same, bisected_long s range)
 
-    fits : fitting (length out) (bisected s range) ≡ got (bisected s range)
+    fits : fitting (length out) (bisected s range) ≡ Ok (bisected s range)
     fits = fitting_fits (length out) (bisected s range) is.fits
 
     floor_of_lem : (t : Bool) → ltb (n - 1) s.least ≡ t
-        → refined_in (length out) s range ≡ elim t [ true ↦ fitting (length out) (evenly range s.least) | false ↦ got (bisected s range) ]
+        → refined_in (length out) s range ≡ elim t [ true ↦ fitting (length out) (evenly range s.least) | false ↦ Ok (bisected s range) ]
     unfolding refined_in floored_in
     floor_of_lem t p =
-        ap (λ (x : Result (List Float)). bind x (floored_in (length out) s range)) fits
-        ∙ ap (λ (t : Bool). elim t [ true ↦ fitting (length out) (evenly range s.least) | false ↦ got (bisected s range) ])
+        ap (λ (x : Answer (List Float)). bind x (floored_in (length out) s range)) fits
+        ∙ ap (λ (t : Bool). elim t [ true ↦ fitting (length out) (evenly range s.least) | false ↦ Ok (bisected s range) ])
         (ap (λ (m : ℕ). ltb (m - 1) s.least) (sym is.same) ∙ p)
 
     pub refined_few : n - 1 < s.least → fitting (length out) (evenly range s.least) ≡ refined_in (length out) s range

@@ -1,4 +1,5 @@
 -- The walk over the stops: what is held, then what the rest of the walk pushes, is the whole. Assumes nothing.
+use Rattle.std.specs.Prelude.{Option, ℕ, Some, None}
 use mathlib.Core.Path.{◌≡◌, refl, sym, ap, subst, ◌∙◌}
 use mathlib.Core.Bool.{Bool, true, false}
 use mathlib.Core.List.{List, [], ◌∷◌, ◌++◌, append_assoc}
@@ -8,11 +9,13 @@ use lib.ListN.{length, get_or, drop}
 use lib.Ieee.{Float, nan, ne}
 use Rattle.math.specs.declared.Interval.{Interval}
 use Rattle.brep.specs.Tree.{CurveTree}
+use Rattle.curve_prepared.specs.declared.PreparedCurve.{PreparedCurve}
+use Rattle.curve_prepared.specs.Own.PreparedCurve.{curve_of}
+use Rattle.edge_drawing.specs.declared.Drawing.{Drawing}
+use Rattle.edge_drawing.specs.Drawing.{drawn_curve}
 use Rattle.options.specs.declared.Resolved.{Resolved}
 use Rattle.edge_params.specs.Params.{breaks_along, unless_hi}
 use Rattle.edge_params.specs.Own.Bisected.{subdivided, walked, through, bisected}
-use Rattle.edge_params.specs.declared.Listed.{Listed}
-use Rattle.edge_params.specs.declared.Listed.TheVariants.{Count, Refused}
 use Rattle.edge_params.proofs.Written.{written_length}
 use Rattle.knots_thin.specs.Thin.{kept_breaks}
 use Rattle.edge_record.specs.Chain.{width}
@@ -35,6 +38,10 @@ module _ (range : Interval) (b : Float) where
   pub is_hi : ne b range.hi ≡ false → [] ≡ unless_hi range b
   unfolding unless_hi
   is_hi e = sym (ap (λ (t : Bool). elim t [ true ↦ b ∷ [] | false ↦ [] ]) e)
+
+-- ---- the curve that is drawn, prepared
+pub prepared_drawn : (d : Drawing) (p : PreparedCurve) → p.tables.now ≡ d.tables.now → p.row ≡ d.edge.curve → curve_of p ≡ drawn_curve d
+prepared_drawn d p T R = rw (T, R)
 
 -- ---- the walk
 module _ (c : CurveTree) (range : Interval) (r : Resolved) where
@@ -60,31 +67,39 @@ module _ (c : CurveTree) (range : Interval) (r : Resolved) where
     pub last : left.t ≡ get_or (range.lo ∷ stops range breaks) i nan
     pub begun : Room out₁ chain₁ k₁
     pub front : List Float
-    pub held : ListRecorded c out₁ chain₁ k₁ front (Count k) out chain
+    pub held : ListRecorded c out₁ chain₁ k₁ front (Some k) out chain
     pub all : front ++ onwards left.t (drop i (stops range breaks)) ≡ onwards range.lo (stops range breaks)
 
+  -- the options that the limits are of are the walk's
+  pub span_of : (o : Resolved) → o ≡ r → (a b : Float) {out chain : List Float} {k : ℕ} {w : Option ℕ} {out' chain' : List Float}
+      → ListRecorded c out chain k (subdivided (within_budget c o) r.depth a b ++ unless_hi range b) w out' chain' → ListRecorded c out chain k (span a b) w out' chain'
+  span_of o e a b {out} {chain} {k} {w} {out'} {chain'} h =
+      subst (λ (x : Resolved). ListRecorded c out chain k (subdivided (within_budget c x) r.depth a b ++ unless_hi range b) w out' chain') e h
+
   module _ (breaks : List Float) where
-    -- range.lo, and what is written behind it
-    module _ (B : breaks ≡ kept_breaks c range.lo range.hi r.sag) {out₀ chain₀ : List Float} (room : Room out₀ chain₀ 0) (low : End) (L : low ≡ end_at c range.lo)
-        {w₁ : Listed} {out₁ chain₁ : List Float} (h : ListRecorded c out₀ chain₀ 0 (low.t ∷ []) w₁ out₁ chain₁) where
+    -- range.lo, and what is written behind it; the breaks are those of the curve d, which the walk's own is
+    module _ (d : CurveTree) (same : c ≡ d) (B : breaks ≡ kept_breaks d range.lo range.hi r.sag) {out₀ chain₀ : List Float} (room : Room out₀ chain₀ 0) (low : End)
+        (L : low ≡ end_at c range.lo) {w₁ : Option ℕ} {out₁ chain₁ : List Float} (h : ListRecorded c out₀ chain₀ 0 (low.t ∷ []) w₁ out₁ chain₁) where
       whole : low.t ∷ onwards range.lo (stops range breaks) ≡ bisected (sampler c range r) range
       unfolding onwards through breaks_along stops sampler
       whole =
           ap (λ (t : Float). t ∷ onwards range.lo (stops range breaks)) (end_t c range.lo low L)
-          ∙ ap (λ (bs : List Float). range.lo ∷ onwards range.lo (stops range bs)) B
+          ∙ ap (λ (bs : List Float). range.lo ∷ onwards range.lo (stops range bs)) (B ∙ ap (λ (x : CurveTree). kept_breaks x range.lo range.hi r.sag) (sym same))
 
-      pub low_refused : w₁ ≡ Refused → ListRecorded c out₀ chain₀ 0 (bisected (sampler c range r) range) Refused out₁ chain₁
-      low_refused e =
-          subst (λ (l : List Float). ListRecorded c out₀ chain₀ 0 l Refused out₁ chain₁) whole
-          (recorded_refused c room h e (onwards range.lo (stops range breaks)))
+      whole_of : {w : Option ℕ} {out chain : List Float} → ListRecorded c out₀ chain₀ 0 (low.t ∷ onwards range.lo (stops range breaks)) w out chain
+          → ListRecorded d out₀ chain₀ 0 (bisected (sampler d range r) range) w out chain
+      whole_of {w} {out} {chain} g =
+          subst (λ (x : CurveTree). ListRecorded x out₀ chain₀ 0 (bisected (sampler x range r) range) w out chain) same
+          (subst (λ (l : List Float). ListRecorded c out₀ chain₀ 0 l w out chain) whole g)
 
-      pub low_then : {k₁ : ℕ} → w₁ ≡ Count k₁ → {w : Listed} {out chain : List Float} → ListRecorded c out₁ chain₁ k₁ (onwards range.lo (stops range breaks)) w out chain
-          → ListRecorded c out₀ chain₀ 0 (bisected (sampler c range r) range) w out chain
-      low_then e {w} {out} {chain} g =
-          subst (λ (l : List Float). ListRecorded c out₀ chain₀ 0 l w out chain) whole
-          (recorded_then c room h e (onwards range.lo (stops range breaks)) g)
+      pub low_refused : w₁ ≡ None → ListRecorded d out₀ chain₀ 0 (bisected (sampler d range r) range) None out₁ chain₁
+      low_refused e = whole_of (recorded_refused c room h e (onwards range.lo (stops range breaks)))
 
-      pub walking_start : {k₁ : ℕ} → w₁ ≡ Count k₁ → Walking breaks out₁ chain₁ k₁ out₁ chain₁ low k₁ 0
+      pub low_then : {k₁ : ℕ} → w₁ ≡ Some k₁ → {w : Option ℕ} {out chain : List Float} → ListRecorded c out₁ chain₁ k₁ (onwards range.lo (stops range breaks)) w out chain
+          → ListRecorded d out₀ chain₀ 0 (bisected (sampler d range r) range) w out chain
+      low_then e g = whole_of (recorded_then c room h e (onwards range.lo (stops range breaks)) g)
+
+      pub walking_start : {k₁ : ℕ} → w₁ ≡ Some k₁ → Walking breaks out₁ chain₁ k₁ out₁ chain₁ low k₁ 0
       walking_start e = record {
         own = end_own c range.lo low L;
         last = end_t c range.lo low L;
@@ -106,7 +121,7 @@ module _ (c : CurveTree) (range : Interval) (r : Resolved) where
 
       -- one stop more
       module _ (h : i ≤ length breaks) (b : Float) (is : b ≡ get_or (stops range breaks) i nan) (right : End) (own : right ≡ end_at c b)
-          {w : Listed} {out' chain' : List Float} (g : ListRecorded c out chain k (span left.t right.t) w out' chain') where
+          {w : Option ℕ} {out' chain' : List Float} (g : ListRecorded c out chain k (span left.t right.t) w out' chain') where
         rest : List Float
         rest = onwards right.t (drop (i + 1) (stops range breaks))
 
@@ -127,23 +142,23 @@ module _ (c : CurveTree) (range : Interval) (r : Resolved) where
         joined : ListRecorded c out₁ chain₁ k₁ (s.front ++ span left.t right.t) w out' chain'
         joined = recorded_then c s.begun s.held refl (span left.t right.t) g
 
-        pub walking_refused : w ≡ Refused → ListRecorded c out₁ chain₁ k₁ (onwards range.lo (stops range breaks)) Refused out' chain'
+        pub walking_refused : w ≡ None → ListRecorded c out₁ chain₁ k₁ (onwards range.lo (stops range breaks)) None out' chain'
         walking_refused e =
-            subst (λ (l : List Float). ListRecorded c out₁ chain₁ k₁ l Refused out' chain') more (recorded_refused c s.begun joined e rest)
+            subst (λ (l : List Float). ListRecorded c out₁ chain₁ k₁ l None out' chain') more (recorded_refused c s.begun joined e rest)
 
-        pub walking_next : (n : ℕ) → w ≡ Count n → Walking breaks out₁ chain₁ k₁ out' chain' right n (i + 1)
+        pub walking_next : (n : ℕ) → w ≡ Some n → Walking breaks out₁ chain₁ k₁ out' chain' right n (i + 1)
         unfolding rest
         walking_next n e = record {
           own = end_own c b right own;
           last = here ∙ ap (λ (j : ℕ). get_or (range.lo ∷ stops range breaks) j nan) (sym (add-one i));
           begun = s.begun;
           front = s.front ++ span left.t right.t;
-          held = subst (λ (q : Listed). ListRecorded c out₁ chain₁ k₁ (s.front ++ span left.t right.t) q out' chain') e joined;
+          held = subst (λ (q : Option ℕ). ListRecorded c out₁ chain₁ k₁ (s.front ++ span left.t right.t) q out' chain') e joined;
           all = more;
         }
 
       -- range.hi
-      pub walking_done : i ≡ length breaks + 1 → {w : Listed} {out' chain' : List Float} → ListRecorded c out chain k (left.t ∷ []) w out' chain'
+      pub walking_done : i ≡ length breaks + 1 → {w : Option ℕ} {out' chain' : List Float} → ListRecorded c out chain k (left.t ∷ []) w out' chain'
           → ListRecorded c out₁ chain₁ k₁ (onwards range.lo (stops range breaks)) w out' chain'
       walking_done e {w} {out'} {chain'} g =
           subst (λ (l : List Float). ListRecorded c out₁ chain₁ k₁ l w out' chain') done

@@ -3,26 +3,21 @@
 ghost use Rattle.std.specs.Prelude.{◌≡◌, false, ◌++◌, ◌≤◌, length, get_or, take};
 ghost use Rattle.std.specs.Float.{nan};
 ghost use Rattle.base_lists.specs.Room.{filled};
-ghost use Rattle.brep.specs.Rows.{lent, given};
-ghost use Rattle.brep.specs.Tree.{tree};
-ghost use Rattle.curve_prepared.specs.Own.Prepared.{prepared_of};
-ghost use Rattle.knots_sort.specs.Own.Sortable.{most_knots};
+ghost use Rattle.curve_prepared.specs.Own.PreparedCurve.{curve_of};
+ghost use Rattle.edge_drawing.specs.Drawing.{drawn_curve};
 ghost use Rattle.edge_params.specs.Params.{unless_hi};
 ghost use Rattle.edge_params.specs.Own.Bisected.{subdivided, bisected};
 ghost use Rattle.edge_params.specs.Own.InRoom.{refined_in};
-ghost use Rattle.knots.specs.Knots.{curve_knots};
 ghost use Rattle.knots_thin.specs.Thin.{kept_breaks};
-ghost use Rattle.edge_subdivide.specs.Own.Limits.{limits_of};
 ghost use Rattle.edge_subdivide.specs.Bisect.{end_at, within_budget};
 ghost use Rattle.edge_subdivide.specs.Own.Recorded.{Room, ListRecorded};
 ghost use Rattle.edge_sample.specs.Sample.{sampler};
 ghost use Rattle.edge_sample.specs.Own.Traced.{traced, traced_refined, traced_sampled};
 ghost use Rattle.edge_sample.specs.Own.Answered.{sampled_in, SampledInto, kept_floats, stops};
 
-use curve_prepared::Prepared;
-use edge_params::{Closed, Listed};
+use curve_prepared::PreparedCurve;
+use edge_drawing::Drawing;
 use edge_subdivide::{End, Limits};
-use knots::Knots;
 use math::Interval;
 use options::Resolved;
 
@@ -44,13 +39,7 @@ pub fn stop_at(range: Interval, breaks: &[f64], i: usize) -> f64
 
 // A span of the walk: what bisection puts inside it, then its end, unless that is range.hi, which stands once at the list's end.
 fn step(
-    points: &[f64],
-    curves: &[u32],
-    reals: &[f64],
-    parts: &[u32],
-    ranges: &[f64],
-    row: u32,
-    prepared: Prepared,
+    curve: &PreparedCurve<'_>,
     range: Interval,
     r: Resolved,
     limits: &Limits,
@@ -59,64 +48,41 @@ fn step(
     out: &mut [f64],
     chain: &mut [f64],
     k: usize,
-) -> Listed
-    requires { (prepared ≡ prepared_of (tree (lent points curves reals parts ranges) row)) × (limits.now ≡ limits_of r)
-        × (left ≡ end_at (tree (lent points curves reals parts ranges) row) left.t) × (right ≡ end_at (tree (lent points curves reals parts ranges) row) right.t) × Room out.old chain.old k }
-    ensures { ListRecorded (tree (given points curves reals parts ranges) row) out.old chain.old k (subdivided (within_budget (tree (given points curves reals parts ranges) row) r) r.depth left.t right.t ++ unless_hi range right.t) result out.new chain.new }
+) -> Option<usize>
+    requires { (left ≡ end_at (curve_of curve.now) left.t) × (right ≡ end_at (curve_of curve.now) right.t) × Room out.old chain.old k }
+    ensures { ListRecorded (curve_of curve.now) out.old chain.old k (subdivided (within_budget (curve_of curve.now) limits.now.options) r.depth left.t right.t ++ unless_hi range right.t) result out.new chain.new }
 {
-    let inside = edge_subdivide::subdivide(
-        points, curves, reals, parts, ranges, row, prepared, limits, left, right, r.depth, out,
-        chain, k,
-    );
-    let Listed::Count(n) = inside else {
-        return Listed::Refused;
-    };
+    let n = edge_subdivide::subdivide(curve, limits, left, right, r.depth, out, chain, k)?;
     if right.t != range.hi {
         return edge_subdivide::push_end(out, chain, n, right);
     }
-    Listed::Count(n)
+    Some(n)
 }
 
 // range.lo, the spans between the stops, range.hi.
 fn walk(
-    points: &[f64],
-    curves: &[u32],
-    reals: &[f64],
-    parts: &[u32],
-    ranges: &[f64],
-    row: u32,
+    drawing: &Drawing<'_>,
     range: Interval,
     r: Resolved,
     breaks: &[f64],
     out: &mut [f64],
     chain: &mut [f64],
-) -> Listed
-    requires { (breaks.now ≡ kept_breaks (tree (lent points curves reals parts ranges) row) range.lo range.hi r.sag) × Room out.old chain.old 0 }
-    ensures { ListRecorded (tree (given points curves reals parts ranges) row) out.old chain.old 0
-        (bisected (sampler (tree (given points curves reals parts ranges) row) range r) range) result out.new chain.new }
+) -> Option<usize>
+    requires { (breaks.now ≡ kept_breaks (drawn_curve drawing.now) range.lo range.hi r.sag) × Room out.old chain.old 0 }
+    ensures { ListRecorded (drawn_curve drawing.now) out.old chain.old 0
+        (bisected (sampler (drawn_curve drawing.now) range r) range) result out.new chain.new }
 {
-    let prepared = curve_prepared::prepare(points, curves, reals, parts, ranges, row);
+    let curve = PreparedCurve::new(drawing.tables, drawing.edge.curve);
     let limits = edge_subdivide::limits_of(r);
-    let low = edge_subdivide::end_at(
-        points, curves, reals, parts, ranges, row, prepared, range.lo,
-    );
-    let pushed = edge_subdivide::push_end(out, chain, 0, low);
-    let Listed::Count(first) = pushed else {
-        return Listed::Refused;
-    };
+    let low = edge_subdivide::end_at(&curve, range.lo);
+    let first = edge_subdivide::push_end(out, chain, 0, low)?;
     let mut k = first;
     let mut left = low;
     let mut i = 0usize;
     while i <= breaks.len() {
         let b = stop_at(range, breaks, i);
-        let right = edge_subdivide::end_at(points, curves, reals, parts, ranges, row, prepared, b);
-        let stepped = step(
-            points, curves, reals, parts, ranges, row, prepared, range, r, &limits, left, right,
-            out, chain, k,
-        );
-        let Listed::Count(n) = stepped else {
-            return Listed::Refused;
-        };
+        let right = edge_subdivide::end_at(&curve, b);
+        let n = step(&curve, range, r, &limits, left, right, out, chain, k)?;
         k = n;
         left = right;
         i += 1;
@@ -126,104 +92,60 @@ fn walk(
 
 // The walk over the breaks of a curve that has knots.
 fn walk_breaks(
-    points: &[f64],
-    curves: &[u32],
-    reals: &[f64],
-    parts: &[u32],
-    ranges: &[f64],
-    row: u32,
+    drawing: &Drawing<'_>,
     range: Interval,
     r: Resolved,
     out: &mut [f64],
     chain: &mut [f64],
-) -> Listed
-    requires { (length (curve_knots (tree (lent points curves reals parts ranges) row)) ≤ most_knots) × Room out.old chain.old 0 }
-    ensures { ListRecorded (tree (given points curves reals parts ranges) row) out.old chain.old 0
-        (bisected (sampler (tree (given points curves reals parts ranges) row) range r) range) result out.new chain.new }
+) -> Option<usize>
+    requires { Room out.old chain.old 0 }
+    ensures { ListRecorded (drawn_curve drawing.now) out.old chain.old 0
+        (bisected (sampler (drawn_curve drawing.now) range r) range) result out.new chain.new }
 {
     let mut breaks = [0.0; knots_sort::MOST_KNOTS];
-    let kept = knots_thin::kept_breaks(
-        points,
-        curves,
-        reals,
-        parts,
-        ranges,
-        row,
-        range.lo,
-        range.hi,
+    // Never none: the knots fit.
+    let m = knots_thin::kept_breaks(
+        drawing.tables,
+        drawing.edge.curve,
+        range,
         r.sag,
         &mut breaks,
-    );
-    // Never else: the knots fit.
-    let Knots::Count(m) = kept else {
-        return Listed::Refused;
-    };
-    walk(
-        points,
-        curves,
-        reals,
-        parts,
-        ranges,
-        row,
-        range,
-        r,
-        &breaks[..m],
-        out,
-        chain,
-    )
+    )?;
+    walk(drawing, range, r, &breaks[..m], out, chain)
 }
 
 // Bisection between the breaks. Most curves have no knots, and need no room for breaks.
 fn bisect_range(
-    points: &[f64],
-    curves: &[u32],
-    reals: &[f64],
-    parts: &[u32],
-    ranges: &[f64],
-    row: u32,
+    drawing: &Drawing<'_>,
     range: Interval,
     r: Resolved,
     out: &mut [f64],
     chain: &mut [f64],
-) -> Listed
-    requires { (length (curve_knots (tree (lent points curves reals parts ranges) row)) ≤ most_knots) × Room out.old chain.old 0 }
-    ensures { ListRecorded (tree (given points curves reals parts ranges) row) out.old chain.old 0
-        (bisected (sampler (tree (given points curves reals parts ranges) row) range r) range) result out.new chain.new }
+) -> Option<usize>
+    requires { Room out.old chain.old 0 }
+    ensures { ListRecorded (drawn_curve drawing.now) out.old chain.old 0
+        (bisected (sampler (drawn_curve drawing.now) range r) range) result out.new chain.new }
 {
-    if knots::knot_count(points, curves, reals, parts, ranges, row) == 0 {
+    if knots::knot_count(drawing.tables, drawing.edge.curve) == 0 {
         let none = [0.0; 1];
-        return walk(
-            points,
-            curves,
-            reals,
-            parts,
-            ranges,
-            row,
-            range,
-            r,
-            &none[..0],
-            out,
-            chain,
-        );
+        return walk(drawing, range, r, &none[..0], out, chain);
     }
-    walk_breaks(
-        points, curves, reals, parts, ranges, row, range, r, out, chain,
-    )
+    walk_breaks(drawing, range, r, out, chain)
 }
 
 // +0.0 behind the list, or everywhere where it was refused.
-fn settle(listed: Listed, out: &mut [f64]) -> Listed
+fn settle(listed: Option<usize>, out: &mut [f64]) -> Option<usize>
     requires { kept_floats listed ≤ length out.old }
     ensures { (result ≡ listed) × (out.new ≡ filled (length out.old) (take (kept_floats listed) out.old)) }
 {
     match listed {
-        Listed::Count(n) => {
+        Some(n) => {
             base_lists::clear_from(out, n);
-            Listed::Count(n)
+            Some(n)
         }
-        Listed::Refused => {
+        None => {
             base_lists::clear_from(out, 0);
-            Listed::Refused
+            None
         }
     }
 }
@@ -232,11 +154,11 @@ fn settle(listed: Listed, out: &mut [f64]) -> Listed
 // curve's points at them.
 #[derive(Clone, Copy)]
 pub struct Sampled {
-    pub listed: Listed,
+    pub listed: Option<usize>,
     pub known: bool,
 }
 
-fn unknown(listed: Listed) -> Sampled
+fn unknown(listed: Option<usize>) -> Sampled
     ensures { (result.listed ≡ listed) × (result.known ≡ false) }
 {
     Sampled {
@@ -247,25 +169,18 @@ fn unknown(listed: Listed) -> Sampled
 
 // Bisection, then the segment floor: even steps where the list has fewer segments. Bisection's points are left in the chain.
 fn refine(
-    points: &[f64],
-    curves: &[u32],
-    reals: &[f64],
-    parts: &[u32],
-    ranges: &[f64],
-    row: u32,
+    drawing: &Drawing<'_>,
     range: Interval,
     r: Resolved,
     out: &mut [f64],
     chain: &mut [f64],
 ) -> Sampled
-    requires { (length (curve_knots (tree (lent points curves reals parts ranges) row)) ≤ most_knots) × Room out.old chain.old 0 }
-    ensures { SampledInto (length out.old) (refined_in (length out.old) (sampler (tree (given points curves reals parts ranges) row) range r) range) result.listed out.new
-        × (traced result.known chain.new ≡ traced_refined (length out.old) (tree (given points curves reals parts ranges) row) range r chain.old) }
+    requires { Room out.old chain.old 0 }
+    ensures { SampledInto (length out.old) (refined_in (length out.old) (sampler (drawn_curve drawing.now) range r) range) result.listed out.new
+        × (traced result.known chain.new ≡ traced_refined (length out.old) (drawn_curve drawing.now) range r chain.old) }
 {
-    let listed = bisect_range(
-        points, curves, reals, parts, ranges, row, range, r, out, chain,
-    );
-    let Listed::Count(n) = listed else {
+    let listed = bisect_range(drawing, range, r, out, chain);
+    let Some(n) = listed else {
         return unknown(settle(listed, out));
     };
     if (n as u64) - 1 < r.segments {
@@ -284,42 +199,30 @@ fn refine(
 // against the sag, and where it misses that the curve is bisected. Its points for the check, and those of bisection, are left in
 // the chain, which has a record for each float of out.
 pub fn sample_params(
-    points: &[f64],
-    curves: &[u32],
-    reals: &[f64],
-    parts: &[u32],
-    ranges: &[f64],
-    row: u32,
+    drawing: &Drawing<'_>,
     range: Interval,
     r: Resolved,
     out: &mut [f64],
     chain: &mut [f64],
 ) -> Sampled
-    requires { (length (curve_knots (tree (lent points curves reals parts ranges) row)) ≤ most_knots) × Room out.old chain.old 0 }
-    ensures { SampledInto (length out.old) (sampled_in (length out.old) (tree (given points curves reals parts ranges) row) range r) result.listed out.new
-        × (traced result.known chain.new ≡ traced_sampled (length out.old) (tree (given points curves reals parts ranges) row) range r chain.old) }
+    requires { Room out.old chain.old 0 }
+    ensures { SampledInto (length out.old) (sampled_in (length out.old) (drawn_curve drawing.now) range r) result.listed out.new
+        × (traced result.known chain.new ≡ traced_sampled (length out.old) (drawn_curve drawing.now) range r chain.old) }
 {
-    let form = edge_range::analytic_segments(points, curves, reals, parts, ranges, row, range, r);
-    let Closed::Segments(n) = form else {
-        return refine(
-            points, curves, reals, parts, ranges, row, range, r, out, chain,
-        );
+    let form = edge_range::analytic_segments(drawing.tables, drawing.edge.curve, range, r);
+    let Some(n) = form else {
+        return refine(drawing, range, r, out, chain);
     };
     let even = edge_params::evenly(range, n, out);
-    let Listed::Count(m) = even else {
+    let Some(m) = even else {
         return unknown(settle(even, out));
     };
-    let sag = r.sag;
-    if edge_closed_form::meets(
-        points, curves, reals, parts, ranges, row, out, m, sag, chain,
-    ) {
+    if edge_closed_form::meets(drawing.tables, drawing.edge.curve, &out[..m], r.sag, chain) {
         let listed = settle(even, out);
         return Sampled {
             listed,
             known: true,
         };
     }
-    refine(
-        points, curves, reals, parts, ranges, row, range, r, out, chain,
-    )
+    refine(drawing, range, r, out, chain)
 }

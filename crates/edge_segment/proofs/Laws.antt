@@ -1,4 +1,5 @@
 -- What a line's chain over a range is, in one segment. Assumes nothing.
+use Rattle.std.specs.Prelude.{Some, Ok}
 use mathlib.Core.Path.{◌≡◌, refl, sym, ap, ◌∙◌}
 use mathlib.Core.Bool.{Bool, true, false, cond, ◌&&◌, false≢true}
 use mathlib.Core.List.{List, [], ◌∷◌, reverse}
@@ -7,7 +8,6 @@ use native.Mathlib.Omega.{arith}
 use lib.ListN.{length}
 use lib.Dec.{T}
 use lib.Ieee.{Float, binary64, fits, lt, le, of_bits, of_int, div}
-use Rattle.base_lists.specs.Result.{Result, got, bind, each}
 use Rattle.base_lists.specs.Room.{filled}
 use Rattle.arith.specs.Notation.{◌⊘◌, count, plus_zero, one, half}
 use Rattle.arith_root.specs.Root.{root_of}
@@ -24,7 +24,6 @@ use Rattle.curve_prepared.proofs.Laws.{through_line}
 use Rattle.options.specs.declared.Options.{Options}
 use Rattle.options.specs.declared.Resolved.{Resolved}
 use Rattle.options.specs.Options.{resolve, sag_for, for_extent}
-use Rattle.edge_params.specs.declared.Closed.TheVariants.{Segments}
 use Rattle.edge_params.specs.Work.{within}
 use Rattle.edge_params.specs.Params.{midpoint, steps, evenly}
 use Rattle.edge_params.specs.Own.InRoom.{refined_in, sample_params_in}
@@ -45,6 +44,7 @@ use Rattle.draw_spec.proofs.Listed.{listed_never, over_within}
 use Rattle.edge_place.specs.Own.Place.{chord_between}
 use Rattle.edge_place.proofs.Laws.{placed_length}
 use Rattle.edge_segment.specs.Own.Segment.{SegmentInto}
+use Rattle.refusal.specs.Answer.{Answer, bind, each}
 
 -- ---- the two parameters
 first_part : count 0 ⊘ count 1 ≡ plus_zero
@@ -85,25 +85,25 @@ larger_left s h = rw h
 
 -- ---- the chain
 module _ (c : CurveTree) {o d : Vec3} (R : prepared_of c ≡ Line o d) (range : Interval) (r : Resolved) where
-  line_form : r.segments ≤ 1 → analytic_segments c range r ≡ Segments 1
+  line_form : r.segments ≤ 1 → analytic_segments c range r ≡ Some 1
   unfolding analytic_segments
   line_form h =
       let n : max r.segments 1 ≡ 1 = omega arith in
-      through_line (λ k. analytic_segments k range r) (λ b i. refl) c R ∙ ap Segments n
+      through_line (λ k. analytic_segments k range r) (λ b i. refl) c R ∙ ap Some n
 
   line_unsampled : is_sampled c ≡ false
   unfolding is_sampled
   line_unsampled = through_line is_sampled (λ b i. refl) c R
 
   -- in any room for two
-  line_sampled : (room : ℕ) → 2 ≤ room → r.segments ≤ 1 → le (worst_miss c plus_zero (evenly range 1)) r.sag ≡ true → sampled_in room c range r ≡ got (evenly range 1)
+  line_sampled : (room : ℕ) → 2 ≤ room → r.segments ≤ 1 → le (worst_miss c plus_zero (evenly range 1)) r.sag ≡ true → sampled_in room c range r ≡ Ok (evenly range 1)
   unfolding sampled_in sampler sample_params_in
   line_sampled room h k m =
       let l = evenly range 1 in
       let worse = refined_in room (sampler c range r) range in
       rw (line_form k, sample_params_in)
-      (ap (λ (x : Result (List Float)). bind x (λ l. elim ((sampler c range r).meets l) [ true ↦ got l | false ↦ worse ])) (fitting_fits room l (omega (arith, steps_length range 1 2)))
-      ∙ ap (λ (b : Bool). elim b [ true ↦ got l | false ↦ worse ]) m)
+      (ap (λ (x : Answer (List Float)). bind x (λ l. elim ((sampler c range r).meets l) [ true ↦ Ok l | false ↦ worse ])) (fitting_fits room l (omega (arith, steps_length range 1 2)))
+      ∙ ap (λ (b : Bool). elim b [ true ↦ Ok l | false ↦ worse ]) m)
 
 -- merging leaves two as they are
 merged_two : (floor : Float) (l : List Sample) → length l ≡ 2 → merged floor l ≡ l
@@ -122,15 +122,15 @@ placed_size T e range = placed_length T e (evenly range 1) ∙ steps_length rang
 
 module _ (T : Tables) (e : Edge) {o d : Vec3} (R : prepared_of (edge_curve T e) ≡ Line o d) (range : Interval) where
   line_over : (r : Resolved) → r.segments ≤ 1 → le (worst_miss (edge_curve T e) plus_zero (evenly range 1)) r.sag ≡ true
-      → (room : ℕ) → 2 ≤ room → within room (over_range T e r range) ≡ got (placed T e (evenly range 1))
+      → (room : ℕ) → 2 ≤ room → within room (over_range T e r range) ≡ Ok (placed T e (evenly range 1))
   unfolding finished thinned_if
   line_over r k m room h =
       let c = edge_curve T e in
       let P = placed T e (evenly range 1) in
       over_within T e r range room
-      ∙ ap (λ (x : Result (List Float)). bind x (finished T e r)) (listed_never room c range r (closed_never_far c range r 1 (line_form c R range r k)) ∙ line_sampled c R range r room h k m)
+      ∙ ap (λ (x : Answer (List Float)). bind x (finished T e r)) (listed_never room c range r (closed_never_far c range r 1 (line_form c R range r k)) ∙ line_sampled c R range r room h k m)
       ∙ ap (λ (b : Bool). each (merged (merge_floor e.tolerance r.sag)) (thinned_if b r P)) (line_unsampled c R range r)
-      ∙ ap got (merged_two (merge_floor e.tolerance r.sag) P (placed_size T e range))
+      ∙ ap Ok (merged_two (merge_floor e.tolerance r.sag) P (placed_size T e range))
 
   -- the vertices, with the parameters the way round that the line's points there run
   line_placed : let a = at range plus_zero in let b = at range one in

@@ -1,4 +1,5 @@
--- The tangents of a curve prepared, the sag by its square, the limits, a span by what split_of answers of its ends, and the ways out of subdivide. Assumes nothing.
+-- The sag by its square, the limits, a span by what split_of answers of its ends, and the ways out of subdivide. Assumes nothing.
+use Rattle.std.specs.Prelude.{Option, Some, None}
 use mathlib.Core.Path.{◌≡◌, refl, sym, ap, subst, ◌∙◌}
 use mathlib.Core.Bool.{Bool, true, false, ◌&&◌}
 use mathlib.Core.List.{List, [], ◌∷◌, ◌++◌}
@@ -11,36 +12,19 @@ use Rattle.arith_root.specs.Root.{root_of}
 use Rattle.arith_trig.specs.Trig.{acos_of}
 use Rattle.math_chord.specs.Chord.{bisection_offset, bisection_distance}
 use Rattle.math.specs.declared.Vec3.{Vec3}
-use Rattle.math.specs.declared.Direction.{Direction}
-use Rattle.math.specs.declared.Direction.TheVariants.{Unit, Nothing}
-use Rattle.math.specs.Math.{v_sub, v_dot, v_length, v_length_squared, try_normalized, angle_between}
+use Rattle.math.specs.Math.{v_sub, v_dot, v_length, v_length_squared, angle_between}
 use Rattle.brep.specs.Tree.{CurveTree}
 use Rattle.curve.specs.Eval.{point_at}
 use Rattle.curve_tangent.specs.Derivative.{tangent_at}
-use Rattle.curve_prepared.specs.declared.Prepared.{Prepared}
-use Rattle.curve_prepared.specs.Own.Prepared.{prepared_of, prepared_derivative}
-use Rattle.curve_prepared.proofs.Laws.{prepared_derivative_lem}
 use Rattle.options.specs.declared.Resolved.{Resolved}
 use Rattle.edge_params.specs.Params.{midpoint}
 use Rattle.edge_params.specs.Own.Bisected.{subdivided}
 use Rattle.edge_params.proofs.Lists.{subdivided_zero, subdivided_within, subdivided_split}
-use Rattle.edge_params.specs.declared.Listed.TheVariants.{Count}
 use Rattle.edge_subdivide.specs.Own.Recorded.{Room, ListRecorded}
 use Rattle.edge_subdivide.proofs.Recorded.{recorded_none}
 use Rattle.edge_subdivide.specs.declared.End.{End}
-use Rattle.edge_subdivide.specs.declared.Split.{Split}
-use Rattle.edge_subdivide.specs.declared.Split.TheVariants.{Within, At}
-use Rattle.edge_subdivide.specs.declared.Limits.{Limits}
-use Rattle.arith_turn_limit.specs.Own.Limit.{Serves, Exceeds}
-use Rattle.arith_turn_limit.proofs.Bound.{serves}
-use Rattle.arith_turn_limit.proofs.Above.{exceeds}
-use Rattle.edge_subdivide.specs.Own.Limits.{limits_of, split_of}
+use Rattle.edge_subdivide.specs.Own.Split.{split_of}
 use Rattle.edge_subdivide.specs.Bisect.{end_at, sag_of, tangent_turn, is_within, within_budget}
-
--- ---- the curve's own tangents, where it was prepared
-module _ (c : CurveTree) (t : Float) {prepared : Prepared} (R : prepared ≡ prepared_of c) where
-  pub own_tangent : {d : Vec3} {g : Direction} → d ≡ prepared_derivative prepared c t → g ≡ try_normalized d → g ≡ tangent_at c t
-  own_tangent D G = G ∙ ap try_normalized (D ∙ ap (λ (x : Prepared). prepared_derivative x c t) R ∙ prepared_derivative_lem c t)
 
 -- ---- the sag, by its square: what is_within works out and compares
 pub sag_within : (pa pb pm chord offset : Vec3) (len s sag limit : Float) → chord ≡ v_sub pb pa → len ≡ v_length chord
@@ -48,39 +32,21 @@ pub sag_within : (pa pb pm chord offset : Vec3) (len s sag limit : Float) → ch
 unfolding sag_of bisection_distance v_length
 sag_within pa pb pm chord offset len s sag limit C L O S E = rw (S, O, L, C, E)
 
--- ---- the limits, one by one
-module _ (r : Resolved) (l : Limits) (e : l ≡ limits_of r) where
-  pub sag_limit : l.sag ≡ r.sag
-  unfolding limits_of
-  sag_limit = ap (λ (x : Limits). x.sag) e
-
-  pub angle_limit : l.angle ≡ r.angle
-  unfolding limits_of
-  angle_limit = ap (λ (x : Limits). x.angle) e
-
-  pub turn_serves : Serves l.turn l.angle
-  unfolding limits_of
-  turn_serves = subst (λ (x : Limits). Serves x.turn x.angle) (sym e) (serves r.angle)
-
-  pub turn_exceeds : Exceeds l.over l.angle
-  unfolding limits_of
-  turn_exceeds = subst (λ (x : Limits). Exceeds x.over x.angle) (sym e) (exceeds r.angle)
-
 -- ---- the turn, by the branches that the code takes
 straight : acos_of one ≡ plus_zero
 unfolding acos_of eq of_bits
 straight = refl
 
-module _ (a b : Direction) where
-  pub turn_no_first : a ≡ Nothing → acos_of one ≡ tangent_turn a b
+module _ (a b : Option Vec3) where
+  pub turn_no_first : a ≡ None → acos_of one ≡ tangent_turn a b
   unfolding tangent_turn
   turn_no_first e = straight ∙ rw e
 
-  pub turn_no_second : (ta : Vec3) → a ≡ Unit ta → b ≡ Nothing → acos_of one ≡ tangent_turn a b
+  pub turn_no_second : (ta : Vec3) → a ≡ Some ta → b ≡ None → acos_of one ≡ tangent_turn a b
   unfolding tangent_turn
   turn_no_second ta e f = straight ∙ rw (e, f)
 
-  pub turn_both : (ta tb : Vec3) → a ≡ Unit ta → b ≡ Unit tb → acos_of (clamp_of (v_dot ta tb) (neg one) one) ≡ tangent_turn a b
+  pub turn_both : (ta tb : Vec3) → a ≡ Some ta → b ≡ Some tb → acos_of (clamp_of (v_dot ta tb) (neg one) one) ≡ tangent_turn a b
   unfolding tangent_turn angle_between
   turn_both ta tb e f = rw (e, f)
 
@@ -104,12 +70,12 @@ module _ (r : Resolved) (a b : End) (pm : Vec3) where
 
 module _ (c : CurveTree) (r : Resolved) (a b : End) where
   -- ---- what split_of answers, by the test that it makes
-  pub split_yes : is_within r a b (point_at c (midpoint a.t b.t)) ≡ true → Within ≡ split_of c r a b
+  pub split_yes : is_within r a b (point_at c (midpoint a.t b.t)) ≡ true → None ≡ split_of c r a b
   unfolding split_of
   split_yes e = rw (e, split_of)
 
-  pub split_no : (p : Vec3) (g : Direction) → p ≡ point_at c (midpoint a.t b.t) → g ≡ tangent_at c (midpoint a.t b.t)
-      → is_within r a b p ≡ false → At (record { t = midpoint a.t b.t; point = p; tangent = g }) ≡ split_of c r a b
+  pub split_no : (p : Vec3) (g : Option Vec3) → p ≡ point_at c (midpoint a.t b.t) → g ≡ tangent_at c (midpoint a.t b.t)
+      → is_within r a b p ≡ false → Some (record { t = midpoint a.t b.t; point = p; tangent = g }) ≡ split_of c r a b
   unfolding split_of end_at
   split_no p g P G e = rw (P, G) (rw (rw P at e, split_of))
 
@@ -119,11 +85,11 @@ module _ (c : CurveTree) (r : Resolved) (a b : End) where
     unfolding within_budget
     same = cc
 
-    pub was_within : Within ≡ split_of c r a b → within_budget c r a.t b.t ≡ true
+    pub was_within : None ≡ split_of c r a b → within_budget c r a.t b.t ≡ true
     unfolding split_of
     was_within e = same ∙ go (is_within r a b (point_at c (midpoint a.t b.t))) e
       where
-        go : (t : Bool) → Within ≡ elim t [ true ↦ Within | false ↦ At (end_at c (midpoint a.t b.t)) ] → t ≡ true
+        go : (t : Bool) → ◌≡◌ {A = Option End} None (elim t [ true ↦ None | false ↦ Some (end_at c (midpoint a.t b.t)) ]) → t ≡ true
         go true e = refl
         go false e = let z : ◌≡◌ {A = ℕ} 0 1 = cc in absurd (omega arith)
 
@@ -131,11 +97,11 @@ module _ (c : CurveTree) (r : Resolved) (a b : End) where
       pub over : within_budget c r a.t b.t ≡ false
       pub middle : m ≡ end_at c (midpoint a.t b.t)
 
-    pub was_split : (m : End) → At m ≡ split_of c r a b → Was-split m
+    pub was_split : (m : End) → Some m ≡ split_of c r a b → Was-split m
     unfolding split_of
     was_split m e = let g = go (is_within r a b (point_at c (midpoint a.t b.t))) e in record { over = same ∙ g.0; middle = g.1 }
       where
-        go : (t : Bool) → At m ≡ elim t [ true ↦ Within | false ↦ At (end_at c (midpoint a.t b.t)) ]
+        go : (t : Bool) → ◌≡◌ {A = Option End} (Some m) (elim t [ true ↦ None | false ↦ Some (end_at c (midpoint a.t b.t)) ])
             → (t ≡ false) × (m ≡ end_at c (midpoint a.t b.t))
         go true e = let z : ◌≡◌ {A = ℕ} 0 1 = cc in absurd (omega arith)
         go false e = (refl, cc)
@@ -153,19 +119,19 @@ module _ (c : CurveTree) (x : Float) (m : End) (e : m ≡ end_at c x) where
 module _ (c : CurveTree) (r : Resolved) (depth : ℕ) (a b : End) (A : a ≡ end_at c a.t) (B : b ≡ end_at c b.t) where
   -- nothing is pushed
   none : {out chain : List Float} {k : ℕ} → Room out chain k → subdivided (within_budget c r) depth a.t b.t ≡ []
-      → ListRecorded c out chain k (subdivided (within_budget c r) depth a.t b.t) (Count k) out chain
-  none {out} {chain} {k} room e = subst (λ (l : List Float). ListRecorded c out chain k l (Count k) out chain) (sym e) (recorded_none c room)
+      → ListRecorded c out chain k (subdivided (within_budget c r) depth a.t b.t) (Some k) out chain
+  none {out} {chain} {k} room e = subst (λ (l : List Float). ListRecorded c out chain k l (Some k) out chain) (sym e) (recorded_none c room)
 
   pub none_deep : {out chain : List Float} {k : ℕ} → Room out chain k → depth ≡ 0
-      → ListRecorded c out chain k (subdivided (within_budget c r) depth a.t b.t) (Count k) out chain
+      → ListRecorded c out chain k (subdivided (within_budget c r) depth a.t b.t) (Some k) out chain
   none_deep room e = none room (subdivided_zero (within_budget c r) depth a.t b.t e)
 
-  module _ (deep : depth ≡ 0 → ⊥) (s : Split) (S : s ≡ split_of c r a b) where
-    pub none_within : {out chain : List Float} {k : ℕ} → Room out chain k → s ≡ Within
-        → ListRecorded c out chain k (subdivided (within_budget c r) depth a.t b.t) (Count k) out chain
+  module _ (deep : depth ≡ 0 → ⊥) (s : Option End) (S : s ≡ split_of c r a b) where
+    pub none_within : {out chain : List Float} {k : ℕ} → Room out chain k → s ≡ None
+        → ListRecorded c out chain k (subdivided (within_budget c r) depth a.t b.t) (Some k) out chain
     none_within room e = none room (subdivided_within (within_budget c r) depth a.t b.t deep (was_within c r a b A B (sym e ∙ S)))
 
-    module _ (m : End) (M : s ≡ At m) where
+    module _ (m : End) (M : s ≡ Some m) where
       w : Was-split c r a b A B m
       w = was_split c r a b A B m (sym M ∙ S)
 

@@ -1,10 +1,8 @@
 -- The budget of a span, of subdivide in edge.rs. Definitions only.
-use Rattle.std.specs.Prelude.{Bool, ◌&&◌, Float}
+use Rattle.std.specs.Prelude.{Bool, ◌&&◌, Float, Option, Some, None}
 use Rattle.std.specs.Float.Ieee.{le}
 use Rattle.arith.specs.Notation.{plus_zero}
 use Rattle.math.specs.declared.Vec3.{Vec3}
-use Rattle.math.specs.declared.Direction.{Direction}
-use Rattle.math.specs.declared.Direction.TheVariants.{Unit, Nothing}
 use Rattle.math.specs.Math.{v_sub, v_length, angle_between}
 use Rattle.brep.specs.Tree.{CurveTree}
 use Rattle.curve.specs.Eval.{point_at}
@@ -23,10 +21,10 @@ unfoldable pub sag_of : Vec3 → Vec3 → Vec3 → Float
 sag_of pa pb pm = let chord = v_sub pb pa in bisection_distance pa chord (v_length chord) pm
 
 -- the angle between two tangents; 0 where one is missing
-unfoldable pub tangent_turn : Direction → Direction → Float
-tangent_turn (Unit a) (Unit b) = angle_between a b
-tangent_turn (Unit a) Nothing = plus_zero
-tangent_turn Nothing b = plus_zero
+unfoldable pub tangent_turn : Option Vec3 → Option Vec3 → Float
+tangent_turn (Some a) (Some b) = angle_between a b
+tangent_turn (Some a) None = plus_zero
+tangent_turn None b = plus_zero
 
 -- deviation <= options.sag && turn <= options.angle, of a span whose middle has the point pm
 unfoldable pub is_within : Resolved → End → End → Vec3 → Bool

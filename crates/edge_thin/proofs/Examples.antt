@@ -1,4 +1,5 @@
 -- Chains thinned by computation, with sag 1 and angle 0.14. Assumes nothing.
+use Rattle.std.specs.Prelude.{Err, Ok}
 use mathlib.Core.Path.{◌≡◌, refl}
 use mathlib.Core.List.{List, [], ◌∷◌}
 use Prim.Native.Nat.{ℕ, ◌+◌, ◌*◌, ◌^◌}
@@ -9,12 +10,12 @@ use Rattle.arith_root.specs.Root.{root_of}
 use Rattle.arith_trig.specs.Trig.{halved, summed, arc_of, angle_of, acos_by, acos_of}
 use Rattle.math.specs.Math.{vec, v_add, v_sub, v_scale, v_dot, v_length, try_normalized, angle_between}
 use Rattle.math_chord.specs.Chord.{foot_of, chord_offset, span_offset, span_distance}
-use Rattle.base_lists.specs.Result.{refused, got}
 use Rattle.edge_record.specs.declared.Sample.{Sample}
 use Rattle.edge_record.specs.Chain.{last_of}
 use Rattle.edge_thin_span.specs.Span.{worst_from, worst_of, directions, span_turn, decision}
 use Rattle.edge_thin_mark.specs.Spans.{kept_in, flagged}
 use Rattle.edge_thin.specs.Thin.{flag_count, evens, restored, retained_by, thinned}
+use Rattle.refusal.specs.declared.Refusal.TheVariants.{Endless}
 
 abbrev at : Float → Float → Float → Sample
 at x y t = record { point = vec x y plus_zero; param = t }
@@ -47,6 +48,6 @@ far =
 
 -- the corner stays; the middle one of a row goes, unless the segment floor asks for it; the last is refused
 pub examples : thinned tolerance angle 2 corner ∷ thinned tolerance angle 2 row ∷ thinned tolerance angle 3 row ∷ thinned tolerance angle 2 far ∷ []
-    ≡ got corner ∷ got (at plus_zero plus_zero plus_zero ∷ at two plus_zero two ∷ []) ∷ got row ∷ refused 9 ∷ []
+    ≡ Ok corner ∷ Ok (at plus_zero plus_zero plus_zero ∷ at two plus_zero two ∷ []) ∷ Ok row ∷ Err Endless ∷ []
 unfolding thinned retained_by restored flag_count evens flagged kept_in decision span_turn worst_of worst_from directions angle_between span_distance span_offset chord_offset foot_of try_normalized v_add v_sub v_scale v_dot v_length last_of acos_of acos_by angle_of arc_of summed halved root_of add sub mul div neg lt le eq is_nan of_bits of_int round
 examples = refl

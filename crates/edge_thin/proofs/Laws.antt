@@ -1,4 +1,5 @@
 -- Laws of `thinned`: some samples are left out, never the first nor the last, and 9 is the only refusal. Assumes nothing.
+use Rattle.std.specs.Prelude.{Option, Some, None, Err, Ok}
 use mathlib.Core.Path.{◌≡◌, refl, sym, ap, subst, ◌∙◌}
 use mathlib.Core.Bool.{Bool, true, false, cond, not, ◌||◌}
 use mathlib.Core.List.{List, [], ◌∷◌, ◌++◌, drop_last}
@@ -9,21 +10,22 @@ use lib.Seq.{get_or-set_same}
 use lib.Dec.{ltb}
 use lib.Ieee.{Float, lt}
 use Rattle.arith.specs.Notation.{plus_zero}
-use Rattle.base_lists.specs.Result.{Result, refused, got, each, both}
 use Rattle.base_lists.specs.Own.Sub.{Sub, end, keep, skip}
 use Rattle.math.specs.declared.Vec3.{Vec3}
 use Rattle.edge_record.specs.declared.Sample.{Sample}
 use Rattle.edge_record.specs.Chain.{last_of, sample_point}
 use Rattle.edge_record.proofs.Shorter.{Shorter, shorter_same, drop_last-last}
-use Rattle.edge_thin_span.specs.declared.Decision.{Decision}
-use Rattle.edge_thin_span.specs.declared.Decision.TheVariants.{Leave, Split, Refuse}
 use Rattle.edge_thin_span.specs.Span.{decision}
+use Rattle.edge_thin_span.proofs.Laws.{nine}
 use Rattle.edge_thin_mark.specs.Spans.{by_split, kept_in, kept, marks, flagged}
 use Rattle.edge_thin.specs.Thin.{flag_count, evens, restored, with_floor, retained_by, thinned}
+use Rattle.refusal.specs.Answer.{Answer, each, both}
+use Rattle.refusal.specs.declared.Refusal.{Refusal}
+use Rattle.refusal.specs.declared.Refusal.TheVariants.{Endless}
 
 -- ---- a flag that is set stays set
 unset : (b : Bool) → b ≡ false → b ≡ true → ⊥
-unset b e h = let z : ◌≡◌ {A = ℕ} 0 1 = cc in omega arith
+unset b e h = cc
 
 set_keeps : (k : List Bool) (i j : ℕ) → get_or k j false ≡ true → get_or (set k i true) j false ≡ true
 set_keeps [] i j h = h
@@ -49,13 +51,13 @@ record Ends (n : ℕ) (k : List Bool) : Type 0 where
   pub first : get_or k 0 false ≡ true
   pub last : get_or k (n - 1) false ≡ true
 
-flagged_ends : (points : ℕ → Vec3) (tolerance angle : Float) (n : ℕ) (k : List Bool) → 0 < n → flagged points tolerance angle n ≡ got k → Ends n k
+flagged_ends : (points : ℕ → Vec3) (tolerance angle : Float) (n : ℕ) (k : List Bool) → 0 < n → flagged points tolerance angle n ≡ Ok k → Ends n k
 unfolding flagged
 flagged_ends points tolerance angle n k h e = go (kept (decision points tolerance angle) 0 (n - 1)) e
   where
-    go : (r : Result (List ℕ)) → each (marks (set (set (replicate n false) 0 true) (n - 1) true)) r ≡ got k → Ends n k
-    go (refused x) q = absurd (let z : ◌≡◌ {A = ℕ} 0 1 = cc in omega arith)
-    go (got l) q =
+    go : (r : Answer (List ℕ)) → each (marks (set (set (replicate n false) 0 true) (n - 1) true)) r ≡ Ok k → Ends n k
+    go (Err x) q = cc
+    go (Ok l) q =
         let w : marks (set (set (replicate n false) 0 true) (n - 1) true) l ≡ k = cc in
         let z = length-replicate n false in
         record {
@@ -105,9 +107,9 @@ module _ (tolerance angle : Float) (floor : ℕ) (p q : Sample) (l m : List Samp
   abbrev all : List Sample
   all = p ∷ q ∷ l
 
-  by_flags : (r : Result (List Bool)) → flagged (sample_point all) tolerance angle (length all) ≡ r → each (λ k. retained_by (with_floor floor k) all) r ≡ got m → Shorter m all
-  by_flags (refused x) f w = absurd (let z : ◌≡◌ {A = ℕ} 0 1 = cc in omega arith)
-  by_flags (got k) f w =
+  by_flags : (r : Answer (List Bool)) → flagged (sample_point all) tolerance angle (length all) ≡ r → each (λ k. retained_by (with_floor floor k) all) r ≡ Ok m → Shorter m all
+  by_flags (Err x) f w = cc
+  by_flags (Ok k) f w =
       let s : retained_by (with_floor floor k) all ≡ m = cc in
       let x = flagged_ends (sample_point all) tolerance angle (length all) k (omega arith) f in
       subst (λ (v : List Sample). Shorter v all) s
@@ -117,53 +119,54 @@ module _ (tolerance angle : Float) (floor : ℕ) (p q : Sample) (l m : List Samp
         last = restored_keeps (min floor (length k)) k (length all - 1) x.last;
       }))
 
-  some_left : (b : Bool) → cond b (got all) (each (λ k. retained_by (with_floor floor k) all) (flagged (sample_point all) tolerance angle (length all))) ≡ got m → Shorter m all
+  some_left : (b : Bool) → cond b (Ok all) (each (λ k. retained_by (with_floor floor k) all) (flagged (sample_point all) tolerance angle (length all))) ≡ Ok m → Shorter m all
   some_left true w = let x : all ≡ m = cc in subst (λ (v : List Sample). Shorter v all) x (shorter_same p q l)
   some_left false w = by_flags (flagged (sample_point all) tolerance angle (length all)) refl w
 
 -- what callers cite, of a chain of two and more
-pub thin_shorter : (tolerance angle : Float) (floor : ℕ) (l m : List Sample) → 2 ≤ length l → thinned tolerance angle floor l ≡ got m → Shorter m l
+pub thin_shorter : (tolerance angle : Float) (floor : ℕ) (l m : List Sample) → 2 ≤ length l → thinned tolerance angle floor l ≡ Ok m → Shorter m l
 unfolding thinned
 thin_shorter tolerance angle floor [] m h e = absurd (omega arith)
 thin_shorter tolerance angle floor (p ∷ []) m h e = absurd (omega arith)
 thin_shorter tolerance angle floor (p ∷ q ∷ l) m h e = some_left tolerance angle floor p q l m (ltb (length (p ∷ q ∷ l)) 3 || not (lt plus_zero tolerance)) e
 
 -- ---- 9 is the only refusal
-kept_refused : (decide : ℕ → ℕ → Decision) (n a b k : ℕ) → kept_in decide n a b ≡ refused k → k ≡ 9
-unfolding kept_in
-kept_refused decide zero a b k e = absurd (let z : ◌≡◌ {A = ℕ} 0 1 = cc in omega arith)
-kept_refused decide (suc n) a b k e =
-    go (decide a b) (λ w j. kept_refused decide n a w j) (λ w j. kept_refused decide n w b j) e
-  where
-    parts : (w : ℕ) (x y : Result (List ℕ)) → ((j : ℕ) → x ≡ refused j → j ≡ 9) → ((j : ℕ) → y ≡ refused j → j ≡ 9)
-        → both (λ l r. w ∷ l ++ r) x y ≡ refused k → k ≡ 9
-    parts w (refused i) y f g q = f k q
-    parts w (got l) (refused i) f g q = g k q
-    parts w (got l) (got r) f g q = absurd (let z : ◌≡◌ {A = ℕ} 0 1 = cc in omega arith)
+-- of spans, where it is the only one of a decision
+module _ (decide : ℕ → ℕ → Answer (Option ℕ)) (nine_only : (a b : ℕ) (k : Refusal) → decide a b ≡ Err k → k ≡ Endless) where
+  kept_refused : (n a b : ℕ) (k : Refusal) → kept_in decide n a b ≡ Err k → k ≡ Endless
+  unfolding kept_in
+  kept_refused zero a b k e = cc
+  kept_refused (suc n) a b k e =
+      go (decide a b) (nine_only a b) (λ w. parts w (kept_in decide n a w) (kept_in decide n w b) (kept_refused n a w) (kept_refused n w b)) e
+    where
+      parts : (w : ℕ) (x y : Answer (List ℕ)) → ((j : Refusal) → x ≡ Err j → j ≡ Endless) → ((j : Refusal) → y ≡ Err j → j ≡ Endless)
+          → both (λ l r. w ∷ l ++ r) x y ≡ Err k → k ≡ Endless
+      parts w (Err i) y f g q = f k q
+      parts w (Ok l) (Err i) f g q = g k q
+      parts w (Ok l) (Ok r) f g q = cc
 
-    go : (d : Decision) → ((w j : ℕ) → kept_in decide n a w ≡ refused j → j ≡ 9) → ((w j : ℕ) → kept_in decide n w b ≡ refused j → j ≡ 9)
-        → by_split d (λ w. both (λ l r. w ∷ l ++ r) (kept_in decide n a w) (kept_in decide n w b)) ≡ refused k → k ≡ 9
-    go Leave f g q = absurd (let z : ◌≡◌ {A = ℕ} 0 1 = cc in omega arith)
-    go (Split w) f g q = parts w (kept_in decide n a w) (kept_in decide n w b) (f w) (g w) q
-    go Refuse f g q = cc
+      go : (d : Answer (Option ℕ)) → ((j : Refusal) → d ≡ Err j → j ≡ Endless)
+          → ((w : ℕ) → both (λ l r. w ∷ l ++ r) (kept_in decide n a w) (kept_in decide n w b) ≡ Err k → k ≡ Endless)
+          → by_split d (λ w. both (λ l r. w ∷ l ++ r) (kept_in decide n a w) (kept_in decide n w b)) ≡ Err k → k ≡ Endless
+      go (Ok None) f g q = cc
+      go (Ok (Some w)) f g q = g w q
+      go (Err j) f g q = let e : j ≡ k = cc in sym e ∙ f j refl
 
 -- a refusal is not changed on its way
-each_refused : {A B : Type 0} (f : A → B) (r : Result A) (k : ℕ) → each f r ≡ refused k → r ≡ refused k
-each_refused f (refused i) k e = cc
-each_refused f (got a) k e = absurd (let z : ◌≡◌ {A = ℕ} 0 1 = cc in omega arith)
+each_refused : {A B : Type 0} (f : A → B) (r : Answer A) (k : Refusal) → each f r ≡ Err k → r ≡ Err k
+each_refused f (Err i) k e = cc
+each_refused f (Ok a) k e = cc
 
-pub thin_refused : (tolerance angle : Float) (floor : ℕ) (l : List Sample) (k : ℕ) → thinned tolerance angle floor l ≡ refused k → k ≡ 9
+pub thin_refused : (tolerance angle : Float) (floor : ℕ) (l : List Sample) (k : Refusal) → thinned tolerance angle floor l ≡ Err k → k ≡ Endless
 unfolding thinned flagged
 thin_refused tolerance angle floor l k = go (ltb (length l) 3 || not (lt plus_zero tolerance))
   where
-    decide : ℕ → ℕ → Decision
-    decide = decision (sample_point l) tolerance angle
-
-    go : (b : Bool) → cond b (got l) (each (λ keep. retained_by (with_floor floor keep) l) (flagged (sample_point l) tolerance angle (length l))) ≡ refused k → k ≡ 9
-    go true e = absurd (let z : ◌≡◌ {A = ℕ} 0 1 = cc in omega arith)
+    go : (b : Bool) → cond b (Ok l) (each (λ keep. retained_by (with_floor floor keep) l) (flagged (sample_point l) tolerance angle (length l))) ≡ Err k → k ≡ Endless
+    go true e = cc
     go false e =
         let n = length l in
         let flags = flagged (sample_point l) tolerance angle n in
-        kept_refused decide (n - 1 - 0) 0 (n - 1) k
+        let decide = decision (sample_point l) tolerance angle in
+        kept_refused decide (nine (sample_point l) tolerance angle) (n - 1 - 0) 0 (n - 1) k
         (each_refused (marks (set (set (replicate n false) 0 true) (n - 1) true)) (kept decide 0 (n - 1)) k
         (each_refused (λ keep. retained_by (with_floor floor keep) l) flags k e))

@@ -1,4 +1,4 @@
--- The loops of `count_kept`, `mark_evenly` and `retain`. Assumes nothing.
+-- The loops of `mark_evenly` and `retain`. Assumes nothing.
 use mathlib.Core.Path.{◌≡◌, refl, sym, ap, ◌∙◌}
 use mathlib.Core.Bool.{Bool, true, false, cond}
 use mathlib.Core.List.{List, [], ◌∷◌, ◌++◌}
@@ -16,25 +16,6 @@ use Rattle.edge_record.proofs.Compact.{Compacted, compact_start, compact_skip, c
 use Rattle.edge_thin_mark.specs.Spans.{marks}
 use Rattle.edge_thin.specs.Thin.{flag_count, even_at, evens, retained_by}
 
--- ---- `count_kept`
-count_append : (a b : List Bool) → flag_count (a ++ b) ≡ flag_count a + flag_count b
-unfolding flag_count
-count_append [] b = omega arith
-count_append (true ∷ a) b = let h = count_append a b in omega arith
-count_append (false ∷ a) b = count_append a b
-
-module _ (keep : List Bool) (i k : ℕ) (h : i < length keep) (e : k ≡ flag_count (take i keep)) where
-  count_one : flag_count (take (i + 1) keep) ≡ flag_count (take i keep) + flag_count (get_or keep i false ∷ [])
-  count_one = rw (add-one i, take-suc keep i false h) (count_append (take i keep) (get_or keep i false ∷ []))
-
-  pub count_set : get_or keep i false ≡ true → k + 1 ≡ flag_count (take (i + 1) keep)
-  unfolding flag_count
-  count_set t = let s = count_one in let o : flag_count (get_or keep i false ∷ []) ≡ 1 = rw t in omega arith
-
-  pub count_unset : get_or keep i false ≡ false → k ≡ flag_count (take (i + 1) keep)
-  unfolding flag_count
-  count_unset t = let s = count_one in let o : flag_count (get_or keep i false ∷ []) ≡ 0 = rw t in omega arith
-
 -- ---- `mark_evenly`
 marks_append : (keep : List Bool) (a b : List ℕ) → marks keep (a ++ b) ≡ marks (marks keep a) b
 marks_append keep [] b = refl
@@ -43,6 +24,9 @@ marks_append keep (i ∷ a) b = marks_append (set keep i true) a b
 pub length_marks : (keep : List Bool) (a : List ℕ) → length (marks keep a) ≡ length keep
 length_marks keep [] = refl
 length_marks keep (i ∷ a) = length_marks (set keep i true) a ∙ length-set keep i true
+
+pub even_fits : (n i : ℕ) → i < n → n ≤ most → i * (n - 1) ≤ most * most
+even_fits n i h l = mul-le-mul {n₁ = i} {m₁ = n - 1} {n₂ = most} {m₂ = most} (omega arith) (omega arith)
 
 module _ (n want steps i : ℕ) (e : steps ≡ max (want - 1) 1) (h : i < want) (g : want ≤ n) where
   pub even_next : (keep d : List Bool) → d ≡ marks keep (evens n want i) → set d (i * (n - 1) / steps) true ≡ marks keep (evens n want (i + 1))
@@ -53,19 +37,10 @@ module _ (n want steps i : ℕ) (e : steps ≡ max (want - 1) 1) (h : i < want) 
       ∙ sym (marks_append keep (evens n want i) (even_at n want i ∷ []))
       ∙ ap (λ (k : ℕ). marks keep (evens n want k)) (sym (add-one i))
 
-  pub even_fits : n ≤ most → i * (n - 1) ≤ most * most
-  even_fits l = mul-le-mul {n₁ = i} {m₁ = n - 1} {n₂ = most} {m₂ = most} (omega arith) (omega arith)
-
   pub even_inside : i * (n - 1) / steps < n
   even_inside =
       let a : i ≤ steps = let m = le-max_left (want - 1) 1 in omega arith in
       let b : i * (n - 1) / steps ≤ n - 1 = div-le_of_le-mul steps (mul-le-mul_right (n - 1) a) in omega arith
-
-pub steps_many : (want : ℕ) → 1 < want → want - 1 ≡ max (want - 1) 1
-steps_many want h = sym (max-eq_left (omega arith))
-
-pub steps_one : (want : ℕ) → want ≤ 1 → 1 ≡ max (want - 1) 1
-steps_one want h = sym (max-eq_right (omega arith))
 
 -- ---- `retain`
 pub retained_none : (keep : List Bool) → retained_by keep [] ≡ []

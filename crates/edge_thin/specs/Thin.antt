@@ -1,17 +1,15 @@
 -- `thin`: the flags of the spans, the segment floor, and the samples that are kept. Definitions only.
-use Rattle.std.specs.Prelude.{Bool, true, false, cond, not, ◌||◌, List, [], ◌∷◌, ◌++◌, ℕ, zero, suc, ◌-◌, ◌*◌, ◌/◌, min, max, length, ltb, Float}
+use Rattle.std.specs.Prelude.{Bool, true, false, cond, not, ◌||◌, List, [], ◌∷◌, ◌++◌, ℕ, zero, suc, count_by, ◌-◌, ◌*◌, ◌/◌, min, max, length, ltb, Float, Ok}
 use Rattle.std.specs.Float.Ieee.{lt}
 use Rattle.arith.specs.Notation.{plus_zero}
-use Rattle.base_lists.specs.Result.{Result, got, each}
 use Rattle.edge_record.specs.declared.Sample.{Sample}
 use Rattle.edge_record.specs.Chain.{sample_point}
 use Rattle.edge_thin_mark.specs.Spans.{marks, flagged}
+use Rattle.refusal.specs.Answer.{Answer, each}
 
 -- how many flags are set
 unfoldable pub flag_count : List Bool → ℕ
-flag_count [] = 0
-flag_count (true ∷ keep) = suc (flag_count keep)
-flag_count (false ∷ keep) = flag_count keep
+flag_count keep = count_by (λ kept. kept) keep
 
 -- the i-th of `want` indexes at even steps over n points
 abbrev pub even_at : ℕ → ℕ → ℕ → ℕ
@@ -38,7 +36,7 @@ retained_by (true ∷ keep) (s ∷ l) = s ∷ retained_by keep l
 retained_by (false ∷ keep) (s ∷ l) = retained_by keep l
 
 -- thin: every sample of a chain of under three, or for a tolerance that is not above zero; else those whose flags are set, or refusal 9
-unfoldable pub thinned : Float → Float → ℕ → List Sample → Result (List Sample)
+unfoldable pub thinned : Float → Float → ℕ → List Sample → Answer (List Sample)
 thinned tolerance angle floor l =
-    cond (ltb (length l) 3 || not (lt plus_zero tolerance)) (got l)
+    cond (ltb (length l) 3 || not (lt plus_zero tolerance)) (Ok l)
     (each (λ keep. retained_by (with_floor floor keep) l) (flagged (sample_point l) tolerance angle (length l)))

@@ -1,28 +1,25 @@
 #![tactic(auto)]
 // `thin`: drops the points of a sampled polyline that it does not need, to a bounded deviation.
-ghost use Rattle.std.specs.Prelude.{◌≡◌, true, false, ◌*◌, ◌<◌, ◌≤◌, min, length, replicate};
+ghost use Rattle.std.specs.Prelude.{◌≡◌, true, false, ◌*◌, ◌<◌, ◌≤◌, length, replicate};
 ghost use Rattle.std.specs.Float.Ieee.{lt};
 ghost use Rattle.arith.specs.Notation.{plus_zero};
-ghost use Rattle.base_lists.specs.Result.{each};
-ghost use Rattle.edge_record.specs.Own.Stored.{record_point, counted_of, after, ChainStored};
+ghost use Rattle.edge_record.specs.Own.Stored.{counted_of, after, ChainStored};
 ghost use Rattle.edge_record.specs.Chain.{width, most, samples};
-ghost use Rattle.edge_thin_mark.specs.Own.Flags.{flags};
-ghost use Rattle.edge_thin_mark.specs.Spans.{marks, flagged};
+ghost use Rattle.edge_thin_mark.specs.Spans.{marks};
 ghost use Rattle.edge_thin.specs.Thin.{flag_count, evens, with_floor, retained_by, thinned};
 
-use edge_record::Counted;
+use edge_thin_span::Bounds;
+use refusal::Refusal;
+
+// Few flags, for a short chain: they are cleared at each call.
+const FEW: usize = 128;
 
 // How many flags are set.
+#[tactic(auto, unfolding(crate::specs::Thin::flag_count))]
 fn count_kept(keep: &[bool]) -> usize
     ensures { result ≡ flag_count keep.now }
 {
-    let mut kept = 0usize;
-    for i in 0..keep.len() {
-        if keep[i] {
-            kept += 1;
-        }
-    }
-    kept
+    keep.iter().filter(|kept| **kept).count()
 }
 
 // Sets `want` flags at even steps.
@@ -31,39 +28,23 @@ fn mark_evenly(keep: &mut [bool], want: usize)
     ensures { keep.new ≡ marks keep.old (evens (length keep.old) want want) }
 {
     let last = keep.len() - 1;
-    let mut steps = 1usize;
-    if want > 1 {
-        steps = want - 1;
-    }
+    let steps = want.saturating_sub(1).max(1);
     for i in 0..want {
         keep[i * last / steps] = true;
     }
 }
 
-// The segment floor, of a chain of n points at most all of them.
-fn wanted(floor: usize, n: usize) -> usize
-    ensures { (result ≡ min floor n) × (result ≤ n) }
+// The segment floor is the tessellator's own: where fewer flags are set than it asks for (than there are, where it asks for more), points
+// are put back evenly.
+#[tactic(auto, unfolding(crate::specs::Thin::restored))]
+fn restore(keep: &mut [bool], floor: usize)
+    requires { (0 < length keep.old) × (length keep.old ≤ most) }
+    ensures { keep.new ≡ with_floor floor keep.old }
 {
-    if n < floor {
-        return n;
-    }
-    floor
-}
-
-// Sets the flags of the points that stay; there is a flag for each point. False means refused with 9.
-fn flag(chain: &[f64], tolerance: f64, angle: f64, floor: usize, keep: &mut [bool]) -> bool
-    requires { (1 < length keep.old) × (length keep.old ≤ most) × (width * length keep.old ≤ length chain.now) × (keep.old ≡ replicate (length keep.old) false) }
-    ensures { flags result keep.new ≡ each (with_floor floor) (flagged (record_point chain.now) tolerance angle (length keep.old)) }
-{
-    if !edge_thin_mark::mark(chain, tolerance, angle, keep) {
-        return false;
-    }
-    // The segment floor is the tessellator's own: where thinning would go below it, points are put back evenly.
-    let want = wanted(floor, keep.len());
+    let want = floor.min(keep.len());
     if count_kept(keep) < want {
         mark_evenly(keep, want);
     }
-    true
 }
 
 // The records whose flags are set, moved to the buffer's start; there is a flag for each record. Answers how many there are.
@@ -71,9 +52,9 @@ fn retain(chain: &mut [f64], keep: &[bool]) -> usize
     requires { width * length keep.now ≤ length chain.old }
     ensures { ChainStored chain.old chain.new result (retained_by keep.now (samples (length keep.now) chain.old)) }
 {
-    let mut k = 0usize;
-    for i in 0..keep.len() {
-        if keep[i] {
+    let mut k = 0;
+    for (i, kept) in keep.iter().enumerate() {
+        if *kept {
             let s = edge_record::sample_at(chain, i);
             edge_record::put(chain, k, s);
             k += 1;
@@ -82,40 +63,43 @@ fn retain(chain: &mut [f64], keep: &[bool]) -> usize
     k
 }
 
-// Thins the records, of which there are as many as flags. What is kept is moved to the buffer's start; a refusal leaves the buffer as it was.
-fn thin_with(
+// Thins the first n records by as many of the flags, none of which is set. What is kept is moved to the buffer's start; a refusal leaves
+// the buffer as it was.
+fn thin_by(
     chain: &mut [f64],
+    n: usize,
+    bounds: Bounds,
+    floor: usize,
+    flags: &mut [bool],
+) -> Result<usize, Refusal>
+    requires { (2 < n) × (n ≤ most) × (width * n ≤ length chain.old) × (n ≤ length flags.old) × (flags.old ≡ replicate (length flags.old) false) × (lt plus_zero bounds.tolerance ≡ true) }
+    ensures { (result ≡ counted_of (thinned bounds.tolerance bounds.angle floor (samples n chain.old)))
+        × (chain.new ≡ after chain.old (thinned bounds.tolerance bounds.angle floor (samples n chain.old))) }
+{
+    let keep = &mut flags[..n];
+    edge_thin_mark::mark(chain, bounds, keep)?;
+    restore(keep, floor);
+    Ok(retain(chain, keep))
+}
+
+// Thins the first n records in place.
+pub fn thin(
+    chain: &mut [f64],
+    n: usize,
     tolerance: f64,
     angle: f64,
     floor: usize,
-    keep: &mut [bool],
-) -> Counted
-    requires { (2 < length keep.old) × (length keep.old ≤ most) × (width * length keep.old ≤ length chain.old) × (keep.old ≡ replicate (length keep.old) false) × (lt plus_zero tolerance ≡ true) }
-    ensures { (result ≡ counted_of (thinned tolerance angle floor (samples (length keep.old) chain.old)))
-        × (chain.new ≡ after chain.old (thinned tolerance angle floor (samples (length keep.old) chain.old))) }
-{
-    if flag(chain, tolerance, angle, floor, keep) {
-        return Counted::Count(retain(chain, keep));
-    }
-    Counted::Refused(9)
-}
-
-// Thins the first n records in place. A short chain needs few flags, which are cleared at each call.
-pub fn thin(chain: &mut [f64], n: usize, tolerance: f64, angle: f64, floor: usize) -> Counted
+) -> Result<usize, Refusal>
     requires { (n ≤ most) × (width * n ≤ length chain.old) }
     ensures { (result ≡ counted_of (thinned tolerance angle floor (samples n chain.old)))
         × (chain.new ≡ after chain.old (thinned tolerance angle floor (samples n chain.old))) }
 {
-    if n < 3 {
-        return Counted::Count(n);
+    if n < 3 || !(tolerance > 0.0) {
+        return Ok(n);
     }
-    if !(tolerance > 0.0) {
-        return Counted::Count(n);
+    let bounds = Bounds { tolerance, angle };
+    if n <= FEW {
+        return thin_by(chain, n, bounds, floor, &mut [false; FEW]);
     }
-    if n <= 128 {
-        let mut few = [false; 128];
-        return thin_with(chain, tolerance, angle, floor, &mut few[..n]);
-    }
-    let mut keep = [false; edge_record::MOST];
-    thin_with(chain, tolerance, angle, floor, &mut keep[..n])
+    thin_by(chain, n, bounds, floor, &mut [false; edge_record::MOST])
 }

@@ -1,20 +1,21 @@
 -- A span is refused exactly where it is endless. Assumes nothing.
+use Rattle.std.specs.Prelude.{Option, Some, None, Err, Ok}
 use mathlib.Core.Path.{◌≡◌, refl, sym, ap, ◌∙◌}
 use mathlib.Core.Bool.{Bool, true, false, cond, ◌||◌}
 use Prim.Native.Nat.{ℕ, zero, suc, ◌+◌, ◌-◌, ◌<◌, ◌≤◌}
 use native.Mathlib.Omega.{arith}
 use lib.Dec.{eqb, leb}
 use lib.Ieee.{Float, lt}
-use borrow.Author.Tests.{eqb-true, eqb-false, leb-false}
+use borrow.Author.Tests.{eqb-true, eqb-false, eq-eqb, leb-false, lt-leb}
 use Rattle.arith.specs.Notation.{plus_zero}
 use Rattle.math.specs.declared.Vec3.{Vec3}
 use Rattle.math.specs.Math.{v_sub, v_length_squared}
 use Rattle.math_chord.specs.Chord.{span_distance}
-use Rattle.edge_thin_span.specs.declared.Decision.TheVariants.{Leave, Split, Refuse}
 use Rattle.edge_thin_span.specs.Span.{worst_from, worst_of, span_turn, decision}
 use Rattle.edge_thin_span.proofs.Loops.{worst_is}
-use Rattle.edge_thin_span.proofs.Laws.{refuses}
-use Rattle.edge_thin_loop.specs.Endless.{distance_in, Endless}
+use Rattle.refusal.specs.Answer.{Answer}
+use Rattle.refusal.specs.declared.Refusal.TheVariants.{Endless}
+use Rattle.edge_thin_loop.specs.Endless.{distance_in, EndlessSpan}
 
 -- ---- the search for the worst point, from i on
 module _ (points : ℕ → Vec3) (pa axis : Vec3) (a : ℕ) where
@@ -56,31 +57,32 @@ module _ (points : ℕ → Vec3) (pa axis : Vec3) (a : ℕ) where
   none_worse (suc n) i d at f = rw (f i (omega arith) (omega arith)) (none_worse n (suc i) d at (λ j h l. f j (omega arith) (omega arith)))
 
 module _ (points : ℕ → Vec3) (tolerance angle : Float) (a b : ℕ) where
-  abbrev None : Type 0
-  None = (i : ℕ) → a < i → i < b → lt plus_zero (distance_in points a b i) ≡ false
+  abbrev NoneFar : Type 0
+  NoneFar = (i : ℕ) → a < i → i < b → lt plus_zero (distance_in points a b i) ≡ false
 
-  none : a + 1 < b → (worst_of points a b).index ≡ a → None
+  none : a + 1 < b → (worst_of points a b).index ≡ a → NoneFar
   unfolding worst_of
   none wide e i h k = none_above points (points a) (v_sub (points b) (points a)) a (b - (a + 1)) (a + 1) plus_zero (omega arith) e i (omega arith) (omega arith)
 
   -- the largest distance is then 0.0
-  at_start : a + 1 < b → None → worst_of points a b ≡ worst_is plus_zero a
+  at_start : a + 1 < b → NoneFar → worst_of points a b ≡ worst_is plus_zero a
   unfolding worst_of
   at_start wide f = none_worse points (points a) (v_sub (points b) (points a)) a (b - (a + 1)) (a + 1) plus_zero a (λ j h k. f j (omega arith) (omega arith))
 
-  pub endless_refused : Endless points tolerance angle a b → decision points tolerance angle a b ≡ Refuse
-  endless_refused e = sym (refuses points tolerance angle a b e.inside (sym (at_start e.inside e.none)) refl e.splits refl)
+  pub endless_refused : EndlessSpan points tolerance angle a b → decision points tolerance angle a b ≡ Err Endless
+  unfolding decision
+  endless_refused e = rw (lt-leb b (a + 1) e.inside, at_start e.inside e.none, e.splits, eq-eqb a a refl)
 
-  pub refused_endless : decision points tolerance angle a b ≡ Refuse → Endless points tolerance angle a b
+  pub refused_endless : decision points tolerance angle a b ≡ Err Endless → EndlessSpan points tolerance angle a b
   unfolding decision
   refused_endless =
       go (leb b (a + 1)) (lt tolerance (worst_of points a b).distance || lt angle (span_turn points a b)) (eqb (worst_of points a b).index a) refl refl refl
     where
       go : (x y z : Bool) → leb b (a + 1) ≡ x → lt tolerance (worst_of points a b).distance || lt angle (span_turn points a b) ≡ y → eqb (worst_of points a b).index a ≡ z
-          → cond x Leave (cond y (cond z Refuse (Split (worst_of points a b).index)) Leave) ≡ Refuse → Endless points tolerance angle a b
-      go true y z p q r e = absurd (let k : ◌≡◌ {A = ℕ} 0 1 = cc in omega arith)
-      go false false z p q r e = absurd (let k : ◌≡◌ {A = ℕ} 0 1 = cc in omega arith)
-      go false true false p q r e = absurd (let k : ◌≡◌ {A = ℕ} 0 1 = cc in omega arith)
+          → ◌≡◌ {A = Answer (Option ℕ)} (cond x (Ok None) (cond y (cond z (Err Endless) (Ok (Some (worst_of points a b).index))) (Ok None))) (Err Endless) → EndlessSpan points tolerance angle a b
+      go true y z p q r e = cc
+      go false false z p q r e = cc
+      go false true false p q r e = cc
       go false true true p q r e =
           let wide = leb-false b (a + 1) p in
           let f = none wide (eqb-true (worst_of points a b).index a r) in

@@ -1,5 +1,6 @@
 -- A span that the loop takes ends at one of the points, and each point has a flag. Assumes nothing.
-use mathlib.Core.Path.{◌≡◌, refl, sym, subst, ◌∙◌}
+use Rattle.std.specs.Prelude.{Option, Some, None, Err, Ok}
+use mathlib.Core.Path.{◌≡◌, refl, sym, ap, subst, ◌∙◌}
 use mathlib.Core.Bool.{Bool, true, false}
 use mathlib.Core.List.{List, ◌∷◌}
 use Prim.Native.Nat.{ℕ, ◌-◌, ◌<◌}
@@ -8,10 +9,9 @@ use lib.Ieee.{Float}
 use lib.ListN.{length, set, replicate, length-set, length-replicate}
 use Rattle.base_lists.specs.All.{All, none, more}
 use Rattle.math.specs.declared.Vec3.{Vec3}
-use Rattle.edge_thin_span.specs.declared.Decision.{Decision}
-use Rattle.edge_thin_span.specs.declared.Decision.TheVariants.{Leave, Split, Refuse}
+use Rattle.refusal.specs.Answer.{Answer}
 use Rattle.edge_thin_span.specs.Span.{decision}
-use Rattle.edge_thin_span.proofs.Laws.{inside}
+use Rattle.edge_thin_span.proofs.Laws.{inside, nine}
 use Rattle.edge_thin_loop.specs.Loop.{State, state, begun, Reaches, here, turn}
 use Rattle.edge_thin_loop.proofs.Span.{refused_endless}
 use Rattle.edge_thin_loop.proofs.Turns.{body_by, body_by_lem}
@@ -22,13 +22,13 @@ module _ (points : ℕ → Vec3) (tolerance angle : Float) (n : ℕ) where
     pub spans : All (λ (p : ℕ × ℕ). p.1 < n) s.stack
     pub flags : length s.keep ≡ n
 
-  after : (d : Decision) (a b : ℕ) (s : State) → decision points tolerance angle a b ≡ d → b < n → Within s → Within (body_by d a b s)
-  after Leave a b s e h w = w
-  after (Split i) a b s e h w =
+  after : (d : Answer (Option ℕ)) (a b : ℕ) (s : State) → decision points tolerance angle a b ≡ d → b < n → Within s → Within (body_by d a b s)
+  after (Ok None) a b s e h w = w
+  after (Ok (Some i)) a b s e h w =
       let j = inside points tolerance angle a b i e in
       record { spans = more h (more {a = (a, i)} (omega arith) w.spans); flags = length-set s.keep i true ∙ w.flags }
-  after Refuse a b s e h w =
-      let j = (refused_endless points tolerance angle a b e).inside in
+  after (Err n) a b s e h w =
+      let j = (refused_endless points tolerance angle a b (e ∙ ap Err (nine points tolerance angle a b n e))).inside in
       record { spans = more h (more {a = (a, a)} (omega arith) w.spans); flags = length-set s.keep a true ∙ w.flags }
 
   stays : {s t : State} → Reaches points tolerance angle s t → Within s → Within t

@@ -1,31 +1,32 @@
 -- What is proved: `flagged` and `thinned` answer exactly where the Rust ends, with what it gives, and refuse exactly where it never ends.
 -- Definitions only.
-use Rattle.std.specs.Prelude.{◌≡◌, Bool, ◌↔◌, List, ◌∷◌, ℕ, ◌<◌, Float, length}
-use Rattle.base_lists.specs.Result.{Result, refused, got}
+use Rattle.std.specs.Prelude.{◌≡◌, Bool, ◌↔◌, List, ◌∷◌, ℕ, ◌<◌, Float, length, Err, Ok}
 use Rattle.math.specs.declared.Vec3.{Vec3}
 use Rattle.edge_record.specs.declared.Sample.{Sample}
-use Rattle.edge_thin_span.specs.declared.Decision.TheVariants.{Refuse}
 use Rattle.edge_thin_span.specs.Span.{decision}
 use Rattle.edge_thin_mark.specs.Spans.{flagged}
 use Rattle.edge_thin.specs.Thin.{thinned}
 use Rattle.edge_thin_loop.specs.Loop.{state, begun, Reaches, LoopEnds, Returns}
-use Rattle.edge_thin_loop.specs.Endless.{Endless, ReachesEndless, ThinEndless}
+use Rattle.edge_thin_loop.specs.Endless.{EndlessSpan, ReachesEndless, ThinEndless}
+use Rattle.refusal.specs.Answer.{Answer}
+use Rattle.refusal.specs.declared.Refusal.TheVariants.{Endless}
+use Rattle.refusal.specs.declared.Refusal.{Refusal}
 
 -- an answer or a refusal of our definitions, against what the Rust ends with and whether it comes to an endless span
-pub record Agrees {A : Type 0} (ours : Result A) (EndsWith : A → Type 0) (ComesToEndless : Type 0) : Type 0 where
+pub record Agrees {A : Type 0} (ours : Answer A) (EndsWith : A → Type 0) (ComesToEndless : Type 0) : Type 0 where
   -- an answer is got exactly where the Rust ends with it
-  pub answers : (x : A) → ours ≡ got x ↔ EndsWith x
+  pub answers : (x : A) → ours ≡ Ok x ↔ EndsWith x
   -- it is refused with 9 exactly where the Rust never ends
-  pub never : ours ≡ refused 9 ↔ ((x : A) → EndsWith x → ⊥)
+  pub never : ours ≡ Err Endless ↔ ((x : A) → EndsWith x → ⊥)
   -- and exactly where it comes to an endless span
-  pub endless : ours ≡ refused 9 ↔ ComesToEndless
+  pub endless : ours ≡ Err Endless ↔ ComesToEndless
   -- there is no other refusal
-  pub nine : (k : ℕ) → ours ≡ refused k → k ≡ 9
+  pub nine : (k : Refusal) → ours ≡ Err k → k ≡ Endless
 
 -- of the spans and of the loop over them, with n points
 pub record Loops (points : ℕ → Vec3) (tolerance angle : Float) (n : ℕ) : Type 0 where
   -- a span is refused exactly where it is endless
-  pub spans : (a b : ℕ) → decision points tolerance angle a b ≡ Refuse ↔ Endless points tolerance angle a b
+  pub spans : (a b : ℕ) → decision points tolerance angle a b ≡ Err Endless ↔ EndlessSpan points tolerance angle a b
   -- the flags are those that the loop ends with
   pub flags : Agrees (flagged points tolerance angle n) (LoopEnds points tolerance angle n) (ReachesEndless points tolerance angle (begun n))
   -- a span that is taken ends at one of the points, and each point has a flag: the loop asks for none past the end

@@ -16,7 +16,7 @@ abbrev pub distance_in : (ℕ → Vec3) → ℕ → ℕ → ℕ → Float
 distance_in points a b i = span_distance (points a) (v_sub (points b) (points a)) (v_length_squared (v_sub (points b) (points a))) (points i)
 
 -- the span from a to b is split without end
-pub record Endless (points : ℕ → Vec3) (tolerance angle : Float) (a b : ℕ) : Type 0 where
+pub record EndlessSpan (points : ℕ → Vec3) (tolerance angle : Float) (a b : ℕ) : Type 0 where
   -- it has points inside
   pub inside : a + 1 < b
   -- it is split, for its turn or for a tolerance below 0.0, its largest distance
@@ -31,7 +31,7 @@ pub record ReachesEndless (points : ℕ → Vec3) (tolerance angle : Float) (s :
   pub stack : List (ℕ × ℕ)
   pub keep : List Bool
   pub reached : Reaches points tolerance angle s (state ((a, b) ∷ stack) keep)
-  pub endless : Endless points tolerance angle a b
+  pub endless : EndlessSpan points tolerance angle a b
 
 -- `thin` comes to one: the chain has three samples or more, the tolerance is above zero, and the loop over its points does
 pub record ThinEndless (tolerance angle : Float) (chain : List Sample) : Type 0 where

@@ -1,5 +1,6 @@
 -- The walk of `mark`: what is still to be found is what the spans between the set flags give, from a on. No decision is looked into.
 -- Assumes nothing.
+use Rattle.std.specs.Prelude.{Option, Some, None, Err, Ok}
 use mathlib.Core.Path.{◌≡◌, refl, sym, ap, subst, ◌∙◌}
 use mathlib.Core.Bool.{Bool, true, false}
 use mathlib.Core.Logic.{⊎_elim}
@@ -11,30 +12,29 @@ use lib.Dec.{leb}
 use lib.ListN.{length, get_or, set, replicate, length-set, get_or-replicate}
 use lib.Seq.{get_or-set_same, get_or-set_other}
 use borrow.Author.Tests.{leb-true, leb-false}
-use Rattle.base_lists.specs.Result.{Result, refused, got, each, both}
-use Rattle.edge_thin_span.specs.declared.Decision.{Decision}
-use Rattle.edge_thin_span.specs.declared.Decision.TheVariants.{Leave, Split, Refuse}
 use Rattle.edge_thin_mark.specs.Own.Flags.{FirstKept}
 use Rattle.edge_thin_mark.specs.Spans.{by_split, kept_in, kept, marks}
+use Rattle.refusal.specs.Answer.{Answer, each, both}
+use Rattle.refusal.specs.declared.Refusal.{Refusal}
 
 -- ---- answers put together
-none_left : (r : Result (List ℕ)) → both ◌++◌ (got []) r ≡ r
-none_left (refused k) = refl
-none_left (got l) = refl
+none_left : (r : Answer (List ℕ)) → both ◌++◌ (Ok []) r ≡ r
+none_left (Err k) = refl
+none_left (Ok l) = refl
 
-none_right : (r : Result (List ℕ)) → both ◌++◌ r (got []) ≡ r
-none_right (refused k) = refl
-none_right (got l) = ap got (append-nil l)
+none_right : (r : Answer (List ℕ)) → both ◌++◌ r (Ok []) ≡ r
+none_right (Err k) = refl
+none_right (Ok l) = ap Ok (append-nil l)
 
-regroup : (w : ℕ) (x y z : Result (List ℕ)) → both ◌++◌ (both (λ l r. w ∷ l ++ r) x y) z ≡ each (λ l. w ∷ l) (both ◌++◌ x (both ◌++◌ y z))
-regroup w (refused k) y z = refl
-regroup w (got l) (refused k) z = refl
-regroup w (got l) (got r) (refused k) = refl
-regroup w (got l) (got r) (got s) = ap (λ (t : List ℕ). got (w ∷ t)) (append_assoc l r s)
+regroup : (w : ℕ) (x y z : Answer (List ℕ)) → both ◌++◌ (both (λ l r. w ∷ l ++ r) x y) z ≡ each (λ l. w ∷ l) (both ◌++◌ x (both ◌++◌ y z))
+regroup w (Err k) y z = refl
+regroup w (Ok l) (Err k) z = refl
+regroup w (Ok l) (Ok r) (Err k) = refl
+regroup w (Ok l) (Ok r) (Ok s) = ap (λ (t : List ℕ). Ok (w ∷ t)) (append_assoc l r s)
 
-marks_first : (keep : List Bool) (w : ℕ) (r : Result (List ℕ)) → each (marks keep) (each (λ l. w ∷ l) r) ≡ each (marks (set keep w true)) r
-marks_first keep w (refused k) = refl
-marks_first keep w (got l) = refl
+marks_first : (keep : List Bool) (w : ℕ) (r : Answer (List ℕ)) → each (marks keep) (each (λ l. w ∷ l) r) ≡ each (marks (set keep w true)) r
+marks_first keep w (Err k) = refl
+marks_first keep w (Ok l) = refl
 
 -- ---- how many flags are not set
 abbrev pub unset : List Bool → ℕ
@@ -44,7 +44,7 @@ unset (false ∷ l) = suc (unset l)
 
 unset_set : (l : List Bool) (i : ℕ) → i < length l → get_or l i false ≡ false → suc (unset (set l i true)) ≡ unset l
 unset_set [] i h e = absurd (omega arith)
-unset_set (true ∷ l) zero h e = absurd (let z : ◌≡◌ {A = ℕ} 0 1 = cc in omega arith)
+unset_set (true ∷ l) zero h e = cc
 unset_set (false ∷ l) zero h e = refl
 unset_set (true ∷ l) (suc i) h e = unset_set l i (omega arith) e
 unset_set (false ∷ l) (suc i) h e = ap suc (unset_set l i (omega arith) e)
@@ -81,14 +81,12 @@ same_end {keep} {last} {a} {d} b h l n c t f = go (leb d b) refl
   where
     go : (v : Bool) → leb d b ≡ v → d ≡ b
     go true e =
-        ⊎_elim (λ q. q) (λ v. absurd (let x = f.clear d v (omega arith) in let z : ◌≡◌ {A = ℕ} 0 1 = cc in omega arith)) (eq-or-lt_of_le (leb-true d b e))
+        ⊎_elim (λ q. q) (λ v. let x = f.clear d v (omega arith) in cc) (eq-or-lt_of_le (leb-true d b e))
     go false e =
-        absurd
-        (let v = leb-false d b e in
+        let v = leb-false d b e in
         let q = f.after in
         let x = c b (omega arith) v in
-        let y = f.here (omega arith) in
-        let z : ◌≡◌ {A = ℕ} 0 1 = cc in omega arith)
+        let y = f.here (omega arith) in cc
 
 top : {keep : List Bool} {last a : ℕ} {e : List ℕ} (b : ℕ) → Ends keep last a e → a < last → last < length keep → FirstKept keep (a + 1) b → Top keep last a b e
 top b (stop e) g n f = absurd (omega arith)
@@ -104,11 +102,11 @@ top {keep} {last} {a} b (more {b = d} {ends = t} h c k r) g n f =
     }
 
 -- ---- spans, by any decision that leaves a span of one segment and splits strictly inside
-pub record Splits (decide : ℕ → ℕ → Decision) : Type 0 where
-  pub narrow : (a b : ℕ) → b ≤ a + 1 → decide a b ≡ Leave
-  pub inside : (a b w : ℕ) → decide a b ≡ Split w → (a < w) × (w < b)
+pub record Splits (decide : ℕ → ℕ → Answer (Option ℕ)) : Type 0 where
+  pub narrow : (a b : ℕ) → b ≤ a + 1 → decide a b ≡ Ok None
+  pub inside : (a b w : ℕ) → decide a b ≡ Ok (Some w) → (a < w) × (w < b)
 
-module _ (decide : ℕ → ℕ → Decision) (D : Splits decide) where
+module _ (decide : ℕ → ℕ → Answer (Option ℕ)) (D : Splits decide) where
   -- a bound on the segments above b - a changes nothing
   enough : (d e a b : ℕ) → b - a ≤ d → b - a ≤ e → kept_in decide d a b ≡ kept_in decide e a b
   unfolding kept_in
@@ -121,39 +119,50 @@ module _ (decide : ℕ → ℕ → Decision) (D : Splits decide) where
       (λ w q. let i = D.inside a b w q in enough d e w b (omega arith) (omega arith))
       refl
     where
-      go : (v : Decision) → ((w : ℕ) → decide a b ≡ Split w → kept_in decide d a w ≡ kept_in decide e a w) → ((w : ℕ) → decide a b ≡ Split w → kept_in decide d w b ≡ kept_in decide e w b) → decide a b ≡ v
+      go : (v : Answer (Option ℕ)) → ((w : ℕ) → decide a b ≡ Ok (Some w) → kept_in decide d a w ≡ kept_in decide e a w) → ((w : ℕ) → decide a b ≡ Ok (Some w) → kept_in decide d w b ≡ kept_in decide e w b) → decide a b ≡ v
           → by_split v (λ w. both (λ l r. w ∷ l ++ r) (kept_in decide d a w) (kept_in decide d w b)) ≡ by_split v (λ w. both (λ l r. w ∷ l ++ r) (kept_in decide e a w) (kept_in decide e w b))
-      go Leave x y q = refl
-      go Refuse x y q = refl
-      go (Split w) x y q = rw (x w q, y w q)
+      go (Ok None) x y q = refl
+      go (Err n) x y q = refl
+      go (Ok (Some w)) x y q = rw (x w q, y w q)
 
   -- a span as the Rust has it
   pub unroll : (a b : ℕ) → a < b → kept decide a b ≡ by_split (decide a b) (λ w. both (λ l r. w ∷ l ++ r) (kept decide a w) (kept decide w b))
   unfolding kept_in
   unroll a b h = let q : b - a ≡ suc (b - a - 1) = omega arith in ap (λ (d : ℕ). kept_in decide d a b) q ∙ go (decide a b) refl
     where
-      go : (v : Decision) → decide a b ≡ v
+      go : (v : Answer (Option ℕ)) → decide a b ≡ v
           → by_split v (λ w. both (λ l r. w ∷ l ++ r) (kept_in decide (b - a - 1) a w) (kept_in decide (b - a - 1) w b)) ≡ by_split v (λ w. both (λ l r. w ∷ l ++ r) (kept decide a w) (kept decide w b))
-      go Leave q = refl
-      go Refuse q = refl
-      go (Split w) q =
+      go (Ok None) q = refl
+      go (Err n) q = refl
+      go (Ok (Some w)) q =
           let i = D.inside a b w q in
           rw (enough (b - a - 1) (w - a) a w (omega arith) (omega arith), enough (b - a - 1) (b - w) w b (omega arith) (omega arith))
 
 -- ---- the walk
-module _ (decide : ℕ → ℕ → Decision) where
+module _ (decide : ℕ → ℕ → Answer (Option ℕ)) where
   -- what is to be found between a and the last end
-  abbrev pub pending : ℕ → List ℕ → Result (List ℕ)
-  pending a [] = got []
+  abbrev pub pending : ℕ → List ℕ → Answer (List ℕ)
+  pending a [] = Ok []
   pending a (b ∷ e) = both ◌++◌ (kept decide a b) (pending b e)
 
   -- where the walk stands, on its way to `goal`
-  pub record Standing (last : ℕ) (goal : Result (List Bool)) (keep : List Bool) (a : ℕ) : Type 0 where
+  pub record Standing (last : ℕ) (goal : Answer (List Bool)) (keep : List Bool) (a : ℕ) : Type 0 where
     pub ends : List ℕ
     pub spans : Ends keep last a ends
     pub rest : each (marks keep) (pending a ends) ≡ goal
 
-module _ {decide : ℕ → ℕ → Decision} (D : Splits decide) {last : ℕ} {goal : Result (List Bool)} where
+  -- what a turn of the walk needs of the span from a to b: it lies ahead; and by the decision about it, where the walk stands then, or what
+  -- it ends with
+  pub record Turn (last : ℕ) (goal : Answer (List Bool)) (keep : List Bool) (a b : ℕ) : Type 0 where
+    pub ahead : a < b
+    pub bound : b ≤ last
+    pub left : decide a b ≡ Ok None → Standing last goal keep b
+    pub inside : (w : ℕ) → decide a b ≡ Ok (Some w) → (a < w) × (w < b)
+    pub fewer : (w : ℕ) → decide a b ≡ Ok (Some w) → suc (unset (set keep w true)) ≡ unset keep
+    pub split : (w : ℕ) → decide a b ≡ Ok (Some w) → Standing last goal (set keep w true) a
+    pub refused : (n : Refusal) → decide a b ≡ Err n → Err n ≡ goal
+
+module _ {decide : ℕ → ℕ → Answer (Option ℕ)} (D : Splits decide) {last : ℕ} {goal : Answer (List Bool)} where
   pub begin : (k : List Bool) → 0 < last → last < length k → k ≡ replicate (length k) false → each (marks (set (set k 0 true) last true)) (kept decide 0 last) ≡ goal
       → Standing decide last goal (set (set k 0 true) last true) 0
   begin k h g e q = record {
@@ -169,10 +178,10 @@ module _ {decide : ℕ → ℕ → Decision} (D : Splits decide) {last : ℕ} {g
     rest = ap (each (marks (set (set k 0 true) last true))) (none_right (kept decide 0 last)) ∙ q;
   }
 
-  pub done : {keep : List Bool} {a : ℕ} → last ≤ a → Standing decide last goal keep a → got keep ≡ goal
+  pub done : {keep : List Bool} {a : ℕ} → last ≤ a → Standing decide last goal keep a → Ok keep ≡ goal
   done {keep} {a} h s = go s.spans s.rest
     where
-      go : {e : List ℕ} → Ends keep last a e → each (marks keep) (pending decide a e) ≡ goal → got keep ≡ goal
+      go : {e : List ℕ} → Ends keep last a e → each (marks keep) (pending decide a e) ≡ goal → Ok keep ≡ goal
       go (stop e) r = r
       go (more u c t x) r = absurd (let l = ends_le x in omega arith)
 
@@ -184,46 +193,52 @@ module _ {decide : ℕ → ℕ → Decision} (D : Splits decide) {last : ℕ} {g
     here = ap (λ (e : List ℕ). each (marks keep) (pending decide a e)) (sym t.is) ∙ s.rest
 
     -- of what the span at a gives
-    span_gives : {r : Result (List ℕ)} → kept decide a b ≡ r → each (marks keep) (both ◌++◌ r (pending decide b t.tail)) ≡ goal
-    span_gives k = ap (λ (r : Result (List ℕ)). each (marks keep) (both ◌++◌ r (pending decide b t.tail))) (sym k) ∙ here
+    span_gives : {r : Answer (List ℕ)} → kept decide a b ≡ r → each (marks keep) (both ◌++◌ r (pending decide b t.tail)) ≡ goal
+    span_gives k = ap (λ (r : Answer (List ℕ)). each (marks keep) (both ◌++◌ r (pending decide b t.tail))) (sym k) ∙ here
 
-    pub span : (a < b) × (b ≤ last)
-    span = (t.ahead, ends_le t.after)
+    inside : (w : ℕ) → decide a b ≡ Ok (Some w) → (a < w) × (w < b)
+    inside w = D.inside a b w
 
-    -- by the decision d about that span
-    module _ {d : Decision} (made : d ≡ decide a b) where
-      pub leave : d ≡ Leave → Standing decide last goal keep b
-      leave e =
-          let k : kept decide a b ≡ got [] = unroll decide D a b t.ahead ∙ rw (sym made ∙ e) in
-          record { ends = t.tail; spans = t.after; rest = ap (each (marks keep)) (sym (none_left (pending decide b t.tail))) ∙ span_gives k }
+    bound : b ≤ last
+    bound = ends_le t.after
 
-      pub refuse : d ≡ Refuse → refused 9 ≡ goal
-      refuse e = let k : kept decide a b ≡ refused 9 = unroll decide D a b t.ahead ∙ rw (sym made ∙ e) in span_gives k
+    left : decide a b ≡ Ok None → Standing decide last goal keep b
+    left e =
+        let k : kept decide a b ≡ Ok [] = unroll decide D a b t.ahead ∙ rw e in
+        record { ends = t.tail; spans = t.after; rest = ap (each (marks keep)) (sym (none_left (pending decide b t.tail))) ∙ span_gives k }
 
-      module _ (w : ℕ) (e : d ≡ Split w) where
-        pub split_inside : (a < w) × (w < b)
-        split_inside = D.inside a b w (sym made ∙ e)
+    refused : (n : Refusal) → decide a b ≡ Err n → Err n ≡ goal
+    refused n e = let k : kept decide a b ≡ Err n = unroll decide D a b t.ahead ∙ rw e in span_gives k
 
-        pub split_unset : suc (unset (set keep w true)) ≡ unset keep
-        split_unset = let i = split_inside in let j = span in unset_set keep w (omega arith) (t.clear w i.0 i.1)
+    split : (w : ℕ) → decide a b ≡ Ok (Some w) → Standing decide last goal (set keep w true) a
+    split w e =
+        let i = inside w e in
+        let j = bound in
+        let k : kept decide a b ≡ both (λ l r. w ∷ l ++ r) (kept decide a w) (kept decide w b) = unroll decide D a b t.ahead ∙ rw e in
+        record {
+          ends = w ∷ b ∷ t.tail;
+          spans =
+              more i.0
+              (λ x u v. get_or-set_other keep w x true false (λ q. omega arith) ∙ t.clear x u (omega arith))
+              (get_or-set_same keep w true false (omega arith))
+              (more i.1
+              (λ x u v. get_or-set_other keep w x true false (λ q. omega arith) ∙ t.clear x (omega arith) v)
+              (get_or-set_other keep w b true false (λ q. omega arith) ∙ t.flag)
+              (ends_set w i.1 t.after));
+          rest =
+              sym (marks_first keep w (pending decide a (w ∷ b ∷ t.tail)))
+              ∙ ap (each (marks keep)) (sym (regroup w (kept decide a w) (kept decide w b) (pending decide b t.tail)))
+              ∙ span_gives k;
+        }
 
-        pub split : Standing decide last goal (set keep w true) a
-        split =
-            let i = split_inside in
-            let j = span in
-            let k : kept decide a b ≡ both (λ l r. w ∷ l ++ r) (kept decide a w) (kept decide w b) = unroll decide D a b t.ahead ∙ rw (sym made ∙ e) in
-            record {
-              ends = w ∷ b ∷ t.tail;
-              spans =
-                  more i.0
-                  (λ x u v. get_or-set_other keep w x true false (λ q. omega arith) ∙ t.clear x u (omega arith))
-                  (get_or-set_same keep w true false (omega arith))
-                  (more i.1
-                  (λ x u v. get_or-set_other keep w x true false (λ q. omega arith) ∙ t.clear x (omega arith) v)
-                  (get_or-set_other keep w b true false (λ q. omega arith) ∙ t.flag)
-                  (ends_set w i.1 t.after));
-              rest =
-                  sym (marks_first keep w (pending decide a (w ∷ b ∷ t.tail)))
-                  ∙ ap (each (marks keep)) (sym (regroup w (kept decide a w) (kept decide w b) (pending decide b t.tail)))
-                  ∙ span_gives k;
-            }
+    -- what a turn of the walk has of the span from a to b, by the decision about it
+    pub turn : Turn decide last goal keep a b
+    turn = record {
+      ahead = t.ahead;
+      bound = bound;
+      left = left;
+      inside = inside;
+      fewer = λ w e. let i = inside w e in let j = bound in unset_set keep w (omega arith) (t.clear w i.0 i.1);
+      split = split;
+      refused = refused;
+    }

@@ -1,4 +1,5 @@
--- The turn and the decision by the code's tests, and what the walk over the spans asks of a decision. Assumes nothing.
+-- What the walk over the spans asks of a decision. Assumes nothing.
+use Rattle.std.specs.Prelude.{Option, Some, None, Err, Ok}
 use mathlib.Core.Path.{◌≡◌, refl, sym, ap, ◌∙◌}
 use mathlib.Core.Bool.{Bool, true, false, cond, ◌||◌}
 use mathlib.Core.Logic.{◌⊎◌, inl, inr, ⊎_elim}
@@ -9,12 +10,12 @@ use lib.Ieee.{Float, lt}
 use borrow.Author.Tests.{le-leb, lt-leb, leb-false, eqb-false, eq-eqb, ne_eqb}
 use Rattle.arith.specs.Notation.{◌⊕◌, plus_zero}
 use Rattle.math.specs.declared.Vec3.{Vec3}
-use Rattle.math.specs.declared.Direction.{Direction}
-use Rattle.math.specs.declared.Direction.TheVariants.{Unit, Nothing}
 use Rattle.math.specs.Math.{v_sub, v_length_squared, try_normalized, angle_between}
 use Rattle.math_chord.specs.Chord.{span_distance}
 use Rattle.edge_thin_span.specs.declared.Worst.{Worst}
-use Rattle.edge_thin_span.specs.declared.Decision.TheVariants.{Leave, Split, Refuse}
+use Rattle.refusal.specs.Answer.{Answer}
+use Rattle.refusal.specs.declared.Refusal.{Refusal}
+use Rattle.refusal.specs.declared.Refusal.TheVariants.{Endless}
 use Rattle.edge_thin_span.specs.Span.{worse, worst_from, worst_of, directions, first_in, last_in, turn_by, span_turn, decision}
 use Rattle.edge_thin_span.proofs.Loops.{worst_is}
 
@@ -36,75 +37,37 @@ worst_in points pa axis (suc n) i a w g h =
     let q : suc i + n ≡ i + suc n = omega arith in
     rw (sym q) (worst_in points pa axis n (suc i) a _ (omega arith) (worse_in a i w (span_distance pa axis (v_length_squared axis) (points i)) g h))
 
--- ---- the turn by the code's tests
-module _ (points : ℕ → Vec3) (a b : ℕ) (d : Direction) where
-  abbrev chord_direction : Direction
-  chord_direction = try_normalized (v_sub (points b) (points a))
-
-  pub no_chord : d ≡ chord_direction → d ≡ Nothing → plus_zero ≡ span_turn points a b
-  unfolding span_turn
-  no_chord e t = sym (rw (sym e ∙ t) (go (first_in (directions points (b - a) a)) (last_in (directions points (b - a) a))))
-    where
-      go : (f l : Direction) → turn_by f l Nothing ≡ plus_zero
-      go (Unit f) (Unit l) = refl
-      go (Unit f) Nothing = refl
-      go Nothing l = refl
-
-  pub no_first : d ≡ first_in (directions points (b - a) a) → d ≡ Nothing → plus_zero ≡ span_turn points a b
-  unfolding span_turn
-  no_first e t = sym (ap (λ (x : Direction). turn_by x (last_in (directions points (b - a) a)) chord_direction) (sym e ∙ t))
-
-  pub no_last : d ≡ last_in (directions points (b - a) a) → d ≡ Nothing → plus_zero ≡ span_turn points a b
-  unfolding span_turn
-  no_last e t = sym (ap (λ (x : Direction). turn_by (first_in (directions points (b - a) a)) x chord_direction) (sym e ∙ t) ∙ go (first_in (directions points (b - a) a)))
-    where
-      go : (f : Direction) → turn_by f Nothing chord_direction ≡ plus_zero
-      go (Unit f) = refl
-      go Nothing = refl
-
-pub turn_is : (points : ℕ → Vec3) (a b : ℕ) (f l chord : Vec3) → Unit f ≡ first_in (directions points (b - a) a) → Unit l ≡ last_in (directions points (b - a) a)
-    → Unit chord ≡ try_normalized (v_sub (points b) (points a)) → angle_between f chord ⊕ angle_between chord l ≡ span_turn points a b
-unfolding span_turn
-turn_is points a b f l chord x y z =
-    ap (λ (d : Direction). turn_by d (Unit l) (Unit chord)) x
-    ∙ ap (λ (d : Direction). turn_by (first_in (directions points (b - a) a)) d (Unit chord)) y
-    ∙ ap (turn_by (first_in (directions points (b - a) a)) (last_in (directions points (b - a) a))) z
-
 -- ---- the decision
 module _ (points : ℕ → Vec3) (tolerance angle : Float) where
-  pub narrow : (a b : ℕ) → b ≤ a + 1 → decision points tolerance angle a b ≡ Leave
+  pub narrow : (a b : ℕ) → b ≤ a + 1 → decision points tolerance angle a b ≡ Ok None
   unfolding decision
   narrow a b h = rw (le-leb b (a + 1) h)
 
-  pub inside : (a b w : ℕ) → decision points tolerance angle a b ≡ Split w → (a < w) × (w < b)
+  pub inside : (a b w : ℕ) → decision points tolerance angle a b ≡ Ok (Some w) → (a < w) × (w < b)
   unfolding decision worst_of
   inside a b w e =
       go (leb b (a + 1)) (lt tolerance (worst_of points a b).distance || lt angle (span_turn points a b)) (eqb (worst_of points a b).index a) refl refl e
     where
-      go : (x y z : Bool) → leb b (a + 1) ≡ x → eqb (worst_of points a b).index a ≡ z → cond x Leave (cond y (cond z Refuse (Split (worst_of points a b).index)) Leave) ≡ Split w → (a < w) × (w < b)
-      go true y z p r q = absurd (let o : ◌≡◌ {A = ℕ} 0 1 = cc in omega arith)
-      go false false z p r q = absurd (let o : ◌≡◌ {A = ℕ} 0 1 = cc in omega arith)
-      go false true true p r q = absurd (let o : ◌≡◌ {A = ℕ} 0 1 = cc in omega arith)
+      go : (x y z : Bool) → leb b (a + 1) ≡ x → eqb (worst_of points a b).index a ≡ z → ◌≡◌ {A = Answer (Option ℕ)} (cond x (Ok None) (cond y (cond z (Err Endless) (Ok (Some (worst_of points a b).index))) (Ok None))) (Ok (Some w)) → (a < w) × (w < b)
+      go true y z p r q = cc
+      go false false z p r q = cc
+      go false true true p r q = cc
       go false true false p r q =
           let l = leb-false b (a + 1) p in
           let m : (worst_of points a b).index ≡ w = cc in
           ⊎_elim (λ s. absurd (eqb-false (worst_of points a b).index a r s)) (λ s. (omega arith, omega arith))
           (worst_in points (points a) (v_sub (points b) (points a)) (b - (a + 1)) (a + 1) a (worst_is plus_zero a) (omega arith) (inl refl))
 
-  -- by the code's tests
-  module _ (a b : ℕ) (wide : a + 1 < b) {w : Worst} {x : Bool} (e : w ≡ worst_of points a b) (s : x ≡ lt tolerance w.distance || lt angle (span_turn points a b)) where
-    by_test : cond x (cond (eqb w.index a) Refuse (Split w.index)) Leave ≡ decision points tolerance angle a b
-    unfolding decision
-    by_test = rw (s, lt-leb b (a + 1) wide, e)
-
-    pub refuses : x ≡ true → w.index ≡ a → Refuse ≡ decision points tolerance angle a b
-    refuses t h = sym (rw (t, eq-eqb w.index a h)) ∙ by_test
-
-    pub splits : x ≡ true → (w.index ≡ a → ⊥) → Split w.index ≡ decision points tolerance angle a b
-    splits t h = sym (rw (t, ne_eqb w.index a h)) ∙ by_test
-
-    pub leaves : x ≡ false → Leave ≡ decision points tolerance angle a b
-    leaves t = sym (rw t) ∙ by_test
+  -- 9 is its only refusal
+  pub nine : (a b : ℕ) (k : Refusal) → decision points tolerance angle a b ≡ Err k → k ≡ Endless
+  unfolding decision
+  nine a b k = go (leb b (a + 1)) (lt tolerance (worst_of points a b).distance || lt angle (span_turn points a b)) (eqb (worst_of points a b).index a)
+    where
+      go : (x y z : Bool) → ◌≡◌ {A = Answer (Option ℕ)} (cond x (Ok None) (cond y (cond z (Err Endless) (Ok (Some (worst_of points a b).index))) (Ok None))) (Err k) → k ≡ Endless
+      go true y z q = cc
+      go false false z q = cc
+      go false true true q = cc
+      go false true false q = cc
 
 -- ---- the decision looks at the points of its span alone
 module _ (p q : ℕ → Vec3) (n : ℕ) (same : (j : ℕ) → j < n → p j ≡ q j) where

@@ -1,4 +1,5 @@
 -- The loops over a span: of what is left they find what they would find of the whole. Assumes nothing.
+use Rattle.std.specs.Prelude.{Option, Some, None}
 use mathlib.Core.Path.{◌≡◌, refl, sym, ap, ◌∙◌}
 use mathlib.Core.Bool.{Bool, true, false}
 use mathlib.Core.List.{List, [], ◌∷◌, ◌++◌, append-nil}
@@ -10,8 +11,6 @@ use lib.Ieee.{Float, lt, of_bits}
 use Rattle.arith.specs.Notation.{plus_zero}
 use Rattle.arith_root.specs.Root.{root_of}
 use Rattle.math.specs.declared.Vec3.{Vec3}
-use Rattle.math.specs.declared.Direction.{Direction}
-use Rattle.math.specs.declared.Direction.TheVariants.{Unit, Nothing}
 use Rattle.math.specs.Math.{v_sub, v_length_squared, v_length, try_normalized}
 use Rattle.edge_record.specs.Chain.{last_of}
 use Rattle.edge_record.proofs.Shorter.{last_snoc}
@@ -54,7 +53,7 @@ module _ (points : ℕ → Vec3) (pa axis : Vec3) (b : ℕ) where
 
 -- ---- `first_direction` and `last_direction`
 module _ (points : ℕ → Vec3) where
-  abbrev pub direction_of : ℕ → Direction
+  abbrev pub direction_of : ℕ → Option Vec3
   direction_of i = try_normalized (v_sub (points (i + 1)) (points i))
 
   -- the directions of the segments from i to b
@@ -70,9 +69,9 @@ module _ (points : ℕ → Vec3) where
   directions_last zero a = rw add-zero
   directions_last (suc n) a = rw (directions_last n (suc a), suc-add a n, add-suc a n) (over (try_normalized (v_sub (points (suc a)) (points a))) (directions points n (suc a)) _)
     where
-      over : (d : Direction) (k l : List Vec3) → joined d (k ++ l) ≡ joined d k ++ l
-      over (Unit v) k l = refl
-      over Nothing k l = refl
+      over : (d : Option Vec3) (k l : List Vec3) → joined d (k ++ l) ≡ joined d k ++ l
+      over (Some v) k l = refl
+      over None k l = refl
 
   ends_last : (a i : ℕ) → a < i → ends a i ≡ ends a (i - 1) ++ joined (direction_of (i - 1)) []
   ends_last a i h =
@@ -83,22 +82,22 @@ module _ (points : ℕ → Vec3) where
       ∙ ap (λ (j : ℕ). ends a (i - 1) ++ joined (try_normalized (v_sub (points (suc j)) (points j))) []) r
       ∙ ap (λ (j : ℕ). ends a (i - 1) ++ joined (try_normalized (v_sub (points j) (points (i - 1)))) []) (sym (add-one (i - 1)))
 
-  pub first_here : (i b : ℕ) (d : Direction) (v : Vec3) → i < b → d ≡ direction_of i → d ≡ Unit v → d ≡ first_in (ends i b)
-  first_here i b d v h e t = t ∙ sym (ap first_in (ends_first i b h ∙ ap (λ (x : Direction). joined x (ends (i + 1) b)) (sym e ∙ t)))
+  pub first_here : (i b : ℕ) {v : Vec3} → i < b → Some v ≡ direction_of i → Some v ≡ first_in (ends i b)
+  first_here i b h e = sym (ap first_in (ends_first i b h ∙ ap (λ (x : Option Vec3). joined x (ends (i + 1) b)) (sym e)))
 
-  pub first_later : (i b : ℕ) (d : Direction) → i < b → d ≡ direction_of i → d ≡ Nothing → first_in (ends (i + 1) b) ≡ first_in (ends i b)
-  first_later i b d h e t = sym (ap first_in (ends_first i b h ∙ ap (λ (x : Direction). joined x (ends (i + 1) b)) (sym e ∙ t)))
+  pub first_later : (i b : ℕ) → i < b → None ≡ direction_of i → first_in (ends (i + 1) b) ≡ first_in (ends i b)
+  first_later i b h e = sym (ap first_in (ends_first i b h ∙ ap (λ (x : Option Vec3). joined x (ends (i + 1) b)) (sym e)))
 
-  pub last_here : (a i : ℕ) (d : Direction) (v : Vec3) → a < i → d ≡ direction_of (i - 1) → d ≡ Unit v → d ≡ last_in (ends a i)
+  pub last_here : (a i : ℕ) {v : Vec3} → a < i → Some v ≡ direction_of (i - 1) → Some v ≡ last_in (ends a i)
   unfolding last_of
-  last_here a i d v h e t = t ∙ sym (ap last_in (ends_last a i h ∙ ap (λ (x : Direction). ends a (i - 1) ++ joined x []) (sym e ∙ t)) ∙ final (ends a (i - 1)))
+  last_here a i {v} h e = sym (ap last_in (ends_last a i h ∙ ap (λ (x : Option Vec3). ends a (i - 1) ++ joined x []) (sym e)) ∙ final (ends a (i - 1)))
     where
-      final : (l : List Vec3) → last_in (l ++ (v ∷ [])) ≡ Unit v
+      final : (l : List Vec3) → last_in (l ++ (v ∷ [])) ≡ Some v
       final [] = refl
-      final (u ∷ l) = ap Unit (last_snoc u l v)
+      final (u ∷ l) = ap Some (last_snoc u l v)
 
-  pub last_earlier : (a i : ℕ) (d : Direction) → a < i → d ≡ direction_of (i - 1) → d ≡ Nothing → last_in (ends a (i - 1)) ≡ last_in (ends a i)
-  last_earlier a i d h e t = sym (ap last_in (ends_last a i h ∙ ap (λ (x : Direction). ends a (i - 1) ++ joined x []) (sym e ∙ t) ∙ append-nil (ends a (i - 1))))
+  pub last_earlier : (a i : ℕ) → a < i → None ≡ direction_of (i - 1) → last_in (ends a (i - 1)) ≡ last_in (ends a i)
+  last_earlier a i h e = sym (ap last_in (ends_last a i h ∙ ap (λ (x : Option Vec3). ends a (i - 1) ++ joined x []) (sym e) ∙ append-nil (ends a (i - 1))))
 
   pub ends_none : (i b : ℕ) → b ≤ i → ends i b ≡ []
   unfolding directions

@@ -1,16 +1,14 @@
 -- What `thin` decides of a span: its worst point, its turn, and refusal 9. `points` gives a chain's points by their index. Definitions only.
-use Rattle.std.specs.Prelude.{cond, ◌||◌, List, [], ◌∷◌, ℕ, zero, suc, ◌+◌, ◌-◌, leb, eqb, Float}
+use Rattle.std.specs.Prelude.{cond, ◌||◌, List, [], ◌∷◌, ℕ, zero, suc, ◌+◌, ◌-◌, leb, eqb, Float, Option, Some, None, Err, Ok}
 use Rattle.std.specs.Float.Ieee.{lt}
 use Rattle.arith.specs.Notation.{◌⊕◌, plus_zero}
 use Rattle.math.specs.declared.Vec3.{Vec3}
-use Rattle.math.specs.declared.Direction.{Direction}
-use Rattle.math.specs.declared.Direction.TheVariants.{Unit, Nothing}
 use Rattle.math.specs.Math.{v_sub, v_length_squared, try_normalized, angle_between}
 use Rattle.edge_record.specs.Chain.{last_of}
 use Rattle.math_chord.specs.Chord.{span_distance}
 use Rattle.edge_thin_span.specs.declared.Worst.{Worst}
-use Rattle.edge_thin_span.specs.declared.Decision.{Decision}
-use Rattle.edge_thin_span.specs.declared.Decision.TheVariants.{Leave, Split, Refuse}
+use Rattle.refusal.specs.Answer.{Answer}
+use Rattle.refusal.specs.declared.Refusal.TheVariants.{Endless}
 
 -- a distance and its index in place of the worst so far, where it is larger
 abbrev pub worse : Worst → Float → ℕ → Worst
@@ -29,9 +27,9 @@ worst_of points a b =
     (record { distance = plus_zero; index = a })
 
 -- a segment's direction before those of later ones; a segment without one is passed over
-abbrev pub joined : Direction → List Vec3 → List Vec3
-joined (Unit v) l = v ∷ l
-joined Nothing l = l
+abbrev pub joined : Option Vec3 → List Vec3 → List Vec3
+joined (Some v) l = v ∷ l
+joined None l = l
 
 -- ends: the directions of n segments from point a on
 unfoldable pub directions : (ℕ → Vec3) → ℕ → ℕ → List Vec3
@@ -39,31 +37,32 @@ directions points zero a = []
 directions points (suc n) a = joined (try_normalized (v_sub (points (suc a)) (points a))) (directions points n (suc a))
 
 -- ends.next(): the first direction, if there is one
-abbrev pub first_in : List Vec3 → Direction
-first_in [] = Nothing
-first_in (v ∷ l) = Unit v
+abbrev pub first_in : List Vec3 → Option Vec3
+first_in [] = None
+first_in (v ∷ l) = Some v
 
 -- ends.last(): the last, if there is one
-abbrev pub last_in : List Vec3 → Direction
-last_in [] = Nothing
-last_in (v ∷ l) = Unit (last_of v l)
+abbrev pub last_in : List Vec3 → Option Vec3
+last_in [] = None
+last_in (v ∷ l) = Some (last_of v l)
 
 -- the angle from the first direction to the last, by way of the chord's; 0.0 where one of the three is missing
-abbrev pub turn_by : Direction → Direction → Direction → Float
-turn_by (Unit f) (Unit l) (Unit chord) = angle_between f chord ⊕ angle_between chord l
-turn_by (Unit f) (Unit l) Nothing = plus_zero
-turn_by (Unit f) Nothing chord = plus_zero
-turn_by Nothing last chord = plus_zero
+abbrev pub turn_by : Option Vec3 → Option Vec3 → Option Vec3 → Float
+turn_by None first last = plus_zero
+turn_by (Some chord) None last = plus_zero
+turn_by (Some chord) (Some f) None = plus_zero
+turn_by (Some chord) (Some f) (Some l) = angle_between f chord ⊕ angle_between chord l
 
 -- turn: that of the span from a to b
 unfoldable pub span_turn : (ℕ → Vec3) → ℕ → ℕ → Float
 span_turn points a b =
-    turn_by (first_in (directions points (b - a) a)) (last_in (directions points (b - a) a)) (try_normalized (v_sub (points b) (points a)))
+    turn_by (try_normalized (v_sub (points b) (points a))) (first_in (directions points (b - a) a)) (last_in (directions points (b - a) a))
 
--- a span is split at its worst point where that lies too far off or the span turns too much; refused where no point in it has a distance above zero
-unfoldable pub decision : (ℕ → Vec3) → Float → Float → ℕ → ℕ → Decision
+-- what becomes of a span: none of its points inside is kept; or it is split at its worst point, where that lies too far off or the span
+-- turns too much; or refusal 9, where it would be split and no point in it has a distance above zero
+unfoldable pub decision : (ℕ → Vec3) → Float → Float → ℕ → ℕ → Answer (Option ℕ)
 decision points tolerance angle a b =
-    cond (leb b (a + 1)) Leave
+    cond (leb b (a + 1)) (Ok None)
     (cond (lt tolerance (worst_of points a b).distance || lt angle (span_turn points a b))
-    (cond (eqb (worst_of points a b).index a) Refuse (Split (worst_of points a b).index))
-    Leave)
+    (cond (eqb (worst_of points a b).index a) (Err Endless) (Ok (Some (worst_of points a b).index)))
+    (Ok None))

@@ -1,14 +1,31 @@
 #![tactic(auto)]
 // What `thin` decides of a span of a chain: the points from index a to index b.
-ghost use Rattle.std.specs.Prelude.{◌≡◌, ◌||◌, ◌+◌, ◌*◌, ◌-◌, ◌<◌, ◌≤◌, length};
+ghost use Rattle.std.specs.Prelude.{◌≡◌, ◌||◌, ◌+◌, ◌-◌, ◌<◌, unwrap_or};
 ghost use Rattle.std.specs.Float.Ieee.{lt};
-ghost use Rattle.math.specs.Math.{v_sub, try_normalized};
-ghost use Rattle.math.specs.Math.{angle_between};
-ghost use Rattle.edge_record.specs.Own.Stored.{record_point};
-ghost use Rattle.edge_record.specs.Chain.{width};
+ghost use Rattle.arith.specs.Notation.{plus_zero};
+ghost use Rattle.math.specs.Math.{v_sub, try_normalized, angle_between};
+ghost use Rattle.edge_record.specs.Own.Stored.{HasRecord, record_point};
 ghost use Rattle.edge_thin_span.specs.Span.{worst_of, directions, first_in, last_in, span_turn, decision};
 
-use math::{Direction, Vec3};
+use math::Vec3;
+use refusal::Refusal;
+
+// A span of a chain, from record a to record b.
+#[derive(Clone, Copy)]
+pub struct Span<'a> {
+    pub chain: &'a [f64],
+    pub a: usize,
+    pub b: usize,
+    ghost forwards: { a < b },
+    ghost inside: { HasRecord chain.now b },
+}
+
+// What a span is held to: how far its points may lie from its chord, and how far it may turn.
+#[derive(Clone, Copy)]
+pub struct Bounds {
+    pub tolerance: f64,
+    pub angle: f64,
+}
 
 // The largest distance of a span's points to its chord, and the index of its point.
 #[derive(Clone, Copy)]
@@ -17,140 +34,113 @@ struct Worst {
     pub index: usize,
 }
 
-// What becomes of a span.
-#[derive(Clone, Copy)]
-pub enum Decision {
-    // No point inside is kept.
-    Leave,
-    // The point of this index is kept, and splits the span.
-    Split(usize),
-    // It would be split and has no point to split it at: the Rust takes the span again and again.
-    Refuse,
-}
-
-// The first point of those furthest from the chord; a itself where no distance is above zero. Distances are compared by their squares,
-// and only the largest one's root is taken, save where two squares are too close to tell.
-fn find_worst(chain: &[f64], a: usize, b: usize) -> Worst
-    requires { (a < b) × (width * b + width ≤ length chain.now) }
-    ensures { result ≡ worst_of (record_point chain.now) a b }
-{
-    let pa = edge_record::record_point(chain, a);
-    let pb = edge_record::record_point(chain, b);
-    let axis = pb.sub(pa);
-    let len2 = axis.length_squared();
-    let mut far2 = 0.0;
-    let mut at = a;
-    for i in a + 1..b {
-        let p = edge_record::record_point(chain, i);
-        let d2 = math_chord::span_offset(pa, axis, len2, p).length_squared();
-        if arith_root_limit::is_below(far2, d2) {
-            far2 = d2;
-            at = i;
-        }
-    }
-    Worst {
-        distance: arith_root::root(far2),
-        index: at,
-    }
-}
-
-// The direction of the segment from point i to the next.
-fn direction(chain: &[f64], i: usize) -> Direction
-    requires { width * (i + 1) + width ≤ length chain.now }
-    ensures { result ≡ try_normalized (v_sub (record_point chain.now (i + 1)) (record_point chain.now i)) }
-{
-    let next = edge_record::record_point(chain, i + 1);
-    next.sub(edge_record::record_point(chain, i))
-        .try_normalized()
-}
-
-// The first direction of a span's segments: forwards from its start to the first segment that has one.
-fn first_direction(chain: &[f64], a: usize, b: usize) -> Direction
-    requires { (a < b) × (width * b + width ≤ length chain.now) }
-    ensures { result ≡ first_in (directions (record_point chain.now) (b - a) a) }
-{
-    let mut i = a;
-    while i < b {
-        let d = direction(chain, i);
-        if let Direction::Unit(_) = d {
-            return d;
-        }
-        i += 1;
-    }
-    Direction::Nothing
-}
-
-// The last: backwards from its end.
-fn last_direction(chain: &[f64], a: usize, b: usize) -> Direction
-    requires { (a < b) × (width * b + width ≤ length chain.now) }
-    ensures { result ≡ last_in (directions (record_point chain.now) (b - a) a) }
-{
-    let mut i = b;
-    while a < i {
-        i -= 1;
-        let d = direction(chain, i);
-        if let Direction::Unit(_) = d {
-            return d;
-        }
-    }
-    Direction::Nothing
-}
-
 // The angle between two unit vectors.
+#[tactic(auto, unfolding(math::specs::Math::angle_between))]
 fn angle_between(u: Vec3, v: Vec3) -> f64
     ensures { result ≡ angle_between u v }
 {
     arith_trig::acos(arith::clamp(u.dot(v), -1.0, 1.0))
 }
 
-// How far the chain turns across a span: from its first segment round to its last, taken through the chord.
-fn turn(chain: &[f64], a: usize, b: usize) -> f64
-    requires { (a < b) × (width * b + width ≤ length chain.now) }
-    ensures { result ≡ span_turn (record_point chain.now) a b }
-{
-    let end = edge_record::record_point(chain, b);
-    let axis = end
-        .sub(edge_record::record_point(chain, a))
-        .try_normalized();
-    let Direction::Unit(chord) = axis else {
-        return 0.0;
-    };
-    let first = first_direction(chain, a, b);
-    let Direction::Unit(f) = first else {
-        return 0.0;
-    };
-    let last = last_direction(chain, a, b);
-    let Direction::Unit(l) = last else {
-        return 0.0;
-    };
-    angle_between(f, chord) + angle_between(chord, l)
-}
-
-// Whether a span whose points lie so far off at most is split. The turn is worked out only where the distance alone does not tell.
-fn is_split(chain: &[f64], distance: f64, tolerance: f64, angle: f64, a: usize, b: usize) -> bool
-    requires { (a < b) × (width * b + width ≤ length chain.now) }
-    ensures { result ≡ lt tolerance distance || lt angle (span_turn (record_point chain.now) a b) }
-{
-    if distance > tolerance {
-        return true;
-    }
-    turn(chain, a, b) > angle
-}
-
-// What becomes of the span from a to b: kept as it is, split at its worst point, or refused.
-pub fn decide(chain: &[f64], tolerance: f64, angle: f64, a: usize, b: usize) -> Decision
-    requires { (a < b) × (width * b + width ≤ length chain.now) }
-    ensures { result ≡ decision (record_point chain.now) tolerance angle a b }
-{
-    if b <= a + 1 {
-        return Decision::Leave;
-    }
-    let w = find_worst(chain, a, b);
-    if is_split(chain, w.distance, tolerance, angle, a, b) {
-        if w.index == a {
-            return Decision::Refuse;
+impl Span<'_> {
+    // The first point of those furthest from the chord; a itself where no distance is above zero. Distances are compared by their
+    // squares, and only the largest one's root is taken, save where two squares are too close to tell.
+    fn worst(&self) -> Worst
+        ensures { result ≡ worst_of (record_point self.now.chain.now) self.now.a self.now.b }
+    {
+        let pa = edge_record::record_point(self.chain, self.a);
+        let pb = edge_record::record_point(self.chain, self.b);
+        let axis = pb.sub(pa);
+        let len2 = axis.length_squared();
+        let mut far2 = 0.0;
+        let mut at = self.a;
+        for i in self.a + 1..self.b {
+            let p = edge_record::record_point(self.chain, i);
+            let d2 = math_chord::span_offset(pa, axis, len2, p).length_squared();
+            if arith_root_limit::is_below(far2, d2) {
+                far2 = d2;
+                at = i;
+            }
         }
-        return Decision::Split(w.index);
+        Worst {
+            distance: arith_root::root(far2),
+            index: at,
+        }
     }
-    Decision::Leave
+
+    // The direction of the segment from point i to the next.
+    fn direction(&self, i: usize) -> Option<Vec3>
+        requires { i < self.now.b }
+        ensures { result ≡ try_normalized (v_sub (record_point self.now.chain.now (i + 1)) (record_point self.now.chain.now i)) }
+    {
+        let next = edge_record::record_point(self.chain, i + 1);
+        next.sub(edge_record::record_point(self.chain, i))
+            .try_normalized()
+    }
+
+    // The first direction of the segments: forwards from the start to the first segment that has one.
+    fn first_direction(&self) -> Option<Vec3>
+        ensures { result ≡ first_in (directions (record_point self.now.chain.now) (self.now.b - self.now.a) self.now.a) }
+    {
+        for i in self.a..self.b {
+            if let Some(direction) = self.direction(i) {
+                return Some(direction);
+            }
+        }
+        None
+    }
+
+    // The last: backwards from the end.
+    fn last_direction(&self) -> Option<Vec3>
+        ensures { result ≡ last_in (directions (record_point self.now.chain.now) (self.now.b - self.now.a) self.now.a) }
+    {
+        for i in (self.a..self.b).rev() {
+            if let Some(direction) = self.direction(i) {
+                return Some(direction);
+            }
+        }
+        None
+    }
+
+    // How far the chain turns: from the first segment round to the last, taken through the chord. None where one of the three directions
+    // is missing.
+    #[tactic(auto, unfolding(crate::specs::Span::span_turn))]
+    fn turn(&self) -> Option<f64>
+        ensures { unwrap_or result plus_zero ≡ span_turn (record_point self.now.chain.now) self.now.a self.now.b }
+    {
+        let end = edge_record::record_point(self.chain, self.b);
+        let chord = end
+            .sub(edge_record::record_point(self.chain, self.a))
+            .try_normalized()?;
+        let first = self.first_direction()?;
+        let last = self.last_direction()?;
+        Some(angle_between(first, chord) + angle_between(chord, last))
+    }
+
+    // Whether the span is split, where its points lie so far off at most. The turn is worked out only where the distance alone does not
+    // tell.
+    fn is_split(&self, distance: f64, bounds: Bounds) -> bool
+        ensures { result ≡ lt bounds.tolerance distance || lt bounds.angle (span_turn (record_point self.now.chain.now) self.now.a self.now.b) }
+    {
+        distance > bounds.tolerance || self.turn().unwrap_or(0.0) > bounds.angle
+    }
+
+    // What becomes of the span: none of its points inside is kept, or it is split at its worst point. It is refused where it would be
+    // split and has no point to split it at: the Rust takes it again and again.
+    #[tactic(auto, unfolding(crate::specs::Span::decision))]
+    pub fn decide(&self, bounds: Bounds) -> Result<Option<usize>, Refusal>
+        ensures { result ≡ decision (record_point self.now.chain.now) bounds.tolerance bounds.angle self.now.a self.now.b }
+    {
+        if self.b <= self.a + 1 {
+            return Ok(None);
+        }
+        let worst = self.worst();
+        if !self.is_split(worst.distance, bounds) {
+            return Ok(None);
+        }
+        if worst.index == self.a {
+            return Err(Refusal::Endless);
+        }
+        Ok(Some(worst.index))
+    }
 }

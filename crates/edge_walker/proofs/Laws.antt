@@ -1,4 +1,5 @@
 -- What walking means: the steps answer the points of Chain::oriented, in order, then none. Assumes nothing.
+use Rattle.std.specs.Prelude.{Option, None, slice_get}
 use mathlib.Core.Path.{◌≡◌, refl, sym, ap, ◌∙◌}
 use mathlib.Core.Bool.{Bool, true, false, cond}
 use mathlib.Core.List.{List, [], ◌∷◌, ◌++◌, reverse, reverse-append}
@@ -15,10 +16,8 @@ use Rattle.edge_record.specs.declared.Sample.{Sample}
 use Rattle.edge_record.specs.Chain.{width, flat, sample_at, samples_from, samples}
 use Rattle.edge_record.proofs.Laws.{length_flat, reads}
 use Rattle.edge_walker.specs.declared.Walker.{Walker}
-use Rattle.edge_walker.specs.declared.Step.{Step}
-use Rattle.edge_walker.specs.declared.Step.TheVariants.{Done}
 use Rattle.edge_walker.specs.declared.Stepped.{Stepped}
-use Rattle.edge_walker.specs.Walk.{whole_of, oriented, oriented_chain, start_of, passes, keeps_place, stepped, walker_at, started, next, after, step_to, Walks}
+use Rattle.edge_walker.specs.Walk.{whole_of, oriented, oriented_chain, start_of, passes, keeps_place, stepped, walker_at, started, next, after, Walks}
 
 -- ---- a step, by where it starts
 module _ (c : List Float) (i : ℕ) where
@@ -42,16 +41,16 @@ unfolding stepped
 at_start c = let m : min 0 (whole_of c) ≡ 0 = omega arith in rw m
 
 -- one that answers none keeps its place
-stays : (c : List Float) (place : ℕ) (forward : Bool) → (stepped c place forward).step ≡ Done → (stepped c place forward).at ≡ place
+stays : (c : List Float) (place : ℕ) (forward : Bool) → (stepped c place forward).step ≡ None → (stepped c place forward).at ≡ place
 unfolding stepped
 stays c place true e = go (ltb place (whole_of c)) place (place + 1) e
   where
-    go : (v : Bool) (i next : ℕ) → (cond v (passes c i next) (keeps_place place)).step ≡ Done → (cond v (passes c i next) (keeps_place place)).at ≡ place
+    go : (v : Bool) (i next : ℕ) → (cond v (passes c i next) (keeps_place place)).step ≡ None → (cond v (passes c i next) (keeps_place place)).at ≡ place
     go true i next e = cc
     go false i next e = refl
 stays c place false e = go (eqb (min place (whole_of c)) 0) (min place (whole_of c) - 1) e
   where
-    go : (v : Bool) (i : ℕ) → (cond v (keeps_place place) (passes c i i)).step ≡ Done → (cond v (keeps_place place) (passes c i i)).at ≡ place
+    go : (v : Bool) (i : ℕ) → (cond v (keeps_place place) (passes c i i)).step ≡ None → (cond v (keeps_place place) (passes c i i)).at ≡ place
     go true i e = refl
     go false i e = cc
 
@@ -70,7 +69,7 @@ module _ (chain : Bor (List Float)) where
   c = chain.now
 
   -- what the step after n steps from a place answers
-  abbrev answer : Bool → ℕ → ℕ → Step
+  abbrev answer : Bool → ℕ → ℕ → Option Sample
   answer forward place n = (next (after (walker_at chain place forward) n)).step
 
   -- by the first step: its own answer, and those from the place where it leaves the walker
@@ -84,13 +83,13 @@ module _ (chain : Bor (List Float)) where
     later n = ap (λ (z : Stepped). answer f z.at n) e
 
   -- no point is left, now or later
-  ended : (f : Bool) (place n : ℕ) → stepped c place f ≡ keeps_place place → answer f place n ≡ Done
+  ended : (f : Bool) (place n : ℕ) → stepped c place f ≡ keeps_place place → answer f place n ≡ None
   ended f place zero e = first f place _ e
   ended f place (suc n) e = later f place _ e n ∙ ended f place n e
 
   -- forwards from record i, m records before the end
-  ahead_answers : (n m i : ℕ) → i + m ≡ whole_of c → answer true i n ≡ step_to (samples_from c i m) n
-  unfolding samples_from step_to
+  ahead_answers : (n m i : ℕ) → i + m ≡ whole_of c → answer true i n ≡ slice_get (samples_from c i m) n
+  unfolding samples_from
   ahead_answers n zero i e = ended true i n (no_more c i (omega arith))
   ahead_answers zero (suc m) i e = first true i _ (ahead c i (omega arith))
   ahead_answers (suc n) (suc m) i e =
@@ -99,16 +98,16 @@ module _ (chain : Bor (List Float)) where
       ∙ ahead_answers n m (suc i) (omega arith)
 
   -- backwards from behind m records
-  back_answers : (n m : ℕ) → m ≤ whole_of c → answer false m n ≡ step_to (reverse (samples_from c 0 m)) n
-  unfolding samples_from step_to
+  back_answers : (n m : ℕ) → m ≤ whole_of c → answer false m n ≡ slice_get (reverse (samples_from c 0 m)) n
+  unfolding samples_from
   back_answers n zero h = ended false 0 n (at_start c)
-  back_answers zero (suc m) h = first false (suc m) _ (back c m h) ∙ ap (λ (l : List Sample). step_to l 0) (sym (reversed c m))
+  back_answers zero (suc m) h = first false (suc m) _ (back c m h) ∙ ap (λ (l : List Sample). slice_get l 0) (sym (reversed c m))
   back_answers (suc n) (suc m) h =
       later false (suc m) _ (back c m h) n
       ∙ back_answers n m (omega arith)
-      ∙ ap (λ (l : List Sample). step_to l (suc n)) (sym (reversed c m))
+      ∙ ap (λ (l : List Sample). slice_get l (suc n)) (sym (reversed c m))
 
-  answers : (forward : Bool) (n : ℕ) → (next (after (started chain forward) n)).step ≡ step_to (oriented_chain c forward) n
+  answers : (forward : Bool) (n : ℕ) → (next (after (started chain forward) n)).step ≡ slice_get (oriented_chain c forward) n
   unfolding start_of oriented_chain
   answers true n = ahead_answers n (whole_of c) 0 (zero-add (whole_of c))
   answers false n = back_answers n (whole_of c) (omega arith)

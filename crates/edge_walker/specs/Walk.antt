@@ -1,11 +1,9 @@
 -- Chain::oriented of edge.rs: the points in the order of a walk, the walk step by step, and what walking means.
-use Rattle.std.specs.Prelude.{◌≡◌, Bool, true, false, cond, List, [], ◌∷◌, ◌++◌, reverse, ℕ, zero, suc, ◌+◌, ◌-◌, ◌/◌, ◌<◌, min, length, eqb, ltb, Float}
+use Rattle.std.specs.Prelude.{◌≡◌, Bool, true, false, cond, List, ◌++◌, reverse, ℕ, zero, suc, ◌+◌, ◌-◌, ◌/◌, ◌<◌, min, length, eqb, ltb, Float, Some, None, slice_get}
 use Rattle.std.specs.Borrow.{Bor}
 use Rattle.edge_record.specs.declared.Sample.{Sample}
 use Rattle.edge_record.specs.Chain.{width, flat, sample_at, samples}
 use Rattle.edge_walker.specs.declared.Walker.{Walker}
-use Rattle.edge_walker.specs.declared.Step.{Step}
-use Rattle.edge_walker.specs.declared.Step.TheVariants.{Point, Done}
 use Rattle.edge_walker.specs.declared.Stepped.{Stepped}
 
 -- how many whole points a chain has
@@ -27,11 +25,11 @@ start_of c false = whole_of c
 
 -- the step passes record i, and leaves the walker at a place
 abbrev pub passes : List Float → ℕ → ℕ → Stepped
-passes c i place = record { step = Point (sample_at c i); at = place }
+passes c i place = record { step = Some (sample_at c i); at = place }
 
 -- no point is left, and the walker keeps its place
 abbrev pub keeps_place : ℕ → Stepped
-keeps_place place = record { step = Done; at = place }
+keeps_place place = record { step = None; at = place }
 
 -- one step from a place, which counts the points before it; behind the last point backwards is the same as from there
 unfoldable pub stepped : List Float → ℕ → Bool → Stepped
@@ -60,18 +58,12 @@ unfoldable pub after : Walker → ℕ → Walker
 after w zero = w
 after w (suc n) = after (moved w) n
 
--- the step to point number n, counted from 0; or that none is left
-unfoldable pub step_to : List Sample → ℕ → Step
-step_to [] n = Done
-step_to (p ∷ points) zero = Point p
-step_to (p ∷ points) (suc n) = step_to points n
-
 -- WHAT WALKING MEANS: w walks the whole of a chain, whose floats are c
 pub record Walks (c : List Float) (forward : Bool) (w : Walker) : Type 0 where
   -- stepping again and again answers the points of Chain::oriented, in order, and then none
-  pub answers : (n : ℕ) → (next (after w n)).step ≡ step_to (oriented_chain c forward) n
+  pub answers : (n : ℕ) → (next (after w n)).step ≡ slice_get (oriented_chain c forward) n
   -- a step that answers none keeps its place
-  pub keeps : (n : ℕ) → (next (after w n)).step ≡ Done → moved (after w n) ≡ after w n
+  pub keeps : (n : ℕ) → (next (after w n)).step ≡ None → moved (after w n) ≡ after w n
   -- whole points only: those of the chain whose records c holds, with less than a record behind them
   pub whole : (points : List Sample) (rest : List Float) → c ≡ flat points ++ rest → length rest < width
       → oriented_chain c forward ≡ oriented points forward

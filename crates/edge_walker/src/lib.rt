@@ -1,7 +1,7 @@
 #![tactic(auto)]
 // Chain::oriented of edge.rs as a walker: it keeps the caller's chain and a place in it, and steps forwards or backwards.
 // The place lies between two points and counts the points before it. Only whole records are points.
-ghost use Rattle.std.specs.Prelude.{◌≡◌, min};
+ghost use Rattle.std.specs.Prelude.{◌≡◌};
 ghost use Rattle.edge_walker.specs.Walk.{start_of, started, stepped, next, moved, Walks};
 
 use edge_record::Sample;
@@ -14,21 +14,15 @@ pub struct Walker<'a> {
     pub forward: bool,
 }
 
-// What a step gives: the point that it passed, or that none is left.
-#[derive(Clone, Copy)]
-pub enum Step {
-    Point(Sample),
-    Done,
-}
-
 // A step and the place after it.
 #[derive(Clone, Copy)]
 pub struct Stepped {
-    pub step: Step,
+    pub step: Option<Sample>,
     pub at: usize,
 }
 
 // Where a walk begins: before the first point, or behind the last whole one.
+#[tactic(auto, unfolding(crate::specs::Walk::start_of))]
 pub fn start_at(chain: &[f64], forward: bool) -> usize
     ensures { result ≡ start_of chain.now forward }
 {
@@ -39,13 +33,8 @@ pub fn start_at(chain: &[f64], forward: bool) -> usize
     }
 }
 
-fn lesser(a: usize, b: usize) -> usize
-    ensures { result ≡ min a b }
-{
-    if a < b { a } else { b }
-}
-
 // The step from a place. One with no point left keeps its place.
+#[tactic(auto, unfolding(crate::specs::Walk::stepped))]
 pub fn step_at(chain: &[f64], at: usize, forward: bool) -> Stepped
     ensures { result ≡ stepped chain.now at forward }
 {
@@ -53,30 +42,22 @@ pub fn step_at(chain: &[f64], at: usize, forward: bool) -> Stepped
     if forward {
         if at < whole {
             return Stepped {
-                step: Step::Point(edge_record::sample_at(chain, at)),
+                step: Some(edge_record::sample_at(chain, at)),
                 at: at + 1,
             };
         }
+    } else if let Some(before) = at.min(whole).checked_sub(1) {
         return Stepped {
-            step: Step::Done,
-            at,
+            step: Some(edge_record::sample_at(chain, before)),
+            at: before,
         };
     }
-    let before = lesser(at, whole);
-    if before == 0 {
-        return Stepped {
-            step: Step::Done,
-            at,
-        };
-    }
-    Stepped {
-        step: Step::Point(edge_record::sample_at(chain, before - 1)),
-        at: before - 1,
-    }
+    Stepped { step: None, at }
 }
 
 impl<'a> Walker<'a> {
     // A walker of the whole chain, from its start if forward, else from its end. Its steps answer the points of Chain::oriented.
+    #[tactic(auto, using(crate::proofs::Laws::walks))]
     pub fn oriented(chain: &'a [f64], forward: bool) -> Walker<'a>
         ensures { (result ≡ started chain.entry forward) × Walks chain.now forward result }
     {
@@ -85,11 +66,11 @@ impl<'a> Walker<'a> {
     }
 
     // The next point, and the walker moves past it.
-    pub fn step<'s>(&'s mut self) -> Step
+    pub fn step(&mut self) -> Option<Sample>
         ensures { (result ≡ (next self.old).step) × (self.new ≡ moved self.old) }
     {
-        let s = step_at(self.chain, self.at, self.forward);
-        self.at = s.at;
-        s.step
+        let Stepped { step, at } = step_at(self.chain, self.at, self.forward);
+        self.at = at;
+        step
     }
 }

@@ -4,11 +4,11 @@ ghost use Rattle.std.specs.Prelude.{◌≡◌};
 ghost use Rattle.ffi_numbers.specs.Numbers.{edge_of, options_of, mode_of, cause_of, number_of, codes_of, passed, point_after};
 
 use brep::Edge;
-use causes::Verdict;
 use draw_spec::{Drawn, Way};
-use edge_walker::Step;
+use edge_record::Sample;
 use math::Interval;
 use options::{Angle, Mode, Options};
+use refusal::Refusal;
 
 // An edge by its nine numbers.
 pub fn edge_of(
@@ -58,6 +58,7 @@ pub fn options_of(
 }
 
 // A mode by whether it is strict: no value stands for none.
+#[tactic(auto, unfolding(crate::specs::Numbers::mode_of))]
 pub fn mode_of(strict: bool) -> Mode
     ensures { result ≡ mode_of strict }
 {
@@ -69,15 +70,17 @@ pub fn mode_of(strict: bool) -> Mode
 }
 
 // 0, or the number of the cause.
-pub fn cause_of(verdict: Verdict) -> u32
+#[tactic(auto, unfolding(crate::specs::Numbers::cause_of))]
+pub fn cause_of(verdict: Result<(), Refusal>) -> u32
     ensures { result ≡ cause_of verdict }
 {
     match verdict {
-        Verdict::Accepted => 0,
-        Verdict::Refused(n) => n,
+        Ok(()) => 0,
+        Err(cause) => cause.number(),
     }
 }
 
+#[tactic(auto, unfolding(crate::specs::Numbers::number_of))]
 fn number_of(way: Way) -> u32
     ensures { result ≡ number_of way }
 {
@@ -99,39 +102,45 @@ pub struct Codes {
 }
 
 // The numbers of an answer: its refusal, or its way and how many points it has.
-pub fn codes_of(drawn: Drawn) -> Codes
+#[tactic(auto, unfolding(crate::specs::Numbers::codes_of))]
+pub fn codes_of(drawn: Result<Drawn, Refusal>) -> Codes
     ensures { result ≡ codes_of drawn }
 {
     match drawn {
-        Drawn::Refused(n) => Codes {
-            refusal: n,
+        Err(cause) => Codes {
+            refusal: cause.number(),
             way: 0,
             count: 0,
         },
-        Drawn::Chain(w, n) => Codes {
+        Ok(chain) => Codes {
             refusal: 0,
-            way: number_of(w),
-            count: n,
+            way: number_of(chain.way),
+            count: chain.count,
         },
     }
 }
 
 // 1 for a step that passed a point, else 0.
-pub fn has_passed(step: Step) -> u32
+#[tactic(auto, unfolding(crate::specs::Numbers::passed))]
+pub fn has_passed(step: Option<Sample>) -> u32
     ensures { result ≡ passed step }
 {
     match step {
-        Step::Point(_) => 1,
-        Step::Done => 0,
+        Some(_) => 1,
+        None => 0,
     }
 }
 
 // The point that a step passed; without one the point stays.
-pub fn point_after(point: [f64; edge_record::WIDTH], step: Step) -> [f64; edge_record::WIDTH]
+#[tactic(auto, unfolding(crate::specs::Numbers::point_after))]
+pub fn point_after(
+    point: [f64; edge_record::WIDTH],
+    step: Option<Sample>,
+) -> [f64; edge_record::WIDTH]
     ensures { result ≡ point_after point step }
 {
     match step {
-        Step::Point(s) => [s.point.x, s.point.y, s.point.z, s.param],
-        Step::Done => point,
+        Some(s) => [s.point.x, s.point.y, s.point.z, s.param],
+        None => point,
     }
 }

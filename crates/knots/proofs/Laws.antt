@@ -1,6 +1,6 @@
 -- What callers use: how many knots a run has, that a composite's knots are its run's, and that they fit where every composite is short enough.
 -- Assumes nothing.
-use mathlib.Core.Path.{◌≡◌, refl, sym, ap}
+use mathlib.Core.Path.{◌≡◌, refl, sym, ap, ◌∙◌}
 use mathlib.Core.Bool.{Bool, true, false}
 use mathlib.Core.List.{List, ◌∷◌}
 use Prim.Native.Nat.{ℕ, zero, suc, ◌*◌, ◌≤◌}
@@ -10,11 +10,13 @@ use lib.Dec.{eqb}
 use lib.Ieee.{Float}
 use borrow.Author.Tests.{eqb-true, eqb-false}
 use Rattle.brep.specs.declared.Curve.TheVariants.{Composite}
-use Rattle.brep.specs.Rows.{Tables}
+use Rattle.brep.specs.declared.LentTables.{LentTables}
+use Rattle.brep.specs.Rows.{Tables, lent}
 use Rattle.brep.specs.Tree.{CurveTree, segments, grown, below, segment_in, row_in, tree}
 use Rattle.brep.proofs.ByKind.{row_kind, row_first, row_count, row_trim, row_composite, row_leaf}
 use Rattle.knots.specs.Knots.{segment_knots, curve_knots}
-use Rattle.knots.specs.Own.Gathered.{run_knots}
+use Rattle.knots.specs.declared.Run.{Run}
+use Rattle.knots.specs.Own.Gathered.{run_knots, KnotsOfRun}
 
 pub run_length : (parts : List ℕ) (ranges : List Float) (first n : ℕ) → length (run_knots parts ranges first n) ≡ 2 * n
 unfolding run_knots
@@ -25,6 +27,14 @@ pub run_knots_lem : (T : Tables) (f : ℕ → CurveTree) (first n : ℕ) → seg
 unfolding segment_knots segments run_knots
 run_knots_lem T f first zero = refl
 run_knots_lem T f first (suc n) = ap (λ (l : List Float). (segment_in T first).range.lo ∷ (segment_in T first).range.hi ∷ l) (run_knots_lem T f (suc first) n)
+
+-- a row's knots in lent tables, as its run has them
+module _ (t : LentTables) (row : ℕ) (run : Run) (h : KnotsOfRun t.curves.now row run) where
+  pub run_is : run_knots t.parts.now t.ranges.now run.first run.count ≡ curve_knots (tree (lent t) row)
+  run_is = h t.points.now t.reals.now t.parts.now t.ranges.now
+
+  pub run_counted : 2 * run.count ≡ length (curve_knots (tree (lent t) row))
+  run_counted = sym (run_length t.parts.now t.ranges.now run.first run.count) ∙ ap length run_is
 
 -- ---- where no composite has more than n segments, no curve has more than 2 n knots
 module _ (T : Tables) (n : ℕ) (short : (i first count : ℕ) → row_in T i ≡ Composite first count → count ≤ n) where

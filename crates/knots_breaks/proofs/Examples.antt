@@ -7,8 +7,8 @@ use Rattle.brep.specs.Tree.{CurveTree, composite, segments}
 use Rattle.curve_parameter.specs.Run.{run_length}
 use Rattle.options.specs.declared.Mode.TheVariants.{Strict}
 use Rattle.knots_sort.specs.Sort.{inserted, sorted}
-use Rattle.knots_inside.specs.Breaks.{retained_knots, apart, deduped, inside_upward, inside_of}
-use Rattle.knots_breaks.specs.Breaks.{passing_upward, passing_knots, wholes, segments_under, breaks_in}
+use Rattle.knots_inside.specs.Breaks.{retained_knots, apart, deduped, passing_upward, passing_knots, inside_upward, inside_of}
+use Rattle.knots_breaks.specs.Breaks.{wholes, segments_under, breaks_in}
 
 module _ (T : Tables) (f : ℕ → CurveTree) where
   -- five segments over -1e9..1e9, of which a billionth is 2: each place where two of them meet is a break

@@ -8,12 +8,12 @@ use Rattle.base_lists.proofs.Order.{sub_all}
 use Rattle.brep.specs.Tree.{CurveTree}
 use Rattle.options.specs.declared.Mode.{Mode}
 use Rattle.options.specs.declared.Mode.TheVariants.{Reference, Strict}
-use Rattle.knots_inside.specs.Breaks.{inside_of}
-use Rattle.knots_inside.proofs.Kept.{inside_all}
+use Rattle.knots_inside.specs.Breaks.{passing_knots, inside_of}
+use Rattle.knots_inside.proofs.Kept.{passing_sub, inside_all}
 use Rattle.knots_inside.proofs.Between.{Between, inside_between}
 use Rattle.knots.specs.Knots.{curve_knots, curve_breaks}
-use Rattle.knots_breaks.specs.Breaks.{passing_knots, wholes, segments_under, breaks_in}
-use Rattle.knots_breaks.proofs.Passing.{passing_sub, passing_between, wholes_ascend, wholes_fit, wholes_length}
+use Rattle.knots_breaks.specs.Breaks.{wholes, segments_under, breaks_in}
+use Rattle.knots_breaks.proofs.Passing.{passing_between, wholes_ascend, wholes_fit, wholes_length}
 use Rattle.knots_breaks.proofs.Answers.{two_each}
 
 -- ---- no knots

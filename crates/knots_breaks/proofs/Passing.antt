@@ -8,54 +8,14 @@ use Rattle.arith_order.proofs.Lerp.{whole_le}
 use Rattle.arith_order.proofs.Modest.{Modest}
 use Rattle.base_lists.specs.All.{All, none, more}
 use Rattle.base_lists.specs.Own.Way.{Up}
-use Rattle.base_lists.specs.Own.Sub.{Pairwise, empty, first, Sub, end, skip}
+use Rattle.base_lists.specs.Own.Sub.{Pairwise, empty, first}
 use Rattle.base_lists.proofs.Order.{sub_pairwise}
 use Rattle.base_lists.proofs.Joined.{all_map, Within}
 use Rattle.knots_sort.specs.Sort.{inserted, sorted}
-use Rattle.knots_inside.specs.Breaks.{is_strict, retained_knots, apart, deduped, inside_upward, inside_of}
-use Rattle.knots_inside.proofs.Kept.{retained_sub}
+use Rattle.knots_inside.specs.Breaks.{is_strict, retained_knots, apart, deduped, passing_upward, passing_knots, inside_upward, inside_of}
+use Rattle.knots_inside.proofs.Kept.{passing_sub}
 use Rattle.knots_inside.proofs.Between.{Between, inside_between}
-use Rattle.knots_breaks.specs.Breaks.{InsidePassing, passing_upward, passing_knots, wholes}
-
--- ---- what `inside` sorts and merges
-pub inside_passing : InsidePassing
-unfolding passing_upward inside_upward sorted deduped
-inside_passing knots lo hi = go (lt plus_zero (hi ⊖ lo))
-  where
-    epsilon : Float
-    epsilon = (hi ⊖ lo) ⊗ billionth
-
-    kept : List Float
-    kept = retained_knots (lo ⊕ epsilon) (hi ⊖ epsilon) knots
-
-    go : (b : Bool) → cond b (deduped epsilon (sorted kept)) [] ≡ deduped epsilon (sorted (cond b kept []))
-    go true = refl
-    go false = refl
-
--- ---- those that pass are knots, in their own order
-none_sub : (l : List Float) → Sub [] l
-none_sub [] = end
-none_sub (k ∷ l) = skip (none_sub l)
-
-module _ (knots : List Float) where
-  upward_sub : (lo hi : Float) → Sub (passing_upward knots lo hi) knots
-  unfolding passing_upward
-  upward_sub lo hi = go (lt plus_zero (hi ⊖ lo))
-    where
-      epsilon : Float
-      epsilon = (hi ⊖ lo) ⊗ billionth
-
-      go : (b : Bool) → Sub (cond b (retained_knots (lo ⊕ epsilon) (hi ⊖ epsilon) knots) []) knots
-      go true = retained_sub (lo ⊕ epsilon) (hi ⊖ epsilon) knots
-      go false = none_sub knots
-
-  pub passing_sub : (lo hi : Float) → Sub (passing_knots knots lo hi) knots
-  unfolding passing_knots
-  passing_sub lo hi = go (le lo hi)
-    where
-      go : (b : Bool) → Sub (cond b (passing_upward knots lo hi) (passing_upward knots hi lo)) knots
-      go true = upward_sub lo hi
-      go false = upward_sub hi lo
+use Rattle.knots_breaks.specs.Breaks.{wholes}
 
 -- ---- a knot that passes is what `inside` leaves of it alone, so what is known of that holds of the knot
 retained_alone : (epsilon above below : Float) (l : List Float) → All (λ k. k ∷ [] ≡ deduped epsilon (sorted (retained_knots above below (k ∷ [])))) (retained_knots above below l)
@@ -67,8 +27,8 @@ retained_alone epsilon above below (k ∷ l) = go (is_strict above below k) refl
     alone k = k ∷ [] ≡ deduped epsilon (sorted (retained_knots above below (k ∷ [])))
 
     go : (b : Bool) → b ≡ is_strict above below k → All alone (retained_knots above below l)
-        → All alone (elim b [ true ↦ k ∷ retained_knots above below l | false ↦ retained_knots above below l ])
-    go true e h = more (ap (λ (b : Bool). deduped epsilon (sorted (elim b [ true ↦ k ∷ [] | false ↦ [] ]))) e) h
+        → All alone (cond b (k ∷ retained_knots above below l) (retained_knots above below l))
+    go true e h = more (ap (λ (b : Bool). deduped epsilon (sorted (cond b (k ∷ []) []))) e) h
     go false e h = h
 
 module _ (knots : List Float) where

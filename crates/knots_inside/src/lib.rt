@@ -1,33 +1,42 @@
 #![tactic(auto)]
 // The breaks of a curve inside a range: `inside` of knots.rs.
 ghost use Rattle.std.specs.Prelude.{◌≡◌, ◌≤◌, length, take};
+ghost use Rattle.std.specs.List.Retain.{IsFiltered};
 ghost use Rattle.base_lists.specs.Room.{filled};
 ghost use Rattle.knots_sort.specs.Own.Sortable.{most_knots};
-ghost use Rattle.knots_inside.specs.Breaks.{is_strict, retained_knots, is_near, deduped, inside_upward, inside_of};
+ghost use Rattle.knots_inside.specs.Breaks.{is_strict, retained_knots, is_near, deduped, passing_upward, passing_knots, inside_upward, inside_of};
 
-// Whether x lies strictly between two bounds; such an x is finite.
-fn strict(x: f64, above: f64, below: f64) -> bool
-    ensures { result ≡ is_strict above below x }
+// Keeps those that pass a test, which is asked of each in turn, from the start. It answers how many, as those below, and not the part: the
+// rest is cleared afterwards.
+fn keep_if<F: FnMut(f64) -> bool>(a: &mut [f64], mut passes: F) -> usize
+    requires { F.IsAlwaysCallable passes }
+    ensures within { result ≤ length a.old }
+    ensures kept { IsFiltered F.step passes a.old (take result a.new) }
 {
-    if above < x { x < below } else { false }
-}
-
-// Keeps those strictly between two bounds, from the start; answers how many.
-pub fn retain(a: &mut [f64], above: f64, below: f64) -> usize
-    ensures { (result ≤ length a.old) × (take result a.new ≡ retained_knots above below a.old) }
-{
-    let n = a.len();
-    let mut k = 0usize;
-    let mut i = 0usize;
-    while i < n {
+    let mut k = 0;
+    for i in 0..a.len() {
         let x = a[i];
-        i += 1;
-        if strict(x, above, below) {
+        if passes(x) {
             a[k] = x;
             k += 1;
         }
     }
     k
+}
+
+// Whether x lies strictly between two bounds; such an x is finite.
+fn strict(x: f64, above: f64, below: f64) -> bool
+    ensures { result ≡ is_strict above below x }
+{
+    above < x && x < below
+}
+
+// Keeps those strictly between two bounds, from the start; answers how many.
+pub fn retain(a: &mut [f64], above: f64, below: f64) -> usize
+    ensures within { result ≤ length a.old }
+    ensures kept { take result a.new ≡ retained_knots above below a.old }
+{
+    keep_if(a, |x| strict(x, above, below))
 }
 
 // Whether two knots are at most epsilon apart.
@@ -37,27 +46,50 @@ fn near(a: f64, b: f64, epsilon: f64) -> bool
     arith::abs(a - b) <= epsilon
 }
 
-// Keeps those that are not near the last one kept, from the start; answers how many.
+// Keeps the first, and those that are not near the last one kept, from the start; answers how many.
 fn dedup(a: &mut [f64], epsilon: f64) -> usize
-    ensures { (result ≤ length a.old) × (take result a.new ≡ deduped epsilon a.old) }
+    ensures within { result ≤ length a.old }
+    ensures kept { take result a.new ≡ deduped epsilon a.old }
 {
-    let n = a.len();
-    if n == 0 {
+    let Some((first, rest)) = a.split_first_mut() else {
         return 0;
-    }
-    let mut k = 1usize;
-    let mut i = 1usize;
-    while i < n {
-        let x = a[i];
-        let last = a[k - 1];
-        i += 1;
-        if near(x, last, epsilon) {
-            continue;
+    };
+    let mut last = *first;
+    1 + keep_if(rest, |x| {
+        let apart = !near(x, last, epsilon);
+        if apart {
+            last = x;
         }
-        a[k] = x;
-        k += 1;
+        apart
+    })
+}
+
+// Keeps those that pass between lo and hi, lo being the smaller, from the start; answers how many.
+#[tactic(auto, unfolding(crate::specs::Breaks::passing_upward))]
+fn passing_upward(knots: &mut [f64], lo: f64, hi: f64) -> usize
+    ensures within { result ≤ length knots.old }
+    ensures kept { take result knots.new ≡ passing_upward knots.old lo hi }
+{
+    let width = hi - lo;
+    if 0.0 < width {
+        let epsilon = width * 1e-9;
+        return retain(knots, lo + epsilon, hi - epsilon);
     }
-    k
+    0
+}
+
+// Keeps those that pass between lo and hi, whichever way the range runs, from the start; answers how many. They stay in their order, and
+// none is merged with another.
+#[tactic(auto, unfolding(crate::specs::Breaks::passing_knots))]
+pub fn passing(knots: &mut [f64], lo: f64, hi: f64) -> usize
+    ensures within { result ≤ length knots.old }
+    ensures kept { take result knots.new ≡ passing_knots knots.old lo hi }
+{
+    if lo <= hi {
+        passing_upward(knots, lo, hi)
+    } else {
+        passing_upward(knots, hi, lo)
+    }
 }
 
 // The breaks between lo and hi, lo being the smaller; +0.0 after them.
@@ -65,20 +97,17 @@ fn ascending(knots: &mut [f64], lo: f64, hi: f64) -> usize
     requires { length knots.old ≤ most_knots }
     ensures { (result ≡ length (inside_upward knots.old lo hi)) × (knots.new ≡ filled (length knots.old) (inside_upward knots.old lo hi)) }
 {
-    let width = hi - lo;
-    if 0.0 < width {
-        let epsilon = width * 1e-9;
-        let n = retain(knots, lo + epsilon, hi - epsilon);
-        knots_sort::sort(&mut knots[..n]);
-        let m = dedup(&mut knots[..n], epsilon);
-        base_lists::clear_from(knots, m);
-        return m;
-    }
-    base_lists::clear_from(knots, 0);
-    0
+    let n = passing_upward(knots, lo, hi);
+    let passing = &mut knots[..n];
+    knots_sort::sort(passing);
+    let m = dedup(passing, (hi - lo) * 1e-9);
+    base_lists::clear_from(knots, m);
+    m
 }
 
-// The distinct knots strictly between lo and hi, in order, at the start of knots, and +0.0 after them; answers how many.
+// The distinct knots strictly between lo and hi, in order, at the start of knots, and +0.0 after them; answers how many. As `passing`, it
+// only turns the range round, which a function over closures would hide.
+#[tactic(auto, unfolding(crate::specs::Breaks::inside_of))]
 pub fn inside(knots: &mut [f64], lo: f64, hi: f64) -> usize
     requires { length knots.old ≤ most_knots }
     ensures { (result ≡ length (inside_of knots.old lo hi)) × (knots.new ≡ filled (length knots.old) (inside_of knots.old lo hi)) }

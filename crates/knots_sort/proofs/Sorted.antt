@@ -1,12 +1,17 @@
 -- What is sorted stands in order, and what stands in order is sorted. Assumes nothing.
-use mathlib.Core.Path.{◌≡◌, refl, sym, ap, subst, ◌∙◌}
+use mathlib.Core.Path.{◌≡◌, refl, sym, ap, ◌∙◌}
 use mathlib.Core.Bool.{Bool, true, false, cond}
 use mathlib.Core.List.{List, [], ◌∷◌}
-use Prim.Native.Nat.{suc}
+use Prim.Native.Nat.{suc, ◌+◌, ◌≤◌}
 use native.Mathlib.Omega.{arith}
 use lib.ListN.{length}
-use lib.Dec.{T}
-use lib.Ieee.{Float, lt, le}
+use lib.Ieee.{Float, lt, eq}
+use Rattle.std.specs.Prelude.{Some, None}
+use Rattle.std.specs.List.{IsAllAdjacentAnswer}
+use Rattle.std.specs.Ordering.{is_le, is_some_and, partial_le, float_partial_cmp}
+use Rattle.std.proofs.Common.{Less, Equal, Greater}
+use Rattle.std.proofs.lemmas.Float.{le_of_lt, le_of_eq}
+use Rattle.std.proofs.lemmas.Bool.{false≢true}
 use Rattle.arith_order.proofs.Signed.{refuted, le_trans, lt→le, lt→nle, nlt→le}
 use Rattle.base_lists.specs.All.{All, none, more}
 use Rattle.base_lists.specs.Own.Sub.{Pairwise, empty, first}
@@ -14,7 +19,6 @@ use Rattle.base_lists.proofs.Joined.{all_map}
 use Rattle.base_lists.specs.Own.Way.{Up}
 use Rattle.knots_sort.specs.Own.Sortable.{Number}
 use Rattle.knots_sort.specs.Sort.{inserted, sorted}
-use Rattle.knots_sort.specs.Own.Merge.{in_order}
 use Rattle.knots_sort.proofs.Merged.{put_all, sorted_all}
 
 put_pairs : (x : Float) (l : List Float) → Number x → All Number l → Pairwise Up l → Pairwise Up (inserted x l)
@@ -56,36 +60,34 @@ unfolding sorted
 sorted_length [] = refl
 sorted_length (x ∷ l) = put_length x (sorted l) ∙ ap suc (sorted_length l)
 
--- ---- the test
-pub order_below : (x y : Float) (l : List Float) → lt y x ≡ true → false ≡ in_order (x ∷ y ∷ l)
-unfolding in_order
-order_below x y l h = rw h
-
-pub order_next : (x y : Float) (l : List Float) → lt y x ≡ false → in_order (x ∷ y ∷ l) ≡ in_order (y ∷ l)
-unfolding in_order
-order_next x y l h = rw h
-
-pub order_one : (x : Float) → true ≡ in_order (x ∷ [])
-unfolding in_order
-order_one x = refl
-
-pub order_none : (l : List Float) → length l ≡ 0 → true ≡ in_order l
-unfolding in_order
-order_none [] h = refl
-order_none (x ∷ l) h = absurd (omega arith)
-
-order_pairs : (l : List Float) → All Number l → T (in_order l) → Pairwise Up l
-unfolding in_order
-order_pairs [] none h = empty
-order_pairs (x ∷ []) N h = first none empty
-order_pairs (x ∷ y ∷ l) (more X (more Y N)) h = go (lt y x) refl (order_pairs (y ∷ l) (more Y N)) h
+-- ---- what `is_sorted` of std tells
+partial_up : (x y : Float) → partial_le float_partial_cmp x y ≡ true → Up x y
+partial_up x y h = go (lt x y) (eq x y) (lt y x) refl refl h
   where
-    head : Pairwise Up (y ∷ l) → T (le x y) → Pairwise Up (x ∷ y ∷ l)
-    head (first p g) q = first (more q (all_map (λ z r. le_trans x y z q r) p)) (first p g)
+    go : (a b c : Bool) → lt x y ≡ a → eq x y ≡ b → is_some_and is_le (cond a (Some Less) (cond b (Some Equal) (cond c (Some Greater) None))) ≡ true → Up x y
+    go true b c p q e = le_of_lt x y (rw p tt)
+    go false true c p q e = le_of_eq x y (rw q tt)
+    go false false true p q e = absurd (false≢true e)
+    go false false false p q e = absurd (false≢true e)
 
-    go : (b : Bool) → lt y x ≡ b → (T (in_order (y ∷ l)) → Pairwise Up (y ∷ l)) → T (cond b false (in_order (y ∷ l))) → Pairwise Up (x ∷ y ∷ l)
-    go true e f g = absurd g
-    go false e f g = head (f g) (nlt→le y x Y X (rw e tt))
+-- the answer of `is_sorted`
+abbrev pub Told : List Float → Bool → Type 0
+Told l r = IsAllAdjacentAnswer (λ x y b. partial_le float_partial_cmp x y ≡ b) l r
 
-pub order_sorted : (l : List Float) → All Number l → in_order l ≡ true → l ≡ sorted l
-order_sorted l N h = sym (sorted_same l (order_pairs l N (subst T (sym h) tt)))
+-- at true each is at most the next, and so at most every later one
+pub told_sorted : (l : List Float) (r : Bool) → Told l r → r ≡ true → l ≡ sorted l
+told_sorted l r t e = sym (sorted_same l (pairs l (rw e at t)))
+  where
+    before_all : (x y : Float) (l : List Float) → Up x y → Pairwise Up (y ∷ l) → Pairwise Up (x ∷ y ∷ l)
+    before_all x y l q (first p g) = first (more q (all_map (λ z r. le_trans x y z q r) p)) (first p g)
+
+    pairs : (l : List Float) → Told l true → Pairwise Up l
+    pairs [] h = empty
+    pairs (x ∷ []) h = first none empty
+    pairs (x ∷ y ∷ l) h =
+        before_all x y l (partial_up x y (h 0 x (omega arith)))
+        (pairs (y ∷ l) (λ k d p. let n : suc k + 1 ≡ suc (k + 1) = omega arith in let g = h (suc k) d (omega arith) in rw n at g))
+
+-- at false there are two
+pub told_two : (l : List Float) (r : Bool) → Told l r → r ≡ false → 2 ≤ length l
+told_two l r t e = let h = rw e at t in omega (arith, h.1)

@@ -1,156 +1,101 @@
--- The loops of `merge`, `copy` and `in_order`: what is done, then what is left, is the whole. Assumes nothing.
+-- The loops of `merge`: what is placed, then what is left, is the whole. Assumes nothing.
 use mathlib.Core.Path.{◌≡◌, refl, sym, ap, ◌∙◌}
-use mathlib.Core.Bool.{true, false}
+use mathlib.Core.Bool.{Bool, true, false, cond}
 use mathlib.Core.List.{List, [], ◌∷◌, ◌++◌}
 use Prim.Native.Nat.{ℕ, ◌+◌, ◌≤◌, ◌<◌}
 use native.Mathlib.Numerals.{add-one}
 use native.Mathlib.Omega.{arith}
 use lib.ListN.{length, get_or, take, drop, set, length-set, take-append-drop, drop_of_length-le}
-use lib.Seq.{take-suc-set, take-suc, take-length, drop-set-lt, drop-cons, append_snoc}
+use lib.Seq.{take-suc-set, drop-set-lt, drop-cons, append_snoc}
 use lib.Ieee.{Float, nan, lt}
-use Rattle.knots_sort.specs.Own.Merge.{in_order, merged_runs}
-use Rattle.knots_sort.proofs.Merged.{merged_right, merged_left, merged_nil}
-use Rattle.knots_sort.proofs.Sorted.{order_below, order_next, order_one}
+use Rattle.knots_sort.specs.Own.Merge.{before, merged_runs}
 
--- i of the list and j - length l of the part behind it are stored in the first k of a
-pub record Merging (l a₀ a : List Float) (i j k : ℕ) : Type 0 where
-  pub first_read : i ≤ length l
-  pub second_read : j ≤ length a₀
-  pub stored : i + j ≡ length l + k
-  pub same_length : length a ≡ length a₀
-  pub whole : take k a ++ merged_runs (drop i l) (drop j a) ≡ merged_runs l (drop (length l) a₀)
+-- v stored at number `to`, below what is left
+stored : (g : List Float → List Float) (a : List Float) (next to : ℕ) (v : Float) → to < length a → to < next → take (to + 1) (set a to v) ++ g (drop next (set a to v)) ≡ take to a ++ v ∷ g (drop next a)
+stored g a next to v h p =
+    ap (λ (n : ℕ). take n (set a to v) ++ g (drop next (set a to v))) (add-one to)
+    ∙ ap (λ (t : List Float). t ++ g (drop next (set a to v))) (take-suc-set a to v h)
+    ∙ ap (λ (t : List Float). (take to a ++ (v ∷ [])) ++ g t) (drop-set-lt next a to v p)
+    ∙ append_snoc (take to a) v (g (drop next a))
 
-pub merging_start : (l a : List Float) → length l ≤ length a → Merging l a a 0 (length l) 0
-merging_start l a h = record { first_read = omega arith; second_read = h; stored = omega arith; same_length = refl; whole = refl }
+-- ---- the inner loop: b, m, n stand for a, next and to when it began; what of the rest is below x has been placed up to number `next`
+pub record Placing (x : Float) (b : List Float) (m n : ℕ) (a : List Float) (next to : ℕ) : Type 0 where
+  pub less : n < m
+  pub apart : next + n ≡ to + m
+  pub within : next ≤ length a
+  pub same_length : length a ≡ length b
+  pub whole : (f : List Float → List Float) → take to a ++ before x f (drop next a) ≡ take n b ++ before x f (drop m b)
 
--- v stored at k, below what is left
-moved : (a m : List Float) (j k : ℕ) (v : Float) → k < length a → k < j → take (k + 1) (set a k v) ++ merged_runs m (drop j (set a k v)) ≡ take k a ++ v ∷ merged_runs m (drop j a)
-moved a m j k v h g =
-    ap (λ (n : ℕ). take n (set a k v) ++ merged_runs m (drop j (set a k v))) (add-one k)
-    ∙ ap (λ (t : List Float). t ++ merged_runs m (drop j (set a k v))) (take-suc-set a k v h)
-    ∙ ap (λ (t : List Float). (take k a ++ (v ∷ [])) ++ merged_runs m t) (drop-set-lt j a k v g)
-    ∙ append_snoc (take k a) v (merged_runs m (drop j a))
+module _ (x : Float) (f : List Float → List Float) (a : List Float) (next : ℕ) where
+  here : (b : Bool) → lt (get_or a next nan) x ≡ b → next < length a
+      → before x f (drop next a) ≡ cond b (get_or a next nan ∷ before x f (drop (next + 1) a)) (x ∷ f (drop next a))
+  unfolding before
+  here b e h =
+      let front : drop next a ≡ get_or a next nan ∷ drop (next + 1) a = drop-cons a next nan h ∙ ap (λ (n : ℕ). get_or a next nan ∷ drop n a) (sym (add-one next)) in
+      ap (before x f) front
+      ∙ ap (λ (b : Bool). cond b (get_or a next nan ∷ before x f (drop (next + 1) a)) (x ∷ f (get_or a next nan ∷ drop (next + 1) a))) e
+      ∙ ap (λ (l : List Float). cond b (get_or a next nan ∷ before x f (drop (next + 1) a)) (x ∷ f l)) (sym front)
 
-module _ (l a₀ a : List Float) (i j k : ℕ) (s : Merging l a₀ a i j k) (p : i < length l) where
-  front : drop i l ≡ get_or l i nan ∷ drop (i + 1) l
-  front = drop-cons l i nan p ∙ ap (λ (n : ℕ). get_or l i nan ∷ drop n l) (sym (add-one i))
+  pub none_below : lt (get_or a next nan) x ≡ false → next < length a → before x f (drop next a) ≡ x ∷ f (drop next a)
+  none_below e h = here false e h
 
-  module _ (q : j < length a₀) where
-    back : drop j a ≡ get_or a j nan ∷ drop (j + 1) a
-    back = drop-cons a j nan (omega (arith, s.same_length)) ∙ ap (λ (n : ℕ). get_or a j nan ∷ drop n a) (sym (add-one j))
+  pub none_left : length a ≤ next → before x f (drop next a) ≡ x ∷ f (drop next a)
+  unfolding before
+  none_left h = let e : drop next a ≡ [] = drop_of_length-le a {i = next} h in ap (before x f) e ∙ ap (λ (l : List Float). x ∷ f l) (sym e)
 
-    pub merging_right : lt (get_or a j nan) (get_or l i nan) ≡ true → Merging l a₀ (set a k (get_or a j nan)) i (j + 1) (k + 1)
-    merging_right h = record {
-      first_read = s.first_read;
-      second_read = omega arith;
-      stored = omega (arith, s.stored);
-      same_length = length-set a k (get_or a j nan) ∙ s.same_length;
-      whole =
-          moved a (drop i l) (j + 1) k (get_or a j nan) (omega (arith, s.stored, s.same_length)) (omega (arith, s.stored))
-          ∙ ap (λ (t : List Float). take k a ++ t) (step ∙ sym (ap (merged_runs (drop i l)) back)) ∙ s.whole;
-    }
-      where
-        step : get_or a j nan ∷ merged_runs (drop i l) (drop (j + 1) a) ≡ merged_runs (drop i l) (get_or a j nan ∷ drop (j + 1) a)
-        step =
-            ap (λ (t : List Float). get_or a j nan ∷ merged_runs t (drop (j + 1) a)) front
-            ∙ sym (merged_right (get_or l i nan) (drop (i + 1) l) (get_or a j nan) (drop (j + 1) a) h)
-            ∙ sym (ap (λ (t : List Float). merged_runs t (get_or a j nan ∷ drop (j + 1) a)) front)
+pub placing_start : (x : Float) (b : List Float) (m n : ℕ) → n < m → m ≤ length b → Placing x b m n b m n
+placing_start x b m n p h = record { less = p; apart = omega arith; within = h; same_length = refl; whole = λ f. refl }
 
-    pub merging_left : lt (get_or a j nan) (get_or l i nan) ≡ false → Merging l a₀ (set a k (get_or l i nan)) (i + 1) j (k + 1)
-    merging_left h = record {
-      first_read = omega arith;
-      second_read = s.second_read;
-      stored = omega (arith, s.stored);
-      same_length = length-set a k (get_or l i nan) ∙ s.same_length;
-      whole =
-          moved a (drop (i + 1) l) j k (get_or l i nan) (omega (arith, s.stored, s.same_length)) (omega (arith, s.stored))
-          ∙ ap (λ (t : List Float). take k a ++ t) (step ∙ sym (ap (λ (t : List Float). merged_runs t (drop j a)) front)) ∙ s.whole;
-    }
-      where
-        step : get_or l i nan ∷ merged_runs (drop (i + 1) l) (drop j a) ≡ merged_runs (get_or l i nan ∷ drop (i + 1) l) (drop j a)
-        step =
-            ap (λ (t : List Float). get_or l i nan ∷ merged_runs (drop (i + 1) l) t) back
-            ∙ sym (merged_left (get_or l i nan) (drop (i + 1) l) (get_or a j nan) (drop (j + 1) a) h)
-            ∙ sym (ap (merged_runs (get_or l i nan ∷ drop (i + 1) l)) back)
-
-  pub merging_rest : length a₀ ≤ j → Merging l a₀ (set a k (get_or l i nan)) (i + 1) j (k + 1)
-  merging_rest q = record {
-    first_read = omega arith;
-    second_read = s.second_read;
-    stored = omega (arith, s.stored);
-    same_length = length-set a k (get_or l i nan) ∙ s.same_length;
-    whole =
-        moved a (drop (i + 1) l) j k (get_or l i nan) (omega (arith, s.stored, s.same_length, s.second_read)) (omega (arith, s.stored))
-        ∙ ap (λ (t : List Float). take k a ++ t) (step ∙ sym (ap (λ (t : List Float). merged_runs t (drop j a)) front)) ∙ s.whole;
-  }
-    where
-      none_left : drop j a ≡ []
-      none_left = drop_of_length-le a {i = j} (omega (arith, s.same_length))
-
-      step : get_or l i nan ∷ merged_runs (drop (i + 1) l) (drop j a) ≡ merged_runs (get_or l i nan ∷ drop (i + 1) l) (drop j a)
-      step =
-          ap (λ (t : List Float). get_or l i nan ∷ merged_runs (drop (i + 1) l) t) none_left
-          ∙ ap (λ (t : List Float). get_or l i nan ∷ t) (merged_nil (drop (i + 1) l))
-          ∙ sym (merged_nil (get_or l i nan ∷ drop (i + 1) l))
-          ∙ sym (ap (merged_runs (get_or l i nan ∷ drop (i + 1) l)) none_left)
-
-merged_none : (k : List Float) → merged_runs [] k ≡ k
-unfolding merged_runs
-merged_none k = refl
-
-pub merging_done : (l a₀ a : List Float) (i j k : ℕ) → Merging l a₀ a i j k → length l ≤ i → a ≡ merged_runs l (drop (length l) a₀)
-merging_done l a₀ a i j k s h =
-    let e : j ≡ k = omega (arith, s.first_read, s.stored) in
-    let n : drop i l ≡ [] = drop_of_length-le l {i = i} h in
-    sym (take-append-drop k a)
-    ∙ ap (λ (m : ℕ). take k a ++ drop m a) (sym e)
-    ∙ ap (λ (t : List Float). take k a ++ t) (sym (merged_none (drop j a)) ∙ ap (λ (t : List Float). merged_runs t (drop j a)) (sym n))
-    ∙ s.whole
-
--- ---- the loop of `copy`
-pub record Copying (from to₀ to : List Float) (i : ℕ) : Type 0 where
-  pub read : i ≤ length from
-  pub same_length : length to ≡ length to₀
-  pub same : take i to ≡ take i from
-
-pub copying_next : (from to₀ to : List Float) (i : ℕ) → length from ≤ length to₀ → Copying from to₀ to i → i < length from → Copying from to₀ (set to i (get_or from i nan)) (i + 1)
-copying_next from to₀ to i h s p = record {
-  read = omega arith;
-  same_length = length-set to i (get_or from i nan) ∙ s.same_length;
-  same =
-      ap (λ (n : ℕ). take n (set to i (get_or from i nan))) (add-one i)
-      ∙ take-suc-set to i (get_or from i nan) (omega (arith, s.same_length))
-      ∙ ap (λ (t : List Float). t ++ (get_or from i nan ∷ [])) s.same
-      ∙ sym (take-suc from i nan p) ∙ ap (λ (n : ℕ). take n from) (sym (add-one i));
+pub placing_next : (x : Float) (b : List Float) (m n : ℕ) (a : List Float) (next to : ℕ) → Placing x b m n a next to → next < length a → lt (get_or a next nan) x ≡ true
+    → Placing x b m n (set a to (get_or a next nan)) (next + 1) (to + 1)
+placing_next x b m n a next to s h e = record {
+  less = s.less;
+  apart = omega (arith, s.apart);
+  within = omega (arith, length-set a to (get_or a next nan));
+  same_length = length-set a to (get_or a next nan) ∙ s.same_length;
+  whole = λ f.
+      stored (before x f) a (next + 1) to (get_or a next nan) (omega (arith, s.less, s.apart)) (omega (arith, s.less, s.apart))
+      ∙ ap (λ (l : List Float). take to a ++ l) (sym (here x f a next true e h)) ∙ s.whole f;
 }
 
-pub copying_done : (from to₀ to : List Float) (i : ℕ) → Copying from to₀ to i → length from ≤ i → take (length from) to ≡ from
-copying_done from to₀ to i s h =
-    let e : i ≡ length from = omega (arith, s.read) in
-    ap (λ (n : ℕ). take n to) (sym e) ∙ s.same ∙ ap (λ (n : ℕ). take n from) e ∙ take-length from
+-- ---- the outer loop: i of the list l are placed, and those of the part behind it up to number `next`
+pub record Merging (l b a : List Float) (next to i : ℕ) : Type 0 where
+  pub apart : i + next ≡ length l + to
+  pub within : next ≤ length a
+  pub whole : take to a ++ merged_runs (drop i l) (drop next a) ≡ merged_runs l (drop (length l) b)
 
--- ---- the loop of `in_order`: the test of the last one read and the rest is that of all
-pub record Ordering (a : List Float) (last : Float) (i : ℕ) : Type 0 where
-  pub read : i ≤ length a
-  pub same : in_order (last ∷ drop i a) ≡ in_order a
+pub merging_start : (l b : List Float) → length l ≤ length b → Merging l b b (length l) 0 0
+merging_start l b h = record { apart = omega arith; within = h; whole = refl }
 
-pub ordering_start : (a : List Float) → 0 < length a → Ordering a (get_or a 0 nan) 1
-ordering_start [] h = absurd (omega arith)
-ordering_start (x ∷ l) h = record { read = omega arith; same = refl }
+-- a, m, n: what the inner loop began with; c, next, to: what it left, where none of the rest is below the next of l
+pub merging_next : (l b a : List Float) (m n i : ℕ) → Merging l b a m n i → i < length l → (c : List Float) (next to : ℕ) → Placing (get_or l i nan) a m n c next to
+    → ((f : List Float → List Float) → before (get_or l i nan) f (drop next c) ≡ get_or l i nan ∷ f (drop next c))
+    → Merging l b (set c to (get_or l i nan)) next (to + 1) (i + 1)
+unfolding merged_runs
+merging_next l b a m n i s h c next to g none = record {
+  apart = omega (arith, s.apart, g.apart);
+  within = omega (arith, g.within, length-set c to (get_or l i nan));
+  whole =
+      stored (merged_runs rest) c next to x (omega (arith, s.apart, g.apart, g.within)) (omega (arith, s.apart, g.apart))
+      ∙ ap (λ (t : List Float). take to c ++ t) (sym (none (merged_runs rest)))
+      ∙ g.whole (merged_runs rest) ∙ ap (λ (t : List Float). take n a ++ merged_runs t (drop m a)) (sym front) ∙ s.whole;
+}
+  where
+    x : Float
+    x = get_or l i nan
 
-module _ (a : List Float) (last : Float) (i : ℕ) (s : Ordering a last i) where
-  module _ (p : i < length a) where
-    ahead : drop i a ≡ get_or a i nan ∷ drop (i + 1) a
-    ahead = drop-cons a i nan p ∙ ap (λ (n : ℕ). get_or a i nan ∷ drop n a) (sym (add-one i))
+    rest : List Float
+    rest = drop (i + 1) l
 
-    pub ordering_below : lt (get_or a i nan) last ≡ true → false ≡ in_order a
-    ordering_below h = order_below last (get_or a i nan) (drop (i + 1) a) h ∙ ap (λ (l : List Float). in_order (last ∷ l)) (sym ahead) ∙ s.same
+    front : drop i l ≡ get_or l i nan ∷ drop (i + 1) l
+    front = drop-cons l i nan h ∙ ap (λ (n : ℕ). get_or l i nan ∷ drop n l) (sym (add-one i))
 
-    pub ordering_next : lt (get_or a i nan) last ≡ false → Ordering a (get_or a i nan) (i + 1)
-    ordering_next h = record {
-      read = omega arith;
-      same = sym (order_next last (get_or a i nan) (drop (i + 1) a) h) ∙ ap (λ (l : List Float). in_order (last ∷ l)) (sym ahead) ∙ s.same;
-    }
-
-  pub ordering_done : length a ≤ i → true ≡ in_order a
-  ordering_done h = order_one last ∙ ap (λ (l : List Float). in_order (last ∷ l)) (sym (drop_of_length-le a {i = i} h)) ∙ s.same
+pub merging_done : (l b a : List Float) (next to i : ℕ) → Merging l b a next to i → i ≡ length l → a ≡ merged_runs l (drop (length l) b)
+unfolding merged_runs
+merging_done l b a next to i s h =
+    let e : next ≡ to = omega (arith, s.apart) in
+    let n : drop i l ≡ [] = drop_of_length-le l {i = i} (omega arith) in
+    sym (take-append-drop to a)
+    ∙ ap (λ (m : ℕ). take to a ++ drop m a) (sym e)
+    ∙ ap (λ (t : List Float). take to a ++ merged_runs t (drop next a)) (sym n)
+    ∙ s.whole

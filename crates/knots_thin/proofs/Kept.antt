@@ -1,4 +1,5 @@
 -- What `kept_breaks` answers and leaves in the buffer. Assumes nothing.
+use Rattle.std.specs.Prelude.{Option, ℕ, Some, None}
 use mathlib.Core.Path.{◌≡◌, sym, ap, ◌∙◌}
 use mathlib.Core.List.{List, ◌++◌}
 use Prim.Native.Nat.{ℕ, ◌≤◌}
@@ -9,8 +10,6 @@ use lib.Ieee.{Float}
 use Rattle.base_lists.specs.Room.{filled}
 use Rattle.base_lists.proofs.Filled.{filled_front, filled_most, filled_part}
 use Rattle.brep.specs.Tree.{CurveTree}
-use Rattle.knots.specs.declared.Knots.{Knots}
-use Rattle.knots.specs.declared.Knots.TheVariants.{Count, TooMany}
 use Rattle.knots.specs.Knots.{curve_knots, curve_breaks}
 use Rattle.knots.specs.Own.Gathered.{breaks_answer, breaks_after}
 use Rattle.knots.proofs.Answers.{answer_fits, answer_exceeds, counted, exceeded, after_fits, after_exceeds}
@@ -25,13 +24,13 @@ module _ (buffer : List Float) (curve : CurveTree) (lo hi : Float) where
     pub same_length : length out ≡ length buffer
     pub floats : out ≡ filled (length buffer) (curve_breaks curve lo hi)
 
-  module _ (found : Knots) (out : List Float) (answered : found ≡ breaks_answer (length buffer) curve lo hi) (left : out ≡ breaks_after buffer curve lo hi) where
-    pub some_found : length out ≡ length buffer → (n : ℕ) → found ≡ Count n → Found out n
+  module _ (found : Option ℕ) (out : List Float) (answered : found ≡ breaks_answer (length buffer) curve lo hi) (left : out ≡ breaks_after buffer curve lo hi) where
+    pub some_found : length out ≡ length buffer → (n : ℕ) → found ≡ Some n → Found out n
     some_found e n is =
         let k = counted curve (length buffer) (curve_breaks curve lo hi) n (sym answered ∙ is) in
         record { count = k.0; fits = k.1; same_length = e; floats = left ∙ sym (after_fits curve buffer (curve_breaks curve lo hi) k.1) }
 
-    pub none_kept : (sag : Float) → found ≡ TooMany → (TooMany ≡ kept_answer (length buffer) curve lo hi sag) × (out ≡ kept_after buffer curve lo hi sag)
+    pub none_kept : (sag : Float) → found ≡ None → (None ≡ kept_answer (length buffer) curve lo hi sag) × (out ≡ kept_after buffer curve lo hi sag)
     none_kept sag is =
         let h = exceeded curve (length buffer) (curve_breaks curve lo hi) (sym answered ∙ is) in
         (answer_exceeds curve (length buffer) (kept_breaks curve lo hi sag) h, left ∙ sym (after_exceeds curve buffer (curve_breaks curve lo hi) h) ∙ after_exceeds curve buffer (kept_breaks curve lo hi sag) h)
@@ -54,9 +53,9 @@ module _ {buffer : List Float} {curve : CurveTree} {lo hi : Float} {out : List F
   -- last: the part after `thin_breaks`, which answered m
   pub some_kept : (sag : Float) (m : ℕ) (last : List Float) → length last ≡ length (take n out) → m ≡ length (curve_thinned curve (take n out) lo hi sag)
       → last ≡ filled (length (take n out)) (curve_thinned curve (take n out) lo hi sag)
-      → (Count m ≡ kept_answer (length buffer) curve lo hi sag) × (last ++ drop n out ≡ kept_after buffer curve lo hi sag)
+      → (Some m ≡ kept_answer (length buffer) curve lo hi sag) × (last ++ drop n out ≡ kept_after buffer curve lo hi sag)
   some_kept sag m last long count floats = (
-    ap Count (count ∙ ap (λ (l : List Float). length (curve_thinned curve l lo hi sag)) part) ∙ answer_fits curve (length buffer) (kept_breaks curve lo hi sag) s.fits,
+    ap Some (count ∙ ap (λ (l : List Float). length (curve_thinned curve l lo hi sag)) part) ∙ answer_fits curve (length buffer) (kept_breaks curve lo hi sag) s.fits,
     ap (λ (l : List Float). l ++ drop n out) is
         ∙ ap (λ (l : List Float). filled n (kept_breaks curve lo hi sag) ++ drop n l) s.floats
         ∙ filled_part (length buffer) n (curve_breaks curve lo hi) (kept_breaks curve lo hi sag) (sym s.count) room few

@@ -2,14 +2,14 @@
 use mathlib.Core.Path.{◌≡◌, refl, sym, ap, ◌∙◌}
 use mathlib.Core.Bool.{Bool, true, false}
 use mathlib.Core.List.{List, ◌∷◌, ◌++◌, append-nil}
-use Prim.Native.Nat.{ℕ, ◌+◌, ◌-◌, ◌*◌, ◌^◌, ◌≤◌, ◌<◌}
+use Prim.Native.Nat.{ℕ, ◌+◌, ◌-◌, ◌≤◌, ◌<◌}
 use native.Mathlib.Omega.{arith}
 use lib.ListN.{length, get_or, take, drop, set, replicate, drop_of_length-le}
 use lib.Seq.{drop-cons, length-take-le}
 use lib.Ieee.{Float, nan, lt, binary64, of_bits}
 use Rattle.arith.specs.Notation.{plus_zero}
 use Rattle.base_lists.specs.Room.{filled}
-use Rattle.base_lists.proofs.Filtering.{Filtering, filtering_start, filtering_rest, filtering_skip, filtering_keep, filtering_done}
+use Rattle.base_lists.proofs.Filtering.{Filtering, filtering_rest, filtering_skip, filtering_keep, filtering_done}
 use Rattle.knots_inside.specs.Thinned.{next_of, thinned_from, thin_breaks}
 
 -- ---- next_of
@@ -21,12 +21,8 @@ next_none hi l i h = sym (ap (next_of hi) (drop_of_length-le l {i = i + 1} h))
 
 -- ---- the loop: start is the last break kept, or lo
 module _ (deviation : Float → Float → Float) (sag hi lo : Float) where
-  pub record Thinning (a₀ a : List Float) (start : Float) (k i : ℕ) : Type 0 where
-    pub small : length a₀ * 8 < 2 ^ 63
-    pub filtering : Filtering (thinned_from deviation sag hi lo a₀) a₀ a (thinned_from deviation sag hi start) k i
-
-  pub thinning_start : (a : List Float) → length a * 8 < 2 ^ 63 → Thinning a a lo 0 0
-  thinning_start a h = record { small = h; filtering = filtering_start a (thinned_from deviation sag hi lo) }
+  abbrev pub Thinning : List Float → List Float → Float → ℕ → ℕ → Type 0
+  Thinning a₀ a start k i = Filtering (thinned_from deviation sag hi lo a₀) a₀ a (thinned_from deviation sag hi start) k i
 
   thinned_is : (start b : Float) (bs : List Float) (v : Bool) → lt sag (deviation start (next_of hi bs)) ≡ v
       → thinned_from deviation sag hi start (b ∷ bs) ≡ elim v [ true ↦ b ∷ thinned_from deviation sag hi b bs | false ↦ thinned_from deviation sag hi start bs ]
@@ -36,37 +32,30 @@ module _ (deviation : Float → Float → Float) (sag hi lo : Float) where
   module _ {a₀ a : List Float} {start : Float} {k i : ℕ} (s : Thinning a₀ a start k i) (p : i < length a₀) (next d : Float)
       (is : next ≡ next_of hi (drop (i + 1) a)) (of : d ≡ deviation start next) where
     tested : (v : Bool) → lt sag d ≡ v → lt sag (deviation start (next_of hi (drop (i + 1) a₀))) ≡ v
-    tested v h = ap (λ (b : Float). lt sag (deviation start b)) (sym (is ∙ ap (next_of hi) (filtering_rest nan s.filtering p))) ∙ ap (lt sag) (sym of) ∙ h
+    tested v h = ap (λ (b : Float). lt sag (deviation start b)) (sym (is ∙ ap (next_of hi) (filtering_rest nan s p))) ∙ ap (lt sag) (sym of) ∙ h
 
     pub thinning_keep : lt sag d ≡ true → Thinning a₀ (set a k (get_or a i nan)) (get_or a i nan) (k + 1) (i + 1)
-    thinning_keep h = record {
-      small = s.small;
-      filtering = filtering_keep nan s.filtering p (thinned_from deviation sag hi (get_or a i nan)) (thinned_is start (get_or a i nan) (drop (i + 1) a₀) true (tested true h));
-    }
+    thinning_keep h = filtering_keep nan s p (thinned_from deviation sag hi (get_or a i nan)) (thinned_is start (get_or a i nan) (drop (i + 1) a₀) true (tested true h))
 
     pub thinning_skip : lt sag d ≡ false → Thinning a₀ a start k (i + 1)
-    thinning_skip h = record { small = s.small; filtering = filtering_skip nan s.filtering p (thinned_is start (get_or a i nan) (drop (i + 1) a₀) false (tested false h)) }
+    thinning_skip h = filtering_skip nan s p (thinned_is start (get_or a i nan) (drop (i + 1) a₀) false (tested false h))
 
-  module _ {a₀ a : List Float} {start : Float} {k i : ℕ} (s : Thinning a₀ a start k i) (h : length a₀ ≤ i) where
-    done : (k ≤ length a₀) × (take k a ≡ thinned_from deviation sag hi lo a₀)
-    unfolding thinned_from
-    done = filtering_done s.filtering refl h
+  module _ {a₀ a : List Float} (start : Float) {k i : ℕ} (s : Thinning a₀ a start k i) (h : length a₀ ≤ i) (positive : lt plus_zero sag ≡ true) where
+    thinned : take k a ≡ thin_breaks a₀ lo hi sag deviation
+    unfolding thinned_from thin_breaks
+    thinned = (filtering_done s refl h).1 ∙ sym (ap (λ (v : Bool). elim v [ true ↦ thinned_from deviation sag hi lo a₀ | false ↦ a₀ ]) positive)
 
-    pub thinning_room : k ≤ length a
-    thinning_room = omega (arith, done.0, s.filtering.same_length)
+    pub thinning_count : k ≡ length (thin_breaks a₀ lo hi sag deviation)
+    thinning_count = sym (length-take-le k a (omega (arith, s.kept, s.read, s.same_length))) ∙ ap length thinned
 
     -- cleared: the buffer in the end
-    pub thinning_done : lt plus_zero sag ≡ true → (cleared : List Float) → cleared ≡ filled (length a) (take k a)
-        → (k ≡ length (thin_breaks a₀ lo hi sag deviation)) × (cleared ≡ filled (length a₀) (thin_breaks a₀ lo hi sag deviation))
-    unfolding thin_breaks
-    thinning_done t cleared e =
-        let w : thin_breaks a₀ lo hi sag deviation ≡ thinned_from deviation sag hi lo a₀ = ap (λ (v : Bool). elim v [ true ↦ thinned_from deviation sag hi lo a₀ | false ↦ a₀ ]) t in
-        let g = done.1 ∙ sym w in
-        (sym (length-take-le k a thinning_room) ∙ ap length g, e ∙ ap (λ (n : ℕ). filled n (take k a)) s.filtering.same_length ∙ ap (filled (length a₀)) g)
+    pub thinning_buffer : (cleared : List Float) → cleared ≡ filled (length a) (take k a) → cleared ≡ filled (length a₀) (thin_breaks a₀ lo hi sag deviation)
+    thinning_buffer cleared e = e ∙ ap (λ (n : ℕ). filled n (take k a)) s.same_length ∙ ap (filled (length a₀)) thinned
 
-  pub all_kept : (a : List Float) → lt plus_zero sag ≡ false → (length a ≡ length (thin_breaks a lo hi sag deviation)) × (a ≡ filled (length a) (thin_breaks a lo hi sag deviation))
+  pub all_stay : (a : List Float) → lt plus_zero sag ≡ false → a ≡ thin_breaks a lo hi sag deviation
   unfolding thin_breaks
-  all_kept a t =
-      let w : a ≡ thin_breaks a lo hi sag deviation = sym (ap (λ (v : Bool). elim v [ true ↦ thinned_from deviation sag hi lo a | false ↦ a ]) t) in
-      let z : 0 ≡ length a - length a = omega arith in
-      (ap length w, sym (append-nil a) ∙ ap (λ (n : ℕ). a ++ replicate n (of_bits binary64 0)) z ∙ ap (filled (length a)) w)
+  all_stay a t = sym (ap (λ (v : Bool). elim v [ true ↦ thinned_from deviation sag hi lo a | false ↦ a ]) t)
+
+-- a buffer that is full of its list
+pub filled_full : (a : List Float) → a ≡ filled (length a) a
+filled_full a = let none : 0 ≡ length a - length a = omega arith in sym (append-nil a) ∙ ap (λ (n : ℕ). a ++ replicate n (of_bits binary64 0)) none

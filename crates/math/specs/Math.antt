@@ -1,5 +1,5 @@
 -- Vec3, Frame, Aabb and Interval of math.rs, each operation rounded once, in the Rust's order. Definitions only.
-use Rattle.std.specs.Prelude.{Bool, true, false, cond, ◌&&◌, ◌||◌, Float}
+use Rattle.std.specs.Prelude.{Bool, true, false, cond, ◌&&◌, ◌||◌, Float, Option, Some, None}
 use Rattle.std.specs.Float.{inf}
 use Rattle.std.specs.Float.Ieee.{lt, neg}
 use Rattle.std.specs.Float.Ieee.Scale.{finite}
@@ -9,8 +9,6 @@ use Rattle.arith.specs.Pick.{min_of, max_of, clamp_of}
 use Rattle.arith_root.specs.Root.{root_of}
 use Rattle.arith_trig.specs.Trig.{acos_of}
 use Rattle.math.specs.declared.Vec3.{Vec3}
-use Rattle.math.specs.declared.Direction.{Direction}
-use Rattle.math.specs.declared.Direction.TheVariants.{Unit, Nothing}
 use Rattle.math.specs.declared.Frame.{Frame}
 use Rattle.math.specs.declared.Aabb.{Aabb}
 use Rattle.math.specs.declared.Interval.{Interval}
@@ -61,8 +59,8 @@ abbrev pub shortest_vector : Float
 shortest_vector = two_to_minus511
 
 -- Vec3::try_normalized: none unless the length is finite and above 2^-511
-unfoldable pub try_normalized : Vec3 → Direction
-try_normalized a = cond (finite (v_length a) && lt shortest_vector (v_length a)) (Unit (v_scale a (one ⊘ v_length a))) Nothing
+unfoldable pub try_normalized : Vec3 → Option Vec3
+try_normalized a = cond (finite (v_length a) && lt shortest_vector (v_length a)) (Some (v_scale a (one ⊘ v_length a))) None
 
 -- the angle between two unit vectors, by the arc cosine of their product, clamped to -1 to 1
 unfoldable pub angle_between : Vec3 → Vec3 → Float

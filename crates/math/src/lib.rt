@@ -3,25 +3,18 @@
 ghost use Rattle.std.specs.Prelude.{◌≡◌};
 ghost use Rattle.math.specs.Math.{v_add, v_sub, v_scale, v_dot, v_cross, v_length_squared, v_length, distance};
 ghost use Rattle.math.specs.Math.{try_normalized, v_lerp, v_min, v_max, v_finite, y_dir};
-ghost use Rattle.math.specs.Math.{empty_box, is_empty, add_point, box_size, centre, diagonal, span_of, at};
+ghost use Rattle.math.specs.Math.{is_empty, add_point, box_size, centre, diagonal, span_of, at};
 
 // A point or a vector of space.
-#[derive(Clone, Copy)]
+#[derive(Clone, Copy, Debug)]
 pub struct Vec3 {
     pub x: f64,
     pub y: f64,
     pub z: f64,
 }
 
-// What `try_normalized` finds: a unit vector, or nothing where the vector is too short to have a direction.
-#[derive(Clone, Copy)]
-pub enum Direction {
-    Unit(Vec3),
-    Nothing,
-}
-
 // An origin with a Z axis and an X axis, as they are: nothing is normalised.
-#[derive(Clone, Copy)]
+#[derive(Clone, Copy, Debug)]
 pub struct Frame {
     pub origin: Vec3,
     pub axis: Vec3,
@@ -29,14 +22,14 @@ pub struct Frame {
 }
 
 // An axis-aligned bounding box.
-#[derive(Clone, Copy)]
+#[derive(Clone, Copy, Debug)]
 pub struct Aabb {
     pub min: Vec3,
     pub max: Vec3,
 }
 
 // An interval of a curve's parameter, from lo to hi.
-#[derive(Clone, Copy)]
+#[derive(Clone, Copy, Debug)]
 pub struct Interval {
     pub lo: f64,
     pub hi: f64,
@@ -54,6 +47,7 @@ impl Vec3 {
     };
 
     // The scalar product.
+    #[tactic(auto, unfolding(crate::specs::Math::v_dot))]
     pub fn dot(self, o: Vec3) -> f64
         ensures { result ≡ v_dot self o }
     {
@@ -61,6 +55,7 @@ impl Vec3 {
     }
 
     // The vector product.
+    #[tactic(auto, unfolding(crate::specs::Math::v_cross))]
     fn cross(self, o: Vec3) -> Vec3
         ensures { result ≡ v_cross self o }
     {
@@ -72,6 +67,7 @@ impl Vec3 {
     }
 
     // The length: the root of its square.
+    #[tactic(auto, unfolding(crate::specs::Math::v_length))]
     pub fn length(self) -> f64
         ensures { result ≡ v_length self }
     {
@@ -86,19 +82,20 @@ impl Vec3 {
     }
 
     // The unit vector of this direction; none where the length is not finite, or so short that its square would not be normal.
-    pub fn try_normalized(self) -> Direction
+    #[tactic(auto, unfolding(crate::specs::Math::try_normalized))]
+    pub fn try_normalized(self) -> Option<Vec3>
         ensures { result ≡ try_normalized self }
     {
         let n = self.length();
-        if arith::is_finite(n) {
-            if SHORTEST_VECTOR < n {
-                return Direction::Unit(self.scale(1.0 / n));
-            }
+        if arith::is_finite(n) && SHORTEST_VECTOR < n {
+            Some(self.scale(1.0 / n))
+        } else {
+            None
         }
-        Direction::Nothing
     }
 
     // The point at t on the way from this to o.
+    #[tactic(auto, unfolding(crate::specs::Math::v_lerp))]
     pub fn lerp(self, o: Vec3, t: f64) -> Vec3
         ensures { result ≡ v_lerp self o t }
     {
@@ -106,6 +103,7 @@ impl Vec3 {
     }
 
     // The lesser of each coordinate.
+    #[tactic(auto, unfolding(crate::specs::Math::v_min))]
     fn min(self, o: Vec3) -> Vec3
         ensures { result ≡ v_min self o }
     {
@@ -116,7 +114,8 @@ impl Vec3 {
         }
     }
 
-    // The greater of each coordinate.
+    // The greater of each coordinate. Beside `min`: the same of the other choice, and no plainer with the choice handed in.
+    #[tactic(auto, unfolding(crate::specs::Math::v_max))]
     fn max(self, o: Vec3) -> Vec3
         ensures { result ≡ v_max self o }
     {
@@ -128,6 +127,7 @@ impl Vec3 {
     }
 
     // Whether each coordinate is finite.
+    #[tactic(auto, unfolding(crate::specs::Math::v_finite))]
     pub fn is_finite(self) -> bool
         ensures { result ≡ v_finite self }
     {
@@ -135,6 +135,7 @@ impl Vec3 {
     }
 
     // The sum, by coordinates.
+    #[tactic(auto, unfolding(crate::specs::Math::v_add))]
     pub fn add(self, o: Vec3) -> Vec3
         ensures { result ≡ v_add self o }
     {
@@ -146,6 +147,7 @@ impl Vec3 {
     }
 
     // The difference, by coordinates.
+    #[tactic(auto, unfolding(crate::specs::Math::v_sub))]
     pub fn sub(self, o: Vec3) -> Vec3
         ensures { result ≡ v_sub self o }
     {
@@ -157,6 +159,7 @@ impl Vec3 {
     }
 
     // The Rust's `mul`.
+    #[tactic(auto, unfolding(crate::specs::Math::v_scale))]
     pub fn scale(self, s: f64) -> Vec3
         ensures { result ≡ v_scale self s }
     {
@@ -177,6 +180,7 @@ pub fn distance(a: Vec3, b: Vec3) -> f64
 
 impl Frame {
     // Local +Y, which completes the right-handed frame.
+    #[tactic(auto, unfolding(crate::specs::Math::y_dir))]
     pub fn y_dir(self) -> Vec3
         ensures { result ≡ y_dir self }
     {
@@ -185,27 +189,22 @@ impl Frame {
 }
 
 impl Aabb {
-    // The empty box, which takes in any point. No constant can hold an infinity.
-    pub fn empty() -> Aabb
-        ensures { result ≡ empty_box }
-    {
-        let most = arith::infinity();
-        let least = -most;
-        Aabb {
-            min: Vec3 {
-                x: most,
-                y: most,
-                z: most,
-            },
-            max: Vec3 {
-                x: least,
-                y: least,
-                z: least,
-            },
-        }
-    }
+    // The empty box, which takes in any point.
+    pub const EMPTY: Aabb = Aabb {
+        min: Vec3 {
+            x: f64::INFINITY,
+            y: f64::INFINITY,
+            z: f64::INFINITY,
+        },
+        max: Vec3 {
+            x: f64::NEG_INFINITY,
+            y: f64::NEG_INFINITY,
+            z: f64::NEG_INFINITY,
+        },
+    };
 
     // Whether the box holds nothing: its least corner is above its greatest on some axis.
+    #[tactic(auto, unfolding(crate::specs::Math::is_empty))]
     pub fn is_empty(self) -> bool
         ensures { result ≡ is_empty self }
     {
@@ -213,6 +212,7 @@ impl Aabb {
     }
 
     // The box with p in it.
+    #[tactic(auto, unfolding(crate::specs::Math::add_point))]
     pub fn add_point(self, p: Vec3) -> Aabb
         ensures { result ≡ add_point self p }
     {
@@ -223,6 +223,7 @@ impl Aabb {
     }
 
     // The lengths of its sides; of the empty box, none.
+    #[tactic(auto, unfolding(crate::specs::Math::box_size))]
     pub fn size(self) -> Vec3
         ensures { result ≡ box_size self }
     {
@@ -234,6 +235,7 @@ impl Aabb {
     }
 
     // Its middle.
+    #[tactic(auto, unfolding(crate::specs::Math::centre))]
     pub fn centre(self) -> Vec3
         ensures { result ≡ centre self }
     {
@@ -245,6 +247,7 @@ impl Aabb {
     }
 
     // The length from its least corner to its greatest.
+    #[tactic(auto, unfolding(crate::specs::Math::diagonal))]
     pub fn diagonal(self) -> f64
         ensures { result ≡ diagonal self }
     {
@@ -257,6 +260,7 @@ impl Interval {
     pub const UNIT: Interval = Interval { lo: 0.0, hi: 1.0 };
 
     // From its lower end to its upper; below zero where they are exchanged.
+    #[tactic(auto, unfolding(crate::specs::Math::span_of))]
     pub fn span(self) -> f64
         ensures { result ≡ span_of self }
     {
@@ -264,6 +268,7 @@ impl Interval {
     }
 
     // The number at t on the way from its lower end to its upper.
+    #[tactic(auto, unfolding(crate::specs::Math::at))]
     pub fn at(self, t: f64) -> f64
         ensures { result ≡ at self t }
     {

@@ -1,6 +1,7 @@
 -- The distance of a point to a chord: one leaf for bisection, the thinning of breaks and the thinning of points.
 -- Definitions only.
-use Rattle.std.specs.Prelude.{Bool, cond, Float}
+use Rattle.std.specs.Prelude.{Float, Option, Some, None}
+use Rattle.std.specs.Bool.{then_some}
 use Rattle.std.specs.Float.Ieee.{lt}
 use Rattle.arith.specs.Notation.{◌⊗◌, ◌⊘◌, plus_zero}
 use Rattle.arith.specs.Constants.{ten_to_minus300}
@@ -13,14 +14,14 @@ unfoldable pub foot_of : Vec3 → Vec3 → Float → Vec3 → Float
 foot_of pa axis divisor p = clamp_of (v_dot (v_sub p pa) axis ⊘ divisor) unit_interval.lo unit_interval.hi
 
 -- from the chord to p: p - (pa + axis * s), where s is the foot; p - pa where the chord has no length.
--- Whether it has one, and the divisor, are the caller's
-unfoldable pub chord_offset : Vec3 → Vec3 → Bool → Float → Vec3 → Vec3
-chord_offset pa axis hasLength divisor p =
-    cond hasLength (v_sub p (v_add pa (v_scale axis (foot_of pa axis divisor p)))) (v_sub p pa)
+-- Whether it has one, and what the foot's part is divided by then, are the caller's
+unfoldable pub chord_offset : Vec3 → Vec3 → Option Float → Vec3 → Vec3
+chord_offset pa axis (Some divisor) p = v_sub p (v_add pa (v_scale axis (foot_of pa axis divisor p)))
+chord_offset pa axis None p = v_sub p pa
 
 -- deviation and thin: the chord has a length where len2, its square, is above zero; that is the divisor
 unfoldable pub span_offset : Vec3 → Vec3 → Float → Vec3 → Vec3
-span_offset pa axis len2 p = chord_offset pa axis (lt plus_zero len2) len2 p
+span_offset pa axis len2 p = chord_offset pa axis (then_some (lt plus_zero len2) len2) p
 
 -- how far p is from such a chord
 unfoldable pub span_distance : Vec3 → Vec3 → Float → Vec3 → Float
@@ -32,7 +33,7 @@ shortest_chord = ten_to_minus300
 
 -- subdivide: the chord has a length where len is above 1e-300; the divisor is len * len
 unfoldable pub bisection_offset : Vec3 → Vec3 → Float → Vec3 → Vec3
-bisection_offset pa chord len p = chord_offset pa chord (lt shortest_chord len) (len ⊗ len) p
+bisection_offset pa chord len p = chord_offset pa chord (then_some (lt shortest_chord len) (len ⊗ len)) p
 
 -- how far p is from such a chord
 unfoldable pub bisection_distance : Vec3 → Vec3 → Float → Vec3 → Float

@@ -9,6 +9,7 @@ use math::{Interval, Vec3};
 const SHORTEST_CHORD: f64 = 1e-300;
 
 // The foot of the perpendicular from p, as a part of the chord.
+#[tactic(auto, unfolding(crate::specs::Chord::foot_of))]
 fn foot(pa: Vec3, axis: Vec3, divisor: f64, p: Vec3) -> f64
     ensures { result ≡ foot_of pa axis divisor p }
 {
@@ -19,25 +20,27 @@ fn foot(pa: Vec3, axis: Vec3, divisor: f64, p: Vec3) -> f64
     )
 }
 
-// The leaf: from the chord to p. Whether the chord has a length, and the divisor, are the caller's.
-fn chord_offset(pa: Vec3, axis: Vec3, has_length: bool, divisor: f64, p: Vec3) -> Vec3
-    ensures { result ≡ chord_offset pa axis has_length divisor p }
+// The leaf: from the chord to p. What the foot's part is divided by is the caller's; none is for a chord that has no length.
+#[tactic(auto, unfolding(crate::specs::Chord::chord_offset))]
+fn chord_offset(pa: Vec3, axis: Vec3, divisor: Option<f64>, p: Vec3) -> Vec3
+    ensures { result ≡ chord_offset pa axis divisor p }
 {
-    if has_length {
-        let s = foot(pa, axis, divisor, p);
-        return p.sub(pa.add(axis.scale(s)));
+    match divisor {
+        Some(divisor) => p.sub(pa.add(axis.scale(foot(pa, axis, divisor, p)))),
+        None => p.sub(pa),
     }
-    p.sub(pa)
 }
 
 // For thinning; len2 is the chord's squared length.
+#[tactic(auto, unfolding(crate::specs::Chord::span_offset))]
 pub fn span_offset(pa: Vec3, axis: Vec3, len2: f64, p: Vec3) -> Vec3
     ensures { result ≡ span_offset pa axis len2 p }
 {
-    chord_offset(pa, axis, 0.0 < len2, len2, p)
+    chord_offset(pa, axis, (0.0 < len2).then_some(len2), p)
 }
 
 // The distance of p to such a chord.
+#[tactic(auto, unfolding(crate::specs::Chord::span_distance))]
 pub fn span_distance(pa: Vec3, axis: Vec3, len2: f64, p: Vec3) -> f64
     ensures { result ≡ span_distance pa axis len2 p }
 {
@@ -45,8 +48,9 @@ pub fn span_distance(pa: Vec3, axis: Vec3, len2: f64, p: Vec3) -> f64
 }
 
 // For bisection; len is the chord's length.
+#[tactic(auto, unfolding(crate::specs::Chord::bisection_offset))]
 pub fn bisection_offset(pa: Vec3, chord: Vec3, len: f64, p: Vec3) -> Vec3
     ensures { result ≡ bisection_offset pa chord len p }
 {
-    chord_offset(pa, chord, SHORTEST_CHORD < len, len * len, p)
+    chord_offset(pa, chord, (SHORTEST_CHORD < len).then_some(len * len), p)
 }

@@ -1,8 +1,9 @@
 -- A degree in radians; an angle counts as clamped exactly where `resolve` changes it. Assumes nothing.
 use mathlib.Core.Path.{◌≡◌, refl, sym, ap, ◌∙◌}
 use mathlib.Core.Bool.{Bool, true, false, cond, ◌||◌, false≢true}
-use lib.Ieee.{lt, div, of_bits, of_int}
-use Rattle.arith.specs.Notation.{◌⊘◌, count}
+use lib.Ieee.{Float, binary64, lt, div, of_bits, of_int}
+use Rattle.std.specs.Float.{to_radians}
+use Rattle.arith.specs.Notation.{◌⊗◌, ◌⊘◌, count}
 use Rattle.arith_trig.specs.Trig.{pi}
 use Rattle.options.specs.declared.Options.{Options}
 use Rattle.options.specs.Options.{degree, least_angle, largest_angle, is_clamped, resolve}
@@ -10,6 +11,11 @@ use Rattle.options.specs.Options.{degree, least_angle, largest_angle, is_clamped
 pub one_degree : degree ≡ pi ⊘ count 180
 unfolding div of_bits of_int
 one_degree = refl
+
+-- and f64::to_radians multiplies by it
+pub by_degree : (x : Float) → to_radians binary64 x ≡ x ⊗ degree
+unfolding div of_bits
+by_degree x = refl
 
 -- neither limit is below itself
 least_not_below : lt least_angle least_angle ≡ false

@@ -28,6 +28,7 @@ impl Angle {
     }
 
     // An angle of x degrees: times π / 180.
+    #[tactic(auto, using(crate::proofs::Laws::by_degree))]
     pub fn degrees(x: f64) -> Angle
         ensures { result ≡ degrees x }
     {
@@ -125,7 +126,7 @@ impl Options {
         }
     }
 
-    // For close inspection.
+    // For close inspection. Each preset has its two numbers in sight.
     pub fn fine() -> Options
         ensures { result ≡ fine_options }
     {

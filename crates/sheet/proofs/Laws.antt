@@ -1,28 +1,30 @@
 -- For callers: what was read is the sheet that the text follows, and its tables are the leading parts of those lent. Assumes nothing.
-use mathlib.Core.Path.{◌≡◌, refl, ap}
+use mathlib.Core.Path.{◌≡◌, refl, sym, ap, ◌∙◌}
+use mathlib.Core.Bool.{true, false}
 use mathlib.Core.List.{List}
 use Prim.Native.Nat.{ℕ, ◌*◌, ◌-◌, ◌<◌, ◌≤◌}
 use native.Mathlib.Omega.{arith}
 use lib.ListN.{length, take, replicate, length-append}
 use lib.Seq.{take_at}
+use Rattle.std.specs.Prelude.{Result, Ok, Err, IfOk}
+use Rattle.std.specs.Result.{is_err}
 use Rattle.base_lists.specs.All.{All}
-use Rattle.base_lists.specs.Result.{Result, refused, got}
+use Rattle.base_lists.specs.Room.{padded}
+use Rattle.refusal.specs.declared.Refusal.{Refusal}
 use Rattle.text_format.specs.Format.{◌then◌, ◌before◌, as_of, lines}
 use Rattle.text_format.specs.Table.{Column, fields, line, table}
 use Rattle.text_format.proofs.Lines.{lines_long}
 use Rattle.text_format.proofs.Tables.{Good}
 use Rattle.sheet_layout.specs.Layout.{RawSheet, sheet_points, sheet_curves, sheet_segments, point_columns, curve_columns, segment_columns, sheet, size, read_sheet, Follows}
-use Rattle.sheet_layout.specs.Padded.{padded}
 use Rattle.sheet_layout.proofs.Laws.{points_good, curves_good, segments_good, layout_read}
 use Rattle.sheet_row.specs.Rows.{is_float, raw_edge_of, raw_options_of}
 use Rattle.sheet_tables.specs.Own.Room.{least, column_count}
 use Rattle.sheet_tables.proofs.Valid.{line_long}
 use Rattle.sheet_tables.proofs.Fits.{wholes_length, floats_length}
 use Rattle.brep.specs.Rows.{Tables}
-use Rattle.brep.specs.declared.Edge.{Edge}
-use Rattle.options.specs.declared.Options.{Options}
-use Rattle.sheet.specs.Sheet.{float_of, edge_from, options_from, answer, tables_of, stored, leading, tables_after}
-use Rattle.sheet.specs.declared.Sheet.TheVariants.{Read, Refused}
+use Rattle.sheet.specs.Sheet.{float_of, edge_from, options_from, answer, FitsTables, tables_of, no_tables, stored, leading, tables_after}
+use Rattle.sheet.specs.Own.Answers.{SheetStored}
+use Rattle.sheet.specs.declared.Sheet.{Sheet}
 
 -- ---- how many rows a table has within 65,536 bytes
 rows_few : (cs : List Column) → All Good (fields cs) → (rows : List (List ℕ)) → (table cs).valid rows → least (fields cs) * length rows < length ((table cs).write rows)
@@ -68,7 +70,6 @@ module _ (text : List ℕ) (raw : RawSheet) (f : Follows text raw) where
 
 -- ---- its tables, as they lie in those lent
 first_part : {E : Type 0} (n k : ℕ) (z : E) (l : List E) → length l ≡ k → take k (padded n z l) ≡ l
-unfolding padded
 first_part n k z l e = take_at l (replicate (n - length l) z) k e
 
 pub leading_is : (text : List ℕ) (raw : RawSheet) → Follows text raw
@@ -80,39 +81,34 @@ leading_is text raw f =
 
 -- ---- THE law for callers
 -- a sheet was read: the text follows it, its rows are few, its tables are the leading rows of t
-pub record SheetRead (text : List ℕ) (n m k : ℕ) (e : Edge) (o : Options) (lo hi : ℕ) (t : Tables) : Type 0 where
+pub record SheetRead (text : List ℕ) (s : Sheet) (t : Tables) : Type 0 where
   pub raw : RawSheet
-  pub is : read_sheet text ≡ got raw
+  pub is : read_sheet text ≡ Ok raw
   pub follows : Follows text raw
-  pub points_few : n ≤ sheet_points
-  pub curves_few : m ≤ sheet_curves
-  pub segments_few : k ≤ sheet_segments
-  pub tables_are : leading n m k t ≡ tables_of raw
-  pub edge_is : e ≡ edge_from (raw_edge_of raw.edge)
-  pub options_is : o ≡ options_from (raw_options_of raw.options)
-  pub lo_is : lo ≡ (raw_edge_of raw.edge).lo
-  pub hi_is : hi ≡ (raw_edge_of raw.edge).hi
+  pub rows_few : FitsTables s
+  pub tables_are : leading s.points s.curves s.segments t ≡ tables_of raw
+  pub edge_is : s.edge ≡ edge_from (raw_edge_of raw.edge)
+  pub options_is : s.options ≡ options_from (raw_options_of raw.options)
+  pub lo_is : s.lo ≡ (raw_edge_of raw.edge).lo
+  pub hi_is : s.hi ≡ (raw_edge_of raw.edge).hi
 
 module _ (text : List ℕ) where
-  pub sheet_read : (n m k : ℕ) (e : Edge) (o : Options) (lo hi : ℕ) (t : Tables) → Read n m k e o lo hi ≡ answer (read_sheet text)
-      → t ≡ tables_after (read_sheet text) → SheetRead text n m k e o lo hi t
+  pub sheet_read : (s : Sheet) (t : Tables) → Ok s ≡ answer (read_sheet text) → t ≡ tables_after (read_sheet text) → SheetRead text s t
   unfolding answer tables_after
-  sheet_read n m k e o lo hi t a b = go (read_sheet text) refl a b
+  sheet_read s t a b = go (read_sheet text) refl a b
     where
-      go : (r : Result RawSheet) → read_sheet text ≡ r → Read n m k e o lo hi ≡ answer r → t ≡ tables_after r → SheetRead text n m k e o lo hi t
-      go (refused cause) i a b = absurd (let z : ◌≡◌ {A = ℕ} 0 1 = cc in omega arith)
-      go (got raw) i a b =
+      go : (r : Result RawSheet Refusal) → read_sheet text ≡ r → Ok s ≡ answer r → t ≡ tables_after r → SheetRead text s t
+      go (Err cause) i a b = absurd cc
+      go (Ok raw) i a b =
           let f = layout_read text raw i in
-          let x : n ≡ length raw.points = cc in
-          let y : m ≡ length raw.curves = cc in
-          let z : k ≡ length raw.segments = cc in
+          let x : s.points ≡ length raw.points = cc in
+          let y : s.curves ≡ length raw.curves = cc in
+          let z : s.segments ≡ length raw.segments = cc in
           record {
             raw = raw;
             is = i;
             follows = f;
-            points_few = rw x (points_few text raw f);
-            curves_few = rw y (curves_few text raw f);
-            segments_few = rw z (segments_few text raw f);
+            rows_few = record { points = rw x (points_few text raw f); curves = rw y (curves_few text raw f); segments = rw z (segments_few text raw f) };
             tables_are = rw (x, y, z, b) (leading_is text raw f);
             edge_is = cc;
             options_is = cc;
@@ -120,10 +116,33 @@ module _ (text : List ℕ) where
             hi_is = cc;
           }
 
-  pub sheet_refused : (cause : ℕ) → Refused cause ≡ answer (read_sheet text) → read_sheet text ≡ refused cause
+  pub sheet_refused : (cause : Refusal) → Err cause ≡ answer (read_sheet text) → read_sheet text ≡ Err cause
   unfolding answer
   sheet_refused cause a = go (read_sheet text) a
     where
-      go : (r : Result RawSheet) → Refused cause ≡ answer r → r ≡ refused cause
-      go (refused n) a = cc
-      go (got raw) a = absurd (let z : ◌≡◌ {A = ℕ} 0 1 = cc in omega arith)
+      go : (r : Result RawSheet Refusal) → Err cause ≡ answer r → r ≡ Err cause
+      go (Err other) a = cc
+      go (Ok raw) a = absurd cc
+
+  -- a sheet that was read fits the tables
+  pub answer_fits : (x : Result Sheet Refusal) → x ≡ answer (read_sheet text) → IfOk x FitsTables
+  answer_fits (Err cause) a = tt
+  answer_fits (Ok s) a = (sheet_read s (tables_after (read_sheet text)) a refl).rows_few
+
+-- ---- what the tables hold, by what was told
+module _ (r : Result RawSheet Refusal) (x : Result Sheet Refusal) (told : x ≡ answer r) (new : Tables) where
+  pub after_refusal : is_err x ≡ true → new ≡ stored no_tables → new ≡ tables_after r
+  unfolding answer tables_after
+  after_refusal e h = go r told
+    where
+      go : (r : Result RawSheet Refusal) → x ≡ answer r → new ≡ tables_after r
+      go (Err cause) t = h
+      go (Ok raw) t = absurd (let z : true ≡ false = sym e ∙ ap is_err t in cc)
+
+  pub after_sheet : is_err x ≡ false → SheetStored r new → new ≡ tables_after r
+  unfolding answer tables_after SheetStored
+  after_sheet e h = go r told h
+    where
+      go : (r : Result RawSheet Refusal) → x ≡ answer r → SheetStored r new → new ≡ tables_after r
+      go (Err cause) t h = absurd (let z : false ≡ true = sym e ∙ ap is_err t in cc)
+      go (Ok raw) t h = h

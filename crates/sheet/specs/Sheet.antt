@@ -1,13 +1,11 @@
 -- What the reader of a sheet answers, and what its tables hold afterwards.
-use Rattle.std.specs.Prelude.{List, [], ℕ, ◌*◌, length, take, Float}
+use Rattle.std.specs.Prelude.{[], ℕ, ◌*◌, ◌≤◌, length, take, Float, Result, Ok, Err}
 use Rattle.std.specs.Float.{binary64}
 use Rattle.std.specs.Float.Ieee.{of_bits}
-use Rattle.std.specs.Borrow.{MutBor}
-use denote.Triple.Both.{Both}
-use Rattle.base_lists.specs.Result.{Result, refused, got}
+use Rattle.base_lists.specs.Room.{padded}
+use Rattle.refusal.specs.declared.Refusal.{Refusal}
 use Rattle.text_format.specs.Table.{fields}
 use Rattle.sheet_layout.specs.Layout.{RawSheet, sheet_points, sheet_curves, sheet_segments, point_columns, curve_columns, segment_columns}
-use Rattle.sheet_layout.specs.Padded.{padded}
 use Rattle.sheet_row.specs.Rows.{floats_of, wholes_of, raw_edge_of, raw_options_of}
 use Rattle.sheet_row.specs.declared.RawEdge.{RawEdge}
 use Rattle.sheet_row.specs.declared.RawOptions.{RawOptions}
@@ -18,7 +16,7 @@ use Rattle.brep.specs.declared.Edge.{Edge}
 use Rattle.options.specs.declared.Options.{Options}
 use Rattle.options.specs.Options.{radians}
 use Rattle.sheet.specs.declared.Sheet.{Sheet}
-use Rattle.sheet.specs.declared.Sheet.TheVariants.{Read, Refused}
+use Rattle.sheet.specs.declared.SheetTables.{SheetTables}
 
 -- ---- the edge and the options
 -- the float of 64 bits; a NaN's bits are a NaN
@@ -50,11 +48,23 @@ options_from raw = record {
 }
 
 -- THE ANSWER: how many points, curves and segments, the edge, the options, and the bits of lo and hi; or the refusal
-unfoldable pub answer : Result RawSheet → Sheet
-answer (refused cause) = Refused cause
-answer (got raw) =
-    Read (length raw.points) (length raw.curves) (length raw.segments) (edge_from (raw_edge_of raw.edge))
-    (options_from (raw_options_of raw.options)) (raw_edge_of raw.edge).lo (raw_edge_of raw.edge).hi
+unfoldable pub answer : Result RawSheet Refusal → Result Sheet Refusal
+answer (Err cause) = Err cause
+answer (Ok raw) = Ok (record {
+  points = length raw.points;
+  curves = length raw.curves;
+  segments = length raw.segments;
+  edge = edge_from (raw_edge_of raw.edge);
+  options = options_from (raw_options_of raw.options);
+  lo = (raw_edge_of raw.edge).lo;
+  hi = (raw_edge_of raw.edge).hi;
+})
+
+-- it has no more rows than any sheet can have, so that the tables hold them
+pub record FitsTables (sheet : Sheet) : Type 0 where
+  pub points : sheet.points ≤ sheet_points
+  pub curves : sheet.curves ≤ sheet_curves
+  pub segments : sheet.segments ≤ sheet_segments
 
 -- ---- the tables
 -- the sheet's tables: points (x y z), curves (kind first count, and p q), segments (curve sense, and lo hi), row behind row
@@ -83,10 +93,10 @@ leading points curves segments t =
     (take (2 * segments) t.ranges)
 
 -- WHAT THE TABLES HOLD afterwards: those of the sheet that was read; zeros alone after a refusal
-unfoldable pub tables_after : Result RawSheet → Tables
-tables_after (refused cause) = stored no_tables
-tables_after (got raw) = stored (tables_of raw)
+unfoldable pub tables_after : Result RawSheet Refusal → Tables
+tables_after (Err cause) = stored no_tables
+tables_after (Ok raw) = stored (tables_of raw)
 
--- the tables that a function was lent, as they are at its exit
-abbrev pub written : {A B C D E : Type 0} → Both A (MutBor (List Float)) → Both B (MutBor (List ℕ)) → Both C (MutBor (List Float)) → Both D (MutBor (List ℕ)) → Both E (MutBor (List Float)) → Tables
-written points curves reals parts ranges = tables points.exit.now curves.exit.now reals.exit.now parts.exit.now ranges.exit.now
+-- the tables as they are written down
+abbrev pub written : SheetTables → Tables
+written t = tables t.points t.curves t.reals t.parts t.ranges

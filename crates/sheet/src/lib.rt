@@ -1,16 +1,19 @@
 #![tactic(auto)]
 // THE reader of a sheet: the layout is Rattle.sheet_layout.specs.Layout, and what is read of it specs/Sheet.antt.
-ghost use Rattle.std.specs.Prelude.{◌≡◌, ◌≤◌, length};
-ghost use Rattle.sheet_layout.specs.Layout.{size, tables_format, read_sheet, Means};
-ghost use Rattle.sheet.specs.Sheet.{edge_from, options_from, answer, no_tables, stored, tables_after, written};
-ghost use Rattle.sheet.specs.Own.Answers.{parsed_tables, TablesStored, SheetStored};
+ghost use Rattle.std.specs.Prelude.{◌≡◌, IfOk};
+ghost use Rattle.std.specs.Option.{ok_or};
+ghost use Rattle.brep.specs.Rows.{lent};
+ghost use Rattle.sheet_layout.specs.Layout.{tables_format, read_sheet, Means};
+ghost use Rattle.sheet_edge.specs.Own.Answers.{parsed_as};
+ghost use Rattle.sheet.specs.Sheet.{edge_from, options_from, answer, FitsTables, no_tables, stored, leading, tables_after, written};
+ghost use Rattle.sheet.specs.Own.Answers.{counts_of, TablesStored, SheetStored};
 
-use brep::Edge;
+use brep::{Edge, LentTables};
 use math::Interval;
 use options::{Angle, Options};
-use sheet_edge::Last;
-use sheet_row::{RawEdge, RawOptions};
-use text_format::Num;
+use refusal::Refusal;
+use sheet_row::{RawEdge, RawOptions, float_of};
+use sheet_tables::SheetText;
 
 // Room in each table for every sheet's rows. The points: x y z.
 pub const POINTS: usize = 3 * sheet_layout::SHEET_POINTS;
@@ -28,157 +31,151 @@ pub const PARTS: usize = 2 * sheet_layout::SHEET_SEGMENTS;
 pub const RANGES: usize = 2 * sheet_layout::SHEET_SEGMENTS;
 
 // A sheet: how many rows its tables hold, its edge, its options, and the edge's lo and hi by their own 64 bits, since
-// the floats keep no NaN's bits. Or the cause for which it is turned away.
+// the floats keep no NaN's bits.
 #[derive(Clone, Copy)]
-pub enum Sheet {
-    Read {
-        points: usize,
-        curves: usize,
-        segments: usize,
-        edge: Edge,
-        options: Options,
-        lo: u64,
-        hi: u64,
-    },
-    Refused(u32),
+pub struct Sheet {
+    pub points: usize,
+    pub curves: usize,
+    pub segments: usize,
+    pub edge: Edge,
+    pub options: Options,
+    pub lo: u64,
+    pub hi: u64,
 }
 
-// How many rows the three tables have, and the place behind them.
-#[derive(Clone, Copy)]
-enum TableCounts {
-    Counts(u64, u64, u64, usize),
-    NoTables,
+// The tables that a sheet is read into: its rows, and zeros behind them.
+#[derive(Drop)]
+pub struct SheetTables {
+    pub points: [f64; POINTS],
+    pub curves: [u32; CURVES],
+    pub reals: [f64; REALS],
+    pub parts: [u32; PARTS],
+    pub ranges: [f64; RANGES],
 }
 
-// The edge of its numbers.
+// The edge of its numbers. No `From`: both types are of other crates.
 fn edge_from(raw: RawEdge) -> Edge
     ensures { result ≡ edge_from raw }
 {
-    let range = Interval {
-        lo: sheet_row::float_of(raw.lo),
-        hi: sheet_row::float_of(raw.hi),
-    };
     Edge {
         curve: raw.curve,
         start: raw.start,
         end: raw.end,
         sense: raw.sense,
-        range,
-        tolerance: sheet_row::float_of(raw.tolerance),
+        range: Interval {
+            lo: float_of(raw.lo),
+            hi: float_of(raw.hi),
+        },
+        tolerance: float_of(raw.tolerance),
         low: raw.low,
         high: raw.high,
     }
 }
 
-// The options of their numbers. A sheet's angle is in radians.
+// The options of their numbers, the angle in radians. No `From`: both types are of other crates.
 pub fn options_from(raw: RawOptions) -> Options
     ensures { result ≡ options_from raw }
 {
     Options {
-        deflection: sheet_row::float_of(raw.deflection),
-        angle: Angle::radians(sheet_row::float_of(raw.angle)),
+        deflection: float_of(raw.deflection),
+        angle: Angle::radians(float_of(raw.angle)),
         relative: raw.relative,
         segments: raw.segments,
         depth: raw.depth,
-        scale: sheet_row::float_of(raw.scale),
+        scale: float_of(raw.scale),
     }
 }
 
-// The three tables, from the text's start on.
-fn three(
-    text: &[u8],
-    points: &mut [f64; POINTS],
-    curves: &mut [u32; CURVES],
-    reals: &mut [f64; REALS],
-    parts: &mut [u32; PARTS],
-    ranges: &mut [f64; RANGES],
-) -> TableCounts
-    requires { length text.now ≤ size }
-    ensures { (result ≡ parsed_tables text.now (tables_format.read text.now))
-        × TablesStored (tables_format.read text.now) (written points curves reals parts ranges) }
-{
-    let Num::Got(n, p) = sheet_tables::points(text, 0, points) else {
-        return TableCounts::NoTables;
-    };
-    let Num::Got(m, q) = sheet_tables::curves(text, p, curves, reals) else {
-        return TableCounts::NoTables;
-    };
-    let Num::Got(k, next) = sheet_tables::segments(text, q, parts, ranges) else {
-        return TableCounts::NoTables;
-    };
-    TableCounts::Counts(n, m, k, next)
-}
-
-// The sheet, its numbers in the tables. After a refusal they are for the caller to clear: some may have been read.
-fn try_sheet(
-    text: &[u8],
-    points: &mut [f64; POINTS],
-    curves: &mut [u32; CURVES],
-    reals: &mut [f64; REALS],
-    parts: &mut [u32; PARTS],
-    ranges: &mut [f64; RANGES],
-) -> Sheet
-    ensures { (result ≡ answer (read_sheet text.now))
-        × SheetStored (read_sheet text.now) (written points curves reals parts ranges) }
-{
-    if sheet_layout::SIZE < text.len() {
-        return Sheet::Refused(10);
+impl SheetTables {
+    // No rows.
+    #[inline]
+    pub fn new() -> SheetTables
+        ensures { written result ≡ stored no_tables }
+    {
+        SheetTables {
+            points: [0.0; POINTS],
+            curves: [0; CURVES],
+            reals: [0.0; REALS],
+            parts: [0; PARTS],
+            ranges: [0.0; RANGES],
+        }
     }
-    let TableCounts::Counts(n, m, k, at) = three(text, points, curves, reals, parts, ranges) else {
-        return Sheet::Refused(10);
-    };
-    let Last::Pair(edge, options, end) = sheet_edge::ends(text, at) else {
-        return Sheet::Refused(10);
-    };
-    if end == text.len() {
-        Sheet::Read {
-            points: n as usize,
-            curves: m as usize,
-            segments: k as usize,
+
+    // Zeros in all tables.
+    fn clear(&mut self)
+        ensures { written self.new ≡ stored no_tables }
+    {
+        base_lists::fill_from(&mut self.points, 0, 0.0);
+        base_lists::fill_from(&mut self.curves, 0, 0);
+        base_lists::fill_from(&mut self.reals, 0, 0.0);
+        base_lists::fill_from(&mut self.parts, 0, 0);
+        base_lists::fill_from(&mut self.ranges, 0, 0.0);
+    }
+
+    // The three tables, from the text's start on: how many rows each has, and what is left of the text.
+    fn read_tables<'a>(
+        &mut self,
+        text: SheetText<'a>,
+    ) -> Option<((usize, usize, usize), SheetText<'a>)>
+        ensures counts { result ≡ parsed_as counts_of (tables_format.read text.entry) }
+        ensures tables { TablesStored (tables_format.read text.entry) (written self.new) }
+    {
+        let (points, rest) = sheet_tables::points(text, &mut self.points)?;
+        let (curves, rest) = sheet_tables::curves(rest, &mut self.curves, &mut self.reals)?;
+        let (segments, rest) = sheet_tables::segments(rest, &mut self.parts, &mut self.ranges)?;
+        Some(((points, curves, segments), rest))
+    }
+
+    // The sheet, its numbers in the tables. Where there is none, some may have been read: they are for the caller to clear.
+    fn try_read(&mut self, text: &[u8]) -> Option<Sheet>
+        ensures sheet { ok_or result Refusal.NoSheet ≡ answer (read_sheet text.now) }
+        ensures tables { SheetStored (read_sheet text.now) (written self.new) }
+    {
+        if sheet_layout::SIZE < text.len() {
+            return None;
+        }
+        let ((points, curves, segments), rest) = self.read_tables(SheetText::new(text))?;
+        let ((edge, options), rest) = sheet_edge::ends(rest.into_bytes())?;
+        if !rest.is_empty() {
+            return None;
+        }
+        Some(Sheet {
+            points,
+            curves,
+            segments,
             edge: edge_from(edge),
             options: options_from(options),
             lo: edge.lo,
             hi: edge.hi,
+        })
+    }
+
+    // The sheet that the text stands for: its numbers in the tables, zeros behind them. Zeros alone, where it stands for none.
+    #[tactic(auto, using(sheet_layout::proofs::Laws::means, crate::proofs::Laws::answer_fits))]
+    pub fn read(&mut self, text: &[u8]) -> Result<Sheet, Refusal>
+        ensures sheet { result ≡ answer (read_sheet text.now) }
+        ensures tables { written self.new ≡ tables_after (read_sheet text.now) }
+        ensures rows { IfOk result FitsTables }
+        ensures means { Means text.now (read_sheet text.now) }
+    {
+        let sheet = self.try_read(text).ok_or(Refusal::NoSheet);
+        if sheet.is_err() {
+            self.clear();
         }
-    } else {
-        Sheet::Refused(10)
+        sheet
     }
-}
 
-// Zeros in all tables.
-fn clear(
-    points: &mut [f64; POINTS],
-    curves: &mut [u32; CURVES],
-    reals: &mut [f64; REALS],
-    parts: &mut [u32; PARTS],
-    ranges: &mut [f64; RANGES],
-)
-    ensures { written points curves reals parts ranges ≡ stored no_tables }
-{
-    base_lists::clear_from(points, 0);
-    sheet_row::clear_wholes(curves, 0);
-    base_lists::clear_from(reals, 0);
-    sheet_row::clear_wholes(parts, 0);
-    base_lists::clear_from(ranges, 0);
-}
-
-// The sheet that the text stands for: its numbers in the tables, zeros behind them. Zeros alone, and cause 10, where it
-// stands for none.
-pub fn read(
-    text: &[u8],
-    points: &mut [f64; POINTS],
-    curves: &mut [u32; CURVES],
-    reals: &mut [f64; REALS],
-    parts: &mut [u32; PARTS],
-    ranges: &mut [f64; RANGES],
-) -> Sheet
-    ensures { (result ≡ answer (read_sheet text.now))
-        × (written points curves reals parts ranges ≡ tables_after (read_sheet text.now))
-        × Means text.now (read_sheet text.now) }
-{
-    let sheet = try_sheet(text, points, curves, reals, parts, ranges);
-    if let Sheet::Refused(_) = sheet {
-        clear(points, curves, reals, parts, ranges);
+    // The rows of a sheet that was read.
+    pub fn rows(&self, sheet: &Sheet) -> LentTables<'_>
+        requires { FitsTables sheet.now }
+        ensures { lent result ≡ leading sheet.now.points sheet.now.curves sheet.now.segments (written self.now) }
+    {
+        LentTables {
+            points: &self.points[..3 * sheet.points],
+            curves: &self.curves[..3 * sheet.curves],
+            reals: &self.reals[..2 * sheet.curves],
+            parts: &self.parts[..2 * sheet.segments],
+            ranges: &self.ranges[..2 * sheet.segments],
+        }
     }
-    sheet
 }

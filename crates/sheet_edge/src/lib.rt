@@ -1,102 +1,58 @@
 #![tactic(auto)]
 // The last two blocks of a sheet, the edge and the options, by value.
-ghost use Rattle.std.specs.Prelude.{◌≡◌, ◌≤◌, length, drop};
+ghost use Rattle.std.specs.Prelude.{◌≡◌, ◌≤◌, length};
 ghost use Rattle.text_format.specs.Table.{single};
+ghost use Rattle.text_format.specs.Own.Answers.{as_read};
 ghost use Rattle.sheet_layout.specs.Layout.{edge_columns, option_columns, ends};
-ghost use Rattle.sheet_layout.specs.Own.Letters.{parsed_row};
-ghost use Rattle.sheet_edge.specs.Own.Answers.{single_of, parsed_edge, parsed_options, parsed_ends};
+ghost use Rattle.sheet_layout.specs.Own.Columns.{parsed_row};
+ghost use Rattle.sheet_row.specs.Rows.{raw_edge_of, raw_options_of};
+ghost use Rattle.sheet_edge.specs.Own.Answers.{single_of, parsed_as, raw_ends_of};
 
-use sheet_layout::Row;
+use sheet_layout::Column;
+use sheet_layout::Column::{Float, Long, Word};
 use sheet_row::{RawEdge, RawOptions};
-use text_format::Num;
-
-// The edge, the options, and the place behind them.
-#[derive(Clone, Copy)]
-pub enum Last {
-    Pair(RawEdge, RawOptions, usize),
-    NoPair,
-}
-
-// The edge and the place behind it.
-#[derive(Clone, Copy)]
-enum EdgeAt {
-    Edge(RawEdge, usize),
-    NoEdge,
-}
-
-// The options and the place behind them.
-#[derive(Clone, Copy)]
-enum OptionsAt {
-    Options(RawOptions, usize),
-    NoOptions,
-}
 
 // A line of names, then one line of values.
-fn single(s: &[u8], at: usize, names: &[u8], shape: &[u8]) -> Row
-    requires { (at ≤ length s.now) × (length shape.now ≤ 9) }
-    ensures { result ≡ parsed_row s.now ((single_of names.now shape.now).read (drop at s.now)) }
+#[tactic(auto, using(text_format::proofs::Behind::before_none, text_format::proofs::Behind::before_on))]
+fn single<'a>(text: &'a [u8], names: &[u8], columns: &[Column]) -> Option<([u64; 9], &'a [u8])>
+    requires { length columns.now ≤ 9 }
+    ensures { as_read result ≡ parsed_row ((single_of names.now columns.now).read text.now) }
 {
-    match text_format::word(s, at, names, 0) {
-        Num::Got(_, p) => sheet_layout::line(s, p, shape),
-        Num::Bad => Row {
-            ok: false,
-            numbers: [0u64; 9],
-            next: 0,
-        },
-    }
+    let (_, rest) = text_format::word(text, names, ())?;
+    sheet_layout::line(rest, columns)
 }
 
 // The edge's block.
-fn edge(s: &[u8], at: usize) -> EdgeAt
-    requires { at ≤ length s.now }
-    ensures { result ≡ parsed_edge s.now ((single edge_columns).read (drop at s.now)) }
+fn edge(text: &[u8]) -> Option<(RawEdge, &[u8])>
+    ensures { as_read result ≡ parsed_as raw_edge_of ((single edge_columns).read text.now) }
 {
-    let row = single(
-        s,
-        at,
+    let (row, rest) = single(
+        text,
         b"curve start end sense lo hi tolerance low high\n",
-        b"wwwwfffww",
-    );
-    if row.ok {
-        let numbers = row.numbers;
-        EdgeAt::Edge(sheet_row::raw_edge_of(&numbers), row.next)
-    } else {
-        EdgeAt::NoEdge
-    }
+        &[Word, Word, Word, Word, Float, Float, Float, Word, Word],
+    )?;
+    Some((sheet_row::raw_edge_of(&row), rest))
 }
 
 // The options' block.
-fn options(s: &[u8], at: usize) -> OptionsAt
-    requires { at ≤ length s.now }
-    ensures { result ≡ parsed_options s.now ((single option_columns).read (drop at s.now)) }
+fn options(text: &[u8]) -> Option<(RawOptions, &[u8])>
+    ensures { as_read result ≡ parsed_as raw_options_of ((single option_columns).read text.now) }
 {
-    let row = single(
-        s,
-        at,
+    let (row, rest) = single(
+        text,
         b"deflection angle relative segments depth scale\n",
-        b"ffwlwf",
-    );
-    if row.ok {
-        let numbers = row.numbers;
-        OptionsAt::Options(sheet_row::raw_options_of(&numbers), row.next)
-    } else {
-        OptionsAt::NoOptions
-    }
+        &[Float, Float, Word, Long, Word, Float],
+    )?;
+    Some((sheet_row::raw_options_of(&row), rest))
 }
 
 // The edge's block, the empty line behind it, and the options' block.
-pub fn ends(s: &[u8], at: usize) -> Last
-    requires { at ≤ length s.now }
-    ensures { result ≡ parsed_ends s.now (ends.read (drop at s.now)) }
+#[tactic(auto, using(crate::proofs::Both::ends_as), unfolding(text_format::specs::Format::and_then))]
+pub fn ends(text: &[u8]) -> Option<((RawEdge, RawOptions), &[u8])>
+    ensures { as_read result ≡ parsed_as raw_ends_of (ends.read text.now) }
 {
-    let EdgeAt::Edge(edge, p) = edge(s, at) else {
-        return Last::NoPair;
-    };
-    let Num::Got(_, q) = text_format::byte(s, p, b'\n', 0) else {
-        return Last::NoPair;
-    };
-    let OptionsAt::Options(options, next) = options(s, q) else {
-        return Last::NoPair;
-    };
-    Last::Pair(edge, options, next)
+    let (edge, rest) = edge(text)?;
+    let (edge, rest) = text_format::byte(rest, b'\n', edge)?;
+    let (options, rest) = options(rest)?;
+    Some(((edge, options), rest))
 }

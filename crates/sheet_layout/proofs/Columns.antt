@@ -1,107 +1,91 @@
--- The loop over the cells of a line. Assumes nothing.
+-- A line, column by column. Assumes nothing.
 use mathlib.Core.Path.{◌≡◌, refl, sym, ap, ◌∙◌}
-use mathlib.Core.Bool.{Bool, true, false, cond}
-use mathlib.Core.List.{List, [], ◌∷◌, ◌++◌, map, append-nil}
+use mathlib.Core.List.{List, [], ◌∷◌, map, append-nil}
 use Prim.Native.Nat.{ℕ, ◌+◌, ◌<◌, ◌≤◌}
 use native.Mathlib.Omega.{arith}
-use native.Mathlib.Numerals.{add-one}
-use lib.ListN.{length, get_or, drop, length-append, drop_of_length-le}
-use lib.Seq.{drop-cons}
-use lib.Dec.{eqb}
-use Rattle.base_lists.specs.All.{All, none as All-none, more}
-use Rattle.text_format.specs.Format.{Parsed, bad, parsed, Format, Lawful, and_then, ◌and◌, no_items}
-use Rattle.text_format.specs.Table.{float, end_byte, cell, line}
-use Rattle.text_format.proofs.Tables.{Good, end_byte_no_digit, cell_law, line_law}
-use Rattle.sheet_layout.specs.Layout.{u32, u64, kind}
-use Rattle.sheet_layout.specs.Own.Letters.{field_of, shape_of}
+use lib.ListN.{length, get_or, take, drop, set}
+use lib.Seq.{length-take-le}
+use Rattle.std.specs.Prelude.{Some, None}
+use Rattle.std.proofs.lemmas.List.{at_drop_all, at_drop_more, take_more_set}
+use Rattle.base_lists.specs.All.{All, none, more}
+use Rattle.base_lists.specs.Room.{padded}
+use Rattle.text_format.specs.Format.{Format, Lawful, and_then, ◌and◌, no_items}
+use Rattle.text_format.specs.Table.{end_byte, cell, line}
+use Rattle.text_format.proofs.Tables.{Good, line_law}
+use Rattle.sheet_layout.specs.declared.Column.{Column}
+use Rattle.sheet_layout.specs.declared.Column.TheVariants.{Float, Word, Long, Kind}
+use Rattle.sheet_layout.specs.Own.Columns.{field_of, shape_of}
 use Rattle.sheet_layout.proofs.Laws.{u32_good, u64_good, kind_good}
-use Rattle.text_format.proofs.Place.{Read}
-use Rattle.sheet_layout.proofs.Onto.{onto, onto_onto, onto_nothing, onto_one}
+use Rattle.sheet_layout.proofs.Onto.{onto, onto_onto, onto_one}
+use Rattle.sheet_layout.proofs.Padded.{padded_more}
 
--- ---- every letter's column is lawful
-pub letter_good : (c : ℕ) → Good (field_of c)
-unfolding field_of
-letter_good c = go (eqb c 102) (eqb c 119) (eqb c 108)
-  where
-    go : (f w l : Bool) → Good (cond f float (cond w u32 (cond l u64 kind)))
-    go true w l = tt
-    go false true l = u32_good
-    go false false true = u64_good
-    go false false false = kind_good
+-- ---- every column is lawful
+pub column_good : (c : Column) → Good (field_of c)
+column_good Float = tt
+column_good Word = u32_good
+column_good Long = u64_good
+column_good Kind = kind_good
 
-pub shape_good : (shape : List ℕ) → All Good (shape_of shape)
-shape_good [] = All-none
-shape_good (c ∷ shape) = more (letter_good c) (shape_good shape)
+pub shape_good : (shape : List Column) → All Good (shape_of shape)
+shape_good [] = none
+shape_good (c ∷ shape) = more (column_good c) (shape_good shape)
 
-pub shape_law : (shape : List ℕ) → Lawful (line (shape_of shape))
+pub shape_law : (shape : List Column) → Lawful (line (shape_of shape))
 shape_law shape = line_law (shape_of shape) (shape_good shape)
 
-pub letter_law : (c : ℕ) (l : List ℕ) → Lawful (cell (field_of c) (end_byte l))
-letter_law c l = cell_law (field_of c) (letter_good c) (end_byte l) (end_byte_no_digit l)
-
 -- ---- the byte behind a cell
-pub end_byte_more : (l : List ℕ) (i : ℕ) → i < length l → 32 ≡ end_byte (drop i l)
+pub end_byte_more : {A : Type 0} (l : List A) (i : ℕ) (d : A) → i < length l → 32 ≡ end_byte (drop i l)
 unfolding end_byte
-end_byte_more l i h = sym (ap end_byte (drop-cons l i 0 h))
+end_byte_more l i d h = sym (at_drop_more end_byte l i d h)
 
-pub end_byte_last : (l : List ℕ) (i : ℕ) → length l ≤ i → 10 ≡ end_byte (drop i l)
+pub end_byte_last : {A : Type 0} (l : List A) (i : ℕ) → length l ≤ i → 10 ≡ end_byte (drop i l)
 unfolding end_byte
-end_byte_last l i h = sym (ap end_byte (drop_of_length-le l h))
+end_byte_last l i h = sym (at_drop_all end_byte l i h)
 
 end_byte_map : {A B : Type 0} (f : A → B) (l : List A) → end_byte (map f l) ≡ end_byte l
 unfolding end_byte
 end_byte_map f [] = refl
 end_byte_map f (a ∷ l) = refl
 
--- ---- the loop
-module _ (s shape : List ℕ) where
-  abbrev from : ℕ → Format (List ℕ)
-  from i = line (shape_of (drop i shape))
-
+-- ---- the numbers of i columns were read, and the others' begin in front of `rest`
+module _ (shape : List Column) (d : Column) (s rest numbers : List ℕ) (i : ℕ)
+    (left : onto (take i numbers) ((line (shape_of (drop i shape))).read rest) ≡ (line (shape_of shape)).read s) where
   -- column i
-  abbrev pub column : ℕ → Format ℕ
-  column i = cell (field_of (get_or shape i 0)) (end_byte (drop (i + 1) shape))
+  column : Format ℕ
+  column = cell (field_of (get_or shape i d)) (end_byte (drop (i + 1) shape))
 
-  -- the columns behind it, for the number v
-  abbrev others : ℕ → ℕ → List ℕ → Parsed (List ℕ)
-  others i v rest = and_then ((from (i + 1)).read rest) (λ l more. parsed (v ∷ l) more)
+  pub cells_end : length shape ≤ i → Some (take i numbers, rest) ≡ (line (shape_of shape)).read s
+  unfolding onto line no_items
+  cells_end h =
+      ap (λ l. Some (l, rest)) (sym (append-nil (take i numbers)))
+      ∙ sym (at_drop_all (λ l. onto (take i numbers) ((line (shape_of l)).read rest)) shape i h) ∙ left
 
-  split : (i : ℕ) → i < length shape → (bs : List ℕ) → (from i).read bs ≡ and_then ((column i).read bs) (others i)
-  unfolding line ◌and◌
-  split i h bs =
-      ap (λ l. (line (shape_of l)).read bs) (drop-cons shape i 0 h ∙ ap (λ k. get_or shape i 0 ∷ drop k shape) (sym (add-one i)))
-      ∙ ap (λ e. and_then ((cell (field_of (get_or shape i 0)) e).read bs) (others i)) (end_byte_map field_of (drop (i + 1) shape))
+  module _ (h : i < length shape) where
+    cells_here : (line (shape_of (drop i shape))).read rest ≡ and_then (column.read rest) (λ v next. and_then ((line (shape_of (drop (i + 1) shape))).read next) (λ l more. Some (v ∷ l, more)))
+    unfolding line ◌and◌ column
+    cells_here =
+        at_drop_more (λ l. (line (shape_of l)).read rest) shape i d h
+        ∙ ap (λ e. and_then ((cell (field_of (get_or shape i d)) e).read rest) (λ v next. and_then ((line (shape_of (drop (i + 1) shape))).read next) (λ l more. Some (v ∷ l, more)))) (end_byte_map field_of (drop (i + 1) shape))
 
-  -- i numbers were read from `at` on, and the next begins at p
-  pub record Begun (at p i : ℕ) : Type 0 where
-    pub taken : List ℕ
-    pub count : length taken ≡ i
-    pub whole : onto taken ((line (shape_of (drop i shape))).read (drop p s)) ≡ (line (shape_of shape)).read (drop at s)
+    pub cells_none : (end : ℕ) → end ≡ end_byte (drop (i + 1) shape) → None ≡ (cell (field_of (get_or shape i d)) end).read rest → None ≡ (line (shape_of shape)).read s
+    unfolding onto and_then column
+    cells_none end is e =
+        let f : column.read rest ≡ None = sym (e ∙ ap (λ b. (cell (field_of (get_or shape i d)) b).read rest) is) in
+        let g : (line (shape_of (drop i shape))).read rest ≡ None = cells_here ∙ rw f in
+        sym (ap (onto (take i numbers)) g) ∙ left
 
-  abbrev pub begin : (at : ℕ) → Begun at at 0
-  begin at = record { taken = []; count = refl; whole = onto_nothing ((line (shape_of shape)).read (drop at s)) }
+    pub cells_on : (end v : ℕ) (next : List ℕ) → end ≡ end_byte (drop (i + 1) shape) → i < length numbers → Some (v, next) ≡ (cell (field_of (get_or shape i d)) end).read rest
+        → onto (take (i + 1) (set numbers i v)) ((line (shape_of (drop (i + 1) shape))).read next) ≡ (line (shape_of shape)).read s
+    unfolding and_then column
+    cells_on end v next is k e =
+        let f : column.read rest ≡ Some (v, next) = sym (e ∙ ap (λ b. (cell (field_of (get_or shape i d)) b).read rest) is) in
+        let others = (line (shape_of (drop (i + 1) shape))).read next in
+        ap (λ l. onto l others) (take_more_set numbers i v k) ∙ onto_onto (take i numbers) (v ∷ []) others
+        ∙ ap (onto (take i numbers)) (sym (onto_one v others)) ∙ sym (ap (onto (take i numbers)) (cells_here ∙ rw f)) ∙ left
 
-  module _ (at p i : ℕ) (b : Begun at p i) where
-    pub no_cell : i < length shape → (column i).read (drop p s) ≡ bad → (line (shape_of shape)).read (drop at s) ≡ bad
-    unfolding onto and_then
-    no_cell h e = sym b.whole ∙ ap (onto b.taken) (split i h (drop p s) ∙ ap (λ q. and_then q (others i)) e)
-
-    module _ (h : i < length shape) (v q : ℕ) (r : Read s ((column i).read (drop p s)) v q) where
-      pub one_more : length (b.taken ++ (v ∷ [])) ≡ i + 1
-      one_more = let n = b.count in simp length-append (omega arith)
-
-      pub one_whole : onto (b.taken ++ (v ∷ [])) ((from (i + 1)).read (drop q s)) ≡ (line (shape_of shape)).read (drop at s)
-      unfolding and_then
-      one_whole =
-          onto_onto b.taken (v ∷ []) ((from (i + 1)).read (drop q s))
-          ∙ ap (onto b.taken) (sym (split i h (drop p s) ∙ ap (λ x. and_then x (others i)) r.is ∙ onto_one v ((from (i + 1)).read (drop q s))))
-          ∙ b.whole
-
-      abbrev pub one_cell : Begun at q (i + 1)
-      one_cell = record { taken = b.taken ++ (v ∷ []); count = one_more; whole = one_whole }
-
-    pub all_cells : length shape ≤ i → (line (shape_of shape)).read (drop at s) ≡ parsed b.taken (drop p s)
-    unfolding onto line no_items
-    all_cells h =
-        sym b.whole ∙ ap (λ l. onto b.taken ((line (shape_of l)).read (drop p s))) (drop_of_length-le shape h)
-        ∙ ap (λ l. parsed l (drop p s)) (append-nil b.taken)
+-- ---- the zeros behind them
+pub zeros_on : (numbers : List ℕ) (i v : ℕ) → length numbers ≡ 9 → i < 9 → numbers ≡ padded 9 0 (take i numbers) → set numbers i v ≡ padded 9 0 (take (i + 1) (set numbers i v))
+zeros_on numbers i v n h e =
+    let l : length (take i numbers) ≡ i = length-take-le i numbers (omega arith) in
+    padded_more 9 0 numbers (take i numbers) i v (sym l) (omega arith) e
+    ∙ ap (padded 9 0) (sym (take_more_set numbers i v (omega arith)))

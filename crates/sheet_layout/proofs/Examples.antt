@@ -3,9 +3,11 @@ use mathlib.Core.Path.{◌≡◌, refl}
 use mathlib.Core.List.{List, [], ◌∷◌, ◌++◌, map}
 use Prim.Native.Nat.{ℕ}
 use Prim.Native.String.{String}
-use Rattle.base_lists.specs.Result.{Result, refused, got}
+use Rattle.std.specs.Prelude.{Result, Ok, Err}
+use Rattle.refusal.specs.declared.Refusal.{Refusal}
+use Rattle.refusal.specs.declared.Refusal.TheVariants.{NoSheet}
 use Rattle.text_format.specs.Bytes.{bytes}
-use Rattle.text_format.specs.Format.{when, and_then, or_else, expect, char_of, digit_of, digits, read_digits, width_up_to, decimal, read_decimal, read_plain, read_word, ◌ending◌, ◌before◌, ◌then◌, no_items, write_cons, ◌and◌, as_of, write_lines, read_lines, lines, all, whole_text}
+use Rattle.text_format.specs.Format.{when, and_then, expect, char_of, digit_of, digits, read_digits, width_up_to, decimal, read_decimal, read_plain, read_word, ◌ending◌, ◌before◌, ◌then◌, no_items, write_cons, ◌and◌, as_of, write_lines, read_lines, lines, all, whole_text}
 use Rattle.text_format.specs.Table.{fields, end_byte, names, cell, line}
 use Rattle.sheet_layout.specs.Layout.{kinds, RawSheet, sheet, layout, read_sheet}
 
@@ -45,31 +47,31 @@ its_text : layout example ≡ joined points curves segments edge options
 unfolding bytes char_of digits width_up_to decimal ◌ending◌ ◌before◌ ◌then◌ no_items write_cons ◌and◌ as_of write_lines lines fields end_byte names cell line kinds sheet
 its_text = refl
 
-is_read : read_sheet (joined points curves segments edge options) ≡ got example
-unfolding bytes when and_then or_else expect digit_of read_digits read_decimal read_plain read_word ◌ending◌ ◌before◌ ◌then◌ no_items ◌and◌ as_of read_lines lines all whole_text fields end_byte names cell line kinds sheet read_sheet
+is_read : read_sheet (joined points curves segments edge options) ≡ Ok example
+unfolding bytes when and_then expect digit_of read_digits read_decimal read_plain read_word ◌ending◌ ◌before◌ ◌then◌ no_items ◌and◌ as_of read_lines lines all whole_text fields end_byte names cell line kinds sheet read_sheet
 is_read = refl
 
 -- empty tables, and the largest numbers of each width
 least : read_sheet (joined "x y z\n\n" "kind first count p q\n\n" segments edge "deflection angle relative segments depth scale\n7ff0000000000001 ffffffffffffffff 4294967295 18446744073709551615 4294967295 0000000000000000\n")
-    ≡ got (record {
+    ≡ Ok (record {
       points = [];
       curves = [];
       segments = [];
       edge = example.edge;
       options = 0x7ff0000000000001 ∷ 0xffffffffffffffff ∷ 4294967295 ∷ 18446744073709551615 ∷ 4294967295 ∷ 0 ∷ [];
     })
-unfolding bytes when and_then or_else expect digit_of read_digits read_decimal read_plain read_word ◌ending◌ ◌before◌ ◌then◌ no_items ◌and◌ as_of read_lines lines all whole_text fields end_byte names cell line kinds sheet read_sheet
+unfolding bytes when and_then expect digit_of read_digits read_decimal read_plain read_word ◌ending◌ ◌before◌ ◌then◌ no_items ◌and◌ as_of read_lines lines all whole_text fields end_byte names cell line kinds sheet read_sheet
 least = refl
 
 -- with one curve line, and with one options line
-abbrev with_curve : String → Result RawSheet
+abbrev with_curve : String → Result RawSheet Refusal
 with_curve l = read_sheet (bytes points ++ bytes "kind first count p q\n" ++ bytes l ++ bytes "\n" ++ bytes segments ++ bytes edge ++ bytes options)
 
-abbrev with_options : String → Result RawSheet
+abbrev with_options : String → Result RawSheet Refusal
 with_options l = read_sheet (bytes points ++ bytes curves ++ bytes segments ++ bytes edge ++ bytes "deflection angle relative segments depth scale\n" ++ bytes l)
 
 -- each of these breaks the layout in one place
-abbrev broken : List (Result RawSheet)
+abbrev broken : List (Result RawSheet Refusal)
 broken =
     with_curve "spline 0 2 0000000000000000 0000000000000000\n"
     ∷ with_curve "Line 0 2 0000000000000000 0000000000000000\n"
@@ -102,6 +104,6 @@ broken =
     ∷ read_sheet []
     ∷ []
 
-each_refused : broken ≡ map (λ _. refused 10) broken
-unfolding bytes when and_then or_else expect digit_of read_digits read_decimal read_plain read_word ◌ending◌ ◌before◌ ◌then◌ no_items ◌and◌ as_of read_lines lines all whole_text fields end_byte names cell line kinds sheet read_sheet
+each_refused : broken ≡ map (λ _. Err NoSheet) broken
+unfolding bytes when and_then expect digit_of read_digits read_decimal read_plain read_word ◌ending◌ ◌before◌ ◌then◌ no_items ◌and◌ as_of read_lines lines all whole_text fields end_byte names cell line kinds sheet read_sheet
 each_refused = refl

@@ -8,9 +8,11 @@ use lib.ListN.{length}
 use lib.Dec.{leb}
 use borrow.Author.Tests.{le-leb, leb-true}
 use Rattle.base_lists.specs.All.{All, none, more}
-use Rattle.base_lists.specs.Result.{refused, got}
+use Rattle.std.specs.Prelude.{Some, None, Result, Ok, Err}
+use Rattle.refusal.specs.declared.Refusal.{Refusal}
+use Rattle.refusal.specs.declared.Refusal.TheVariants.{NoSheet}
 use Rattle.text_format.specs.Bytes.{bytes}
-use Rattle.text_format.specs.Format.{Lawful, Parsed, bad, parsed, all, one_of, ◌ending◌, whole_text}
+use Rattle.text_format.specs.Format.{Lawful, Parsed, all, one_of, ◌ending◌, whole_text}
 use Rattle.text_format.specs.Table.{fields, line, table, single}
 use Rattle.text_format.proofs.Laws.{ending_law, then_law, as_law, whole_back, whole_was}
 use Rattle.text_format.proofs.Words.{one_of-law}
@@ -93,51 +95,48 @@ unfolding sheet
 sheet_law = as_law _ _ _ (λ r. refl) (λ t. refl) (then_law tables_format ends tables_law ends_law)
 
 -- ---- THE theorems
-pub read_layout : (raw : RawSheet) → Valid raw → length (layout raw) ≤ size → read_sheet (layout raw) ≡ got raw
+pub read_layout : (raw : RawSheet) → Valid raw → length (layout raw) ≤ size → read_sheet (layout raw) ≡ Ok raw
 unfolding read_sheet
-read_layout raw v h = rw (le-leb (length (layout raw)) size h) (whole_back 10 sheet sheet_law raw v)
+read_layout raw v h = rw (le-leb (length (layout raw)) size h) (whole_back NoSheet sheet sheet_law raw v)
 
-pub layout_read : (text : List ℕ) (raw : RawSheet) → read_sheet text ≡ got raw → Follows text raw
+pub layout_read : (text : List ℕ) (raw : RawSheet) → read_sheet text ≡ Ok raw → Follows text raw
 unfolding read_sheet
 layout_read text raw e = go (leb (length text) size) refl e
   where
-    go : (b : Bool) → leb (length text) size ≡ b → cond b (whole_text 10 sheet text) (refused 10) ≡ got raw → Follows text raw
-    go true t e = let w = whole_was 10 sheet sheet_law text raw e in record { valid = w.right; is = w.text; fits = leb-true (length text) size t }
-    go false t e = absurd (let z : ◌≡◌ {A = ℕ} 0 1 = cc in omega arith)
+    go : (b : Bool) → leb (length text) size ≡ b → cond b (whole_text NoSheet sheet text) (Err NoSheet) ≡ Ok raw → Follows text raw
+    go true t e = let w = whole_was NoSheet sheet sheet_law text raw e in record { valid = w.right; is = w.text; fits = leb-true (length text) size t }
+    go false t e = cc
 
-pub follows_read : (text : List ℕ) (raw : RawSheet) → Follows text raw → read_sheet text ≡ got raw
+pub follows_read : (text : List ℕ) (raw : RawSheet) → Follows text raw → read_sheet text ≡ Ok raw
 follows_read text raw f =
     let h : length (layout raw) ≤ size = rw f.is f.fits in
     sym (ap read_sheet f.is) ∙ read_layout raw f.valid h
 
 -- so a text that is refused follows the layout of no sheet
-pub refused_none : (text : List ℕ) (n : ℕ) → read_sheet text ≡ refused n → (raw : RawSheet) → Follows text raw → ⊥
-refused_none text n e raw f =
-    let r = follows_read text raw f in
-    let z : ◌≡◌ {A = ℕ} 0 1 = cc in
-    omega arith
+pub refused_none : (text : List ℕ) (cause : Refusal) → read_sheet text ≡ Err cause → (raw : RawSheet) → Follows text raw → ⊥
+refused_none text cause e raw f = let r = follows_read text raw f in cc
 
--- the cause is always 10
-pub refused_ten : (text : List ℕ) (n : ℕ) → read_sheet text ≡ refused n → n ≡ 10
+-- the cause is always the same
+pub refused_no_sheet : (text : List ℕ) (cause : Refusal) → read_sheet text ≡ Err cause → cause ≡ NoSheet
 unfolding read_sheet whole_text all
-refused_ten text n e = go (leb (length text) size) (sheet.read text) e
+refused_no_sheet text cause e = go (leb (length text) size) (sheet.read text) e
   where
-    go : (b : Bool) (q : Parsed RawSheet) → cond b (all 10 q) (refused 10) ≡ refused n → n ≡ 10
-    go true bad e = cc
-    go true (parsed a []) e = absurd (let z : ◌≡◌ {A = ℕ} 0 1 = cc in omega arith)
-    go true (parsed a (b ∷ bs)) e = cc
+    go : (b : Bool) (q : Parsed RawSheet) → cond b (all NoSheet q) (Err NoSheet) ≡ Err cause → cause ≡ NoSheet
+    go true None e = cc
+    go true (Some (a, [])) e = cc
+    go true (Some (a, b ∷ bs)) e = cc
     go false q e = cc
 
 pub means : (text : List ℕ) → Means text (read_sheet text)
 means text = record {
   back = follows_read text;
   was = layout_read text;
-  none = λ cause e. (refused_ten text cause e, refused_none text cause e);
+  none = λ cause e. (refused_no_sheet text cause e, refused_none text cause e);
 }
 
 -- and no two sheets have one text
 pub layout_one : (a b : RawSheet) → Valid a → Valid b → layout a ≡ layout b → a ≡ b
-layout_one a b v w e = same (sym (whole_back 10 sheet sheet_law a v) ∙ ap (whole_text 10 sheet) e ∙ whole_back 10 sheet sheet_law b w)
+layout_one a b v w e = same (sym (whole_back NoSheet sheet sheet_law a v) ∙ ap (whole_text NoSheet sheet) e ∙ whole_back NoSheet sheet sheet_law b w)
   where
-    same : got a ≡ got b → a ≡ b
+    same : ◌≡◌ {A = Result RawSheet Refusal} (Ok a) (Ok b) → a ≡ b
     same e = cc

@@ -1,8 +1,5 @@
 pub mod Laws
-pub mod Examples
-pub mod Words
-pub mod Cells
+pub mod Padded
 pub mod Onto
 pub mod Columns
-pub mod Padded
-pub mod Rows
+pub mod Examples

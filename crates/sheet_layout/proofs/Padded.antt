@@ -5,16 +5,14 @@ use Prim.Native.Nat.{ℕ, suc, ◌+◌, ◌-◌, ◌<◌, ◌≤◌}
 use native.Mathlib.Omega.{arith}
 use lib.ListN.{length, set, replicate, length-append, length-replicate}
 use lib.Seq.{set_at}
-use Rattle.sheet_layout.specs.Padded.{padded}
+use Rattle.base_lists.specs.Room.{padded}
 
 module _ {E : Type 0} (n : ℕ) (zero : E) where
   pub padded_length : (l : List E) → length l ≤ n → length (padded n zero l) ≡ n
-  unfolding padded
   padded_length l h = let r = length-replicate (n - length l) zero in simp length-append (omega arith)
 
   -- one more number
   pub padded_more : (out l : List E) (i : ℕ) (v : E) → i ≡ length l → length l < n → out ≡ padded n zero l → set out i v ≡ padded n zero (l ++ (v ∷ []))
-  unfolding padded
   padded_more out l i v e h o =
       let k = n - length (l ++ (v ∷ [])) in
       let m : length (l ++ (v ∷ [])) ≡ length l + 1 = length-append l (v ∷ []) in

@@ -1,7 +1,8 @@
 -- The sheet's layout. A raw sheet is lists of whole numbers: a line's numbers in the order of its columns, a float as its 64 bits, a
 -- kind as its number from 1 to 8.
-use Rattle.std.specs.Prelude.{◌≡◌, cond, List, [], ◌∷◌, ℕ, ◌-◌, ◌^◌, ◌≤◌, length, leb}
-use Rattle.base_lists.specs.Result.{Result, refused, got}
+use Rattle.std.specs.Prelude.{◌≡◌, cond, List, [], ◌∷◌, ℕ, ◌-◌, ◌^◌, ◌≤◌, length, leb, Result, Ok, Err}
+use Rattle.refusal.specs.declared.Refusal.{Refusal}
+use Rattle.refusal.specs.declared.Refusal.TheVariants.{NoSheet}
 use Rattle.text_format.specs.Bytes.{bytes}
 use Rattle.text_format.specs.Format.{Format, ◌ending◌, ◌then◌, as_of, whole_text}
 use Rattle.text_format.specs.Table.{Field, float, whole, word, Column, ◌of◌, table, single}
@@ -83,9 +84,9 @@ sheet_curves = 1638
 abbrev pub sheet_segments : ℕ
 sheet_segments = 1724
 
--- the sheet that a text stands for; cause 10 where it stands for none or is too long
-unfoldable pub read_sheet : List ℕ → Result RawSheet
-read_sheet text = cond (leb (length text) size) (whole_text 10 sheet text) (refused 10)
+-- the sheet that a text stands for; NoSheet where it stands for none or is too long
+unfoldable pub read_sheet : List ℕ → Result RawSheet Refusal
+read_sheet text = cond (leb (length text) size) (whole_text NoSheet sheet text) (Err NoSheet)
 
 -- ---- both directions
 -- the text is the sheet's
@@ -94,8 +95,8 @@ pub record Follows (text : List ℕ) (raw : RawSheet) : Type 0 where
   pub is : layout raw ≡ text
   pub fits : length text ≤ size
 
--- r is the sheet whose text this is, or cause 10 where it is the text of none
-pub record Means (text : List ℕ) (r : Result RawSheet) : Type 0 where
-  pub back : (raw : RawSheet) → Follows text raw → r ≡ got raw
-  pub was : (raw : RawSheet) → r ≡ got raw → Follows text raw
-  pub none : (cause : ℕ) → r ≡ refused cause → (cause ≡ 10) × ((raw : RawSheet) → Follows text raw → ⊥)
+-- r is the sheet whose text this is, or NoSheet where it is the text of none
+pub record Means (text : List ℕ) (r : Result RawSheet Refusal) : Type 0 where
+  pub back : (raw : RawSheet) → Follows text raw → r ≡ Ok raw
+  pub was : (raw : RawSheet) → r ≡ Ok raw → Follows text raw
+  pub none : (cause : Refusal) → r ≡ Err cause → (cause ≡ NoSheet) × ((raw : RawSheet) → Follows text raw → ⊥)

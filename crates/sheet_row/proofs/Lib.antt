@@ -1,3 +1,1 @@
-pub mod Patterns
 pub mod Chosen
-pub mod Fill

@@ -1,14 +1,17 @@
 #![tactic(auto)]
 // A line's numbers, as they go into the sheet's tables: floats into one, whole numbers into another, the edge and the options by name.
-ghost use Rattle.std.specs.Prelude.{◌≡◌, [], ◌∷◌, ◌+◌, ◌^◌, ◌≤◌, ◌<◌, length, take};
+ghost use Rattle.std.specs.Prelude.{◌≡◌, Bool, not, [], ◌∷◌, map, ℕ, ◌+◌, ◌^◌, ◌≤◌, ◌<◌, length};
 ghost use Rattle.std.proofs.lemmas.List.Edits.{sets};
 ghost use Rattle.std.specs.Float.{binary64};
 ghost use Rattle.std.specs.Float.Ieee.{of_bits};
 ghost use Rattle.base_lists.specs.All.{All};
-ghost use Rattle.sheet_layout.specs.Padded.{padded};
-ghost use Rattle.sheet_layout.specs.Own.Letters.{shape_of};
+ghost use Rattle.text_format.specs.Table.{Field};
+ghost use Rattle.sheet_layout.specs.Own.Columns.{field_of, shape_of};
 ghost use Rattle.sheet_row.specs.Own.Narrow.{Narrow};
-ghost use Rattle.sheet_row.specs.Rows.{floats_of, wholes_of, raw_edge_of, raw_options_of};
+ghost use Rattle.sheet_row.specs.Rows.{is_float, chosen, floats_of, wholes_of, raw_edge_of, raw_options_of};
+
+use sheet_layout::Column;
+use std::num::f64_from_bits_with_nan;
 
 // The edge of a sheet; lo, hi and tolerance by their 64 bits.
 #[derive(Clone, Copy)]
@@ -35,71 +38,105 @@ pub struct RawOptions {
     pub scale: u64,
 }
 
-// The float of 64 bits. A NaN's pattern makes a NaN: `from_bits` is not defined there.
+// The float of 64 bits. A NaN's pattern makes a NaN.
 pub fn float_of(pattern: u64) -> f64
     ensures { result ≡ of_bits binary64 pattern }
 {
-    if 0x7FF0000000000000 < pattern % 0x8000000000000000 {
-        0.0 / 0.0
-    } else {
-        f64::from_bits(pattern)
+    f64_from_bits_with_nan(pattern)
+}
+
+// What a table holds of a row: an element for each number of those columns that are the table's.
+trait Element: Copy {
+    // the columns that are the table's
+    ghost holds: { Field → Bool };
+
+    // the numbers that there is an element for
+    ghost fits: { ℕ → Type 0 };
+
+    // the element of a number
+    ghost value: { ℕ → Self };
+
+    fn is_of(column: Column) -> bool
+        ensures { result ≡ holds (field_of column) };
+
+    fn from_number(n: u64) -> Self
+        requires { fits n }
+        ensures { result ≡ value n };
+}
+
+impl Element for f64 {
+    ghost holds = { is_float };
+
+    ghost fits = { λ _. Unit {0} };
+
+    ghost value = { of_bits binary64 };
+
+    #[tactic(auto, unfolding(crate::specs::Rows::is_float))]
+    fn is_of(column: Column) -> bool {
+        column == Column::Float
+    }
+
+    fn from_number(n: u64) -> f64 {
+        float_of(n)
     }
 }
 
-// A row's floats into their table, from `at` on; answers the next place.
-pub fn put_floats(shape: &[u8], row: &[u64], out: &mut [f64], at: usize) -> usize
-    requires { (length shape.now ≤ length row.now) × (at + length (floats_of (shape_of shape.now) row.now) ≤ length out.old) }
-    ensures { (result ≡ at + length (floats_of (shape_of shape.now) row.now))
-        × (out.new ≡ sets out.old at (floats_of (shape_of shape.now) row.now)) }
+impl Element for u32 {
+    ghost holds = { λ f. not (is_float f) };
+
+    ghost fits = { λ n. n < 2 ^ 32 };
+
+    ghost value = { λ n. n };
+
+    #[tactic(auto, unfolding(crate::specs::Rows::is_float))]
+    fn is_of(column: Column) -> bool {
+        column != Column::Float
+    }
+
+    fn from_number(n: u64) -> u32 {
+        n as u32
+    }
+}
+
+// A row's elements into their table, from `at` on; answers the next place. Fixed memory: a lent table and a place, not a Vec.
+fn put<T: Element>(shape: &[Column], row: &[u64], out: &mut [T], at: usize) -> usize
+    requires room { at + length (chosen T.holds (shape_of shape.now) row.now) ≤ length out.old }
+    requires fit { All T.fits (chosen T.holds (shape_of shape.now) row.now) }
+    ensures place { result ≡ at + length (chosen T.holds (shape_of shape.now) row.now) }
+    ensures written { out.new ≡ sets out.old at (map T.value (chosen T.holds (shape_of shape.now) row.now)) }
 {
-    let mut i = 0usize;
+    // goes on at the table's columns alone
     let mut k = at;
-    while i < shape.len() {
-        let letter = shape[i];
-        let n = row[i];
-        i += 1;
-        if letter == b'f' {
-            out[k] = float_of(n);
+    for (column, n) in shape.iter().zip(row) {
+        if T::is_of(*column) {
+            out[k] = T::from_number(*n);
             k += 1;
         }
     }
     k
 }
 
+// A row's floats into their table, from `at` on; answers the next place.
+#[tactic(auto, using(crate::proofs::Chosen::any_fit))]
+pub fn put_floats(shape: &[Column], row: &[u64], out: &mut [f64], at: usize) -> usize
+    requires { at + length (floats_of (shape_of shape.now) row.now) ≤ length out.old }
+    ensures { (result ≡ at + length (floats_of (shape_of shape.now) row.now))
+        × (out.new ≡ sets out.old at (floats_of (shape_of shape.now) row.now)) }
+{
+    put(shape, row, out, at)
+}
+
 // A row's whole numbers into their table, from `at` on; answers the next place.
-pub fn put_wholes(shape: &[u8], row: &[u64], out: &mut [u32], at: usize) -> usize
-    requires { (length shape.now ≤ length row.now) × (at + length (wholes_of (shape_of shape.now) row.now) ≤ length out.old)
+pub fn put_wholes(shape: &[Column], row: &[u64], out: &mut [u32], at: usize) -> usize
+    requires { (at + length (wholes_of (shape_of shape.now) row.now) ≤ length out.old)
         × All (λ n. n < 2 ^ 32) (wholes_of (shape_of shape.now) row.now) }
     ensures { (result ≡ at + length (wholes_of (shape_of shape.now) row.now))
         × (out.new ≡ sets out.old at (wholes_of (shape_of shape.now) row.now)) }
 {
-    let mut i = 0usize;
-    let mut k = at;
-    while i < shape.len() {
-        let letter = shape[i];
-        let n = row[i];
-        i += 1;
-        if letter != b'f' {
-            out[k] = n as u32;
-            k += 1;
-        }
-    }
-    k
+    put(shape, row, out, at)
 }
 
-// Zeros in a table of whole numbers, from number `from` on.
-pub fn clear_wholes(out: &mut [u32], from: usize)
-    requires { from ≤ length out.old }
-    ensures { out.new ≡ padded (length out.old) 0 (take from out.old) }
-{
-    let mut i = from;
-    while i < out.len() {
-        out[i] = 0;
-        i += 1;
-    }
-}
-
-// The edge of its line's numbers.
+// The edge of its line's numbers. Not a `From`, which asks nothing: some numbers must have 32 bits.
 pub fn raw_edge_of(row: &[u64; 9]) -> RawEdge
     requires { Narrow row.now (0 ∷ 1 ∷ 2 ∷ 3 ∷ 7 ∷ 8 ∷ []) }
     ensures { result ≡ raw_edge_of row.now }
@@ -117,7 +154,7 @@ pub fn raw_edge_of(row: &[u64; 9]) -> RawEdge
     }
 }
 
-// The options of their line's numbers.
+// The options of their line's numbers. Not a `From`, as above.
 pub fn raw_options_of(row: &[u64; 9]) -> RawOptions
     requires { Narrow row.now (2 ∷ 4 ∷ []) }
     ensures { result ≡ raw_options_of row.now }

@@ -11,8 +11,7 @@ use Rattle.text_format.specs.Table.{Field, line}
 use Rattle.sheet_row.specs.Rows.{is_float, chosen, floats_of, wholes_of}
 use Rattle.sheet_tables.specs.Own.Room.{column_count}
 use Rattle.sheet_tables.specs.Flattened.{flattened}
-use Rattle.sheet_tables.proofs.Valid.{row_length, chosen_length}
-use Rattle.sheet_tables.proofs.Turns.{is_whole}
+use Rattle.sheet_tables.proofs.Valid.{is_whole, row_length, chosen_length}
 
 module _ {E : Type 0} (row : List ℕ → List E) (fs : List Field) (k : ℕ) (each : (l : List ℕ) → (line fs).valid l → length (row l) ≡ k) where
   flat_length : (rows : List (List ℕ)) → All (line fs).valid rows → length (flattened row rows) ≡ k * length rows

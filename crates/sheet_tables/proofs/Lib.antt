@@ -1,5 +1,5 @@
-pub mod Stores
 pub mod Valid
-pub mod Turns
 pub mod Fits
+pub mod Stores
+pub mod Turns
 pub mod Tables

@@ -1,261 +1,296 @@
 -- The loop over the rows of a table. Assumes nothing.
 use mathlib.Core.Path.{◌≡◌, refl, sym, ap, ◌∙◌}
-use mathlib.Core.Bool.{Bool, not}
+use mathlib.Core.Bool.{Bool, true, false, cond}
 use mathlib.Core.List.{List, [], ◌∷◌, ◌++◌, map, append-nil}
-use Prim.Native.Nat.{ℕ, suc, ◌+◌, ◌*◌, ◌^◌, ◌<◌, ◌≤◌}
+use Prim.Native.Nat.{ℕ, ◌+◌, ◌*◌, ◌^◌, ◌<◌, ◌≤◌}
 use native.Mathlib.Omega.{arith}
-use native.Mathlib.Numerals.{add-one}
-use native.Mathlib.Nat.{mul-zero, mul-suc}
-use lib.ListN.{length, get_or, drop, length-append, length-drop, length-map, drop_of_length-le}
-use lib.Seq.{sets, drop-cons, length-sets}
+use native.Mathlib.Nat.{mul-zero, mul-add}
+use lib.ListN.{length, take, length-append}
+use lib.Dec.{eqb}
 use lib.Ieee.{Float, binary64, of_bits}
-use borrow.Author.Tests.{eq-eqb, ne_eqb}
-use Rattle.base_lists.specs.All.{All}
-use Rattle.text_format.specs.Format.{Parsed, bad, parsed, Format, Lawful, and_then, read_lines, lines}
+use lib.Seq.{sets}
+use borrow.Author.Tests.{eqb-true}
+use Rattle.std.specs.Prelude.{Some, None}
+use Rattle.std.proofs.lemmas.Option.{some_pair_parts}
+use Rattle.base_lists.specs.All.{All, none, more}
+use Rattle.base_lists.specs.Room.{padded}
+use Rattle.text_format.specs.Format.{Parsed, Format, Lawful, when, and_then, expect, read_lines, lines}
 use Rattle.text_format.specs.Table.{Field, line}
+use Rattle.text_format.proofs.Laws.{expect_was}
 use Rattle.text_format.proofs.Lines.{NoLine, line_some, turns}
 use Rattle.text_format.proofs.Tables.{no_line}
+use Rattle.text_format.specs.Own.Answers.{counted}
 use Rattle.sheet_layout.specs.Layout.{size}
-use Rattle.sheet_layout.specs.Padded.{padded}
-use Rattle.sheet_layout.specs.Own.Letters.{field_of, shape_of}
-use Rattle.sheet_row.specs.Rows.{is_float, chosen, floats_of, wholes_of}
-use Rattle.sheet_layout.proofs.Padded.{padded_length}
-use Rattle.text_format.proofs.Place.{Read}
-use Rattle.sheet_tables.specs.Flattened.{flattened}
-use Rattle.sheet_tables.specs.Own.Room.{least, column_count, Roomy}
+use Rattle.sheet_layout.specs.declared.Column.{Column}
+use Rattle.sheet_layout.specs.Own.Columns.{field_of, shape_of, parsed_row}
+use Rattle.sheet_layout.proofs.Columns.{column_good, shape_good, shape_law}
 use Rattle.sheet_layout.proofs.Onto.{onto, onto_onto, onto_nothing, onto_one}
-use Rattle.sheet_tables.proofs.Stores.{flat_snoc, more_stored}
-use Rattle.sheet_layout.proofs.Columns.{letter_good, shape_good, shape_law}
-use Rattle.sheet_tables.proofs.Valid.{row_length, chosen_length, chosen_padded, narrow as narrow-valid, line_long}
+use Rattle.sheet_row.specs.Rows.{is_float, floats_of, wholes_of}
+use Rattle.sheet_tables.specs.Flattened.{flattened}
+use Rattle.sheet_tables.specs.Own.Answers.{numbers_of}
+use Rattle.sheet_tables.specs.Own.Lists.{SameLists, Holds}
+use Rattle.sheet_tables.specs.declared.Lists.{Lists}
+use Rattle.sheet_tables.specs.Own.Room.{least, column_count, Roomy}
+use Rattle.sheet_tables.proofs.Valid.{is_whole, row_length, chosen_padded, narrow as narrow_valid, line_long}
+use Rattle.sheet_tables.proofs.Fits.{wholes_length, floats_length}
+use Rattle.sheet_tables.proofs.Stores.{Put, none_put, one_put, put_length, padded_behind}
 
--- ---- lines at a place
-module _ {A : Type 0} (F : Format A) (L : Lawful F) (N : NoLine F) (s : List ℕ) where
-  pub lines_end : (p : ℕ) → length s ≤ p → (lines F).read (drop p s) ≡ bad
+-- ---- lines, one by one
+module _ {A : Type 0} (F : Format A) (L : Lawful F) (N : NoLine F) where
+  -- no line, and no empty one
+  pub lines_none : (bs : List ℕ) (n : ℕ) → F.read bs ≡ None → expect (10 ∷ []) n bs ≡ None → (lines F).read bs ≡ None
+  unfolding lines read_lines and_then expect when
+  lines_none [] n f e = refl
+  lines_none (b ∷ bs) n f e = rw f (go (eqb b 10) e)
+    where
+      go : (t : Bool) → when t (Some (n, bs)) ≡ None → ◌≡◌ {A = Parsed (List A)} (cond t (Some ([], bs)) None) None
+      go true e = cc
+      go false e = refl
+
+  -- the empty line
+  pub lines_end : (bs : List ℕ) (n m : ℕ) (rest : List ℕ) → Some (m, rest) ≡ expect (10 ∷ []) n bs → (lines F).read bs ≡ Some ([], rest)
   unfolding lines read_lines
-  lines_end p h = ap (lines F).read (drop_of_length-le s h)
+  lines_end bs n m rest e = let w = expect_was (10 ∷ []) n bs m rest (sym e) in ap (lines F).read (sym w.text)
 
-  module _ (p : ℕ) (h : p < length s) where
-    -- the text there: a byte, and what is left
-    next : (lines F).read (drop p s) ≡ read_lines (suc (length (drop (suc p) s))) F (get_or s p 0 ∷ drop (suc p) s)
-    unfolding lines
-    next = ap (lines F).read (drop-cons s p 0 h)
+  -- a line in front
+  pub lines_turn : (bs : List ℕ) (a : A) (next : List ℕ) → F.read bs ≡ Some (a, next) → (lines F).read bs ≡ onto (a ∷ []) ((lines F).read next)
+  unfolding lines read_lines and_then
+  lines_turn [] a next f = let m = line_some F L N [] a next f in absurd (omega arith)
+  lines_turn (b ∷ bs) a next f = go (eqb b 10) refl
+    where
+      go : (t : Bool) → eqb b 10 ≡ t → cond t (Some ([], bs)) (and_then (F.read (b ∷ bs)) (λ a rest. and_then (read_lines (length bs) F rest) (λ l last. Some (a ∷ l, last)))) ≡ onto (a ∷ []) (read_lines (length next) F next)
+      go true t = let z = ap (λ c. F.read (c ∷ bs)) (eqb-true b 10 t) in absurd (let w : None ≡ Some (a, next) = sym (N bs) ∙ sym z ∙ f in cc)
+      go false t =
+          let m = line_some F L N (b ∷ bs) a next f in
+          ap (λ q. and_then q (λ a rest. and_then (read_lines (length bs) F rest) (λ l last. Some (a ∷ l, last)))) f
+          ∙ onto_one a (read_lines (length bs) F next) ∙ ap (onto (a ∷ [])) (turns F L N (length bs) (length next) next (omega arith) (omega arith))
 
-    pub lines_empty : get_or s p 0 ≡ 10 → (lines F).read (drop p s) ≡ parsed [] (drop (p + 1) s)
-    unfolding read_lines
-    lines_empty e = next ∙ rw (eq-eqb (get_or s p 0) 10 e) (ap (λ z. parsed [] (drop z s)) (sym (add-one p)))
+-- what is left behind a text is no longer than all
+pub behind_fits : {A : Type 0} (w : List ℕ) (a b : A) (bs rest : List ℕ) (k : ℕ) → Some (b, rest) ≡ expect w a bs → length bs ≤ k → length rest ≤ k
+behind_fits w a b bs rest k e h =
+    let t = simp length-append at (ap length (expect_was w a bs b rest (sym e)).text) in
+    omega arith
 
-    module _ (e : get_or s p 0 ≡ 10 → ⊥) where
-      -- the lines behind the line a, in at most k turns
-      others : ℕ → A → List ℕ → Parsed (List A)
-      others k a rest = and_then (read_lines k F rest) (λ l last. parsed (a ∷ l) last)
+-- ---- what was read of a line, by what was told
+-- the line's numbers l, with zeros behind them in `row`
+pub record Line (F : Format (List ℕ)) (s row next : List ℕ) : Type 0 where
+  pub list : List ℕ
+  pub held : row ≡ padded 9 0 list
+  pub is : F.read s ≡ Some (list, next)
 
-      first : (lines F).read (drop p s) ≡ and_then (F.read (drop p s)) (others (length (drop (suc p) s)))
-      unfolding read_lines others
-      first =
-          let k = length (drop (suc p) s) in
-          next ∙ rw (ne_eqb (get_or s p 0) 10 e) (ap (λ t. and_then (F.read t) (others k)) (sym (drop-cons s p 0 h)))
+pub line_read : (F : Format (List ℕ)) (s row next : List ℕ) → Some (row, next) ≡ parsed_row (F.read s) → Line F s row next
+line_read F s row next e = go (F.read s) refl e
+  where
+    go : (q : Parsed (List ℕ)) → F.read s ≡ q → Some (row, next) ≡ parsed_row q → Line F s row next
+    go None f e = absurd cc
+    go (Some (l, rest)) f e =
+        let p = some_pair_parts row (padded 9 0 l) next rest e in
+        record { list = l; held = p.0; is = f ∙ ap (λ r. Some (l, r)) (sym p.1) }
 
-      pub lines_bad : F.read (drop p s) ≡ bad → (lines F).read (drop p s) ≡ bad
-      unfolding and_then
-      lines_bad f = first ∙ ap (λ q. and_then q (others (length (drop (suc p) s)))) f
-
-      pub lines_turn : (a : A) (q : ℕ) → F.read (drop p s) ≡ parsed a (drop q s) → (lines F).read (drop p s) ≡ onto (a ∷ []) ((lines F).read (drop q s))
-      unfolding and_then lines others
-      lines_turn a q f =
-          let k = length (drop (suc p) s) in
-          let m = line_some F L N (drop p s) a (drop q s) f in
-          let l : length (drop q s) ≤ k = omega (arith, length-drop p s, length-drop (suc p) s) in
-          first ∙ ap (λ x. and_then x (others k)) f ∙ onto_one a (read_lines k F (drop q s))
-          ∙ ap (onto (a ∷ [])) (turns F L N k (length (drop q s)) (drop q s) l (omega arith))
+pub no_line_read : (F : Format (List ℕ)) (s : List ℕ) → None ≡ parsed_row (F.read s) → F.read s ≡ None
+no_line_read F s e = go (F.read s) e
+  where
+    go : (q : Parsed (List ℕ)) → None ≡ parsed_row q → q ≡ None
+    go None e = refl
+    go (Some p) e = cc
 
 -- ---- the loop
-abbrev pub is_whole : Field → Bool
-is_whole f = not (is_float f)
+-- n rows were read of the text and put, and `rest` is left of it
+pub record Rows (text : List ℕ) (columns : List Column) (wholes₀ : List ℕ) (floats₀ : List Float) (rest wholes : List ℕ) (floats : List Float) (n w f : ℕ) : Type 0 where
+  pub fits : length text ≤ size
+  pub taken : List (List ℕ)
+  pub valid : All (line (shape_of columns)).valid taken
+  pub count : n ≡ length taken
+  pub bytes : least (shape_of columns) * n + length rest ≤ length text
+  pub few : n + length rest ≤ length text
+  pub whole : onto taken ((lines (line (shape_of columns))).read rest) ≡ (lines (line (shape_of columns))).read text
+  pub wholes_put : Put (wholes_of (shape_of columns)) wholes₀ wholes taken w
+  pub floats_put : Put (floats_of (shape_of columns)) floats₀ floats taken f
+
+pub no_rows : (text : List ℕ) (columns : List Column) (wholes₀ : List ℕ) (floats₀ : List Float) → length text ≤ size → Rows text columns wholes₀ floats₀ text wholes₀ floats₀ 0 0 0
+no_rows text columns wholes₀ floats₀ fits = record {
+  fits = fits;
+  taken = [];
+  valid = none;
+  count = refl;
+  bytes = omega (arith, mul-zero (least (shape_of columns)));
+  few = omega arith;
+  whole = onto_nothing ((lines (line (shape_of columns))).read text);
+  wholes_put = none_put (wholes_of (shape_of columns)) wholes₀;
+  floats_put = none_put (floats_of (shape_of columns)) floats₀;
+}
+
+-- one more row is read, into the array `row`: what the calls that put it ask, and where the loop stands behind them
+pub record Next (text : List ℕ) (columns : List Column) (wholes₀ : List ℕ) (floats₀ : List Float) (rest wholes : List ℕ) (floats : List Float) (n w f : ℕ) (row next : List ℕ) : Type 0 where
+  pub later : length next < length rest
+  pub wholes_fit : w + length (wholes_of (shape_of columns) row) ≤ length wholes
+  pub floats_fit : f + length (floats_of (shape_of columns) row) ≤ length floats
+  pub narrow : All (λ n. n < 2 ^ 32) (wholes_of (shape_of columns) row)
+  pub turn : (wholes' : List ℕ) (w' : ℕ) (floats' : List Float) (f' : ℕ)
+      → w' ≡ w + length (wholes_of (shape_of columns) row) → wholes' ≡ sets wholes w (wholes_of (shape_of columns) row)
+      → f' ≡ f + length (floats_of (shape_of columns) row) → floats' ≡ sets floats f (floats_of (shape_of columns) row)
+      → Rows text columns wholes₀ floats₀ next wholes' floats' (n + 1) w' f'
 
 -- a row is no empty line
-pub shape_no_line : (shape : List ℕ) → 0 < length shape → NoLine (line (shape_of shape))
-shape_no_line [] h = absurd (omega arith)
-shape_no_line (c ∷ cs) h = no_line (field_of c) (shape_of cs) (letter_good c)
+no_row : (columns : List Column) → 0 < length columns → NoLine (line (shape_of columns))
+no_row [] h = absurd (omega arith)
+no_row (c ∷ cs) h = no_line (field_of c) (shape_of cs) (column_good c)
 
-module _ (s shape : List ℕ) (at : ℕ) (wholes₀ : List ℕ) (floats₀ : List Float) where
-  abbrev fs : List Field
-  fs = shape_of shape
+module _ {text : List ℕ} {columns : List Column} {wholes₀ : List ℕ} {floats₀ : List Float} {rest wholes : List ℕ} {floats : List Float} {n w f : ℕ}
+    (room : Roomy columns (length wholes₀) (length floats₀)) (r : Rows text columns wholes₀ floats₀ rest wholes floats n w f) where
+  abbrev F : Format (List ℕ)
+  F = line (shape_of columns)
 
-  -- n rows were read from `at` on, and the next begins at p
-  pub record Rows (wholes : List ℕ) (floats : List Float) (p n w f : ℕ) : Type 0 where
-    pub within : p ≤ length s
-    pub bytes : at + least fs * n ≤ p
-    pub few : n ≤ p
-    pub wholes_same : length wholes ≡ length wholes₀
-    pub floats_same : length floats ≡ length floats₀
-    pub w_count : w ≡ column_count is_whole fs * n
-    pub f_count : f ≡ column_count is_float fs * n
-    pub taken : List (List ℕ)
-    pub count : length taken ≡ n
-    pub whole : onto taken ((lines (line fs)).read (drop p s)) ≡ (lines (line fs)).read (drop at s)
+  -- ---- the ways out
+  pub rows_none : None ≡ parsed_row (F.read rest) → None ≡ expect (10 ∷ []) n rest → None ≡ counted ((lines F).read text)
+  unfolding onto
+  rows_none no_more e =
+      let q = sym r.whole ∙ ap (onto r.taken) (lines_none F (shape_law columns) (no_row columns room.some) rest n (no_line_read F rest no_more) (sym e)) in
+      sym (ap counted q)
+
+  module _ (m : ℕ) (end : List ℕ) (e : Some (m, end) ≡ expect (10 ∷ []) n rest) where
+    pub all_rows : (lines F).read text ≡ Some (r.taken, end)
+    unfolding onto
+    all_rows =
+        sym r.whole ∙ ap (onto r.taken) (lines_end F (shape_law columns) (no_row columns room.some) rest n m end e) ∙ ap (λ l. Some (l, end)) (append-nil r.taken)
+
+    pub rows_count : Some (m, end) ≡ counted ((lines F).read text)
+    rows_count =
+        let x = expect_was (10 ∷ []) n rest m end (sym e) in
+        let same : m ≡ length r.taken = sym x.same ∙ r.count in
+        ap (λ k. Some (k, end)) same ∙ sym (ap counted all_rows)
+
+    few_bytes : least (shape_of columns) * n ≤ size
+    few_bytes = let b = r.bytes in let h = r.fits in omega arith
+
+    pub left_fits : length end ≤ size
+    left_fits =
+        let b = r.few in
+        let h = r.fits in
+        behind_fits (10 ∷ []) n m rest end size e (omega arith)
+
     pub w_fits : w ≤ length wholes₀
+    w_fits =
+        omega (arith, r.wholes_put.place, wholes_length (shape_of columns) r.taken r.valid, ap (λ k. column_count is_whole (shape_of columns) * k) r.count, room.wholes n few_bytes)
+
     pub f_fits : f ≤ length floats₀
-    pub w_place : w ≡ length (flattened (wholes_of fs) taken)
-    pub f_place : f ≡ length (flattened (floats_of fs) taken)
-    pub wholes_are : wholes ≡ sets wholes₀ 0 (flattened (wholes_of fs) taken)
-    pub floats_are : floats ≡ sets floats₀ 0 (flattened (floats_of fs) taken)
+    f_fits =
+        omega (arith, r.floats_put.place, floats_length (shape_of columns) r.taken r.valid, ap (λ k. column_count is_float (shape_of columns) * k) r.count, room.floats n few_bytes)
 
-  -- one more row is read, into the array `row`: what the calls that store it ask, and where the loop stands behind them
-  pub record Next (wholes : List ℕ) (floats : List Float) (row : List ℕ) (p q n w f : ℕ) : Type 0 where
-    pub later : p < q
-    pub nine : length row ≡ 9
-    pub cells : length shape ≤ length row
-    pub wholes_fit : w + length (wholes_of fs row) ≤ length wholes
-    pub floats_fit : f + length (floats_of fs row) ≤ length floats
-    pub narrow : All (λ n. n < 2 ^ 32) (wholes_of fs row)
-    pub turn : (wholes' : List ℕ) (w' : ℕ) (floats' : List Float) (f' : ℕ)
-        → w' ≡ w + length (wholes_of fs row) → wholes' ≡ sets wholes w (wholes_of fs row)
-        → f' ≡ f + length (floats_of fs row) → floats' ≡ sets floats f (floats_of fs row) → Rows wholes' floats' q (n + 1) w' f'
+    pub wholes_hold : (after : List ℕ) → after ≡ padded (length wholes) 0 (take w wholes)
+        → after ≡ padded (length wholes₀) 0 (numbers_of (flattened (wholes_of (shape_of columns))) ((lines F).read text))
+    unfolding numbers_of
+    wholes_hold after g =
+        padded_behind (wholes_of (shape_of columns)) wholes₀ wholes r.taken w r.wholes_put 0 after w_fits g
+        ∙ ap (λ q. padded (length wholes₀) 0 (numbers_of (flattened (wholes_of (shape_of columns))) q)) (sym all_rows)
 
-  pub no_rows : at ≤ length s → Rows wholes₀ floats₀ at 0 0 0
-  unfolding flattened
-  no_rows h = record {
-    within = h;
-    bytes = omega (arith, mul-zero (least fs));
-    few = omega arith;
-    wholes_same = refl;
-    floats_same = refl;
-    w_count = sym (mul-zero (column_count is_whole fs));
-    f_count = sym (mul-zero (column_count is_float fs));
-    taken = [];
-    count = refl;
-    whole = onto_nothing ((lines (line fs)).read (drop at s));
-    w_fits = omega arith;
-    f_fits = omega arith;
-    w_place = refl;
-    f_place = refl;
-    wholes_are = refl;
-    floats_are = refl;
-  }
+    pub floats_hold : (after : List Float) → after ≡ padded (length floats) (of_bits binary64 0) (take f floats)
+        → after ≡ padded (length floats₀) (of_bits binary64 0) (numbers_of (flattened (floats_of (shape_of columns))) ((lines F).read text))
+    unfolding numbers_of
+    floats_hold after g =
+        padded_behind (floats_of (shape_of columns)) floats₀ floats r.taken f r.floats_put (of_bits binary64 0) after f_fits g
+        ∙ ap (λ q. padded (length floats₀) (of_bits binary64 0) (numbers_of (flattened (floats_of (shape_of columns))) q)) (sym all_rows)
 
-  module _ (room : Roomy shape (length wholes₀) (length floats₀)) where
-    abbrev pub F : Format (List ℕ)
-    F = line fs
+  -- ---- one more row
+  module _ (row next : List ℕ) (l : Line F rest row next) where
+    valid_row : F.valid l.list
+    valid_row = ((shape_law columns).was rest l.list next l.is).right
 
-    pub no_row : NoLine F
-    no_row = shape_no_line shape room.some
+    as_many : length l.list ≡ length (shape_of columns)
+    as_many = row_length (shape_of columns) l.list valid_row
 
-    module _ (wholes : List ℕ) (floats : List Float) (p n w f : ℕ) (r : Rows wholes floats p n w f) where
-      -- the ways out
-      pub rows_end : length s ≤ p → (lines F).read (drop at s) ≡ bad
-      unfolding onto
-      rows_end h = sym r.whole ∙ ap (onto r.taken) (lines_end F (shape_law shape) no_row s p h)
+    later : length next < length rest
+    later = line_some F (shape_law columns) (no_row columns room.some) rest l.list next l.is
 
-      pub rows_bad : p < length s → (get_or s p 0 ≡ 10 → ⊥) → F.read (drop p s) ≡ bad → (lines F).read (drop at s) ≡ bad
-      unfolding onto
-      rows_bad h e b = sym r.whole ∙ ap (onto r.taken) (lines_bad F (shape_law shape) no_row s p h e b)
+    farther : least (shape_of columns) + length next ≤ length rest
+    farther =
+        let t = simp length-append at (ap length ((shape_law columns).was rest l.list next l.is).text) in
+        let m = line_long (shape_of columns) (shape_good columns) l.list valid_row in
+        omega arith
 
-      pub all_rows : p < length s → get_or s p 0 ≡ 10 → (lines F).read (drop at s) ≡ parsed r.taken (drop (p + 1) s)
-      unfolding onto
-      all_rows h e =
-          sym r.whole ∙ ap (onto r.taken) (lines_empty F (shape_law shape) no_row s p h e)
-          ∙ ap (λ l. parsed l (drop (p + 1) s)) (append-nil r.taken)
+    more_bytes : least (shape_of columns) * (n + 1) + length next ≤ length text
+    more_bytes = let b = r.bytes in let x = farther in omega (arith, mul-add (least (shape_of columns)) n 1)
 
-      -- one more row, l
-      module _ (short_enough : length s ≤ size) (h : p < length s) (e : get_or s p 0 ≡ 10 → ⊥) (l : List ℕ) (q : ℕ) (was : Read s (F.read (drop p s)) l q)
-          (row : List ℕ) (held : row ≡ padded 9 0 l) where
-        later : p < q
-        later =
-            let m = line_some F (shape_law shape) no_row (drop p s) l (drop q s) was.is in
-            omega (arith, length-drop p s, length-drop q s)
+    rows_fit : least (shape_of columns) * (n + 1) ≤ size
+    rows_fit = let b = more_bytes in let h = r.fits in omega arith
 
-        valid : F.valid l
-        valid = ((shape_law shape).was (drop p s) l (drop q s) was.is).right
+    more_rows : length (r.taken ++ (l.list ∷ [])) ≡ n + 1
+    more_rows = let c = r.count in simp length-append (omega arith)
 
-        as_many : length l ≡ length fs
-        as_many = row_length fs l valid
+    valid_rows : All F.valid (r.taken ++ (l.list ∷ []))
+    valid_rows = go r.taken r.valid
+      where
+        go : (rows : List (List ℕ)) → All F.valid rows → All F.valid (rows ++ (l.list ∷ []))
+        go [] none = more valid_row none
+        go (a ∷ rows) (more v vs) = more v (go rows vs)
 
-        -- the bytes of the row
-        farther : p + least fs ≤ q
-        farther =
-            let t = simp (length-append, length-drop) at (ap length ((shape_law shape).was (drop p s) l (drop q s) was.is).text) in
-            let m = line_long fs (shape_good shape) l valid in
-            let k = was.within in
-            omega arith
+    -- its numbers are those of what was read
+    wholes_same : wholes_of (shape_of columns) row ≡ wholes_of (shape_of columns) l.list
+    wholes_same = ap (wholes_of (shape_of columns)) l.held ∙ chosen_padded is_whole (shape_of columns) 9 l.list as_many
 
-        rows_fit : least fs * (n + 1) ≤ size
-        rows_fit =
-            let b = r.bytes in
-            let k = was.within in
-            let x = farther in
-            omega (arith, ap (λ z. least fs * z) (add-one n) ∙ mul-suc (least fs) n)
+    floats_same : floats_of (shape_of columns) row ≡ floats_of (shape_of columns) l.list
+    floats_same = ap (floats_of (shape_of columns)) l.held ∙ ap (map (of_bits binary64)) (chosen_padded is_float (shape_of columns) 9 l.list as_many)
 
-        same_row : (t : Field → Bool) → chosen t fs row ≡ chosen t fs l
-        same_row t = ap (chosen t fs) held ∙ chosen_padded t fs 9 l as_many
+    wholes_next : (next : List ℕ) (j : ℕ) → j ≡ w + length (wholes_of (shape_of columns) row) → next ≡ sets wholes w (wholes_of (shape_of columns) row)
+        → Put (wholes_of (shape_of columns)) wholes₀ next (r.taken ++ (l.list ∷ [])) j
+    wholes_next next j e g =
+        one_put (wholes_of (shape_of columns)) wholes₀ wholes r.taken w r.wholes_put l.list next j (e ∙ ap (λ x. w + length x) wholes_same) (g ∙ ap (sets wholes w) wholes_same)
 
-        w_more : length (wholes_of fs row) ≡ column_count is_whole fs
-        w_more = ap length (same_row is_whole) ∙ chosen_length is_whole fs l as_many
+    floats_next : (next : List Float) (j : ℕ) → j ≡ f + length (floats_of (shape_of columns) row) → next ≡ sets floats f (floats_of (shape_of columns) row)
+        → Put (floats_of (shape_of columns)) floats₀ next (r.taken ++ (l.list ∷ [])) j
+    floats_next next j e g =
+        one_put (floats_of (shape_of columns)) floats₀ floats r.taken f r.floats_put l.list next j (e ∙ ap (λ x. f + length x) floats_same) (g ∙ ap (sets floats f) floats_same)
 
-        f_more : length (floats_of fs row) ≡ column_count is_float fs
-        f_more = length-map (chosen is_float fs row) (of_bits binary64) ∙ ap length (same_row is_float) ∙ chosen_length is_float fs l as_many
+    abbrev row_next : Next text columns wholes₀ floats₀ rest wholes floats n w f row next
+    row_next = record {
+      later = later;
+      wholes_fit =
+          omega (
+            arith,
+            (wholes_next _ _ refl refl).place,
+            room.wholes (n + 1) rows_fit,
+            wholes_length (shape_of columns) _ valid_rows,
+            ap (λ k. column_count is_whole (shape_of columns) * k) more_rows,
+            put_length (wholes_of (shape_of columns)) wholes₀ wholes r.taken w r.wholes_put,
+          );
+      floats_fit =
+          omega (
+            arith,
+            (floats_next _ _ refl refl).place,
+            room.floats (n + 1) rows_fit,
+            floats_length (shape_of columns) _ valid_rows,
+            ap (λ k. column_count is_float (shape_of columns) * k) more_rows,
+            put_length (floats_of (shape_of columns)) floats₀ floats r.taken f r.floats_put,
+          );
+      narrow = rw wholes_same (narrow_valid columns l.list room.slim valid_row);
+      turn = λ wholes' w' floats' f' wp ws fp ff. record {
+        taken = r.taken ++ (l.list ∷ []);
+        fits = r.fits;
+        valid = valid_rows;
+        count = sym more_rows;
+        bytes = more_bytes;
+        few = let b = r.few in let x = later in omega arith;
+        whole =
+            onto_onto r.taken (l.list ∷ []) ((lines F).read next)
+            ∙ ap (onto r.taken) (sym (lines_turn F (shape_law columns) (no_row columns room.some) rest l.list next l.is)) ∙ r.whole;
+        wholes_put = wholes_next wholes' w' wp ws;
+        floats_put = floats_next floats' f' fp ff;
+      };
+    }
 
-        w_next : w + length (wholes_of fs row) ≡ column_count is_whole fs * (n + 1)
-        w_next =
-            let a = r.w_count in
-            let b = w_more in
-            omega (arith, ap (λ z. column_count is_whole fs * z) (add-one n) ∙ mul-suc (column_count is_whole fs) n)
+  pub next_row : (row next : List ℕ) → Some (row, next) ≡ parsed_row (F.read rest) → Next text columns wholes₀ floats₀ rest wholes floats n w f row next
+  next_row row next told = row_next row next (line_read F rest row next told)
 
-        f_next : f + length (floats_of fs row) ≡ column_count is_float fs * (n + 1)
-        f_next =
-            let a = r.f_count in
-            let b = f_more in
-            omega (arith, ap (λ z. column_count is_float fs * z) (add-one n) ∙ mul-suc (column_count is_float fs) n)
+-- ---- the lists
+pub same_lists : (l : Lists) → SameLists l l
+same_lists l = record { wholes = refl; floats = refl; whole_room = refl; float_room = refl }
 
-        -- what the calls that store it ask
-        nine : length row ≡ 9
-        nine =
-            let few = room.few in
-            let m = length-map shape field_of in
-            let k = as_many in
-            ap length held ∙ padded_length 9 0 l (omega arith)
-
-        row_cells : length shape ≤ length row
-        row_cells = let few = room.few in let e = nine in omega arith
-
-        w_fit : w + length (wholes_of fs row) ≤ length wholes
-        w_fit = let a = room.wholes (n + 1) rows_fit in let b = r.wholes_same in let c = w_next in omega arith
-
-        f_fit : f + length (floats_of fs row) ≤ length floats
-        f_fit = let a = room.floats (n + 1) rows_fit in let b = r.floats_same in let c = f_next in omega arith
-
-        narrow_row : All (λ n. n < 2 ^ 32) (wholes_of fs row)
-        narrow_row = rw (same_row is_whole) (narrow-valid shape l room.slim valid)
-
-        module _ (wholes' : List ℕ) (w' : ℕ) (floats' : List Float) (f' : ℕ)
-            (wp : w' ≡ w + length (wholes_of fs row)) (ws : wholes' ≡ sets wholes w (wholes_of fs row))
-            (fp : f' ≡ f + length (floats_of fs row)) (ff : floats' ≡ sets floats f (floats_of fs row)) where
-          w_flat : flattened (wholes_of fs) (r.taken ++ (l ∷ [])) ≡ flattened (wholes_of fs) r.taken ++ wholes_of fs row
-          w_flat = flat_snoc (wholes_of fs) r.taken l ∙ ap (λ z. flattened (wholes_of fs) r.taken ++ z) (sym (same_row is_whole))
-
-          f_flat : flattened (floats_of fs) (r.taken ++ (l ∷ [])) ≡ flattened (floats_of fs) r.taken ++ floats_of fs row
-          f_flat = flat_snoc (floats_of fs) r.taken l ∙ ap (λ z. flattened (floats_of fs) r.taken ++ map (of_bits binary64) z) (sym (same_row is_float))
-
-          one_row_lem : Rows wholes' floats' q (n + 1) w' f'
-          one_row_lem = record {
-            within = was.within;
-            bytes = let b = r.bytes in let x = farther in omega (arith, ap (λ z. least fs * z) (add-one n) ∙ mul-suc (least fs) n);
-            few = let b = r.few in let x = later in omega arith;
-            wholes_same = ap length ws ∙ length-sets wholes w (wholes_of fs row) ∙ r.wholes_same;
-            floats_same = ap length ff ∙ length-sets floats f (floats_of fs row) ∙ r.floats_same;
-            w_count = wp ∙ w_next;
-            f_count = fp ∙ f_next;
-            taken = r.taken ++ (l ∷ []);
-            count = let c = r.count in simp length-append (omega arith);
-            whole =
-                onto_onto r.taken (l ∷ []) ((lines F).read (drop q s))
-                ∙ ap (onto r.taken) (sym (lines_turn F (shape_law shape) no_row s p h e l q was.is)) ∙ r.whole;
-            w_fits = let a = w_fit in let b = r.wholes_same in omega arith;
-            f_fits = let a = f_fit in let b = r.floats_same in omega arith;
-            w_place = let c = r.w_place in omega (arith, wp, ap length w_flat ∙ length-append (flattened (wholes_of fs) r.taken) (wholes_of fs row));
-            f_place = let c = r.f_place in omega (arith, fp, ap length f_flat ∙ length-append (flattened (floats_of fs) r.taken) (floats_of fs row));
-            wholes_are = more_stored wholes₀ wholes wholes' (flattened (wholes_of fs) r.taken) (wholes_of fs row) w r.w_place r.wholes_are ws ∙ ap (sets wholes₀ 0) (sym w_flat);
-            floats_are = more_stored floats₀ floats floats' (flattened (floats_of fs) r.taken) (floats_of fs row) f r.f_place r.floats_are ff ∙ ap (sets floats₀ 0) (sym f_flat);
-          }
-
-        pub next_row : Next wholes floats row p q n w f
-        next_row = record { later = later; nine = nine; cells = row_cells; wholes_fit = w_fit; floats_fit = f_fit; narrow = narrow_row; turn = one_row_lem }
+-- None was told of it, so both lists hold zeros alone
+pub nothing_holds : {fs : List Field} (q : Parsed (List (List ℕ))) (old cleared new : Lists) → None ≡ counted q → SameLists old cleared
+    → new.wholes.now ≡ padded (length cleared.wholes.now) 0 [] → new.floats.now ≡ padded (length cleared.floats.now) (of_bits binary64 0) [] → Holds fs q old new
+unfolding numbers_of
+nothing_holds None old cleared new told same w f = record {
+  wholes = w ∙ ap (λ n. padded n 0 []) same.whole_room;
+  floats = f ∙ ap (λ n. padded n (of_bits binary64 0) []) same.float_room;
+}
+nothing_holds (Some p) old cleared new told same w f = absurd cc

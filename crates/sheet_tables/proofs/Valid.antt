@@ -1,22 +1,27 @@
 -- A valid row: as many numbers as columns, within their widths; and how long its line is at least. Assumes nothing.
-use mathlib.Core.Path.{◌≡◌, refl, sym, ap}
+use mathlib.Core.Path.{◌≡◌, refl, ap}
 use mathlib.Core.Bool.{Bool, true, false, cond, not}
 use mathlib.Core.List.{List, [], ◌∷◌, ◌++◌}
 use Prim.Native.Nat.{ℕ, suc, ◌+◌, ◌-◌, ◌^◌, ◌<◌, ◌≤◌}
 use native.Mathlib.Omega.{arith}
 use lib.ListN.{length, get_or, replicate, length-append}
-use lib.Dec.{eqb}
+use Rattle.std.proofs.lemmas.Bool.{and_parts}
 use Rattle.base_lists.specs.All.{All, none as All-none, more}
+use Rattle.base_lists.specs.Room.{padded}
 use Rattle.text_format.specs.Format.{◌ending◌, ◌and◌, no_items, ValidCons, write_cons}
 use Rattle.text_format.specs.Table.{Field, float, whole, word, end_byte, cell, line}
 use Rattle.text_format.proofs.Digits.{digits_length, decimal_some}
-use Rattle.text_format.proofs.Words.{differ, differ_all, differ_at, apart, and_left, no_truth}
+use Rattle.text_format.proofs.Words.{differ, differ_all, differ_at, apart}
 use Rattle.text_format.proofs.Tables.{Good}
-use Rattle.sheet_layout.specs.Layout.{kinds, u32, u64, kind}
-use Rattle.sheet_layout.specs.Padded.{padded}
-use Rattle.sheet_layout.specs.Own.Letters.{field_of, shape_of}
+use Rattle.sheet_layout.specs.Layout.{kinds}
+use Rattle.sheet_layout.specs.declared.Column.{Column}
+use Rattle.sheet_layout.specs.declared.Column.TheVariants.{Float, Word, Long, Kind}
+use Rattle.sheet_layout.specs.Own.Columns.{shape_of}
 use Rattle.sheet_row.specs.Rows.{is_float, chosen, wholes_of}
 use Rattle.sheet_tables.specs.Own.Room.{least, column_count, short}
+
+abbrev pub is_whole : Field → Bool
+is_whole f = not (is_float f)
 
 pub row_length : (fs : List Field) (row : List ℕ) → (line fs).valid row → length row ≡ length fs
 unfolding line ◌and◌ no_items ValidCons
@@ -37,44 +42,28 @@ module _ (t : Field → Bool) where
       go false e = omega arith
 
   -- what stands behind a row does not count
-  pub chosen_front : (fs : List Field) (row rest : List ℕ) → length row ≡ length fs → chosen t fs (row ++ rest) ≡ chosen t fs row
+  chosen_front : (fs : List Field) (row rest : List ℕ) → length row ≡ length fs → chosen t fs (row ++ rest) ≡ chosen t fs row
   unfolding chosen
   chosen_front [] row rest h = refl
   chosen_front (f ∷ fs) [] rest h = absurd (omega arith)
   chosen_front (f ∷ fs) (n ∷ row) rest h = ap (λ l. cond (t f) (n ∷ l) l) (chosen_front fs row rest (omega arith))
 
   pub chosen_padded : (fs : List Field) (n : ℕ) (row : List ℕ) → length row ≡ length fs → chosen t fs (padded n 0 row) ≡ chosen t fs row
-  unfolding padded
   chosen_padded fs n row h = chosen_front fs row (replicate (n - length row) 0) h
 
 -- ---- whole numbers of 32 bits
-one_narrow : (f w l : Bool) (end n : ℕ) (rest : List ℕ) → l ≡ false → (cell (cond f float (cond w u32 (cond l u64 kind))) end).valid n
-    → All (λ n. n < 2 ^ 32) rest → All (λ n. n < 2 ^ 32) (cond (not (is_float (cond f float (cond w u32 (cond l u64 kind))))) (n ∷ rest) rest)
-unfolding cell ◌ending◌ is_float kinds
-one_narrow true w l end n rest e v h = h
-one_narrow false true l end n rest e v h = more {a = n} (omega arith) h
-one_narrow false false true end n rest e v h = no_truth (sym e)
-one_narrow false false false end n rest e v h = more {a = n} (omega arith) h
-
-short_first : (c : ℕ) (cs : List ℕ) → short (c ∷ cs) ≡ true → (eqb c 108 ≡ false) × (short cs ≡ true)
-unfolding short
-short_first c cs e = go (eqb c 108) e
-  where
-    go : (b : Bool) → cond b false (short cs) ≡ true → (b ≡ false) × (short cs ≡ true)
-    go true e = no_truth e
-    go false e = (refl, e)
-
-pub narrow : (shape row : List ℕ) → short shape ≡ true → (line (shape_of shape)).valid row → All (λ n. n < 2 ^ 32) (wholes_of (shape_of shape) row)
-unfolding line ◌and◌ no_items ValidCons chosen field_of
+pub narrow : (columns : List Column) (row : List ℕ) → short columns ≡ true → (line (shape_of columns)).valid row → All (λ n. n < 2 ^ 32) (wholes_of (shape_of columns) row)
+unfolding line ◌and◌ no_items ValidCons cell ◌ending◌ kinds chosen is_float short
 narrow [] row s v = All-none
-narrow (c ∷ shape) [] s v = All-none
-narrow (c ∷ shape) (n ∷ row) s v =
-    let e = short_first c shape s in
-    one_narrow (eqb c 102) (eqb c 119) (eqb c 108) (end_byte (shape_of shape)) n (wholes_of (shape_of shape) row) e.0 v.0 (narrow shape row e.1 v.1)
+narrow (c ∷ columns) [] s v = All-none
+narrow (Float ∷ columns) (n ∷ row) s v = narrow columns row s v.1
+narrow (Word ∷ columns) (n ∷ row) s v = more {a = n} (omega arith) (narrow columns row s v.1)
+narrow (Long ∷ columns) (n ∷ row) s v = absurd cc
+narrow (Kind ∷ columns) (n ∷ row) s v = more {a = n} (omega arith) (narrow columns row s v.1)
 
 -- ---- bytes
 word_some : (w : List ℕ) → differ (10 ∷ []) w ≡ true → 1 ≤ length w
-word_some [] e = no_truth e
+word_some [] e = absurd cc
 word_some (b ∷ w) e = omega arith
 
 cell_long : (f : Field) → Good f → (end n : ℕ) → (cell f end).valid n → cond (is_float f) 17 2 ≤ length ((cell f end).write n)
@@ -82,7 +71,7 @@ unfolding cell ◌ending◌ is_float
 cell_long float g end n v = let l = digits_length 16 16 n in simp length-append (omega arith)
 cell_long (whole most) g end n v = let l = decimal_some n in simp length-append (omega arith)
 cell_long (word ws) g end n v =
-    let d = differ_at (10 ∷ []) ws (n - 1) (and_left (differ_all (10 ∷ []) ws) (apart ws) g) (omega arith) in
+    let d = differ_at (10 ∷ []) ws (n - 1) (and_parts (differ_all (10 ∷ []) ws) (apart ws) g).0 (omega arith) in
     let l = word_some (get_or ws (n - 1) []) d in
     simp length-append (omega arith)
 

@@ -1,113 +1,177 @@
 #![tactic(auto)]
-// The sheet's three tables: points, curves and segments. Whole numbers go into one table, floats into another, zeros behind
+// The sheet's three tables: points, curves and segments. Whole numbers go into one list, floats into another, zeros behind
 // them. Where a table cannot be read, both are all zeros.
-ghost use Rattle.std.specs.Prelude.{◌≡◌, ◌*◌, ◌≤◌, length, take, drop};
+ghost use Rattle.std.specs.Prelude.{◌≡◌, List, ℕ, ◌*◌, ◌≤◌, length, take};
 ghost use Rattle.std.specs.Float.{binary64};
 ghost use Rattle.std.specs.Float.Ieee.{of_bits};
+ghost use Rattle.base_lists.specs.Room.{padded};
 ghost use Rattle.text_format.specs.Format.{lines};
 ghost use Rattle.text_format.specs.Table.{fields, line, table};
-ghost use Rattle.text_format.specs.Own.Answers.{parsed_list};
+ghost use Rattle.text_format.specs.Own.Answers.{counted};
 ghost use Rattle.sheet_layout.specs.Layout.{size, sheet_points, sheet_curves, sheet_segments, point_columns, curve_columns, segment_columns};
-ghost use Rattle.sheet_layout.specs.Padded.{padded};
-ghost use Rattle.sheet_layout.specs.Own.Letters.{shape_of};
+ghost use Rattle.sheet_layout.specs.Own.Columns.{shape_of};
 ghost use Rattle.sheet_row.specs.Rows.{floats_of, wholes_of};
-ghost use Rattle.sheet_tables.specs.Own.Room.{Roomy};
 ghost use Rattle.sheet_tables.specs.Flattened.{flattened};
+ghost use Rattle.sheet_tables.specs.Own.Room.{Roomy};
 ghost use Rattle.sheet_tables.specs.Own.Answers.{table_of, numbers_of};
 
-use text_format::Num;
+use sheet_layout::Column;
+use sheet_layout::Column::{Float, Kind, Word};
+use std::marker::Model;
 
-// Zeros from number w of one table on, and from number f of the other.
-fn clear_behind(wholes: &mut [u32], w: usize, floats: &mut [f64], f: usize)
-    requires { (w ≤ length wholes.old) × (f ≤ length floats.old) }
-    ensures { (wholes.new ≡ padded (length wholes.old) 0 (take w wholes.old))
-        × (floats.new ≡ padded (length floats.old) (of_bits binary64 0) (take f floats.old)) }
-{
-    sheet_row::clear_wholes(wholes, w);
-    base_lists::clear_from(floats, f);
+// What is left of a sheet's text: its bytes, no more than a sheet may have.
+#[derive(Drop)]
+pub struct SheetText<'a> {
+    bytes: &'a [u8],
 }
 
-// The rows of a table, up to the empty line behind them.
-fn rows(s: &[u8], at: usize, shape: &[u8], wholes: &mut [u32], floats: &mut [f64]) -> Num
-    requires { (at ≤ length s.now) × (length s.now ≤ size) × Roomy shape.now (length wholes.old) (length floats.old) }
-    ensures { (result ≡ parsed_list s.now ((lines (line (shape_of shape.now))).read (drop at s.now)))
-        × (wholes.new ≡ padded (length wholes.old) 0 (numbers_of (flattened (wholes_of (shape_of shape.now))) ((lines (line (shape_of shape.now))).read (drop at s.now))))
-        × (floats.new ≡ padded (length floats.old) (of_bits binary64 0) (numbers_of (flattened (floats_of (shape_of shape.now))) ((lines (line (shape_of shape.now))).read (drop at s.now)))) }
-{
-    let mut p = at;
-    let mut n = 0usize;
-    let mut w = 0usize;
-    let mut f = 0usize;
-    while p < s.len() {
-        if s[p] == b'\n' {
-            clear_behind(wholes, w, floats, f);
-            return Num::Got(n as u64, p + 1);
-        }
-        let row = sheet_layout::line(s, p, shape);
-        if row.ok {
-            let numbers = row.numbers;
-            w = sheet_row::put_wholes(shape, &numbers, wholes, w);
-            f = sheet_row::put_floats(shape, &numbers, floats, f);
-            n += 1;
-            p = row.next;
-        } else {
-            clear_behind(wholes, 0, floats, 0);
-            return Num::Bad;
-        }
+impl<'a> Model for SheetText<'a> {
+    ghost use Rattle.std.specs.Prelude.{List, ℕ, ◌≤◌, length};
+    // `size` is a member of `Model`.
+    ghost use Rattle.sheet_layout.specs.Layout.{size as most_bytes};
+
+    ghost Value = { List ℕ };
+
+    ghost view = { λ t. t.bytes.now };
+
+    ghost invariant = { λ t. length t.bytes.now ≤ most_bytes };
+}
+
+impl<'a> SheetText<'a> {
+    // A text of which nothing was read.
+    pub fn new(bytes: &'a [u8]) -> SheetText<'a>
+        requires { length bytes.now ≤ size }
+        ensures { result ≡ bytes.now }
+    {
+        SheetText { bytes }
     }
-    clear_behind(wholes, 0, floats, 0);
-    Num::Bad
+
+    // What is left, for another reader.
+    pub fn into_bytes(self) -> &'a [u8]
+        ensures { result.now ≡ self.entry }
+    {
+        self.bytes
+    }
 }
 
-// A table: its line of names, then its rows.
-fn table(
-    s: &[u8],
-    at: usize,
-    names: &[u8],
-    shape: &[u8],
-    wholes: &mut [u32],
-    floats: &mut [f64],
-) -> Num
-    requires { (at ≤ length s.now) × (length s.now ≤ size) × Roomy shape.now (length wholes.old) (length floats.old) }
-    ensures { (result ≡ parsed_list s.now ((table_of names.now shape.now).read (drop at s.now)))
-        × (wholes.new ≡ padded (length wholes.old) 0 (numbers_of (flattened (wholes_of (shape_of shape.now))) ((table_of names.now shape.now).read (drop at s.now))))
-        × (floats.new ≡ padded (length floats.old) (of_bits binary64 0) (numbers_of (flattened (floats_of (shape_of shape.now))) ((table_of names.now shape.now).read (drop at s.now)))) }
-{
-    match text_format::word(s, at, names, 0) {
-        Num::Got(_, p) => rows(s, p, shape, wholes, floats),
-        Num::Bad => {
-            clear_behind(wholes, 0, floats, 0);
-            Num::Bad
+// Where a table's rows go: whole numbers into one list, floats into another. Fixed memory: lent lists and places, not Vecs.
+#[derive(Drop)]
+struct Lists<'a> {
+    wholes: &'a mut [u32],
+    floats: &'a mut [f64],
+}
+
+impl Lists<'_> {
+    ghost use Rattle.sheet_tables.specs.Own.Lists.{SameLists, Holds};
+
+    // Zeros from number w of the whole numbers on, and from number f of the floats.
+    fn clear_from(&mut self, w: usize, f: usize)
+        requires wholes { w ≤ length self.old.wholes.now }
+        requires floats { f ≤ length self.old.floats.now }
+        ensures same { SameLists self.old self.new }
+        ensures wholes { self.new.wholes.now ≡ padded (length self.old.wholes.now) 0 (take w self.old.wholes.now) }
+        ensures floats { self.new.floats.now ≡ padded (length self.old.floats.now) (of_bits binary64 0) (take f self.old.floats.now) }
+    {
+        base_lists::fill_from(self.wholes, w, 0);
+        base_lists::fill_from(self.floats, f, 0.0);
+    }
+
+    // The rows of a table, up to the empty line behind them: how many, and what is left of the text.
+    fn put_rows<'b>(
+        &mut self,
+        text: SheetText<'b>,
+        columns: &[Column],
+    ) -> Option<(usize, SheetText<'b>)>
+        requires { Roomy columns.now (length self.old.wholes.now) (length self.old.floats.now) }
+        ensures same { SameLists self.old self.new }
+        ensures read { result ≡ counted ((lines (line (shape_of columns.now))).read text.entry) }
+        ensures holds { Holds (shape_of columns.now) ((lines (line (shape_of columns.now))).read text.entry) self.old self.new }
+    {
+        let mut rest = text.bytes;
+        let mut n = 0;
+        let mut w = 0;
+        let mut f = 0;
+        while let Some(line) = sheet_layout::line(rest, columns) {
+            let (row, next) = line;
+            w = sheet_row::put_wholes(columns, &row, self.wholes, w);
+            f = sheet_row::put_floats(columns, &row, self.floats, f);
+            n += 1;
+            rest = next;
         }
+        let Some((rows, bytes)) = text_format::byte(rest, b'\n', n) else {
+            self.clear_from(0, 0);
+            return None;
+        };
+        self.clear_from(w, f);
+        Some((rows, SheetText { bytes }))
+    }
+
+    // A line of names, then the rows of a table.
+    #[tactic(auto, using(text_format::proofs::Behind::before_none, text_format::proofs::Behind::before_on))]
+    fn put_table<'b>(
+        &mut self,
+        text: SheetText<'b>,
+        names: &[u8],
+        columns: &[Column],
+    ) -> Option<(usize, SheetText<'b>)>
+        requires { Roomy columns.now (length self.old.wholes.now) (length self.old.floats.now) }
+        ensures same { SameLists self.old self.new }
+        ensures read { result ≡ counted ((table_of names.now columns.now).read text.entry) }
+        ensures holds { Holds (shape_of columns.now) ((table_of names.now columns.now).read text.entry) self.old self.new }
+    {
+        let Some((_, bytes)) = text_format::word(text.bytes, names, ()) else {
+            self.clear_from(0, 0);
+            return None;
+        };
+        self.put_rows(SheetText { bytes }, columns)
     }
 }
 
 // The points' block: x y z.
-pub fn points(s: &[u8], at: usize, floats: &mut [f64]) -> Num
-    requires { (at ≤ length s.now) × (length s.now ≤ size) × (3 * sheet_points ≤ length floats.old) }
-    ensures { (result ≡ parsed_list s.now ((table point_columns).read (drop at s.now)))
-        × (floats.new ≡ padded (length floats.old) (of_bits binary64 0) (numbers_of (flattened (floats_of (fields point_columns))) ((table point_columns).read (drop at s.now)))) }
+pub fn points<'a>(text: SheetText<'a>, floats: &mut [f64]) -> Option<(usize, SheetText<'a>)>
+    requires { 3 * sheet_points ≤ length floats.old }
+    ensures read { result ≡ counted ((table point_columns).read text.entry) }
+    ensures floats { floats.new ≡ padded (length floats.old) (of_bits binary64 0) (numbers_of (flattened (floats_of (fields point_columns))) ((table point_columns).read text.entry)) }
 {
-    let mut wholes = [0u32; 1];
-    table(s, at, b"x y z\n", b"fff", &mut wholes, floats)
+    let mut lists = Lists {
+        wholes: &mut [],
+        floats,
+    };
+    lists.put_table(text, b"x y z\n", &[Float, Float, Float])
 }
 
 // The curves' block: kind first count, and p q.
-pub fn curves(s: &[u8], at: usize, wholes: &mut [u32], floats: &mut [f64]) -> Num
-    requires { (at ≤ length s.now) × (length s.now ≤ size) × (3 * sheet_curves ≤ length wholes.old) × (2 * sheet_curves ≤ length floats.old) }
-    ensures { (result ≡ parsed_list s.now ((table curve_columns).read (drop at s.now)))
-        × (wholes.new ≡ padded (length wholes.old) 0 (numbers_of (flattened (wholes_of (fields curve_columns))) ((table curve_columns).read (drop at s.now))))
-        × (floats.new ≡ padded (length floats.old) (of_bits binary64 0) (numbers_of (flattened (floats_of (fields curve_columns))) ((table curve_columns).read (drop at s.now)))) }
+pub fn curves<'a>(
+    text: SheetText<'a>,
+    wholes: &mut [u32],
+    floats: &mut [f64],
+) -> Option<(usize, SheetText<'a>)>
+    requires wholes { 3 * sheet_curves ≤ length wholes.old }
+    requires floats { 2 * sheet_curves ≤ length floats.old }
+    ensures read { result ≡ counted ((table curve_columns).read text.entry) }
+    ensures wholes { wholes.new ≡ padded (length wholes.old) 0 (numbers_of (flattened (wholes_of (fields curve_columns))) ((table curve_columns).read text.entry)) }
+    ensures floats { floats.new ≡ padded (length floats.old) (of_bits binary64 0) (numbers_of (flattened (floats_of (fields curve_columns))) ((table curve_columns).read text.entry)) }
 {
-    table(s, at, b"kind first count p q\n", b"kwwff", wholes, floats)
+    let mut lists = Lists { wholes, floats };
+    lists.put_table(
+        text,
+        b"kind first count p q\n",
+        &[Kind, Word, Word, Float, Float],
+    )
 }
 
 // The segments' block: curve sense, and lo hi.
-pub fn segments(s: &[u8], at: usize, wholes: &mut [u32], floats: &mut [f64]) -> Num
-    requires { (at ≤ length s.now) × (length s.now ≤ size) × (2 * sheet_segments ≤ length wholes.old) × (2 * sheet_segments ≤ length floats.old) }
-    ensures { (result ≡ parsed_list s.now ((table segment_columns).read (drop at s.now)))
-        × (wholes.new ≡ padded (length wholes.old) 0 (numbers_of (flattened (wholes_of (fields segment_columns))) ((table segment_columns).read (drop at s.now))))
-        × (floats.new ≡ padded (length floats.old) (of_bits binary64 0) (numbers_of (flattened (floats_of (fields segment_columns))) ((table segment_columns).read (drop at s.now)))) }
+pub fn segments<'a>(
+    text: SheetText<'a>,
+    wholes: &mut [u32],
+    floats: &mut [f64],
+) -> Option<(usize, SheetText<'a>)>
+    requires wholes { 2 * sheet_segments ≤ length wholes.old }
+    requires floats { 2 * sheet_segments ≤ length floats.old }
+    ensures read { result ≡ counted ((table segment_columns).read text.entry) }
+    ensures wholes { wholes.new ≡ padded (length wholes.old) 0 (numbers_of (flattened (wholes_of (fields segment_columns))) ((table segment_columns).read text.entry)) }
+    ensures floats { floats.new ≡ padded (length floats.old) (of_bits binary64 0) (numbers_of (flattened (floats_of (fields segment_columns))) ((table segment_columns).read text.entry)) }
 {
-    table(s, at, b"curve lo hi sense\n", b"wffw", wholes, floats)
+    let mut lists = Lists { wholes, floats };
+    lists.put_table(text, b"curve lo hi sense\n", &[Word, Float, Float, Word])
 }

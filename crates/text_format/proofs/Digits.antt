@@ -11,8 +11,10 @@ use native.Mathlib.Nat.{add-mul, mul-add, mul_assoc, mul_comm, mul_left_comm, mu
 use lib.ListN.{length}
 use lib.Dec.{ltb, leb, eqb}
 use borrow.Author.Tests.{ltb-true, ltb-false, lt-ltb, le-ltb, leb-true, leb-false, le-leb, eqb-true, eqb-false, eq-eqb, ne_eqb}
-use Rattle.text_format.specs.Format.{Parsed, parsed, Was, Lawful, when, expect, char_of, digit_of, digits, read_digits, hex16, width_up_to, decimal, read_decimal, read_plain, plain}
-use Rattle.text_format.proofs.Laws.{no_parsed, when_parsed, same_parsed, expect_back, expect_was}
+use Rattle.text_format.specs.Format.{Parsed, Was, Lawful, when, expect, char_of, digit_of, digits, read_digits, hex16, width_up_to, decimal, read_decimal, read_plain, plain}
+use Rattle.std.specs.Prelude.{Some}
+use Rattle.std.proofs.lemmas.Option.{none-some, some_pair_parts}
+use Rattle.text_format.proofs.Laws.{when_parsed, expect_back, expect_was}
 
 ruleset ring = (add-mul, mul-add, mul_assoc, mul_comm, mul_left_comm)
 
@@ -80,17 +82,17 @@ module _ (base : ℕ) (some : 0 < base) where
 
 -- ---- so many digits
 module _ (base : ℕ) (some : 0 < base) (few : base ≤ 16) where
-  pub digits_back : (k v n : ℕ) (rest : List ℕ) → n < base ^ k → read_digits base k v (digits base k n ++ rest) ≡ parsed (v * base ^ k + n) rest
+  pub digits_back : (k v n : ℕ) (rest : List ℕ) → n < base ^ k → read_digits base k v (digits base k n ++ rest) ≡ Some (v * base ^ k + n, rest)
   unfolding digits read_digits when
   digits_back zero v n rest h =
       let e = pow-zero base in
       let h2 : n < 1 = rw e at h in
-      ap (λ z. parsed z rest) (rw e (simp ring (omega arith)))
+      ap (λ z. Some (z, rest)) (rw e (simp ring (omega arith)))
   digits_back (suc k) v n rest h =
       let low = first_small base some k n h in
       rw (char_digit (n / base ^ k) (omega arith), lt-ltb (n / base ^ k) base low)
       (digits_back k (v * base + n / base ^ k) (n % base ^ k) rest (mod-lt n (one-le-pow k base some))
-      ∙ ap (λ z. parsed z rest) (regroup base some v (n / base ^ k) k (n % base ^ k) n (div-add-mod' n (base ^ k))))
+      ∙ ap (λ z. Some (z, rest)) (regroup base some v (n / base ^ k) k (n % base ^ k) n (div-add-mod' n (base ^ k))))
 
   pub record Digits (k v : ℕ) (bs : List ℕ) (n : ℕ) (rest : List ℕ) : Type 0 where
     pub low : ℕ
@@ -98,13 +100,13 @@ module _ (base : ℕ) (some : 0 < base) (few : base ≤ 16) where
     pub is : n ≡ v * base ^ k + low
     pub text : digits base k low ++ rest ≡ bs
 
-  pub digits_was : (k v : ℕ) (bs : List ℕ) (n : ℕ) (rest : List ℕ) → read_digits base k v bs ≡ parsed n rest → Digits k v bs n rest
+  pub digits_was : (k v : ℕ) (bs : List ℕ) (n : ℕ) (rest : List ℕ) → read_digits base k v bs ≡ Some (n, rest) → Digits k v bs n rest
   unfolding digits read_digits
   digits_was zero v bs n rest e =
-      let s = same_parsed v n bs rest e in
+      let s = some_pair_parts v n bs rest e in
       let p = pow-zero base in
       record { low = 0; fits = rw p (omega arith); is = rw p (simp ring (omega (arith, s.0))); text = sym s.1 }
-  digits_was (suc k) v [] n rest e = no_parsed n rest e
+  digits_was (suc k) v [] n rest e = absurd (none-some (n, rest) e)
   digits_was (suc k) v (b ∷ bs) n rest e =
       let d = digit_of b in
       let w = when_parsed (ltb d base) (read_digits base k (v * base + d) bs) n rest e in
@@ -119,7 +121,7 @@ module _ (base : ℕ) (some : 0 < base) (few : base ≤ 16) where
 
 pub hex16_law : Lawful hex16
 hex16_law = record {
-  back = λ n rest v. digits_back 16 (omega arith) (omega arith) 16 0 n rest v ∙ ap (λ z. parsed z rest) (omega arith);
+  back = λ n rest v. digits_back 16 (omega arith) (omega arith) 16 0 n rest v ∙ ap (λ z. Some (z, rest)) (omega arith);
   was = λ bs n rest e.
       let d = digits_was 16 (omega arith) (omega arith) 16 0 bs n rest e in
       let q : d.low ≡ n = omega (arith, d.is) in
@@ -197,9 +199,9 @@ above_zero (suc v) z = omega arith
 -- ---- a plain decimal, up to a byte that is no digit
 module _ (most end : ℕ) (no_digit : 10 ≤ digit_of end) where
   pub decimal_back : (j v n : ℕ) (rest : List ℕ) → n < 10 ^ j → v * 10 ^ j + n ≤ most
-      → read_decimal most end v (digits 10 j n ++ end ∷ rest) ≡ parsed (v * 10 ^ j + n) rest
+      → read_decimal most end v (digits 10 j n ++ end ∷ rest) ≡ Some (v * 10 ^ j + n, rest)
   unfolding digits read_decimal when
-  decimal_back zero v n rest h g = rw (eq-eqb end end refl) (ap (λ z. parsed z rest) (omega arith))
+  decimal_back zero v n rest h g = rw (eq-eqb end end refl) (ap (λ z. Some (z, rest)) (omega arith))
   decimal_back (suc j) v n rest h g =
       let d = n / 10 ^ j in
       let P = one-le-pow j 10 (omega arith) in
@@ -209,7 +211,7 @@ module _ (most end : ℕ) (no_digit : 10 ≤ digit_of end) where
       let r = regroup 10 (omega arith) v d j (n % 10 ^ j) n (div-add-mod' n (10 ^ j)) in
       let s = mul-le-mul_left (v * 10 + d) P in
       rw (ne_eqb (char_of d) end other, c, lt-ltb d 10 low, le-leb (v * 10 + d) most (omega arith))
-      (decimal_back j (v * 10 + d) (n % 10 ^ j) rest (mod-lt n P) (rw r g) ∙ ap (λ z. parsed z rest) r)
+      (decimal_back j (v * 10 + d) (n % 10 ^ j) rest (mod-lt n P) (rw r g) ∙ ap (λ z. Some (z, rest)) r)
 
   pub record Decimal (v : ℕ) (bs : List ℕ) (n : ℕ) (rest : List ℕ) : Type 0 where
     pub count : ℕ
@@ -219,18 +221,18 @@ module _ (most end : ℕ) (no_digit : 10 ≤ digit_of end) where
     pub most_is : n ≤ most
     pub text : digits 10 count low ++ end ∷ rest ≡ bs
 
-  pub decimal_was : (v : ℕ) (bs : List ℕ) (n : ℕ) (rest : List ℕ) → v ≤ most → read_decimal most end v bs ≡ parsed n rest → Decimal v bs n rest
+  pub decimal_was : (v : ℕ) (bs : List ℕ) (n : ℕ) (rest : List ℕ) → v ≤ most → read_decimal most end v bs ≡ Some (n, rest) → Decimal v bs n rest
   unfolding digits read_decimal
-  decimal_was v [] n rest h e = no_parsed n rest e
+  decimal_was v [] n rest h e = absurd (none-some (n, rest) e)
   decimal_was v (b ∷ bs) n rest h e = go (eqb b end) refl e (λ g f. decimal_was (v * 10 + digit_of b) bs n rest g f)
     where
       next : ℕ
       next = v * 10 + digit_of b
 
-      go : (t : Bool) → eqb b end ≡ t → cond t (parsed v bs) (when (ltb (digit_of b) 10) (when (leb next most) (read_decimal most end next bs))) ≡ parsed n rest
-          → (next ≤ most → read_decimal most end next bs ≡ parsed n rest → Decimal next bs n rest) → Decimal v (b ∷ bs) n rest
+      go : (t : Bool) → eqb b end ≡ t → cond t (Some (v, bs)) (when (ltb (digit_of b) 10) (when (leb next most) (read_decimal most end next bs))) ≡ Some (n, rest)
+          → (next ≤ most → read_decimal most end next bs ≡ Some (n, rest) → Decimal next bs n rest) → Decimal v (b ∷ bs) n rest
       go true t e r =
-          let s = same_parsed v n bs rest e in
+          let s = some_pair_parts v n bs rest e in
           record { count = 0; low = 0; fits = omega arith; is = omega (arith, s.0); most_is = omega (arith, s.0); text = cc (eqb-true b end t, s.1) }
       go false t e r =
           let w = when_parsed (ltb (digit_of b) 10) (when (leb next most) (read_decimal most end next bs)) n rest e in
@@ -246,25 +248,25 @@ module _ (most end : ℕ) (no_digit : 10 ≤ digit_of end) where
             text = joined_text 10 (omega arith) d.count b d.low (end ∷ rest) bs (omega arith) d.fits d.text;
           }
 
-  zero_test : (v n : ℕ) (rest : List ℕ) (a b : Parsed ℕ) → (v ≡ 0 → a ≡ parsed n rest) → (0 < v → b ≡ parsed n rest) → cond (eqb v 0) a b ≡ parsed n rest
+  zero_test : (v n : ℕ) (rest : List ℕ) (a b : Parsed ℕ) → (v ≡ 0 → a ≡ Some (n, rest)) → (0 < v → b ≡ Some (n, rest)) → cond (eqb v 0) a b ≡ Some (n, rest)
   zero_test v n rest a b f g = go (eqb v 0) refl
     where
-      go : (t : Bool) → eqb v 0 ≡ t → cond t a b ≡ parsed n rest
+      go : (t : Bool) → eqb v 0 ≡ t → cond t a b ≡ Some (n, rest)
       go true e = f (eqb-true v 0 e)
       go false e = g (above_zero v (eqb-false v 0 e))
 
   -- the first digit is 0 only if it is the only one
-  zeros : (j n : ℕ) (rest : List ℕ) → n / 10 ^ j ≡ 0 → (j ≡ 0) ⊎ (10 ^ j ≤ n) → expect (end ∷ []) 0 (digits 10 j (n % 10 ^ j) ++ end ∷ rest) ≡ parsed n rest
+  zeros : (j n : ℕ) (rest : List ℕ) → n / 10 ^ j ≡ 0 → (j ≡ 0) ⊎ (10 ^ j ≤ n) → expect (end ∷ []) 0 (digits 10 j (n % 10 ^ j) ++ end ∷ rest) ≡ Some (n, rest)
   unfolding digits
   zeros zero n rest z k =
       let q = (div-lt_iff_lt-mul {k = 10 ^ 0} {x = n} {y = 1} (omega arith)).0 (omega arith) in
-      expect_back (end ∷ []) 0 rest ∙ ap (λ y. parsed y rest) (omega arith)
+      expect_back (end ∷ []) 0 rest ∙ ap (λ y. Some (y, rest)) (omega arith)
   zeros (suc j) n rest z (inl k) = absurd (omega arith)
   zeros (suc j) n rest z (inr k) =
       let q = (div-lt_iff_lt-mul {k = 10 ^ suc j} {x = n} {y = 1} (one-le-pow (suc j) 10 (omega arith))).0 (omega arith) in
       absurd (omega arith)
 
-  plain_first : (j n : ℕ) (rest : List ℕ) → n ≤ most → n < 10 ^ suc j → (j ≡ 0) ⊎ (10 ^ j ≤ n) → read_plain most end (digits 10 (suc j) n ++ end ∷ rest) ≡ parsed n rest
+  plain_first : (j n : ℕ) (rest : List ℕ) → n ≤ most → n < 10 ^ suc j → (j ≡ 0) ⊎ (10 ^ j ≤ n) → read_plain most end (digits 10 (suc j) n ++ end ∷ rest) ≡ Some (n, rest)
   unfolding digits read_plain when
   plain_first j n rest v h l =
       let d = n / 10 ^ j in
@@ -273,18 +275,18 @@ module _ (most end : ℕ) (no_digit : 10 ≤ digit_of end) where
       let m = div-add-mod' n (10 ^ j) in
       rw (char_digit d (omega arith), lt-ltb d 10 low)
       (zero_test d n rest _ _ (λ z. zeros j n rest z l)
-      (λ z. decimal_back j d (n % 10 ^ j) rest (mod-lt n P) (omega arith) ∙ ap (λ y. parsed y rest) m))
+      (λ z. decimal_back j d (n % 10 ^ j) rest (mod-lt n P) (omega arith) ∙ ap (λ y. Some (y, rest)) m))
 
-  pub plain_back : 9 ≤ most → most < 10 ^ 20 → (n : ℕ) (rest : List ℕ) → n ≤ most → read_plain most end ((decimal n ++ (end ∷ [])) ++ rest) ≡ parsed n rest
+  pub plain_back : 9 ≤ most → most < 10 ^ 20 → (n : ℕ) (rest : List ℕ) → n ≤ most → read_plain most end ((decimal n ++ (end ∷ [])) ++ rest) ≡ Some (n, rest)
   unfolding decimal
   plain_back nine twenty n rest v =
       let w = width 19 n (omega arith) in
       ap (read_plain most end) (append_assoc (decimal n) (end ∷ []) rest) ∙ ap (λ k. read_plain most end (digits 10 k n ++ end ∷ rest)) w.is
       ∙ plain_first w.more n rest v w.below w.least
 
-  pub plain_was : 9 ≤ most → most < 10 ^ 20 → (bs : List ℕ) (n : ℕ) (rest : List ℕ) → read_plain most end bs ≡ parsed n rest → Was (plain most end) bs n rest
+  pub plain_was : 9 ≤ most → most < 10 ^ 20 → (bs : List ℕ) (n : ℕ) (rest : List ℕ) → read_plain most end bs ≡ Some (n, rest) → Was (plain most end) bs n rest
   unfolding read_plain decimal digits width_up_to char_of
-  plain_was nine twenty [] n rest e = no_parsed n rest e
+  plain_was nine twenty [] n rest e = absurd (none-some (n, rest) e)
   plain_was nine twenty (b ∷ bs) n rest e =
       let w = when_parsed (ltb d 10) (cond (eqb d 0) (expect (end ∷ []) 0 bs) (read_decimal most end d bs)) n rest e in
       go (eqb d 0) refl (ltb-true d 10 w.test) w.on
@@ -292,7 +294,7 @@ module _ (most end : ℕ) (no_digit : 10 ≤ digit_of end) where
       d : ℕ
       d = digit_of b
 
-      go : (t : Bool) → eqb d 0 ≡ t → d < 10 → cond t (expect (end ∷ []) 0 bs) (read_decimal most end d bs) ≡ parsed n rest → Was (plain most end) (b ∷ bs) n rest
+      go : (t : Bool) → eqb d 0 ≡ t → d < 10 → cond t (expect (end ∷ []) 0 bs) (read_decimal most end d bs) ≡ Some (n, rest) → Was (plain most end) (b ∷ bs) n rest
       go true t l e =
           let x = expect_was (end ∷ []) 0 bs n rest e in
           let c : char_of 0 ≡ b = ap char_of (sym (eqb-true d 0 t)) ∙ digit_char b (omega arith) in

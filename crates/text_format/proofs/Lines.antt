@@ -9,12 +9,14 @@ use lib.ListN.{length, length-append}
 use lib.Dec.{eqb}
 use borrow.Author.Tests.{eqb-true, ne_eqb}
 use Rattle.base_lists.specs.All.{All, none, more}
-use Rattle.text_format.specs.Format.{Parsed, bad, parsed, Format, Lawful, and_then, write_lines, read_lines, lines}
-use Rattle.text_format.proofs.Laws.{no_parsed, then_parsed, same_parsed}
+use Rattle.text_format.specs.Format.{Parsed, Format, Lawful, and_then, write_lines, read_lines, lines}
+use Rattle.std.specs.Prelude.{Some, None}
+use Rattle.std.proofs.lemmas.Option.{none-some, some_pair_parts}
+use Rattle.text_format.proofs.Laws.{then_parsed}
 
 -- a text that begins with the newline is no line
 abbrev pub NoLine : {A : Type 0} → Format A → Type 0
-NoLine F = (bs : List ℕ) → F.read (10 ∷ bs) ≡ bad
+NoLine F = (bs : List ℕ) → F.read (10 ∷ bs) ≡ None
 
 -- so a line has a first byte, and that is not the newline
 record Starts {A : Type 0} (F : Format A) (a : A) : Type 0 where
@@ -27,7 +29,7 @@ starts : {A : Type 0} (F : Format A) → Lawful F → NoLine F → (a : A) → F
 starts {A} F L N a v = go (F.write a) refl
   where
     never : {X : Type 0} (t : List ℕ) (rest : List ℕ) → F.write a ++ rest ≡ 10 ∷ t → X
-    never t rest e = no_parsed a rest (sym (N t) ∙ ap F.read (sym e) ∙ L.back a rest v)
+    never t rest e = absurd (none-some (a, rest) (sym (N t) ∙ ap F.read (sym e) ∙ L.back a rest v))
 
     go : (w : List ℕ) → F.write a ≡ w → Starts F a
     go [] e = never [] (10 ∷ []) (ap (λ z. z ++ (10 ∷ [])) e)
@@ -35,11 +37,11 @@ starts {A} F L N a v = go (F.write a) refl
 
 module _ {A : Type 0} (F : Format A) (L : Lawful F) (N : NoLine F) where
   line_step : (k : ℕ) (bs : List ℕ) (b : ℕ) (t : List ℕ) (a : A) (l : List A) (mid rest : List ℕ) → bs ≡ b ∷ t → (b ≡ 10 → ⊥)
-      → F.read bs ≡ parsed a mid → read_lines k F mid ≡ parsed l rest → read_lines (suc k) F bs ≡ parsed (a ∷ l) rest
+      → F.read bs ≡ Some (a, mid) → read_lines k F mid ≡ Some (l, rest) → read_lines (suc k) F bs ≡ Some (a ∷ l, rest)
   unfolding read_lines and_then
   line_step k bs b t a l mid rest e n f g = ap (read_lines (suc k) F) e ∙ rw (ne_eqb b 10 n, ap F.read (sym e) ∙ f, g)
 
-  pub lines_back : (k : ℕ) (l : List A) (rest : List ℕ) → length l < k → All F.valid l → read_lines k F (write_lines F l ++ rest) ≡ parsed l rest
+  pub lines_back : (k : ℕ) (l : List A) (rest : List ℕ) → length l < k → All F.valid l → read_lines k F (write_lines F l ++ rest) ≡ Some (l, rest)
   unfolding read_lines write_lines
   lines_back zero l rest h v = absurd (omega arith)
   lines_back (suc k) [] rest h v = refl
@@ -54,28 +56,28 @@ module _ {A : Type 0} (F : Format A) (L : Lawful F) (N : NoLine F) where
     pub each : All F.valid l
     pub text : write_lines F l ++ rest ≡ bs
 
-  empty : (b : ℕ) (bs : List ℕ) (l : List A) (rest : List ℕ) → eqb b 10 ≡ true → ◌≡◌ {A = Parsed (List A)} (parsed [] bs) (parsed l rest) → Lines (b ∷ bs) l rest
+  empty : (b : ℕ) (bs : List ℕ) (l : List A) (rest : List ℕ) → eqb b 10 ≡ true → ◌≡◌ {A = Parsed (List A)} (Some ([], bs)) (Some (l, rest)) → Lines (b ∷ bs) l rest
   unfolding write_lines
   empty b bs l rest t e =
-      let s = same_parsed {A = List A} [] l bs rest e in
+      let s = some_pair_parts {A = List A} [] l bs rest e in
       subst (λ z. Lines (b ∷ bs) z rest) s.0 (record { each = none; text = cc (eqb-true b 10 t, s.1) })
 
-  pub lines_was : (k : ℕ) (bs : List ℕ) (l : List A) (rest : List ℕ) → read_lines k F bs ≡ parsed l rest → Lines bs l rest
+  pub lines_was : (k : ℕ) (bs : List ℕ) (l : List A) (rest : List ℕ) → read_lines k F bs ≡ Some (l, rest) → Lines bs l rest
   unfolding read_lines write_lines
-  lines_was zero bs l rest e = no_parsed l rest e
-  lines_was (suc k) [] l rest e = no_parsed l rest e
+  lines_was zero bs l rest e = absurd (none-some (l, rest) e)
+  lines_was (suc k) [] l rest e = absurd (none-some (l, rest) e)
   lines_was (suc k) (b ∷ bs) l rest e = go (eqb b 10) refl e (λ u m more f. lines_was k u m more f)
     where
       tail : A → List ℕ → Parsed (List A)
-      tail a u = and_then (read_lines k F u) (λ m last. parsed (a ∷ m) last)
+      tail a u = and_then (read_lines k F u) (λ m last. Some (a ∷ m, last))
 
-      go : (t : Bool) → eqb b 10 ≡ t → cond t (parsed [] bs) (and_then (F.read (b ∷ bs)) tail) ≡ parsed l rest
-          → ((u : List ℕ) (m : List A) (last : List ℕ) → read_lines k F u ≡ parsed m last → Lines u m last) → Lines (b ∷ bs) l rest
+      go : (t : Bool) → eqb b 10 ≡ t → cond t (Some ([], bs)) (and_then (F.read (b ∷ bs)) tail) ≡ Some (l, rest)
+          → ((u : List ℕ) (m : List A) (last : List ℕ) → read_lines k F u ≡ Some (m, last) → Lines u m last) → Lines (b ∷ bs) l rest
       go true t e r = empty b bs l rest t e
       go false t e r =
           let x = then_parsed (F.read (b ∷ bs)) tail l rest e in
-          let y = then_parsed (read_lines k F x.left) (λ m last. parsed (x.value ∷ m) last) l rest x.on in
-          let s = same_parsed (x.value ∷ y.value) l y.left rest y.on in
+          let y = then_parsed (read_lines k F x.left) (λ m last. Some (x.value ∷ m, last)) l rest x.on in
+          let s = some_pair_parts (x.value ∷ y.value) l y.left rest y.on in
           let f = L.was (b ∷ bs) x.value x.left x.first in
           let g = r x.left y.value y.left y.first in
           let w : Lines (b ∷ bs) (x.value ∷ y.value) y.left = record {
@@ -88,7 +90,7 @@ module _ {A : Type 0} (F : Format A) (L : Lawful F) (N : NoLine F) where
   line_one : (a : A) → F.valid a → 1 ≤ length (F.write a)
   line_one a v = let i = ap length (starts F L N a v).is in omega arith
 
-  pub line_some : (bs : List ℕ) (a : A) (rest : List ℕ) → F.read bs ≡ parsed a rest → length rest < length bs
+  pub line_some : (bs : List ℕ) (a : A) (rest : List ℕ) → F.read bs ≡ Some (a, rest) → length rest < length bs
   line_some bs a rest e =
       let w = L.was bs a rest e in
       let i = line_one a w.right in
@@ -105,17 +107,17 @@ module _ {A : Type 0} (F : Format A) (L : Lawful F) (N : NoLine F) where
   turns (suc k) zero (b ∷ bs) h g = absurd (omega arith)
   turns (suc k) (suc j) [] h g = refl
   turns (suc k) (suc j) (b ∷ bs) h g =
-      ap (λ p. cond (eqb b 10) (parsed [] bs) p) (same (F.read (b ∷ bs)) refl (λ rest x y. turns k j rest x y))
+      ap (λ p. cond (eqb b 10) (Some ([], bs)) p) (same (F.read (b ∷ bs)) refl (λ rest x y. turns k j rest x y))
     where
       tail : ℕ → A → List ℕ → Parsed (List A)
-      tail i a rest = and_then (read_lines i F rest) (λ l last. parsed (a ∷ l) last)
+      tail i a rest = and_then (read_lines i F rest) (λ l last. Some (a ∷ l, last))
 
       same : (p : Parsed A) → F.read (b ∷ bs) ≡ p → ((rest : List ℕ) → length rest ≤ k → length rest ≤ j → read_lines k F rest ≡ read_lines j F rest)
           → and_then p (tail k) ≡ and_then p (tail j)
-      same bad e r = refl
-      same (parsed a rest) e r =
+      same None e r = refl
+      same (Some (a, rest)) e r =
           let m = line_some (b ∷ bs) a rest e in
-          ap (λ q. and_then q (λ l last. parsed (a ∷ l) last)) (r rest (omega arith) (omega arith))
+          ap (λ q. and_then q (λ l last. Some (a ∷ l, last))) (r rest (omega arith) (omega arith))
 
 -- lines of w bytes and more, and the empty one
 pub lines_long : {A : Type 0} (F : Format A) (w : ℕ) → ((a : A) → F.valid a → w ≤ length (F.write a))

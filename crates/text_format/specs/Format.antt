@@ -1,13 +1,12 @@
 -- Formats: how a value is written down as bytes, and how it is read from the front of a text. Every format that is used is `Lawful`
 -- (proofs/Laws.antt: each way to put formats together keeps the law). So only `valid` and `write` need to be believed.
-use Rattle.std.specs.Prelude.{◌≡◌, Bool, true, false, cond, List, [], ◌∷◌, ◌++◌, ℕ, zero, suc, ◌+◌, ◌-◌, ◌*◌, ◌/◌, ◌%◌, ◌^◌, ◌<◌, ◌≤◌, length, get_or, ltb, leb, eqb}
+use Rattle.std.specs.Prelude.{◌≡◌, Bool, true, false, cond, List, [], ◌∷◌, ◌++◌, ℕ, zero, suc, ◌+◌, ◌-◌, ◌*◌, ◌/◌, ◌%◌, ◌^◌, ◌<◌, ◌≤◌, length, get_or, ltb, leb, eqb, Option, Some, None, Result, Ok, Err}
+use Rattle.std.specs.Option.{option_or}
 use Rattle.base_lists.specs.All.{All}
-use Rattle.base_lists.specs.Result.{Result, refused, got}
 
 -- what reading from the front of a text gives: nothing, or the value and what is left of the text
-pub data Parsed (A : Type 0) : Type 0 where
-  bad : Parsed A
-  parsed : A → List ℕ → Parsed A
+abbrev pub Parsed : Type 0 → Type 0
+Parsed A = Option (A × List ℕ)
 
 -- the values that have a text, their texts, and the reader
 pub record Format (A : Type 0) : Type 1 where
@@ -23,29 +22,24 @@ pub record Was {A : Type 0} (F : Format A) (bs : List ℕ) (a : A) (rest : List 
 
 -- what is written is read back, whatever follows it; what is read was written so
 pub record Lawful {A : Type 0} (F : Format A) : Type 0 where
-  pub back : (a : A) (rest : List ℕ) → F.valid a → F.read (F.write a ++ rest) ≡ parsed a rest
-  pub was : (bs : List ℕ) (a : A) (rest : List ℕ) → F.read bs ≡ parsed a rest → Was F bs a rest
+  pub back : (a : A) (rest : List ℕ) → F.valid a → F.read (F.write a ++ rest) ≡ Some (a, rest)
+  pub was : (bs : List ℕ) (a : A) (rest : List ℕ) → F.read bs ≡ Some (a, rest) → Was F bs a rest
 
 -- ---- reading on
 -- p where the test holds
 unfoldable pub when : {A : Type 0} → Bool → Parsed A → Parsed A
 when true p = p
-when false p = bad
+when false p = None
 
 -- what follows, where p was read
 unfoldable pub and_then : {A B : Type 0} → Parsed A → (A → List ℕ → Parsed B) → Parsed B
-and_then bad f = bad
-and_then (parsed a rest) f = f a rest
-
--- p, or else q
-unfoldable pub or_else : {A : Type 0} → Parsed A → Parsed A → Parsed A
-or_else bad q = q
-or_else (parsed a rest) q = parsed a rest
+and_then None f = None
+and_then (Some p) f = f p.0 p.1
 
 -- the text w, for the value a
 unfoldable pub expect : {A : Type 0} → List ℕ → A → List ℕ → Parsed A
-expect [] a bs = parsed a bs
-expect (c ∷ cs) a [] = bad
+expect [] a bs = Some (a, bs)
+expect (c ∷ cs) a [] = None
 expect (c ∷ cs) a (b ∷ bs) = when (eqb b c) (expect cs a bs)
 
 -- ---- digits
@@ -64,8 +58,8 @@ digits base (suc k) n = char_of (n / base ^ k) ∷ digits base k (n % base ^ k)
 
 -- k digits are read, behind those that made v
 unfoldable pub read_digits : ℕ → ℕ → ℕ → List ℕ → Parsed ℕ
-read_digits base zero v bs = parsed v bs
-read_digits base (suc k) v [] = bad
+read_digits base zero v bs = Some (v, bs)
+read_digits base (suc k) v [] = None
 read_digits base (suc k) v (b ∷ bs) = when (ltb (digit_of b) base) (read_digits base k (v * base + digit_of b) bs)
 
 -- sixteen hex digits
@@ -84,14 +78,14 @@ decimal n = digits 10 (width_up_to 19 n) n
 
 -- digits up to the byte `end`, behind those that made v, while the number is at most `most`
 unfoldable pub read_decimal : ℕ → ℕ → ℕ → List ℕ → Parsed ℕ
-read_decimal most end v [] = bad
+read_decimal most end v [] = None
 read_decimal most end v (b ∷ bs) =
     let more = when (ltb (digit_of b) 10) (when (leb (v * 10 + digit_of b) most) (read_decimal most end (v * 10 + digit_of b) bs)) in
-    cond (eqb b end) (parsed v bs) more
+    cond (eqb b end) (Some (v, bs)) more
 
 -- a plain decimal of at most `most`, then the byte `end`. A leading zero stands alone
 unfoldable pub read_plain : ℕ → ℕ → List ℕ → Parsed ℕ
-read_plain most end [] = bad
+read_plain most end [] = None
 read_plain most end (b ∷ bs) =
     when (ltb (digit_of b) 10) (cond (eqb (digit_of b) 0) (expect (end ∷ []) 0 bs) (read_decimal most end (digit_of b) bs))
 
@@ -100,8 +94,8 @@ plain most end = record { valid = λ n. n ≤ most; write = λ n. decimal n ++ (
 
 -- ---- words
 unfoldable pub read_word : ℕ → List (List ℕ) → List ℕ → Parsed ℕ
-read_word n [] bs = bad
-read_word n (w ∷ ws) bs = or_else (expect w n bs) (read_word (suc n) ws bs)
+read_word n [] bs = None
+read_word n (w ∷ ws) bs = option_or (expect w n bs) (read_word (suc n) ws bs)
 
 -- one of the words, which are numbered from 1
 abbrev pub one_of : List (List ℕ) → Format ℕ
@@ -132,12 +126,12 @@ unfoldable pub ◌then◌ : {A B : Type 0} → Format A → Format B → Format 
 ◌then◌ F G = record {
   valid = λ p. F.valid p.0 × G.valid p.1;
   write = λ p. F.write p.0 ++ G.write p.1;
-  read = λ bs. and_then (F.read bs) (λ a rest. and_then (G.read rest) (λ b more. parsed (a, b) more));
+  read = λ bs. and_then (F.read bs) (λ a rest. and_then (G.read rest) (λ b more. Some ((a, b), more)));
 }
 
 -- the empty list, as the empty text
 unfoldable pub no_items : {A : Type 0} → Format (List A)
-no_items = record { valid = λ l. l ≡ []; write = λ _. []; read = λ bs. parsed [] bs }
+no_items = record { valid = λ l. l ≡ []; write = λ _. []; read = λ bs. Some ([], bs) }
 
 -- the valid lists and the text of `F and G`
 unfoldable pub ValidCons : {A : Type 0} → (A → Type 0) → (List A → Type 0) → List A → Type 0
@@ -153,7 +147,7 @@ unfoldable pub ◌and◌ : {A : Type 0} → Format A → Format (List A) → For
 ◌and◌ F G = record {
   valid = ValidCons F.valid G.valid;
   write = write_cons F.write G.write;
-  read = λ bs. and_then (F.read bs) (λ a rest. and_then (G.read rest) (λ l more. parsed (a ∷ l) more));
+  read = λ bs. and_then (F.read bs) (λ a rest. and_then (G.read rest) (λ l more. Some (a ∷ l, more)));
 }
 
 -- F, for the values of another type: `from` says whose text each has, `to` what was read
@@ -161,7 +155,7 @@ unfoldable pub as_of : {A B : Type 0} → Format A → (A → B) → (B → A) �
 as_of F to from = record {
   valid = λ b. F.valid (from b);
   write = λ b. F.write (from b);
-  read = λ bs. and_then (F.read bs) (λ a rest. parsed (to a) rest);
+  read = λ bs. and_then (F.read bs) (λ a rest. Some (to a, rest));
 }
 
 -- ---- lines up to an empty one
@@ -171,22 +165,22 @@ write_lines F (a ∷ l) = F.write a ++ write_lines F l
 
 -- at most k lines
 unfoldable pub read_lines : {A : Type 0} → ℕ → Format A → List ℕ → Parsed (List A)
-read_lines zero F bs = bad
-read_lines (suc k) F [] = bad
+read_lines zero F bs = None
+read_lines (suc k) F [] = None
 read_lines (suc k) F (b ∷ bs) =
-    let more = and_then (F.read (b ∷ bs)) (λ a rest. and_then (read_lines k F rest) (λ l last. parsed (a ∷ l) last)) in
-    cond (eqb b 10) (parsed [] bs) more
+    let more = and_then (F.read (b ∷ bs)) (λ a rest. and_then (read_lines k F rest) (λ l last. Some (a ∷ l, last))) in
+    cond (eqb b 10) (Some ([], bs)) more
 
 -- any number of lines: a text has no more of them than bytes
 unfoldable pub lines : {A : Type 0} → Format A → Format (List A)
 lines F = record { valid = All F.valid; write = write_lines F; read = λ bs. read_lines (length bs) F bs }
 
 -- ---- a whole text
-unfoldable pub all : {A : Type 0} → ℕ → Parsed A → Result A
-all n bad = refused n
-all n (parsed a []) = got a
-all n (parsed a (b ∷ bs)) = refused n
+unfoldable pub all : {A E : Type 0} → E → Parsed A → Result A E
+all e None = Err e
+all e (Some (a, [])) = Ok a
+all e (Some (a, b ∷ bs)) = Err e
 
--- the value that the text stands for; the refusal n where it stands for none
-unfoldable pub whole_text : {A : Type 0} → ℕ → Format A → List ℕ → Result A
-whole_text n F bs = all n (F.read bs)
+-- the value that the text stands for; the error e where it stands for none
+unfoldable pub whole_text : {A E : Type 0} → E → Format A → List ℕ → Result A E
+whole_text e F bs = all e (F.read bs)

@@ -1,152 +1,115 @@
 #![tactic(auto)]
-// Formats of texts (definitions in specs/, laws in proofs/), and readers of digits, words and numbers. Each reads at a place of
-// the text and is its definition there; `parsed_at` turns what the definition gives into the answer: the value and the next
-// place, or Bad.
-ghost use Rattle.std.specs.Prelude.{◌≡◌, [], ◌∷◌, ◌++◌, ◌+◌, ◌-◌, ◌*◌, ◌≤◌, ◌<◌, length, drop};
-ghost use Rattle.text_format.specs.Format.{digit_of, char_of, hex16, expect, read_plain, read_decimal, ◌ending◌};
-ghost use Rattle.text_format.specs.Own.Answers.{parsed_at};
+// Formats of texts (definitions in specs/, laws in proofs/), and readers of digits, words and numbers. Each reads the front of a
+// text and is its definition there: the value and the rest of the text, or None.
+ghost use Rattle.std.specs.Prelude.{◌≡◌, [], ◌∷◌, ◌+◌, ◌*◌, ◌<◌, ◌≤◌, ◌⊎◌, map, MatchOption};
+ghost use Rattle.text_format.specs.Format.{digit_of, char_of, hex16, expect, read_word, read_plain, read_decimal, ◌ending◌};
+ghost use Rattle.text_format.specs.Own.Answers.{as_read};
 
-// A number and the place behind it.
-#[derive(Clone, Copy)]
-pub enum Num {
-    Got(u64, usize),
-    Bad,
-}
-
-// The digit of a character; 16 if it is none.
-fn digit_of(b: u8) -> u8
-    ensures { result ≡ digit_of b }
-{
-    if b < 48 {
-        16
-    } else if b < 58 {
-        b - 48
-    } else if b < 97 {
-        16
-    } else if b < 103 {
-        b - 87
-    } else {
-        16
-    }
-}
-
-// The character of a digit.
+// The character of a digit, as a byte; `char::from_digit` would answer an Option of a char.
+#[tactic(auto, unfolding(crate::specs::Format::char_of))]
 pub fn char_of(d: u8) -> u8
     requires { d < 16 }
     ensures { result ≡ char_of d }
 {
-    if d < 10 { 48 + d } else { 87 + d }
+    if d < 10 { b'0' + d } else { b'a' - 10 + d }
+}
+
+// The digit of a character, if it is one of the base. Not `char::to_digit`, which takes capitals too.
+#[tactic(auto, unfolding(crate::specs::Format::digit_of))]
+fn digit_of(b: u8, base: u8) -> Option<u8>
+    requires { base ≤ 16 }
+    ensures { MatchOption result (base ≤ digit_of b) (λ d. (d ≡ digit_of b) × (d < base)) }
+{
+    let d = match b {
+        b'0'..=b'9' => b - b'0',
+        b'a'..=b'f' => b - b'a' + 10,
+        _ => return None,
+    };
+    (d < base).then_some(d)
 }
 
 // Sixteen hex digits.
-fn hex(s: &[u8], at: usize) -> Num
-    requires { at ≤ length s.now }
-    ensures { result ≡ parsed_at s.now (hex16.read (drop at s.now)) }
+#[tactic(auto, using(crate::proofs::Readers::digits_short, crate::proofs::Readers::hex_end))]
+fn hex(s: &[u8]) -> Option<(u64, &[u8])>
+    ensures { as_read result ≡ hex16.read s.now }
 {
+    let (digits, rest) = s.split_first_chunk::<16>()?;
     let mut v = 0u64;
-    let mut p = at;
-    let mut left = 16usize;
-    while 0 < left {
-        if s.len() <= p {
-            return Num::Bad;
-        }
-        let d = digit_of(s[p]);
-        if 16 <= d {
-            return Num::Bad;
-        }
-        v = v * 16 + (d as u64);
-        p += 1;
-        left -= 1;
+    for b in digits {
+        v = v * 16 + u64::from(digit_of(*b, 16)?);
     }
-    Num::Got(v, p)
+    Some((v, rest))
 }
 
-// The text w, for the value n.
-pub fn word(s: &[u8], at: usize, w: &[u8], n: u64) -> Num
-    requires { at ≤ length s.now }
-    ensures { result ≡ parsed_at s.now (expect w.now n (drop at s.now)) }
+// The text w, for the value.
+#[tactic(auto, using(crate::proofs::Readers::begins_not, crate::proofs::Readers::begins_so))]
+pub fn word<'a, T: Copy>(s: &'a [u8], w: &[u8], value: T) -> Option<(T, &'a [u8])>
+    ensures { as_read result ≡ expect w.now value s.now }
 {
-    let mut p = at;
-    let mut i = 0usize;
-    while i < w.len() {
-        if s.len() <= p {
-            return Num::Bad;
-        }
-        if s[p] != w[i] {
-            return Num::Bad;
-        }
-        p += 1;
-        i += 1;
-    }
-    Num::Got(n, p)
+    Some((value, s.strip_prefix(w)?))
 }
 
-// The byte c, for the value n.
-pub fn byte(s: &[u8], at: usize, c: u8, n: u64) -> Num
-    requires { at ≤ length s.now }
-    ensures { result ≡ parsed_at s.now (expect (c ∷ []) n (drop at s.now)) }
+// The byte c, for the value.
+pub fn byte<T: Copy>(s: &[u8], c: u8, value: T) -> Option<(T, &[u8])>
+    ensures { as_read result ≡ expect (c ∷ []) value s.now }
 {
-    if s.len() <= at {
-        return Num::Bad;
+    word(s, &[c], value)
+}
+
+// One of the words, for its number, from 1 on.
+#[tactic(auto, using(crate::proofs::Readers::words_none, crate::proofs::Readers::words_found, crate::proofs::Readers::words_next))]
+pub fn one_of<'a>(s: &'a [u8], words: &[&[u8]]) -> Option<(u64, &'a [u8])>
+    ensures { as_read result ≡ read_word 1 (map (λ w. w.now) words.now) s.now }
+{
+    for (i, w) in words.iter().enumerate() {
+        if let Some(read) = word(s, w, i as u64 + 1) {
+            return Some(read);
+        }
     }
-    if s[at] == c {
-        Num::Got(n, at + 1)
-    } else {
-        Num::Bad
-    }
+    None
 }
 
 // Sixteen hex digits, then the byte c.
-pub fn hex_then(s: &[u8], at: usize, c: u8) -> Num
-    requires { at ≤ length s.now }
-    ensures { result ≡ parsed_at s.now ((hex16 ending (c ∷ [])).read (drop at s.now)) }
+#[tactic(auto, using(crate::proofs::Behind::ending_none, crate::proofs::Behind::ending_on))]
+pub fn hex_then(s: &[u8], c: u8) -> Option<(u64, &[u8])>
+    ensures { as_read result ≡ (hex16 ending (c ∷ [])).read s.now }
 {
-    match hex(s, at) {
-        Num::Got(v, p) => byte(s, p, c, v),
-        Num::Bad => Num::Bad,
-    }
+    let (v, rest) = hex(s)?;
+    byte(rest, c, v)
+}
+
+// The number n with one digit more, where b is one and the number is at most `most`.
+fn with_digit(n: u64, b: u8, most: u64) -> Option<u64>
+    ensures { MatchOption result ((10 ≤ digit_of b) ⊎ (most < n * 10 + digit_of b)) (λ m. (digit_of b < 10) × (m ≤ most) × (m ≡ n * 10 + digit_of b)) }
+{
+    let d = digit_of(b, 10)?;
+    let m = n.checked_mul(10)?.checked_add(u64::from(d))?;
+    (m <= most).then_some(m)
 }
 
 // Digits up to the byte `end`, behind those that made v.
-fn digits_to(s: &[u8], at: usize, end: u8, most: u64, v: u64) -> Num
-    requires { (at ≤ length s.now) × (9 ≤ most) × (v ≤ most) }
-    ensures { result ≡ parsed_at s.now (read_decimal most end v (drop at s.now)) }
+#[tactic(auto, using(crate::proofs::Readers::decimal_none, crate::proofs::Readers::decimal_end, crate::proofs::Readers::decimal_stop, crate::proofs::Readers::decimal_on))]
+fn digits_to(s: &[u8], end: u8, most: u64, v: u64) -> Option<(u64, &[u8])>
+    ensures { as_read result ≡ read_decimal most end v s.now }
 {
-    let mut p = at;
     let mut n = v;
-    while p < s.len() {
-        let b = s[p];
-        if b == end {
-            return Num::Got(n, p + 1);
+    for (i, b) in s.iter().enumerate() {
+        if *b == end {
+            return Some((n, &s[i + 1..]));
         }
-        let d = digit_of(b);
-        if 10 <= d {
-            return Num::Bad;
-        }
-        if (most - (d as u64)) / 10 < n {
-            return Num::Bad;
-        }
-        n = n * 10 + (d as u64);
-        p += 1;
+        n = with_digit(n, *b, most)?;
     }
-    Num::Bad
+    None
 }
 
-// A plain decimal of at most `most`, then the byte `end`.
-pub fn decimal(s: &[u8], at: usize, end: u8, most: u64) -> Num
-    requires { (at ≤ length s.now) × (9 ≤ most) }
-    ensures { result ≡ parsed_at s.now (read_plain most end (drop at s.now)) }
+// A plain decimal of at most `most`, then the byte `end`. Not `parse`, which takes a sign and leading zeros.
+#[tactic(auto, unfolding(crate::specs::Format::read_plain, crate::specs::Format::when))]
+pub fn decimal(s: &[u8], end: u8, most: u64) -> Option<(u64, &[u8])>
+    ensures { as_read result ≡ read_plain most end s.now }
 {
-    if s.len() <= at {
-        return Num::Bad;
-    }
-    let d = digit_of(s[at]);
-    if 10 <= d {
-        return Num::Bad;
-    }
-    if d == 0 {
-        byte(s, at + 1, end, 0)
-    } else {
-        digits_to(s, at + 1, end, most, d as u64)
+    let (b, rest) = s.split_first()?;
+    match digit_of(*b, 10)? {
+        0 => byte(rest, end, 0),
+        d => digits_to(rest, end, most, u64::from(d)),
     }
 }

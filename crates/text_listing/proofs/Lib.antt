@@ -3,3 +3,4 @@ pub mod Lines
 pub mod Laws
 pub mod Examples
 pub mod ReadBack
+pub mod Leading

@@ -9,7 +9,7 @@ use lib.Dec.{T, eqb}
 use lib.Ieee.{Float, nan, inf, fin, is_nan, binary64, fits, of_bits, nan_bits}
 use lib.Ieee.Bits.{nan_bits_is, of_bits-to_bits, to_bits-lt}
 use Rattle.base_lists.specs.All.{All, none, more}
-use Rattle.base_lists.specs.Result.{got}
+use Rattle.std.specs.Prelude.{Result, Ok}
 use Rattle.text_format.specs.Format.{Format, Lawful, ◌ending◌, ◌before◌, ◌and◌, no_items, ValidCons, write_lines, lines, whole_text}
 use Rattle.text_format.specs.Table.{fields, names, cell, line, table}
 use Rattle.text_format.proofs.Laws.{whole_back}
@@ -98,10 +98,10 @@ pub reads_back : EachReadsBack
 unfolding ◌before◌ lines listing
 reads_back first last chain f l v = record {
   numbers =
-      ap (whole_text 0 (table columns))
+      ap (whole_text {E = ℕ} 0 (table columns))
       (append_assoc (names columns) (flat_map line_of (rows_of first last chain)) (10 ∷ [])
       ∙ ap (λ z. names columns ++ z) (sym (lines_are (line (fields columns)) (rows_of first last chain))))
-      ∙ whole_back 0 (table columns) columns_law (rows_of first last chain) (rows_valid first last f l (length chain) 0 chain v);
+      ∙ whole_back {E = ℕ} 0 (table columns) columns_law (rows_of first last chain) (rows_valid first last f l (length chain) 0 chain v);
   samples = samples_back first last f l (length chain) 0 chain v;
 }
 
@@ -109,8 +109,8 @@ reads_back first last chain f l v = record {
 pub listing_one : {first last first' last' : ℕ} {a b : List Sample} → ReadsBack first last a → ReadsBack first' last' b
     → listing first last a ≡ listing first' last' b → a ≡ b
 listing_one {first} {last} {first'} {last'} {a} {b} x y e =
-    sym x.samples ∙ ap (map sample_of) (same (sym x.numbers ∙ ap (λ l. whole_text 0 (table columns) (l ++ (10 ∷ []))) e ∙ y.numbers))
+    sym x.samples ∙ ap (map sample_of) (same (sym x.numbers ∙ ap (λ l. whole_text {E = ℕ} 0 (table columns) (l ++ (10 ∷ []))) e ∙ y.numbers))
     ∙ y.samples
   where
-    same : got (rows_of first last a) ≡ got (rows_of first' last' b) → rows_of first last a ≡ rows_of first' last' b
+    same : ◌≡◌ {A = Result (List (List ℕ)) ℕ} (Ok (rows_of first last a)) (Ok (rows_of first' last' b)) → rows_of first last a ≡ rows_of first' last' b
     same e = cc

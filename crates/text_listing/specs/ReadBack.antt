@@ -1,9 +1,8 @@
 -- What is printed of a chain determines the chain, bit for bit. Definitions only.
-use Rattle.std.specs.Prelude.{◌≡◌, List, [], ◌∷◌, ◌++◌, map, ℕ, ◌^◌, ◌<◌, get_or, T}
+use Rattle.std.specs.Prelude.{◌≡◌, List, [], ◌∷◌, ◌++◌, map, ℕ, ◌^◌, ◌<◌, get_or, T, Ok}
 use Rattle.std.specs.Float.{binary64}
 use Rattle.std.specs.Float.Ieee.{fits, of_bits}
 use Rattle.base_lists.specs.All.{All}
-use Rattle.base_lists.specs.Result.{got}
 use Rattle.text_format.specs.Format.{whole_text}
 use Rattle.text_format.specs.Table.{table}
 use Rattle.math.specs.Math.{vec}
@@ -20,7 +19,7 @@ sample_of n = record {
 
 -- with an empty line behind it the listing reads as the table of its numbers, and these are the chain's samples
 pub record ReadsBack (first last : ℕ) (chain : List Sample) : Type 0 where
-  pub numbers : whole_text 0 (table columns) (listing first last chain ++ (10 ∷ [])) ≡ got (rows_of first last chain)
+  pub numbers : whole_text {E = ℕ} 0 (table columns) (listing first last chain ++ (10 ∷ [])) ≡ Ok (rows_of first last chain)
   pub samples : map sample_of (rows_of first last chain) ≡ chain
 
 -- so of every chain of binary64 floats (`reads_back` in proofs/ReadBack.antt)

@@ -52,27 +52,17 @@ normal b (suc x) q h e n g =
     ∙ root_bits (units_of (suc x) t) (t + 2 ^ 52) z (scaled_normal x t (omega arith) (omega arith))
     ∙ root_of_bits b (suc x) t h e refl (positive_units (suc x) t (omega arith))
 
-pub overflow_cast-zeros : goal.overflow_cast-zeros
-overflow_cast-zeros c = let m = found c.args.b c.requires.0 c.if-field-eq0.true in omega (arith, m.high)
-
 pub overflow_sub-m : goal.overflow_sub-m
 overflow_sub-m c = (found c.args.b c.requires.0 c.if-field-eq0.true).low
 
-pub overflow_shl-m : goal.overflow_shl-m
-overflow_shl-m c = let m = found c.args.b c.requires.0 c.if-field-eq0.true in omega (arith, m.high)
-
-pub overflow_sub-z : goal.overflow_sub-z
-overflow_sub-z c = (found c.args.b c.requires.0 c.if-field-eq0.true).high
-
 pub overflow_add-result-then-field-eq0-2 : goal.overflow_add-result-then-field-eq0-2
 overflow_add-result-then-field-eq0-2 c =
-    let s = c in
-    let b = s.args.b in
-    let m = (found b s.requires.0 c.if-field-eq0.true).scaled in
+    let b = c.args.b in
+    let m = (found b c.requires.0 c.if-field-eq0.true).scaled in
     record {
       fits =
           room (digits b) (count b) m.least m.most ((count b + 1) / 2 + 484) c.near_root.result (omega arith)
-          (rooted b c.near_root.result s.requires.0 c.if-field-eq0.true c.near_root.ensures);
+          (rooted b c.near_root.result c.requires.0 c.if-field-eq0.true c.near_root.ensures);
     }
 
 pub overflow_add-result-else-field-eq0-3 : goal.overflow_add-result-else-field-eq0-3
@@ -86,11 +76,8 @@ overflow_add-result-else-field-eq0-3 c =
 
 pub returns-then-field-eq0 : goal.returns-then-field-eq0
 returns-then-field-eq0 c =
-    let s = c in
-    subnormal s.args.b c.near_root.result s.requires.0 c.if-field-eq0.true
-    (rooted s.args.b c.near_root.result s.requires.0 c.if-field-eq0.true c.near_root.ensures)
+    subnormal c.args.b c.near_root.result c.requires.0 c.if-field-eq0.true
+    (rooted c.args.b c.near_root.result c.requires.0 c.if-field-eq0.true c.near_root.ensures)
 
 pub returns-else-field-eq0 : goal.returns-else-field-eq0
-returns-else-field-eq0 c =
-    let s = c in
-    normal s.args.b (s.args.b / 2 ^ 52) c.near_root-else-field-eq0.result s.requires.1 refl c.if-field-eq0.false c.near_root-else-field-eq0.ensures
+returns-else-field-eq0 c = normal c.args.b (c.args.b / 2 ^ 52) c.near_root-else-field-eq0.result c.requires.1 refl c.if-field-eq0.false c.near_root-else-field-eq0.ensures

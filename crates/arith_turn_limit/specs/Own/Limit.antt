@@ -46,13 +46,17 @@ least_series = bits 0x3FEFFBE76C8B4396
 abbrev pub fine_series : Float
 fine_series = bits 0x3FEFFF2E48E8A71E
 
+-- the least turn at a tangent y: three halvings that divide by at most a, b and c, and the series of what is left
+abbrev pub turn_by : Float → Float → Float → Float → Float → Float
+turn_by y a b c series = count 16 ⊗ (y ⊘ a ⊘ b ⊘ c ⊗ series)
+
 -- what no angle is below whose half has a tangent from y to a quarter: 1.958 times y
 abbrev pub least_turn : Float → Float
-least_turn y = count 16 ⊗ (y ⊘ first_divisor ⊘ second_divisor ⊘ third_divisor ⊗ least_series)
+least_turn y = turn_by y first_divisor second_divisor third_divisor least_series
 
 -- and from y to an eighth: 1.989 times y
 abbrev pub fine_turn : Float → Float
-fine_turn y = count 16 ⊗ (y ⊘ second_divisor ⊘ third_divisor ⊘ fourth_divisor ⊗ fine_series)
+fine_turn y = turn_by y second_divisor third_divisor fourth_divisor fine_series
 
 -- a little above a half, 0.5115: the least turn at a tangent y is 1.9587 y, and 1 / 1.9587 is 0.5106
 abbrev pub over_half : Float

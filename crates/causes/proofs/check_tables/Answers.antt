@@ -1,30 +1,25 @@
 -- `causes::check_tables` meets its contract. Assumes nothing.
-use mathlib.Core.Path.{sym, ◌∙◌}
-use native.Mathlib.Omega.{arith}
+use Rattle.std.proofs.Common.{sym, ◌∙◌, arith}
+use Rattle.std.proofs.lemmas.Bool.{or_left, or_right}
 use Rattle.causes_form.specs.Forms.{malformed_segment}
-use Rattle.causes.specs.Causes.{tables_verdict}
-use Rattle.causes.proofs.Laws.{sizes, third, accepted, refused}
+use Rattle.causes.proofs.Laws.{sizes, segments_decide, rows_decide}
 use Rattle.causes.proofs.check_tables.Goals as goal
+use Rattle.causes.proofs.check_tables.Goals.{then-ragged-via-then-ragged, then-ragged-via-else-ragged+then-malformed_segments}
 
-pub returns-then-oversize : goal.returns-then-oversize
-unfolding tables_verdict
-returns-then-oversize c = rw (sym c.oversize.ensures ∙ c.if-oversize.true)
-
-pub returns-then-unbounded_tables : goal.returns-then-unbounded_tables
-unfolding tables_verdict
-returns-then-unbounded_tables c = rw (sym c.oversize.ensures ∙ c.if-oversize.false, sym c.unbounded_tables.ensures ∙ c.if-unbounded_tables.true)
-
-pub returns-then-either : goal.returns-then-either
+pub returns-then-ragged : goal.returns-then-ragged
 unfolding malformed_segment
-returns-then-either c = third _ (sym c.oversize.ensures ∙ c.if-oversize.false) (sym c.unbounded_tables.ensures ∙ c.if-unbounded_tables.false) (rw (c.either.ensures, c.ragged-ragged.ensures, c.malformed_segments-segments.ensures) at c.if-either.true)
+returns-then-ragged c =
+    segments_decide _ (sym c.oversize.ensures ∙ c.if-oversize.false) (sym c.unbounded_tables.ensures ∙ c.if-unbounded_tables.false)
+    (elim c.then-ragged.branch [
+      | then-ragged-via-then-ragged w ↦ or_left _ _ (sym c.ragged.ensures ∙ w.if-ragged.true)
+      | then-ragged-via-else-ragged+then-malformed_segments w ↦ or_right _ _ (sym w.malformed_segments.ensures ∙ w.if-malformed_segments.true)
+    ])
 
 pub rows_cause-requires : goal.rows_cause-requires
 rows_cause-requires c = let z = sizes _ (sym c.oversize.ensures ∙ c.if-oversize.false) in (omega (arith, z.1), omega (arith, z.2))
 
-pub returns-in-0 : goal.returns-in-0
+pub returns : goal.returns
 unfolding malformed_segment
-returns-in-0 c = accepted _ (sym c.oversize.ensures ∙ c.if-oversize.false) (sym c.unbounded_tables.ensures ∙ c.if-unbounded_tables.false) (rw (c.either.ensures, c.ragged-ragged.ensures, c.malformed_segments-segments.ensures) at c.if-either.false) c.rows_cause.ensures c.in-0.is
-
-pub returns-in_default : goal.returns-in_default
-unfolding malformed_segment
-returns-in_default c = refused _ (sym c.oversize.ensures ∙ c.if-oversize.false) (sym c.unbounded_tables.ensures ∙ c.if-unbounded_tables.false) (rw (c.either.ensures, c.ragged-ragged.ensures, c.malformed_segments-segments.ensures) at c.if-either.false) c.rows_cause.ensures (omega arith)
+returns c =
+    c.rows_cause.ensures
+    ∙ sym (rows_decide _ (sym c.oversize.ensures ∙ c.if-oversize.false) (sym c.unbounded_tables.ensures ∙ c.if-unbounded_tables.false) (sym c.ragged.ensures ∙ c.if-ragged.false) (sym c.malformed_segments.ensures ∙ c.if-malformed_segments.false))

@@ -1,26 +1,15 @@
--- `causes_form::malformed_segments` meets its contract. The invariant: none of the segments passed is malformed. Assumes nothing.
-use native.Mathlib.Omega.{arith}
-use borrow.Author.Rules.{rules}
-use Rattle.causes_bounds.proofs.Laws.{clear_none, clear_more, clear_found, clear_all}
+-- `causes_form::malformed_segments` meets its contract, chunk by chunk. Assumes nothing.
+use Rattle.std.proofs.Common.{rules, arith, [], add-zero}
+use Rattle.std.proofs.lemmas.Bool.Decides.{nat_tests}
+use Rattle.causes_bounds.proofs.Laws.{some_of_run}
 use Rattle.causes_form.proofs.malformed_segments.Goals as goal
 
-pub loop-i-init : goal.loop-i-init
-loop-i-init c = (search rules, clear_none _)
-
-pub malformed_segment-requires : goal.malformed_segment-requires
-malformed_segment-requires c = omega arith
-
-pub returns-then-malformed_segment : goal.returns-then-malformed_segment
-returns-then-malformed_segment c = clear_found c.loop-i.invariant.1 c.loop-i-test.true c.malformed_segment.ensures c.if-malformed_segment.true
-
-pub overflow_add-i : goal.overflow_add-i
-overflow_add-i c = omega arith
-
-pub loop-i-smaller : goal.loop-i-smaller
-loop-i-smaller c = omega arith
-
-pub loop-i-preserved : goal.loop-i-preserved
-loop-i-preserved c = (omega arith, clear_more c.loop-i.invariant.1 c.malformed_segment.ensures c.if-malformed_segment.false)
-
 pub returns : goal.returns
-returns c = clear_all c.loop-i.invariant.1 c.loop-i.invariant.0 c.loop-i-test.false
+returns c =
+    let any = c.any.ensures.runs in
+    let chunks = (rw (any.1, c.chunks_exact.ensures.size, c.chunks_exact.ensures.rest) at (c.chunks_exact.ensures.runs any.0 any.0.seen)) (omega arith) in
+    some_of_run any.0 _ _ (record { ref_ptr = (0, 0); now = [] }) c.any.result any.2 (search rules) (search rules)
+    chunks.2 (λ k x b part called.
+    let curve = rw add-zero at (part.2.2 0 0 (omega arith)) in
+    let sense = part.2.2 1 0 (omega arith) in
+    (omega arith, grind (arith, nat_tests)))

@@ -1,6 +1,4 @@
--- `curve_parameter::under_trims` meets its contract. The loop's invariant: the row that it goes to is the same from every row on the way. Assumes nothing.
-use mathlib.Core.Path.{◌≡◌}
-use Prim.Native.Nat.{◌≤◌}
+use Rattle.std.proofs.Common.{◌≡◌, ◌≤◌}
 use Rattle.curve_parameter.specs.Own.Under.{under}
 use Rattle.curve_parameter.proofs.under_trims.Given as goal
 

@@ -1,25 +1,23 @@
 -- `curve_prepared::other_point` meets its contract. Assumes nothing.
-use mathlib.Core.Path.{refl, sym, ◌∙◌}
-use Rattle.curve_parameter.proofs.Under.{under_same}
-use Rattle.brep.proofs.ByKind.{at_polyline}
+use mathlib.Core.Path.{refl, ◌∙◌}
+use Rattle.brep.specs.declared.Kind.TheVariants as kinds
+use Rattle.brep.specs.Rows.{lent}
 use Rattle.brep.specs.Tree.{CurveTree}
+use Rattle.brep.proofs.ByKind.{at_polyline}
+use Rattle.brep.proofs.Numbered.{is_numbered}
+use Rattle.curve_parameter.proofs.Under.{under_same}
 use Rattle.curve_point.specs.Point.{point_at}
-use Rattle.curve_prepared.specs.Own.Prepared.{prepared_of}
 use Rattle.curve_prepared.proofs.Laws.{known_closed}
 use Rattle.curve_prepared.proofs.other_point.Goals as goal
 
-pub polyline_at-spot-requires : goal.polyline_at-spot-requires
-unfolding prepared_of
-polyline_at-spot-requires c =
-    known_closed _ (c.requires ∙ sym (at_polyline prepared_of _ _ c.int_at-kind.ensures c.in-5.is c.int_at-first.ensures c.int_at-count.ensures ∙ under_same prepared_of (λ b r. refl) _ _ c.under_trims-r.ensures))
+pub polyline_point-requires : goal.polyline_point-requires
+polyline_point-requires c =
+    known_closed (lent c.args.tables.now) _ c.under_trims-r.ensures (is_numbered kinds.Polyline c.kind_at.ensures c.eq.ensures c.if-eq.true) c.requires c.int_at-first.ensures c.int_at-count.ensures
 
-pub returns-in-5 : goal.returns-in-5
+pub returns-then-eq : goal.returns-then-eq
 unfolding point_at
-returns-in-5 c =
-    let t = c.args.t in
-    c.polyline_at-spot.ensures.0
-    ∙ at_polyline (λ (k : CurveTree). point_at k t) _ _ c.int_at-kind.ensures c.in-5.is c.int_at-first.ensures c.int_at-count.ensures
-    ∙ under_same (λ (k : CurveTree). point_at k t) (λ b r. refl) _ _ c.under_trims-r.ensures
-
-pub returns-in_default : goal.returns-in_default
-returns-in_default c = c.point_at.ensures
+returns-then-eq c =
+    let F : CurveTree → _ = λ k. point_at k c.args.t in
+    c.polyline_point.ensures
+    ∙ at_polyline F (lent c.args.tables.now) _ refl (is_numbered kinds.Polyline c.kind_at.ensures c.eq.ensures c.if-eq.true) c.int_at-first.ensures c.int_at-count.ensures
+    ∙ under_same F (λ b r. refl) _ _ c.under_trims-r.ensures

@@ -1,30 +1,33 @@
 -- `curve_tangent::composite_derivative` and `curve_tangent::derivative_at` meet their contracts. Assumes nothing.
-use mathlib.Core.Path.{ap, ◌∙◌}
+use mathlib.Core.Path.{◌∙◌}
 use borrow.Author.Rules.{rules}
 use Rattle.math.specs.Math.{v_scale}
 use Rattle.brep.specs.Tree.{grown}
 use Rattle.brep.proofs.Laws.{at_lower, at_high}
 use Rattle.curve_parameter.proofs.Under.{under_low}
-use Rattle.curve_tangent.specs.Derivative.{derivative_at, polyline_derivative}
-use Rattle.curve_tangent.proofs.Laws.{derivative_row, derivative_trim, derivative_none, derivative-some}
+use Rattle.curve_tangent.specs.Derivative.{signed_span, derivative_at, polyline_derivative}
+use Rattle.curve_tangent.proofs.Laws.{derivative_row, derivative_trim, derivative_none, derivative_some}
 use Rattle.curve_tangent.proofs.+composite_derivative_derivative_at.Goals as goal
 
-pub composite_derivative-returns-then-count-eq0 : goal.composite_derivative-returns-then-count-eq0
-composite_derivative-returns-then-count-eq0 t c = derivative_none _ _ _ _ _ c.if-count-eq0.true
-
-pub composite_derivative-derivative_at-requires : goal.composite_derivative-derivative_at-requires
-composite_derivative-derivative_at-requires t c = search rules
+pub composite_derivative-returns-in_default : goal.composite_derivative-returns-in_default
+composite_derivative-returns-in_default t c = derivative_none _ _ _ _ _ c.in_default.ensures
 
 pub composite_derivative-returns-then-base-row : goal.composite_derivative-returns-then-base-row
-composite_derivative-returns-then-base-row t c = c.scale.ensures ∙ ap (λ v. v_scale v c.signed_span-k.result) c.derivative_at.ensures ∙ at_lower (λ x. v_scale (derivative_at x c.own_parameter-u.result) c.signed_span-k.result) _ _ c.if-base-row.true ∙ derivative-some _ _ _ _ _ c.if-count-eq0.false _ c.clamp-clamped.ensures _ c.index_in-i.ensures _ c.segment_at-s.ensures _ c.own_parameter-u.ensures _ c.signed_span-k.ensures
+composite_derivative-returns-then-base-row t c =
+    let s = c.in-Some.on.segment in
+    rw (c.scale.ensures, c.derivative_at.ensures, c.signed_span-k.ensures)
+    (at_lower (λ x. v_scale (derivative_at x c.in-Some.on.t) (signed_span s.range s.same_sense)) _ _ c.if-base-row.true ∙ derivative_some _ _ _ _ _ c.in-Some.ensures)
 
 pub composite_derivative-returns : goal.composite_derivative-returns
 unfolding derivative_at polyline_derivative
-composite_derivative-returns t c = c.scale-2.ensures ∙ at_high (λ x. v_scale (derivative_at x c.own_parameter-u.result) c.signed_span-k.result) _ _ c.if-base-row.false ∙ derivative-some _ _ _ _ _ c.if-count-eq0.false _ c.clamp-clamped.ensures _ c.index_in-i.ensures _ c.segment_at-s.ensures _ c.own_parameter-u.ensures _ c.signed_span-k.ensures
+composite_derivative-returns t c =
+    let s = c.in-Some.on.segment in
+    rw (c.scale-2.ensures, c.signed_span-k.ensures)
+    (at_high (λ x. v_scale (derivative_at x c.in-Some.on.t) (signed_span s.range s.same_sense)) _ _ c.if-base-row.false ∙ derivative_some _ _ _ _ _ c.in-Some.ensures)
 
 pub derivative_at-composite_derivative-requires : goal.derivative_at-composite_derivative-requires
 derivative_at-composite_derivative-requires t c =
-    let l = under_low c.args.curves.now c.args.row c.args.row in
+    let l = under_low c.args.tables.now.curves.now c.args.row c.args.row in
     let e = c.under_trims-r.ensures in search rules
 
 pub derivative_at-returns-in-Line : goal.derivative_at-returns-in-Line

@@ -1,4 +1,5 @@
 -- `draw::draw` meets its contract. Assumes nothing.
+use Rattle.std.proofs.lemmas.Result.{err_from_is_err_and}
 use mathlib.Core.Path.{sym, ◌∙◌}
 use Rattle.brep.specs.Rows.{lent}
 use Rattle.causes.proofs.Checked.{causes_of, tables_formed}
@@ -6,21 +7,25 @@ use Rattle.draw.proofs.Few.{knots_fit}
 use Rattle.draw.proofs.Laws.{binary, by_verdict, by_drawing, all_outcome}
 use Rattle.draw.proofs.draw.Goals as goal
 
-pub draw_unchecked-requires : goal.draw_unchecked-requires
-draw_unchecked-requires c =
+pub new-requires : goal.new-requires
+new-requires c =
     let a = c.args in
-    let T = lent a.points a.curves a.reals a.parts a.ranges in
-    let k = causes_of T a.edge a.options (sym c.check-verdict.ensures ∙ c.in-Accepted.is) in
+    let T = lent a.tables.now in
+    let k = causes_of T a.edge a.options (sym c.check.ensures ∙ c.in_ok-check.was) in
     knots_fit T k.0 (tables_formed T a.edge a.options k.2) a.edge.curve
 
-pub returns-in-Refused : goal.returns-in-Refused
-returns-in-Refused c =
+pub returns-in_err-check : goal.returns-in_err-check
+returns-in_err-check c =
     let a = c.args in
-    let T = lent a.points a.curves a.reals a.parts a.ranges in
-    all_outcome T a.edge a.options a.first.now a.second.now (binary T a.edge c.binary64.ensures) _ _ _ (by_verdict T a.edge a.options a.first.now a.second.now _ (sym c.check-verdict.ensures ∙ c.in-Refused.is))
+    let T = lent a.tables.now in
+    let p = err_from_is_err_and c.from_residual.result c.from_residual.ensures.1 in
+    rw (p.1, p.2)
+    (all_outcome T a.edge a.options a.first.now a.second.now (binary T a.edge c.binary64.ensures) _ _ _ (by_verdict T a.edge a.options a.first.now a.second.now _ (sym c.check.ensures ∙ c.in_err-check.was)))
 
-pub returns-in-Accepted : goal.returns-in-Accepted
-returns-in-Accepted c =
+pub returns : goal.returns
+returns c =
     let a = c.args in
-    let T = lent a.points a.curves a.reals a.parts a.ranges in
-    all_outcome T a.edge a.options a.first.now a.second.now (binary T a.edge c.binary64.ensures) _ _ _ (by_drawing T a.edge a.options a.first.now a.second.now (sym c.check-verdict.ensures ∙ c.in-Accepted.is) _ _ _ c.draw_unchecked.ensures)
+    let T = lent a.tables.now in
+    all_outcome T a.edge a.options a.first.now a.second.now (binary T a.edge c.binary64.ensures) _ _ _
+    (by_drawing T a.edge a.options a.first.now a.second.now (sym c.check.ensures ∙ c.in_ok-check.was) _ _ _
+    (rw (c.new.ensures.over, c.new.ensures.of) at c.draw_unchecked.ensures))

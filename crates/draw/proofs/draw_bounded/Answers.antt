@@ -7,11 +7,15 @@ use Rattle.draw.proofs.draw_bounded.Goals as goal
 pub returns-then-nests : goal.returns-then-nests
 returns-then-nests c =
     let a = c.args in
-    bounded_nested (lent a.points a.curves a.reals a.parts a.ranges) a.edge a.options a.first.now a.second.now _ _ _
-    (sym (c.nests.ensures a.points.now a.reals.now a.ranges.now) ∙ c.if-nests.true) c.draw.ensures
+    let d = a.drawing.now in
+    let T = lent d.tables.now in
+    bounded_nested T d.edge a.options a.first.now a.second.now _ _ _
+    (sym (c.nests.ensures T.points T.reals T.ranges) ∙ c.if-nests.true) c.draw.ensures
 
 pub returns : goal.returns
 returns c =
     let a = c.args in
-    bounded_flat (lent a.points a.curves a.reals a.parts a.ranges) a.edge a.options a.first.now a.second.now _ _ _
-    (sym (c.nests.ensures a.points.now a.reals.now a.ranges.now) ∙ c.if-nests.false) c.draw_unchecked.ensures
+    let d = a.drawing.now in
+    let T = lent d.tables.now in
+    bounded_flat T d.edge a.options a.first.now a.second.now _ _ _
+    (sym (c.nests.ensures T.points T.reals T.ranges) ∙ c.if-nests.false) c.draw_unchecked.ensures

@@ -1,4 +1,5 @@
 -- `draw::draw_over` meets its contract, over tables of any content. Assumes nothing.
+use Rattle.std.proofs.lemmas.Result.{err_from_is_err_and}
 use mathlib.Core.Path.{sym, ◌∙◌}
 use native.Mathlib.Omega.{arith}
 use Rattle.brep.specs.Rows.{lent}
@@ -10,32 +11,39 @@ use Rattle.draw.proofs.draw_over.Goals as goal
 pub returns-then-oversize : goal.returns-then-oversize
 returns-then-oversize c =
     let a = c.args in
-    let T = lent a.points a.curves a.reals a.parts a.ranges in
+    let T = lent a.tables.now in
     over_sizes T a.edge a.options (binary T a.edge c.binary64.ensures) a.first.now a.second.now (sym c.oversize.ensures ∙ c.if-oversize.true)
+
+pub returns-in_err-check_over : goal.returns-in_err-check_over
+returns-in_err-check_over c =
+    let a = c.args in
+    let T = lent a.tables.now in
+    let p = err_from_is_err_and c.from_residual.result c.from_residual.ensures.1 in
+    rw (p.1, p.2)
+    (over_edge T a.edge a.options (binary T a.edge c.binary64.ensures) a.first.now a.second.now (sym c.oversize.ensures ∙ c.if-oversize.false) _ (sym c.check_over.ensures ∙ c.in_err-check_over.was))
 
 pub returns-then-knots-gt-MOST_KNOTS : goal.returns-then-knots-gt-MOST_KNOTS
 returns-then-knots-gt-MOST_KNOTS c =
     let a = c.args in
-    let T = lent a.points a.curves a.reals a.parts a.ranges in
-    over_run T a.edge a.options (binary T a.edge c.binary64.ensures) a.first.now a.second.now (sym c.oversize.ensures ∙ c.if-oversize.false) (sym c.check_over-verdict.ensures ∙ c.in-Accepted.is) (omega (arith, c.if-knots-gt-MOST_KNOTS.true, c.knot_count-knots.ensures))
+    let T = lent a.tables.now in
+    over_run T a.edge a.options (binary T a.edge c.binary64.ensures) a.first.now a.second.now (sym c.oversize.ensures ∙ c.if-oversize.false) (sym c.check_over.ensures ∙ c.in_ok-check_over.was) (omega (arith, c.if-knots-gt-MOST_KNOTS.true, c.knot_count-knots.ensures))
+
+pub new-drawing-requires : goal.new-drawing-requires
+new-drawing-requires c = omega (arith, c.if-knots-gt-MOST_KNOTS.false, c.knot_count-knots.ensures)
 
 pub returns-then-knots-eq0 : goal.returns-then-knots-eq0
 returns-then-knots-eq0 c =
-    let k = c in
-    let a = k.args in
-    let T = lent a.points a.curves a.reals a.parts a.ranges in
-    over_drawn T a.edge a.options (binary T a.edge k.binary64.ensures) a.first.now a.second.now (sym k.oversize.ensures ∙ k.if-oversize.false) (sym k.check_over-verdict.ensures ∙ k.in-Accepted.is) (omega (arith, c.if-knots-gt-MOST_KNOTS.false, k.knot_count-knots.ensures)) _ _ _
-    (bounded_flat T a.edge a.options a.first.now a.second.now _ _ _ (flat_curve (tree T a.edge.curve) (omega (arith, c.if-knots-eq0.true, k.knot_count-knots.ensures))) c.draw_unchecked.ensures)
-
-pub returns-in-Refused : goal.returns-in-Refused
-returns-in-Refused c =
     let a = c.args in
-    let T = lent a.points a.curves a.reals a.parts a.ranges in
-    over_edge T a.edge a.options (binary T a.edge c.binary64.ensures) a.first.now a.second.now (sym c.oversize.ensures ∙ c.if-oversize.false) _ (sym c.check_over-verdict.ensures ∙ c.in-Refused.is)
+    let T = lent a.tables.now in
+    let d = c.new-drawing.ensures in
+    over_drawn T a.edge a.options (binary T a.edge c.binary64.ensures) a.first.now a.second.now (sym c.oversize.ensures ∙ c.if-oversize.false) (sym c.check_over.ensures ∙ c.in_ok-check_over.was) (omega (arith, c.if-knots-gt-MOST_KNOTS.false, c.knot_count-knots.ensures)) _ _ _
+    (bounded_flat T a.edge a.options a.first.now a.second.now _ _ _ (flat_curve (tree T a.edge.curve) (omega (arith, c.if-knots-eq0.true, c.knot_count-knots.ensures)))
+    (rw (d.over, d.of) at c.draw_unchecked.ensures))
 
-pub returns-else-knots-eq0 : goal.returns-else-knots-eq0
-returns-else-knots-eq0 c =
-    let k = c in
-    let a = k.args in
-    let T = lent a.points a.curves a.reals a.parts a.ranges in
-    over_drawn T a.edge a.options (binary T a.edge k.binary64.ensures) a.first.now a.second.now (sym k.oversize.ensures ∙ k.if-oversize.false) (sym k.check_over-verdict.ensures ∙ k.in-Accepted.is) (omega (arith, c.if-knots-gt-MOST_KNOTS.false, k.knot_count-knots.ensures)) _ _ _ c.draw_bounded.ensures
+pub returns : goal.returns
+returns c =
+    let a = c.args in
+    let T = lent a.tables.now in
+    let d = c.new-drawing.ensures in
+    over_drawn T a.edge a.options (binary T a.edge c.binary64.ensures) a.first.now a.second.now (sym c.oversize.ensures ∙ c.if-oversize.false) (sym c.check_over.ensures ∙ c.in_ok-check_over.was) (omega (arith, c.if-knots-gt-MOST_KNOTS.false, c.knot_count-knots.ensures)) _ _ _
+    (rw (d.over, d.of) at c.draw_bounded.ensures)

@@ -3,8 +3,6 @@ use mathlib.Core.Path.{ap}
 use native.Mathlib.Omega.{arith}
 use lib.ListN.{length}
 use Rattle.brep.specs.Rows.{lent}
-use Rattle.draw_spec.specs.Draw.{in_buffers}
-use Rattle.draw.specs.Own.Straight.{StraightInto}
 use Rattle.draw.proofs.Laws.{too_short_lem, in_buffers_lem, first_short, second_short, neither_short, depth_above, drawn_from}
 use Rattle.draw.proofs.draw_unchecked.Goals as goal
 use Rattle.draw.proofs.draw_unchecked.Goals.{then-first-lt-SHORTEST-via-then-first-lt-SHORTEST, then-first-lt-SHORTEST-via-else-first-lt-SHORTEST+then-second-lt-SHORTEST}
@@ -12,45 +10,34 @@ use Rattle.draw.proofs.draw_unchecked.Goals.{then-first-lt-SHORTEST-via-then-fir
 pub returns-then-first-lt-SHORTEST : goal.returns-then-first-lt-SHORTEST
 returns-then-first-lt-SHORTEST c =
     let a = c.args in
-    let T = lent a.points a.curves a.reals a.parts a.ranges in
-    too_short_lem T a.edge a.options a.first.now a.second.now
+    let d = a.drawing.now in
+    too_short_lem (lent d.tables.now) d.edge a.options a.first.now a.second.now
     (elim c.then-first-lt-SHORTEST.branch [
       | then-first-lt-SHORTEST-via-then-first-lt-SHORTEST x ↦ first_short (length a.first.now) (length a.second.now) x.if-first-lt-SHORTEST.true
       | then-first-lt-SHORTEST-via-else-first-lt-SHORTEST+then-second-lt-SHORTEST y ↦ second_short (length a.first.now) (length a.second.now) y.if-second-lt-SHORTEST.true
     ])
 
 pub returns-then-draw_straight : goal.returns-then-draw_straight
-returns-then-draw_straight c =
-    let a = c.args in
-    let T = lent a.points a.curves a.reals a.parts a.ranges in
-    -- what `draw_straight` answered, and what it left of the buffers
-    let told : StraightInto (in_buffers T a.edge a.options (length a.first.now) (length a.second.now)) a.first.now a.second.now c.draw_straight.result c.draw_straight.new.first c.draw_straight.new.second =
-    c.draw_straight.ensures a.reals.now a.parts.now a.ranges.now c.usable_range-usable.ensures in
-    told.chain c.if-draw_straight.true
+returns-then-draw_straight c = c.draw_straight.ensures.chain c.if-draw_straight.true
 
 pub drawn_in-requires : goal.drawn_in-requires
 drawn_in-requires c =
     let a = c.args in
-    let T = lent a.points a.curves a.reals a.parts a.ranges in
-    -- what `draw_straight` answered, and what it left of the buffers
-    let told : StraightInto (in_buffers T a.edge a.options (length a.first.now) (length a.second.now)) a.first.now a.second.now c.draw_straight.result c.draw_straight.new.first c.draw_straight.new.second =
-    c.draw_straight.ensures a.reals.now a.parts.now a.ranges.now c.usable_range-usable.ensures in
+    let d = a.drawing.now in
+    let told = c.draw_straight.ensures in
     let left = c.if-draw_straight.false in (
       omega (arith, ap length (told.kept_first left), c.if-first-lt-SHORTEST.false),
       omega (arith, ap length (told.kept_second left), c.if-second-lt-SHORTEST.false),
-      c.requires,
-      depth_above T a.edge a.options c.local_options-r.ensures,
-      c.usable_range-usable.ensures,
+      depth_above (lent d.tables.now) d.edge a.options c.local_options-r.ensures,
     )
 
 pub returns : goal.returns
 returns c =
     let a = c.args in
-    let T = lent a.points a.curves a.reals a.parts a.ranges in
-    -- what `draw_straight` answered, and what it left of the buffers
-    let told : StraightInto (in_buffers T a.edge a.options (length a.first.now) (length a.second.now)) a.first.now a.second.now c.draw_straight.result c.draw_straight.new.first c.draw_straight.new.second =
-    c.draw_straight.ensures a.reals.now a.parts.now a.ranges.now c.usable_range-usable.ensures in
+    let d = a.drawing.now in
+    let T = lent d.tables.now in
+    let told = c.draw_straight.ensures in
     let left = c.if-draw_straight.false in
-    in_buffers_lem T a.edge a.options a.first.now a.second.now
+    in_buffers_lem T d.edge a.options a.first.now a.second.now
     (neither_short (length a.first.now) (length a.second.now) c.if-first-lt-SHORTEST.false c.if-second-lt-SHORTEST.false)
-    _ c.local_options-r.ensures _ _ _ (drawn_from T a.edge _ (told.kept_first left) (told.kept_second left) c.drawn_in.ensures)
+    _ c.local_options-r.ensures _ _ _ (drawn_from T d.edge _ (told.kept_first left) (told.kept_second left) c.drawn_in.ensures)

@@ -3,10 +3,10 @@ use Rattle.draw_spec.specs.Draw.{first_way}
 use mathlib.Core.Path.{ap, sym}
 use Rattle.draw.proofs.first_way.Goals as goal
 
-pub returns-in-Range : goal.returns-in-Range
+pub returns-in-Some : goal.returns-in-Some
 unfolding first_way
-returns-in-Range c = ap first_way (sym c.in-Range.is)
+returns-in-Some c = ap first_way (sym c.in-Some.is)
 
-pub returns-in-Unusable : goal.returns-in-Unusable
+pub returns-in-None : goal.returns-in-None
 unfolding first_way
-returns-in-Unusable c = ap first_way (sym c.in-Unusable.is)
+returns-in-None c = ap first_way (sym c.in-None.is)

@@ -15,7 +15,7 @@ unfolding for_extent sag_for
 unchanged r x e = rw e
 
 pub extent_usable-extent-requires : goal.extent_usable-extent-requires
-extent_usable-extent-requires c = c.requires
+extent_usable-extent-requires c = c.args.drawing.now.own
 
 pub returns-then-r : goal.returns-then-r
 unfolding local_options
@@ -25,5 +25,5 @@ pub returns : goal.returns
 unfolding local_options
 returns c =
     let a = c.args in
-    let x = edge_extent (lent a.points a.curves a.reals a.parts a.ranges) a.edge in
+    let x = edge_extent (lent a.drawing.now.tables.now) a.drawing.now.edge in
     unchanged c.resolve-r.result x c.if-r.false ∙ ap (λ (r : Resolved). for_extent r x) c.resolve-r.ensures

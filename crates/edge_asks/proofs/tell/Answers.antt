@@ -1,14 +1,13 @@
 -- `edge_asks::tell` meets its contract. Assumes nothing.
+use Rattle.std.specs.Prelude.{Some, None}
 use Rattle.std.proofs.Common.{◌≡◌, ℕ, Bool, false, sym, ◌∙◌, arith, rules}
 use lib.Ieee.{Float}
 use Rattle.math.specs.declared.Interval.{Interval}
 use Rattle.options.specs.declared.Resolved.{Resolved}
-use Rattle.brep.specs.Rows.{lent}
-use Rattle.brep.specs.Tree.{CurveTree, tree}
+use Rattle.brep.specs.Tree.{CurveTree}
+use Rattle.edge_drawing.specs.Drawing.{drawn_curve}
 use Rattle.curve_asks.specs.Asks.{asks_far}
 use Rattle.edge_params.specs.Work.{some_far, asking, within}
-use Rattle.edge_params.specs.declared.Closed.TheVariants.{Unknown}
-use Rattle.edge_range.specs.declared.Usable.TheVariants.{Range}
 use Rattle.edge_range.specs.Usable.{analytic_segments}
 use Rattle.edge_sample.specs.Sample.{sampler}
 use Rattle.edge_sample.proofs.Settled.{bisected_long}
@@ -24,52 +23,52 @@ use Rattle.edge_asks.proofs.tell.Goals.{then-r-lt2-via-then-r-lt2, then-r-lt2-vi
 
 -- the way out where the curve asks for nothing that is too far
 never : (room : ℕ) (k : CurveTree) (range : Interval) (r : Resolved) (first : Bool) → ((t : Float) → asks_far k t ≡ false)
-    → within room (asking (asks_far k) (asked_first first (Range range)) (listed k range r)) ≡ sampled_in room k range r
+    → within room (asking (asks_far k) (asked_first first (Some range)) (listed k range r)) ≡ sampled_in room k range r
 never room k range r first h = told_near room k range r _ (some_far-never (asks_far k) h _) (listed_never room k range r h)
 
 pub returns-then-never_asks : goal.returns-then-never_asks
 returns-then-never_asks c =
     let a = c.args in
-    let k = tree (lent a.points a.curves a.reals a.parts a.ranges) a.row in
-    never a.room k a.range a.r a.probes_first (c.never_asks.ensures.1 a.points.now a.reals.now a.parts.now a.ranges.now c.if-never_asks.true)
+    let k = drawn_curve a.drawing.now in
+    never a.room k a.range a.r a.probes_first (c.never_asks.ensures.1 a.drawing.now.tables.now.points.now a.drawing.now.tables.now.reals.now a.drawing.now.tables.now.parts.now a.drawing.now.tables.now.ranges.now c.if-never_asks.true)
 
 pub returns-then-not-may_ask : goal.returns-then-not-may_ask
 returns-then-not-may_ask c =
     let a = c.args in
-    let k = tree (lent a.points a.curves a.reals a.parts a.ranges) a.row in
-    never a.room k a.range a.r a.probes_first ((c.may_ask.ensures a.points.now a.reals.now).1 c.if-not-may_ask.true)
+    let k = drawn_curve a.drawing.now in
+    never a.room k a.range a.r a.probes_first ((c.may_ask.ensures a.drawing.now.tables.now.points.now a.drawing.now.tables.now.reals.now).1 c.if-not-may_ask.true)
 
 pub returns-then-probes_far : goal.returns-then-probes_far
 returns-then-probes_far c =
     let a = c.args in
-    let k = tree (lent a.points a.curves a.reals a.parts a.ranges) a.row in
-    told_far a.room k a.range a.r _ (sym (c.probes_far.ensures a.points.now a.reals.now) ∙ c.if-probes_far.true)
+    let k = drawn_curve a.drawing.now in
+    told_far a.room k a.range a.r _ (sym (c.probes_far.ensures a.drawing.now.tables.now.points.now a.drawing.now.tables.now.reals.now) ∙ c.if-probes_far.true)
 
 -- in the following, `near`: none of the probes is too far, and `formless`: a curve that may ask has no closed form
 pub returns-then-r-lt2 : goal.returns-then-r-lt2
 returns-then-r-lt2 c =
     let a = c.args in
-    let k = tree (lent a.points a.curves a.reals a.parts a.ranges) a.row in
-    let near : some_far (asks_far k) (asked_first a.probes_first (Range a.range)) ≡ false = sym (c.probes_far.ensures a.points.now a.reals.now) ∙ c.if-probes_far.false in
-    let formless : analytic_segments k a.range a.r ≡ Unknown = may_open _ k (sym (c.may_ask.ensures a.points.now a.reals.now).0 ∙ c.if-not-may_ask.false) a.range a.r in
-    let is = sym (c.is_near_hyperbola.ensures a.points.now a.reals.now a.parts.now a.ranges.now) ∙ c.if-is_near_hyperbola.true in
+    let k = drawn_curve a.drawing.now in
+    let near : some_far (asks_far k) (asked_first a.probes_first (Some a.range)) ≡ false = sym (c.probes_far.ensures a.drawing.now.tables.now.points.now a.drawing.now.tables.now.reals.now) ∙ c.if-probes_far.false in
+    let formless : analytic_segments k a.range a.r ≡ None = may_open _ k (sym (c.may_ask.ensures a.drawing.now.tables.now.points.now a.drawing.now.tables.now.reals.now).0 ∙ c.if-not-may_ask.false) a.range a.r in
+    let is = sym (c.is_near_hyperbola.ensures a.drawing.now.tables.now.points.now a.drawing.now.tables.now.reals.now a.drawing.now.tables.now.parts.now a.drawing.now.tables.now.ranges.now) ∙ c.if-is_near_hyperbola.true in
     told_near a.room k a.range a.r _ near
-    (clear_told a.room k a.range a.r formless (near_clear k a.range a.r (search (rules, c.well_formed.1.1.1.1.1.1.0)) (search (rules, c.well_formed.1.1.1.1.1.1.0)) is) c.requires.1
+    (clear_told a.room k a.range a.r formless (near_clear k a.range a.r (search rules) (search rules) is) c.requires.0
     (λ few.
     elim c.then-r-lt2.branch [
       | then-r-lt2-via-then-r-lt2 w ↦ absurd (omega (arith, w.if-r-lt2.true, bisected_long (sampler k a.range a.r) a.range))
-      | then-r-lt2-via-else-r-lt2+then-not-floor_far w ↦ sym (w.floor_far.ensures a.points.now a.reals.now) ∙ w.if-not-floor_far.true
+      | then-r-lt2-via-else-r-lt2+then-not-floor_far w ↦ sym (w.floor_far.ensures a.drawing.now.tables.now.points.now a.drawing.now.tables.now.reals.now) ∙ w.if-not-floor_far.true
     ]))
 
 pub tell_by_count-requires : goal.tell_by_count-requires
 tell_by_count-requires c =
     let a = c.args in
-    let k = tree (lent a.points a.curves a.reals a.parts a.ranges) a.row in
+    let k = drawn_curve a.drawing.now in
     let p = c.requires in
-    (p.0, p.1, p.2, may_open _ k (sym (c.may_ask.ensures a.points.now a.reals.now).0 ∙ c.if-not-may_ask.false) a.range a.r)
+    (p.0, p.1, may_open _ k (sym (c.may_ask.ensures a.drawing.now.tables.now.points.now a.drawing.now.tables.now.reals.now).0 ∙ c.if-not-may_ask.false) a.range a.r)
 
 pub returns : goal.returns
 returns c =
     let a = c.args in
-    let k = tree (lent a.points a.curves a.reals a.parts a.ranges) a.row in
-    told_near a.room k a.range a.r _ (sym (c.probes_far.ensures a.points.now a.reals.now) ∙ c.if-probes_far.false) c.tell_by_count.ensures
+    let k = drawn_curve a.drawing.now in
+    told_near a.room k a.range a.r _ (sym (c.probes_far.ensures a.drawing.now.tables.now.points.now a.drawing.now.tables.now.reals.now) ∙ c.if-probes_far.false) c.tell_by_count.ensures

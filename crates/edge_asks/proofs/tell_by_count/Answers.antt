@@ -1,8 +1,6 @@
 -- `edge_asks::tell_by_count` meets its contract. Assumes nothing.
-use Rattle.std.proofs.Common.{sym, ap, ◌∙◌, arith}
-use Rattle.brep.specs.Rows.{lent}
-use Rattle.brep.specs.Tree.{tree}
-use Rattle.edge_count.specs.Own.Said.{count_said}
+use Rattle.std.proofs.Common.{sym, ◌∙◌, arith}
+use Rattle.edge_drawing.specs.Drawing.{drawn_curve}
 use Rattle.edge_asks.proofs.Telling.{refused_told, counted_told, floor_told, clear_told}
 use Rattle.edge_asks.proofs.tell_by_count.Goals as goal
 use Rattle.edge_asks.proofs.tell_by_count.Goals.{else-n-r-via-then-n-r+else-floor_far, else-n-r-via-else-n-r}
@@ -10,24 +8,24 @@ use Rattle.edge_asks.proofs.tell_by_count.Goals.{else-n-r-via-then-n-r+else-floo
 pub returns-then-floor_far : goal.returns-then-floor_far
 returns-then-floor_far c =
     let a = c.args in
-    let k = tree (lent a.points a.curves a.reals a.parts a.ranges) a.row in
-    floor_told a.room k a.range a.r c.requires.3 _ (counted_told a.room k a.range a.r c.requires.3 _ (sym c.count_range-counted.ensures ∙ ap count_said c.in-Count.is)) (omega (arith, c.if-n-r.true))
-    (sym (c.floor_far.ensures a.points.now a.reals.now) ∙ c.if-floor_far.true)
+    let k = drawn_curve a.drawing.now in
+    floor_told a.room k a.range a.r c.requires.2 _ (counted_told a.room k a.range a.r c.requires.2 _ (sym c.count_range-counted.ensures ∙ c.in-Ok.is)) (omega (arith, c.if-n-r.true))
+    (sym (c.floor_far.ensures a.drawing.now.tables.now.points.now a.drawing.now.tables.now.reals.now) ∙ c.if-floor_far.true)
 
-pub returns-in-Refused : goal.returns-in-Refused
-returns-in-Refused c =
+pub returns-in-Err : goal.returns-in-Err
+returns-in-Err c =
     let a = c.args in
-    let k = tree (lent a.points a.curves a.reals a.parts a.ranges) a.row in
-    refused_told a.room k a.range a.r c.requires.3 _ (sym c.count_range-counted.ensures ∙ ap count_said c.in-Refused.is)
+    let k = drawn_curve a.drawing.now in
+    refused_told a.room k a.range a.r c.requires.2 _ (sym c.count_range-counted.ensures ∙ c.in-Err.is)
 
 pub returns-else-n-r : goal.returns-else-n-r
 returns-else-n-r c =
     let a = c.args in
-    let k = tree (lent a.points a.curves a.reals a.parts a.ranges) a.row in
-    let f = counted_told a.room k a.range a.r c.requires.3 _ (sym c.count_range-counted.ensures ∙ ap count_said c.in-Count.is) in
-    clear_told a.room k a.range a.r c.requires.3 f.clear c.requires.1
+    let k = drawn_curve a.drawing.now in
+    let f = counted_told a.room k a.range a.r c.requires.2 _ (sym c.count_range-counted.ensures ∙ c.in-Ok.is) in
+    clear_told a.room k a.range a.r c.requires.2 f.clear c.requires.0
     (λ few.
     elim c.else-n-r.branch [
-      | else-n-r-via-then-n-r+else-floor_far w ↦ sym (w.floor_far.ensures a.points.now a.reals.now) ∙ w.if-floor_far.false
+      | else-n-r-via-then-n-r+else-floor_far w ↦ sym (w.floor_far.ensures a.drawing.now.tables.now.points.now a.drawing.now.tables.now.reals.now) ∙ w.if-floor_far.false
       | else-n-r-via-else-n-r w ↦ absurd (omega (arith, w.if-n-r.false, f.long))
     ])

@@ -1,28 +1,21 @@
 -- `edge_closed_form::meets` meets its contract. Assumes nothing.
 use mathlib.Core.Path.{sym, ap, ◌∙◌}
-use native.Mathlib.Omega.{arith}
 use lib.Ieee.{le}
-use lib.Seq.{length-take-le}
 use Rattle.arith_root.specs.Root.{root_of}
-use Rattle.brep.specs.Rows.{tables}
+use Rattle.brep.specs.Rows.{lent}
 use Rattle.brep.specs.Tree.{tree}
 use Rattle.curve_prepared.specs.Own.Prepared.{is_plain}
 use Rattle.edge_closed_form.proofs.Squares.{same_test}
 use Rattle.edge_closed_form.proofs.meets.Goals as goal
 
-pub slice_bounds-params-end : goal.slice_bounds-params-end
-slice_bounds-params-end c =
-    let st = c in
-    sym (length-take-le st.args.n st.args.out.now st.requires.0)
-
 pub worst_square-worst-requires : goal.worst_square-worst-requires
 worst_square-worst-requires c =
     let st = c in
-    (ap is_plain c.prepare-prepared.ensures ∙ st.requires.2, omega (arith, length-take-le st.args.n st.args.out.now st.requires.0, st.requires.1))
+    (ap is_plain c.prepare-prepared.ensures ∙ st.requires.1, st.requires.0)
 
 pub returns : goal.returns
 returns c =
     let st = c in
     let a = st.args in
-    let w = c.worst_square-worst.ensures (tree (tables a.points.now a.curves.now a.reals.now a.parts.now a.ranges.now) a.row) (sym c.prepare-prepared.ensures) in
+    let w = c.worst_square-worst.ensures (tree (lent a.tables.now) a.row) (sym c.prepare-prepared.ensures) in
     (c.is_root_within.ensures ∙ ap (le (root_of _)) c.new.ensures ∙ same_test _ _ a.sag w.0, w.1)

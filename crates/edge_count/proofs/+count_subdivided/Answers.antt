@@ -1,74 +1,72 @@
 -- `edge_count::count_subdivided` meets its contract, by induction over the depth. Assumes nothing.
-use mathlib.Core.Path.{ap, ◌∙◌}
+use mathlib.Core.Path.{ap}
 use mathlib.Core.Bool.{not}
 use native.Mathlib.Omega.{arith}
-use Rattle.brep.specs.Rows.{lent}
-use Rattle.brep.specs.Tree.{CurveTree, tree}
+use Rattle.std.proofs.lemmas.Result.{err_from_is_err_and}
+use Rattle.brep.specs.Tree.{CurveTree}
+use Rattle.curve_prepared.specs.Own.PreparedCurve.{curve_of}
 use Rattle.edge_params.specs.Params.{midpoint}
 use Rattle.edge_subdivide.proofs.Laws.{end_own}
-use Rattle.edge_count.proofs.Counting.{stands, goes_on, end_near, out_end, out_far, out_within, halves}
+use Rattle.edge_count.proofs.Counting.{end_near, out_end, out_far, out_within, first_refused, middle_refused, both_counted}
 use Rattle.edge_count.proofs.+count_subdivided.Goals as goal
 
 pub returns-then-depth-eq0 : goal.returns-then-depth-eq0
-returns-then-depth-eq0 t c r e =
+returns-then-depth-eq0 t c =
     let a = c.args in
-    let curve : CurveTree = tree (lent a.points a.curves a.reals a.parts a.ranges) a.row in
-    out_end curve r a.depth a.a a.b c.requires.4 c.requires.5 a.room a.k c.if-depth-eq0.true
+    let curve : CurveTree = curve_of a.curve.now in
+    out_end curve a.limits.now.options a.depth a.a a.b c.requires.2 c.requires.3 a.room a.k c.if-depth-eq0.true
 
 pub returns-then-far_at : goal.returns-then-far_at
-returns-then-far_at t c r e =
+returns-then-far_at t c =
     let a = c.args in
-    let curve : CurveTree = tree (lent a.points a.curves a.reals a.parts a.ranges) a.row in
-    out_far curve r a.depth a.a a.b c.requires.4 c.requires.5 a.room a.k c.if-depth-eq0.false (c.far_at.ensures a.points.now a.reals.now) c.if-far_at.true
+    let curve : CurveTree = curve_of a.curve.now in
+    out_far curve a.limits.now.options a.depth a.a a.b c.requires.2 c.requires.3 a.room a.k c.if-depth-eq0.false (c.far_at.ensures a.curve.now.tables.now.points.now a.curve.now.tables.now.reals.now) c.if-far_at.true
 
 pub returns-then-not-is_halved : goal.returns-then-not-is_halved
-returns-then-not-is_halved t c r e =
+returns-then-not-is_halved t c =
     let a = c.args in
-    let curve : CurveTree = tree (lent a.points a.curves a.reals a.parts a.ranges) a.row in
-    out_within curve r a.depth a.a a.b c.requires.4 c.requires.5 a.room a.k c.if-depth-eq0.false (c.far_at.ensures a.points.now a.reals.now) c.if-far_at.false (c.is_halved.ensures r e) (ap not c.if-not-is_halved.true)
+    let curve : CurveTree = curve_of a.curve.now in
+    out_within curve a.limits.now.options a.depth a.a a.b c.requires.2 c.requires.3 a.room a.k c.if-depth-eq0.false (c.far_at.ensures a.curve.now.tables.now.points.now a.curve.now.tables.now.reals.now) c.if-far_at.false (c.is_halved.ensures) (ap not c.if-not-is_halved.true)
 
--- where the span is split: its middle is the curve's (`own`) and not too far (`near`), and its count that of its halves (`both`)
-pub count_subdivided-before-requires : goal.count_subdivided-before-requires
-count_subdivided-before-requires t c =
-    let a = c.args in
-    let curve : CurveTree = tree (lent a.points a.curves a.reals a.parts a.ranges) a.row in
-    let x = midpoint a.a.t a.b.t in
-    let m = c.end_at-m in
-    let own = end_own curve x m.result m.ensures in
-    let near = end_near curve x m.result m.ensures (c.far_at.ensures a.points.now a.reals.now) c.if-far_at.false in
-    let pre = c.requires in
-    (omega (arith, c.decreases, c.if-depth-eq0.false), (pre.0, pre.1, pre.2, own, pre.4, near))
-
-pub returns-in_default : goal.returns-in_default
-returns-in_default t c r e =
-    let a = c.args in
-    let curve : CurveTree = tree (lent a.points a.curves a.reals a.parts a.ranges) a.row in
-    let both = halves curve r a.depth a.a a.b c.requires.4 c.requires.5 a.room a.k c.if-depth-eq0.false (c.far_at.ensures a.points.now a.reals.now) c.if-far_at.false (c.is_halved.ensures r e) (ap not c.if-not-is_halved.false) c.end_at-m.result c.end_at-m.ensures in
-    stands (c.count_subdivided-before.ensures r e) _ c.in_default.is ∙ both
-
-pub returns-in_default-pushed : goal.returns-in_default-pushed
-returns-in_default-pushed t c r e =
-    let a = c.args in
-    let curve : CurveTree = tree (lent a.points a.curves a.reals a.parts a.ranges) a.row in
-    let both = halves curve r a.depth a.a a.b c.requires.4 c.requires.5 a.room a.k c.if-depth-eq0.false (c.far_at.ensures a.points.now a.reals.now) c.if-far_at.false (c.is_halved.ensures r e) (ap not c.if-not-is_halved.false) c.end_at-m.result c.end_at-m.ensures in
-    stands (c.count_one-pushed.ensures _ _) _ c.in_default-pushed.is
-    ∙ goes_on (c.count_subdivided-before.ensures r e) _ c.in-Count.is ∙ both
-
+-- where the span is split: its middle is the curve's (`own`) and not too far (`near`)
 pub count_subdivided-requires : goal.count_subdivided-requires
 count_subdivided-requires t c =
     let a = c.args in
-    let curve : CurveTree = tree (lent a.points a.curves a.reals a.parts a.ranges) a.row in
+    let curve : CurveTree = curve_of a.curve.now in
     let x = midpoint a.a.t a.b.t in
     let m = c.end_at-m in
     let own = end_own curve x m.result m.ensures in
-    let near = end_near curve x m.result m.ensures (c.far_at.ensures a.points.now a.reals.now) c.if-far_at.false in
+    let near = end_near curve x m.result m.ensures (c.far_at.ensures a.curve.now.tables.now.points.now a.curve.now.tables.now.reals.now) c.if-far_at.false in
     let pre = c.requires in
-    (omega (arith, c.decreases, c.if-depth-eq0.false), (pre.0, pre.1, own, pre.3, near, pre.5))
+    (omega (arith, c.decreases, c.if-depth-eq0.false), (pre.0, own, pre.2, near))
+
+pub returns-in_err-n : goal.returns-in_err-n
+returns-in_err-n t c =
+    let a = c.args in
+    let curve : CurveTree = curve_of a.curve.now in
+    let p = err_from_is_err_and c.from_residual.result c.from_residual.ensures.1 in
+    rw (p.1, p.2) (first_refused curve a.limits.now.options a.depth a.a a.b c.requires.2 c.requires.3 a.room a.k c.if-depth-eq0.false (c.far_at.ensures a.curve.now.tables.now.points.now a.curve.now.tables.now.reals.now) c.if-far_at.false c.is_halved.ensures (ap not c.if-not-is_halved.false) c.end_at-m.result c.end_at-m.ensures c.in_err-n.ensures)
+
+pub returns-in_err-next : goal.returns-in_err-next
+returns-in_err-next t c =
+    let a = c.args in
+    let curve : CurveTree = curve_of a.curve.now in
+    let p = err_from_is_err_and c.from_residual-in_err-next.result c.from_residual-in_err-next.ensures.1 in
+    rw (p.1, p.2) (middle_refused curve a.limits.now.options a.depth a.a a.b c.requires.2 c.requires.3 a.room a.k c.if-depth-eq0.false (c.far_at.ensures a.curve.now.tables.now.points.now a.curve.now.tables.now.reals.now) c.if-far_at.false c.is_halved.ensures (ap not c.if-not-is_halved.false) c.end_at-m.result c.end_at-m.ensures c.in_ok-n.ensures (c.in_err-next.ensures _ _))
+
+pub count_subdivided-requires-2 : goal.count_subdivided-requires-2
+count_subdivided-requires-2 t c =
+    let a = c.args in
+    let curve : CurveTree = curve_of a.curve.now in
+    let x = midpoint a.a.t a.b.t in
+    let m = c.end_at-m in
+    let own = end_own curve x m.result m.ensures in
+    let near = end_near curve x m.result m.ensures (c.far_at.ensures a.curve.now.tables.now.points.now a.curve.now.tables.now.reals.now) c.if-far_at.false in
+    let pre = c.requires in
+    (omega (arith, c.decreases, c.if-depth-eq0.false), (own, pre.1, near, pre.3))
 
 pub returns : goal.returns
-returns t c r e =
+returns t c =
     let a = c.args in
-    let curve : CurveTree = tree (lent a.points a.curves a.reals a.parts a.ranges) a.row in
-    let both = halves curve r a.depth a.a a.b c.requires.4 c.requires.5 a.room a.k c.if-depth-eq0.false (c.far_at.ensures a.points.now a.reals.now) c.if-far_at.false (c.is_halved.ensures r e) (ap not c.if-not-is_halved.false) c.end_at-m.result c.end_at-m.ensures in
-    c.count_subdivided.ensures r e ∙ goes_on (c.count_one-pushed.ensures _ _) _ c.in-Count-pushed.is
-    ∙ goes_on (c.count_subdivided-before.ensures r e) _ c.in-Count.is ∙ both
+    let curve : CurveTree = curve_of a.curve.now in
+    both_counted curve a.limits.now.options a.depth a.a a.b c.requires.2 c.requires.3 a.room a.k c.if-depth-eq0.false (c.far_at.ensures a.curve.now.tables.now.points.now a.curve.now.tables.now.reals.now) c.if-far_at.false c.is_halved.ensures (ap not c.if-not-is_halved.false) c.end_at-m.result c.end_at-m.ensures c.in_ok-n.ensures (c.in_ok-next.ensures _ _) c.count_subdivided-2.ensures

@@ -5,8 +5,8 @@ use Prim.Native.Nat.{◌≤◌}
 use native.Mathlib.Omega.{arith}
 use lib.ListN.{length}
 use lib.Seq.{length-take-le}
-use Rattle.brep.specs.Rows.{tables}
-use Rattle.brep.specs.Tree.{CurveTree, tree}
+use Rattle.brep.specs.Tree.{CurveTree}
+use Rattle.edge_drawing.specs.Drawing.{drawn_curve}
 use Rattle.knots_sort.specs.Own.Sortable.{most_knots}
 use Rattle.knots.specs.Knots.{curve_knots, curve_breaks}
 use Rattle.knots.proofs.Answers.{exceeded}
@@ -18,74 +18,74 @@ use Rattle.edge_count.proofs.count_breaks.Goals as goal
 pub returns-in_default : goal.returns-in_default
 returns-in_default c =
     let a = c.args in
-    let curve : CurveTree = tree (tables a.points.now a.curves.now a.reals.now a.parts.now a.ranges.now) a.row in
-    absurd (omega (arith, c.requires.0, exceeded curve most_knots (curve_breaks curve a.range.lo a.range.hi) (sym c.curve_breaks-found.ensures.0 ∙ c.in_default.is)))
+    let curve : CurveTree = drawn_curve a.drawing.now in
+    absurd (omega (arith, a.drawing.now.sortable, exceeded curve most_knots (curve_breaks curve a.range.lo a.range.hi) (sym c.curve_breaks-found.ensures.0 ∙ c.in_default.is)))
 
 -- the breaks stand at the array's start
 pub slice_bounds-breaks-end : goal.slice_bounds-breaks-end
 slice_bounds-breaks-end c =
     let a = c.args in
-    let curve : CurveTree = tree (tables a.points.now a.curves.now a.reals.now a.parts.now a.ranges.now) a.row in
+    let curve : CurveTree = drawn_curve a.drawing.now in
     let found = c.curve_breaks-found in
-    let s = some_found _ curve a.range.lo a.range.hi found.result _ found.ensures.0 found.ensures.1 found.auto.out c.in-Count.n c.in-Count.is in
+    let s = some_found _ curve a.range.lo a.range.hi found.result _ found.ensures.0 found.ensures.1 found.auto.out c.in-Some.n c.in-Some.is in
     part_room s
 
 pub slice_bounds-thin_far-end : goal.slice_bounds-thin_far-end
 slice_bounds-thin_far-end c =
     let a = c.args in
-    let curve : CurveTree = tree (tables a.points.now a.curves.now a.reals.now a.parts.now a.ranges.now) a.row in
+    let curve : CurveTree = drawn_curve a.drawing.now in
     let found = c.curve_breaks-found in
-    let s = some_found _ curve a.range.lo a.range.hi found.result _ found.ensures.0 found.ensures.1 found.auto.out c.in-Count.n c.in-Count.is in
+    let s = some_found _ curve a.range.lo a.range.hi found.result _ found.ensures.0 found.ensures.1 found.auto.out c.in-Some.n c.in-Some.is in
     sym (length-take-le _ _ (part_room s))
 
 pub returns-then-thin_far : goal.returns-then-thin_far
 returns-then-thin_far c =
     let a = c.args in
-    let curve : CurveTree = tree (tables a.points.now a.curves.now a.reals.now a.parts.now a.ranges.now) a.row in
+    let curve : CurveTree = drawn_curve a.drawing.now in
     let found = c.curve_breaks-found in
-    let s = some_found _ curve a.range.lo a.range.hi found.result _ found.ensures.0 found.ensures.1 found.auto.out c.in-Count.n c.in-Count.is in
+    let s = some_found _ curve a.range.lo a.range.hi found.result _ found.ensures.0 found.ensures.1 found.auto.out c.in-Some.n c.in-Some.is in
     range_far a.room curve a.range a.r (part s) c.thin_far.ensures c.if-thin_far.true
 
 -- the knots fit what curve_breaks left of the array
 pub returns-in_default-kept : goal.returns-in_default-kept
 returns-in_default-kept c =
     let a = c.args in
-    let curve : CurveTree = tree (tables a.points.now a.curves.now a.reals.now a.parts.now a.ranges.now) a.row in
+    let curve : CurveTree = drawn_curve a.drawing.now in
     let k = c.kept_breaks-kept in
-    let fits : length (curve_knots curve) ≤ length c.curve_breaks-found.new.out = omega (arith, c.requires.0, c.curve_breaks-found.auto.out) in
+    let fits : length (curve_knots curve) ≤ length c.curve_breaks-found.new.out = omega (arith, a.drawing.now.sortable, c.curve_breaks-found.auto.out) in
     absurd (not_many curve a.range.lo a.range.hi a.r.sag _ k.result fits k.ensures.0 c.in_default-kept.is)
 
 -- those that are kept stand at its start
 pub slice_bounds-breaks-end-2 : goal.slice_bounds-breaks-end-2
 slice_bounds-breaks-end-2 c =
     let a = c.args in
-    let curve : CurveTree = tree (tables a.points.now a.curves.now a.reals.now a.parts.now a.ranges.now) a.row in
+    let curve : CurveTree = drawn_curve a.drawing.now in
     let k = c.kept_breaks-kept in
-    let fits : length (curve_knots curve) ≤ length c.curve_breaks-found.new.out = omega (arith, c.requires.0, c.curve_breaks-found.auto.out) in
+    let fits : length (curve_knots curve) ≤ length c.curve_breaks-found.new.out = omega (arith, a.drawing.now.sortable, c.curve_breaks-found.auto.out) in
     let same : length k.new.out ≡ length c.curve_breaks-found.new.out = omega (arith, k.auto.out, c.curve_breaks-found.auto.out) in
-    kept_room curve a.range.lo a.range.hi a.r.sag _ k.result fits k.ensures.0 _ _ refl k.ensures.1 _ c.in-Count-kept.is same
+    kept_room curve a.range.lo a.range.hi a.r.sag _ k.result fits k.ensures.0 _ _ refl k.ensures.1 _ c.in-Some-kept.is same
 
 pub slice_bounds-count_walk-end : goal.slice_bounds-count_walk-end
 slice_bounds-count_walk-end c =
     let a = c.args in
-    let curve : CurveTree = tree (tables a.points.now a.curves.now a.reals.now a.parts.now a.ranges.now) a.row in
+    let curve : CurveTree = drawn_curve a.drawing.now in
     let k = c.kept_breaks-kept in
-    let fits : length (curve_knots curve) ≤ length c.curve_breaks-found.new.out = omega (arith, c.requires.0, c.curve_breaks-found.auto.out) in
+    let fits : length (curve_knots curve) ≤ length c.curve_breaks-found.new.out = omega (arith, a.drawing.now.sortable, c.curve_breaks-found.auto.out) in
     let same : length k.new.out ≡ length c.curve_breaks-found.new.out = omega (arith, k.auto.out, c.curve_breaks-found.auto.out) in
-    sym (length-take-le _ _ (kept_room curve a.range.lo a.range.hi a.r.sag _ k.result fits k.ensures.0 _ _ refl k.ensures.1 _ c.in-Count-kept.is same))
+    sym (length-take-le _ _ (kept_room curve a.range.lo a.range.hi a.r.sag _ k.result fits k.ensures.0 _ _ refl k.ensures.1 _ c.in-Some-kept.is same))
 
 pub count_walk-requires : goal.count_walk-requires
 count_walk-requires c =
     let a = c.args in
-    let curve : CurveTree = tree (tables a.points.now a.curves.now a.reals.now a.parts.now a.ranges.now) a.row in
+    let curve : CurveTree = drawn_curve a.drawing.now in
     let k = c.kept_breaks-kept in
-    let fits : length (curve_knots curve) ≤ length c.curve_breaks-found.new.out = omega (arith, c.requires.0, c.curve_breaks-found.auto.out) in
-    (kept_list curve a.range.lo a.range.hi a.r.sag _ k.result fits k.ensures.0 _ _ refl k.ensures.1 _ c.in-Count-kept.is, c.requires.1)
+    let fits : length (curve_knots curve) ≤ length c.curve_breaks-found.new.out = omega (arith, a.drawing.now.sortable, c.curve_breaks-found.auto.out) in
+    (kept_list curve a.range.lo a.range.hi a.r.sag _ k.result fits k.ensures.0 _ _ refl k.ensures.1 _ c.in-Some-kept.is, c.requires)
 
 pub returns : goal.returns
 returns c =
     let a = c.args in
-    let curve : CurveTree = tree (tables a.points.now a.curves.now a.reals.now a.parts.now a.ranges.now) a.row in
+    let curve : CurveTree = drawn_curve a.drawing.now in
     let found = c.curve_breaks-found in
-    let s = some_found _ curve a.range.lo a.range.hi found.result _ found.ensures.0 found.ensures.1 found.auto.out c.in-Count.n c.in-Count.is in
+    let s = some_found _ curve a.range.lo a.range.hi found.result _ found.ensures.0 found.ensures.1 found.auto.out c.in-Some.n c.in-Some.is in
     c.count_walk.ensures ∙ range_near a.room curve a.range a.r (part s) c.thin_far.ensures c.if-thin_far.false

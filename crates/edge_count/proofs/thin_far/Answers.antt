@@ -1,7 +1,7 @@
 -- `edge_count::thin_far` meets its contract: nothing before break number i is too far, so what is too far is in the rest. Assumes nothing.
 use mathlib.Core.Path.{◌∙◌}
 use native.Mathlib.Omega.{arith}
-use Rattle.brep.specs.Rows.{tables}
+use Rattle.brep.specs.Rows.{lent}
 use Rattle.brep.specs.Tree.{CurveTree, tree}
 use Rattle.curve.specs.Eval.{point_at}
 use Rattle.curve_asks.specs.Asks.{asks_far}
@@ -10,43 +10,38 @@ use Rattle.edge_count.proofs.Thinning.{span_found, span_kept, span_skipped, none
 use Rattle.edge_count.proofs.thin_far.Goals as goal
 
 pub offset_bounds-breaks-i : goal.offset_bounds-breaks-i
-offset_bounds-breaks-i c = omega (arith, c.loop-i-test.true, c.well_formed.1.1.1.1.1.1.1.1.1.0.1)
+offset_bounds-breaks-i c = omega (arith, c.loop-i-test.true)
 
 pub returns-then-span_far : goal.returns-then-span_far
 returns-then-span_far c =
-    let st = c in
-    let a = st.args in
-    let curve : CurveTree = tree (tables a.points.now a.curves.now a.reals.now a.parts.now a.ranges.now) a.row in
-    span_found (asks_far curve) (deviation (point_at curve)) a.sag a.hi a.lo c.loop-i.start a.breaks.now c.loop-i.i c.loop-i.invariant c.loop-i-test.true _ c.next_of-next.ensures (c.span_far.ensures a.points.now a.reals.now) c.if-span_far.true
+    let a = c.args in
+    let curve : CurveTree = tree (lent a.tables.now) a.row in
+    span_found (asks_far curve) (deviation (point_at curve)) a.sag a.hi a.lo c.loop-i.start a.breaks.now c.loop-i.i c.loop-i.invariant c.loop-i-test.true _ c.next_of-next.ensures (c.span_far.ensures a.tables.now.points.now a.tables.now.reals.now) c.if-span_far.true
     ∙ sag_some (asks_far curve) curve a.breaks.now a.lo a.hi a.sag c.if-sag.true
 
 pub overflow_add-i : goal.overflow_add-i
-overflow_add-i c = omega (arith, c.loop-i-test.true, c.well_formed.1.1.1.1.1.1.1.1.1.0.1)
+overflow_add-i c = omega (arith, c.loop-i-test.true)
 
 pub loop-i-preserved-then-sag-d : goal.loop-i-preserved-then-sag-d
 loop-i-preserved-then-sag-d c =
-    let st = c in
-    let a = st.args in
-    let curve : CurveTree = tree (tables a.points.now a.curves.now a.reals.now a.parts.now a.ranges.now) a.row in
-    span_kept (asks_far curve) (deviation (point_at curve)) a.sag a.hi a.lo c.loop-i.start a.breaks.now c.loop-i.i c.loop-i.invariant c.loop-i-test.true _ c.next_of-next.ensures (c.span_far.ensures a.points.now a.reals.now) c.if-span_far.false c.deviation-d.ensures c.if-sag-d.true
+    let a = c.args in
+    let curve : CurveTree = tree (lent a.tables.now) a.row in
+    span_kept (asks_far curve) (deviation (point_at curve)) a.sag a.hi a.lo c.loop-i.start a.breaks.now c.loop-i.i c.loop-i.invariant c.loop-i-test.true _ c.next_of-next.ensures (c.span_far.ensures a.tables.now.points.now a.tables.now.reals.now) c.if-span_far.false c.deviation-d.ensures c.if-sag-d.true
 
 pub loop-i-preserved : goal.loop-i-preserved
 loop-i-preserved c =
-    let st = c in
-    let a = st.args in
-    let curve : CurveTree = tree (tables a.points.now a.curves.now a.reals.now a.parts.now a.ranges.now) a.row in
-    span_skipped (asks_far curve) (deviation (point_at curve)) a.sag a.hi a.lo c.loop-i.start a.breaks.now c.loop-i.i c.loop-i.invariant c.loop-i-test.true _ c.next_of-next.ensures (c.span_far.ensures a.points.now a.reals.now) c.if-span_far.false c.deviation-d.ensures c.if-sag-d.false
+    let a = c.args in
+    let curve : CurveTree = tree (lent a.tables.now) a.row in
+    span_skipped (asks_far curve) (deviation (point_at curve)) a.sag a.hi a.lo c.loop-i.start a.breaks.now c.loop-i.i c.loop-i.invariant c.loop-i-test.true _ c.next_of-next.ensures (c.span_far.ensures a.tables.now.points.now a.tables.now.reals.now) c.if-span_far.false c.deviation-d.ensures c.if-sag-d.false
 
 pub returns-after-loop-i : goal.returns-after-loop-i
 returns-after-loop-i c =
-    let st = c in
-    let a = st.args in
-    let curve : CurveTree = tree (tables a.points.now a.curves.now a.reals.now a.parts.now a.ranges.now) a.row in
+    let a = c.args in
+    let curve : CurveTree = tree (lent a.tables.now) a.row in
     none_found (asks_far curve) (deviation (point_at curve)) a.sag a.hi a.lo c.loop-i.start a.breaks.now c.loop-i.i c.loop-i.invariant c.loop-i-test.false ∙ sag_some (asks_far curve) curve a.breaks.now a.lo a.hi a.sag c.if-sag.true
 
 pub returns-else-sag : goal.returns-else-sag
 returns-else-sag c =
-    let st = c in
-    let a = st.args in
-    let curve : CurveTree = tree (tables a.points.now a.curves.now a.reals.now a.parts.now a.ranges.now) a.row in
+    let a = c.args in
+    let curve : CurveTree = tree (lent a.tables.now) a.row in
     sag_none (asks_far curve) curve a.breaks.now a.lo a.hi a.sag c.if-sag.false

@@ -2,7 +2,7 @@
 use mathlib.Core.Path.{◌≡◌}
 use Prim.Native.Nat.{◌-◌}
 use lib.ListN.{length, drop}
-use Rattle.brep.specs.Rows.{tables}
+use Rattle.brep.specs.Rows.{lent}
 use Rattle.brep.specs.Tree.{tree}
 use Rattle.curve.specs.Eval.{point_at}
 use Rattle.curve_asks.specs.Asks.{asks_far}
@@ -12,7 +12,7 @@ use Rattle.edge_count.proofs.thin_far.Given as goal
 
 abbrev pub invariant-loop-i : goal.invariant-loop-i
 invariant-loop-i l =
-    let c = tree (tables l.points l.curves l.reals l.parts l.ranges) l.row in
+    let c = tree (lent l.tables) l.row in
     far_from (asks_far c) (deviation (point_at c)) l.sag l.hi l.start (drop l.i l.breaks) ≡ far_from (asks_far c) (deviation (point_at c)) l.sag l.hi l.lo l.breaks
 
 abbrev pub decreases-loop-i : goal.decreases-loop-i

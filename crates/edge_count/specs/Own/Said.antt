@@ -1,6 +1,5 @@
 -- What a pass that counts instead of listing answers. Definitions only.
-use Rattle.std.specs.Prelude.{true, false, ℕ}
-use Rattle.base_lists.specs.Result.{Result, refused, got}
+use Rattle.std.specs.Prelude.{true, false, ℕ, Err}
 use Rattle.math.specs.declared.Interval.{Interval}
 use Rattle.brep.specs.Tree.{CurveTree}
 use Rattle.options.specs.declared.Resolved.{Resolved}
@@ -9,19 +8,14 @@ use Rattle.knots_thin.specs.Thin.{break_asks}
 use Rattle.edge_params.specs.Work.{some_far}
 use Rattle.edge_params.specs.Params.{bisecting}
 use Rattle.edge_params.specs.Own.Counted.{counted}
-use Rattle.edge_record.specs.declared.Counted.{Counted}
-use Rattle.edge_record.specs.declared.Counted.TheVariants.{Refused, Count}
 use Rattle.edge_sample.specs.Sample.{sampler}
-
--- the number that an answer stands for
-abbrev pub count_said : Counted → Result ℕ
-count_said (Refused n) = refused n
-count_said (Count n) = got n
+use Rattle.refusal.specs.Answer.{Answer}
+use Rattle.refusal.specs.declared.Refusal.TheVariants.{TooFar}
 
 -- sample_params before its segment floor, of a curve without a closed form: how many parameters there are in a room, or 8 or 11
-unfoldable pub range_counted : ℕ → CurveTree → Interval → Resolved → Result ℕ
+unfoldable pub range_counted : ℕ → CurveTree → Interval → Resolved → Answer ℕ
 range_counted room c range r =
     elim (some_far (asks_far c) (break_asks c range.lo range.hi r.sag)) [
-      | true ↦ refused 11
+      | true ↦ Err TooFar
       | false ↦ counted (asks_far c) room 0 (bisecting (sampler c range r) range)
     ]

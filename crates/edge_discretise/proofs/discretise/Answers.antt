@@ -6,4 +6,4 @@ use Rattle.edge_discretise.proofs.discretise.Goals as goal
 pub returns : goal.returns
 returns c =
     let a = c.args in
-    unprobed (lent a.points a.curves a.reals a.parts a.ranges) a.edge a.r c.discretise_usable.ensures
+    unprobed (lent a.drawing.now.tables.now) a.drawing.now.edge a.r c.discretise_usable.ensures

@@ -10,7 +10,7 @@ use Rattle.edge_discretise.proofs.discretise_usable.Goals as goal
 pub returns-in_default : goal.returns-in_default
 returns-in_default c =
     let a = c.args in
-    let z = into_chord (room_of (length a.chain.now) (length a.scratch.now)) (lent a.points a.curves a.reals a.parts a.ranges) a.edge a.probes_first a.r (length a.chain.now) _ c.requires.4 c.in_default.is refl c.chord.ensures in
+    let z = into_chord (room_of (length a.chain.now) (length a.scratch.now)) (lent a.drawing.now.tables.now) a.drawing.now.edge a.probes_first a.r (length a.chain.now) _ a.drawing.now.own c.in_default.is refl c.chord.ensures in
     record { drawn = z; cleared = c.clear_from.ensures }
 
 -- in the following, `l`: the part of scratch that is lent
@@ -29,7 +29,7 @@ draw_range-drawn-requires c =
     let a = c.args in
     let l : Lent (length c.args.chain.now) c.room-n.result c.args.scratch.now = lent_part _ _ _ c.room-n.ensures in
     let p = c.requires in
-    (omega (arith, l.few, l.size), omega (arith, l.fits, l.size), p.2, p.3)
+    (omega (arith, l.few, l.size), omega (arith, l.fits, l.size), p.2)
 
 pub clear_from-requires-2 : goal.clear_from-requires-2
 clear_from-requires-2 c =
@@ -44,7 +44,7 @@ returns c =
     let d = c.draw_range-drawn in
     record {
       drawn =
-          into_range (room_of (length a.chain.now) (length a.scratch.now)) (lent a.points a.curves a.reals a.parts a.ranges) a.edge a.probes_first a.r (length a.chain.now) _ c.requires.4 _ _ c.in-Range.is
+          into_range (room_of (length a.chain.now) (length a.scratch.now)) (lent a.drawing.now.tables.now) a.drawing.now.edge a.probes_first a.r (length a.chain.now) _ a.drawing.now.own _ _ c.in-Some.is
           (l.size ∙ n.ensures) d.ensures.0;
       cleared = cleared_whole n.result d.new.scratch a.scratch.now l.inside d.ensures.1 c.clear_from-2.ensures;
     }

@@ -15,90 +15,90 @@ pub slice_bounds-records-end-2 : goal.slice_bounds-records-end-2
 slice_bounds-records-end-2 c = sym (records_length c.args.scratch.now c.args.chain.now c.requires.1)
 
 pub sample_params-sampled-requires : goal.sample_params-sampled-requires
-sample_params-sampled-requires c = (c.requires.2, records_room c.args.scratch.now c.args.chain.now c.requires.1)
+sample_params-sampled-requires c = records_room c.args.scratch.now c.args.chain.now c.requires.1
 
 pub returns-in_default : goal.returns-in_default
 returns-in_default c =
     let a = c.args in
-    let T = lent a.points a.curves a.reals a.parts a.ranges in
+    let T = lent a.drawing.now.tables.now in
     let wide = width * length a.scratch.now in
-    let sampling = sampled_in (length a.scratch.now) (edge_curve T a.edge) a.range a.r in
+    let sampling = sampled_in (length a.scratch.now) (edge_curve T a.drawing.now.edge) a.range a.r in
     let left = c.sample_params-sampled.new.chain in
     let p = c.sample_params-sampled.ensures.0 in
     let e = c.in_default.is in
-    (into_over T a.edge a.r a.range (length a.scratch.now) c.requires.3 (into_as (whole_length wide left a.chain.now c.sample_params-sampled.auto.chain) (into_none sampling _ _ (left ++ drop wide a.chain.now) _ p.0 e c.clear_from.ensures)), none_listed _ sampling _ p.0 e p.1)
+    (into_over T a.drawing.now.edge a.r a.range (length a.scratch.now) c.requires.2 (into_as (whole_length wide left a.chain.now c.sample_params-sampled.auto.chain) (into_none sampling _ _ (left ++ drop wide a.chain.now) _ p.0 e c.clear_from.ensures)), none_listed _ sampling _ p.0 e p.1)
 
 -- in the following, `s`: scratch after sampling, which did not refuse
 pub slice_bounds-params-end : goal.slice_bounds-params-end
 slice_bounds-params-end c =
     let a = c.args in
-    let T = lent a.points a.curves a.reals a.parts a.ranges in
+    let T = lent a.drawing.now.tables.now in
     let t = c.sample_params-sampled in
-    let s = sampling_some (length a.scratch.now) (edge_curve T a.edge) a.range a.r t.result.listed c.in-Count.n _ t.ensures.0 c.in-Count.is in
+    let s = sampling_some (length a.scratch.now) (edge_curve T a.drawing.now.edge) a.range a.r t.result.listed c.in-Some.n _ t.ensures.0 c.in-Some.is in
     part_room s
 
 pub slice_bounds-params-end-2 : goal.slice_bounds-params-end-2
 slice_bounds-params-end-2 c =
     let a = c.args in
-    let T = lent a.points a.curves a.reals a.parts a.ranges in
+    let T = lent a.drawing.now.tables.now in
     let t = c.sample_params-sampled in
-    let s = sampling_some (length a.scratch.now) (edge_curve T a.edge) a.range a.r t.result.listed c.in-Count.n _ t.ensures.0 c.in-Count.is in
+    let s = sampling_some (length a.scratch.now) (edge_curve T a.drawing.now.edge) a.range a.r t.result.listed c.in-Some.n _ t.ensures.0 c.in-Some.is in
     sym (part_length s)
 
 pub place-requires : goal.place-requires
 place-requires c =
     let a = c.args in
-    let T = lent a.points a.curves a.reals a.parts a.ranges in
+    let T = lent a.drawing.now.tables.now in
     let t = c.sample_params-sampled in
-    let s = sampling_some (length a.scratch.now) (edge_curve T a.edge) a.range a.r t.result.listed c.in-Count.n _ t.ensures.0 c.in-Count.is in
+    let s = sampling_some (length a.scratch.now) (edge_curve T a.drawing.now.edge) a.range a.r t.result.listed c.in-Some.n _ t.ensures.0 c.in-Some.is in
     let wide = width * length a.scratch.now in (
       omega (arith, s.two, part_length s),
       omega (arith, s.fits, part_length s, c.requires.1, whole_length wide t.new.chain a.chain.now t.auto.chain),
-      held T a.edge a.r a.range s _ _ (drop wide a.chain.now) (omega (arith, records_length a.scratch.now a.chain.now c.requires.1)) t.ensures.1,
+      held T a.drawing.now.edge a.r a.range s _ _ (drop wide a.chain.now) (omega (arith, records_length a.scratch.now a.chain.now c.requires.1)) t.ensures.1,
     )
 
 pub slice_bounds-used-end : goal.slice_bounds-used-end
 slice_bounds-used-end c =
     let a = c.args in
-    let T = lent a.points a.curves a.reals a.parts a.ranges in
+    let T = lent a.drawing.now.tables.now in
     let t = c.sample_params-sampled in
-    let s = sampling_some (length a.scratch.now) (edge_curve T a.edge) a.range a.r t.result.listed c.in-Count.n _ t.ensures.0 c.in-Count.is in
+    let s = sampling_some (length a.scratch.now) (edge_curve T a.drawing.now.edge) a.range a.r t.result.listed c.in-Some.n _ t.ensures.0 c.in-Some.is in
     part_room s
 
 pub slice_bounds-used-end-2 : goal.slice_bounds-used-end-2
 slice_bounds-used-end-2 c =
     let a = c.args in
-    let T = lent a.points a.curves a.reals a.parts a.ranges in
+    let T = lent a.drawing.now.tables.now in
     let t = c.sample_params-sampled in
-    let s = sampling_some (length a.scratch.now) (edge_curve T a.edge) a.range a.r t.result.listed c.in-Count.n _ t.ensures.0 c.in-Count.is in
+    let s = sampling_some (length a.scratch.now) (edge_curve T a.drawing.now.edge) a.range a.r t.result.listed c.in-Some.n _ t.ensures.0 c.in-Some.is in
     sym (part_length s)
 
 pub clear_from-requires-2 : goal.clear_from-requires-2
 clear_from-requires-2 c =
     let a = c.args in
-    let T = lent a.points a.curves a.reals a.parts a.ranges in
+    let T = lent a.drawing.now.tables.now in
     let t = c.sample_params-sampled in
-    let s = sampling_some (length a.scratch.now) (edge_curve T a.edge) a.range a.r t.result.listed c.in-Count.n _ t.ensures.0 c.in-Count.is in
+    let s = sampling_some (length a.scratch.now) (edge_curve T a.drawing.now.edge) a.range a.r t.result.listed c.in-Some.n _ t.ensures.0 c.in-Some.is in
     omega (arith, part_length s)
 
 pub finish-requires : goal.finish-requires
 finish-requires c =
     let a = c.args in
-    let T = lent a.points a.curves a.reals a.parts a.ranges in
+    let T = lent a.drawing.now.tables.now in
     let t = c.sample_params-sampled in
-    let s = sampling_some (length a.scratch.now) (edge_curve T a.edge) a.range a.r t.result.listed c.in-Count.n _ t.ensures.0 c.in-Count.is in
+    let s = sampling_some (length a.scratch.now) (edge_curve T a.drawing.now.edge) a.range a.r t.result.listed c.in-Some.n _ t.ensures.0 c.in-Some.is in
     let wide = width * length a.scratch.now in
     let long = whole_length wide t.new.chain a.chain.now t.auto.chain in
-    (s.two, omega (arith, s.fits, c.requires.0), placed_room T a.edge a.r a.range s (t.new.chain ++ drop wide a.chain.now) _ (omega (arith, s.fits, c.requires.1, long)) c.place.ensures)
+    (s.two, omega (arith, s.fits, c.requires.0), placed_room T a.drawing.now.edge a.r a.range s (t.new.chain ++ drop wide a.chain.now) _ (omega (arith, s.fits, c.requires.1, long)) c.place.ensures)
 
 pub returns : goal.returns
 returns c =
     let a = c.args in
-    let T = lent a.points a.curves a.reals a.parts a.ranges in
+    let T = lent a.drawing.now.tables.now in
     let t = c.sample_params-sampled in
-    let s = sampling_some (length a.scratch.now) (edge_curve T a.edge) a.range a.r t.result.listed c.in-Count.n _ t.ensures.0 c.in-Count.is in
+    let s = sampling_some (length a.scratch.now) (edge_curve T a.drawing.now.edge) a.range a.r t.result.listed c.in-Some.n _ t.ensures.0 c.in-Some.is in
     let wide = width * length a.scratch.now in
     let long = whole_length wide t.new.chain a.chain.now t.auto.chain in (
-      into_as long (into_some T a.edge a.r a.range s (t.new.chain ++ drop wide a.chain.now) _ (omega (arith, s.fits, c.requires.1, long)) c.place.ensures c.requires.3 _ _ c.finish.ensures),
+      into_as long (into_some T a.drawing.now.edge a.r a.range s (t.new.chain ++ drop wide a.chain.now) _ (omega (arith, s.fits, c.requires.1, long)) c.place.ensures c.requires.2 _ _ c.finish.ensures),
       cleared_used s c.clear_from-2.ensures,
     )

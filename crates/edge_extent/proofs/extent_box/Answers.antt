@@ -2,10 +2,10 @@
 use Rattle.draw_spec.specs.Edge.{extent_box}
 use Rattle.edge_extent.proofs.extent_box.Goals as goal
 
-pub returns-in-Range : goal.returns-in-Range
+pub returns-in-Some : goal.returns-in-Some
 unfolding extent_box
-returns-in-Range c = rw c.in-Range.is c.probe.ensures
+returns-in-Some c = rw c.in-Some.is c.probe.ensures
 
-pub returns-in-Unusable : goal.returns-in-Unusable
+pub returns-in-None : goal.returns-in-None
 unfolding extent_box
-returns-in-Unusable c = rw c.in-Unusable.is
+returns-in-None c = rw c.in-None.is

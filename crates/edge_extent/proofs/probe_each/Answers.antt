@@ -17,7 +17,7 @@ pub loop-i-smaller : goal.loop-i-smaller
 loop-i-smaller c = omega arith
 
 pub loop-i-preserved : goal.loop-i-preserved
-loop-i-preserved c = (omega arith, one_more _ _ _ _ c.loop-i.invariant.1 c.requires c.at-t.ensures c.point_of-p.ensures c.add_finite-found.ensures)
+loop-i-preserved c = (omega arith, one_more _ _ _ _ c.loop-i.invariant.1 c.at-t.ensures c.point-p.ensures c.add_finite-found.ensures)
 
 pub returns : goal.returns
 returns c = all_nine _ _ _ _ c.loop-i.invariant.1 c.loop-i.invariant.0 c.loop-i-test.false

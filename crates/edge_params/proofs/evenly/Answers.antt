@@ -1,33 +1,28 @@
--- `evenly` meets its contract. The loop's invariant: the first i steps are held. Assumes nothing.
-use Rattle.std.proofs.Common.{refl, arith, rules}
-use Rattle.edge_params.proofs.Written.{written_length}
-use Rattle.edge_params.proofs.Steps.{steps_none, steps_push, steps_stop, steps_done}
+-- `evenly` meets its contract.
+use Rattle.std.proofs.Common.{arith}
+use Rattle.edge_params.proofs.Steps.{steps_none, steps_push, steps_stop, steps_last}
 use Rattle.edge_params.proofs.evenly.Goals as goal
+use Rattle.edge_params.proofs.evenly.Goals.{else-loop-i-test, then-loop-i-test+else-at-out+else-i-n}
 
 pub loop-i-init : goal.loop-i-init
-loop-i-init c = let a = c.args in (omega arith, refl, steps_none a.range a.n a.out.now)
+loop-i-init c = steps_none c.args.range c.args.n c.args.out.now
 
-pub shape_of-out-then-out-k : goal.shape_of-out-then-out-k
-shape_of-out-then-out-k c = c.loop-i.invariant.1
-
-pub returns-then-out-k : goal.returns-then-out-k
-returns-then-out-k c =
-    let a = c.args in
+pub returns-then-at-out : goal.returns-then-at-out
+returns-then-at-out c =
     let l = c.loop-i in
-    steps_stop a.range a.n l.i l.invariant.2 (search rules) (search rules)
+    steps_stop c.args.range c.args.n l.i l.invariant (omega arith) (omega arith)
 
 pub loop-i-preserved : goal.loop-i-preserved
 loop-i-preserved c =
-    let a = c.args in
     let l = c.loop-i in
-    let h = steps_push a.range a.n l.i l.invariant.2 c.at.result (rw (c.at.ensures, c.nearest_u64_to_f64.ensures, c.nearest_u64_to_f64-total.ensures)) (search rules) in
-    (search rules, written_length h, h)
-
-pub shape_of-out : goal.shape_of-out
-shape_of-out c = c.loop-i.invariant.1
+    steps_push c.args.range c.args.n l.i l.invariant c.at.result (rw (c.at.ensures, c.nearest_u64_to_f64.ensures, c.nearest_u64_to_f64-total.ensures)) (omega arith)
 
 pub returns : goal.returns
 returns c =
-    let a = c.args in
     let l = c.loop-i in
-    steps_done a.range a.n l.i l.invariant.2 (search rules)
+    elim c.loop-i-test.branch [
+      | else-loop-i-test w ↦ absurd (omega arith)
+      | then-loop-i-test+else-at-out+else-i-n w ↦ rw w.out-is (
+          steps_last c.args.range c.args.n l.i l.invariant w.at.result
+          (rw (w.at.ensures, w.nearest_u64_to_f64.ensures, c.nearest_u64_to_f64-total.ensures)) (omega arith) (omega arith))
+    ]

@@ -2,14 +2,13 @@
 use mathlib.Core.Path.{◌≡◌}
 use Prim.Native.Nat.{◌≤◌, ◌-◌}
 use lib.ListN.{length}
-use Rattle.brep.specs.Rows.{tables}
-use Rattle.brep.specs.Tree.{tree}
+use Rattle.curve_prepared.specs.Own.PreparedCurve.{curve_of}
 use Rattle.edge_closed_form.proofs.Located.{Written}
 use Rattle.edge_place.proofs.locate.Given as goal
 
 abbrev pub invariant-loop-i : goal.invariant-loop-i
 invariant-loop-i l =
-    (l.i ≤ length l.params) × (length l.chain ≡ length l.initial.chain) × Written (tree (tables l.points l.curves l.reals l.parts l.ranges) l.row) l.initial.chain l.params l.chain l.i
+    (l.i ≤ length l.params) × (length l.chain ≡ length l.initial.chain) × Written (curve_of l.curve) l.initial.chain l.params l.chain l.i
 
 abbrev pub decreases-loop-i : goal.decreases-loop-i
 decreases-loop-i l = length l.params - l.i

@@ -11,7 +11,7 @@ use Rattle.edge_place.proofs.place.Goals.{then-not-known, else-not-known}
 pub returns : goal.returns
 returns c =
     let a = c.args in
-    let T = lent a.points a.curves a.reals a.parts a.ranges in
+    let T = lent a.tables.now in
     -- the chain with the curve's points, known or not
     let held : c.if-not-known.chain ≡ sets a.chain.now 0 (flat (located (edge_curve T a.edge) a.params.now)) =
     elim c.if-not-known.branch [

@@ -1,7 +1,7 @@
 -- `edge_range::usable_once` meets its contract. Assumes nothing.
+use Rattle.std.specs.Prelude.{Some}
 use mathlib.Core.Path.{sym, ap, ◌∙◌}
 use Rattle.brep.specs.Tree.{CurveTree}
-use Rattle.edge_range.specs.declared.Usable.TheVariants.{Range}
 use Rattle.edge_range.specs.Usable.{within_domain}
 use Rattle.edge_range.proofs.Laws.{by_own, by_edge}
 use Rattle.edge_range.proofs.usable_once.Goals as goal
@@ -11,4 +11,4 @@ returns-then-is_no_range c = λ (k : CurveTree) e p. c.own_range.ensures ∙ by_
 
 pub returns : goal.returns
 unfolding within_domain
-returns c = λ (k : CurveTree) e p. ap Range c.clamped_to_domain.ensures ∙ by_edge k _ e (sym c.is_no_range.ensures ∙ c.if-is_no_range.false) p
+returns c = λ (k : CurveTree) e p. ap Some c.clamped_to_domain.ensures ∙ by_edge k _ e (sym c.is_no_range.ensures ∙ c.if-is_no_range.false) p

@@ -1,15 +1,15 @@
 -- `edge_range::usable_range` meets its contract, by the row's kind. Assumes nothing.
+use Rattle.std.specs.Prelude.{Option}
 use mathlib.Core.Path.{refl, ◌∙◌}
 use Rattle.math.specs.declared.Interval.{Interval}
 use Rattle.brep.specs.Tree.{CurveTree}
 use Rattle.brep.proofs.ByKind.{at_line, at_circle, at_ellipse, at_parabola}
 use Rattle.curve.specs.Eval.{natural_range, period}
-use Rattle.edge_range.specs.declared.Usable.{Usable}
 use Rattle.edge_range.specs.Usable.{usable_range}
 use Rattle.edge_range.proofs.usable_range.Goals as goal
 
 -- the definition as an evaluator of trees
-abbrev usable_at : Interval → CurveTree → Usable
+abbrev usable_at : Interval → CurveTree → Option Interval
 usable_at range c = usable_range c range
 
 pub returns-in-1 : goal.returns-in-1

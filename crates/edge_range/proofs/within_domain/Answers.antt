@@ -2,10 +2,10 @@
 use Rattle.edge_range.specs.Usable.{within_domain}
 use Rattle.edge_range.proofs.within_domain.Goals as goal
 
-pub returns-in-Every : goal.returns-in-Every
+pub returns-in-Some : goal.returns-in-Some
 unfolding within_domain
-returns-in-Every c = rw c.in-Every.is
+returns-in-Some c = rw c.in-Some.is
 
-pub returns-in-Never : goal.returns-in-Never
+pub returns-in-None : goal.returns-in-None
 unfolding within_domain
-returns-in-Never c = rw c.in-Never.is c.clamped_to_domain.ensures
+returns-in-None c = rw c.in-None.is c.clamped_to_domain.ensures

@@ -8,44 +8,51 @@ use Rattle.brep.specs.Rows.{lent}
 use lib.ListN.{length}
 use native.Mathlib.Omega.{arith}
 use mathlib.Core.Bool.{not}
+use Rattle.std.proofs.lemmas.Result.{err_from_is_err_and}
 use mathlib.Core.Path.{refl, ap}
 use Rattle.edge_repair.proofs.by_complement.Goals as goal
 
 pub returns-then-not-span : goal.returns-then-not-span
 returns-then-not-span c =
     let a = c.args in
-    let T = lent a.points a.curves a.reals a.parts a.ranges in
-    redrawn_is c.by_short_arc.ensures _ (complement_none T a.edge a.r (room_of (length a.first.now) (length a.second.now)) a.p c.span.ensures (ap not c.if-not-span.true))
+    let T = lent a.drawing.now.tables.now in
+    let e = a.drawing.now.edge in
+    redrawn_is c.by_short_arc.ensures _ (complement_none T e a.r (room_of (length a.first.now) (length a.second.now)) a.p c.span.ensures (ap not c.if-not-span.true))
 
 pub escapes-requires : goal.escapes-requires
-escapes-requires c = omega (arith, chain_room (drawn_chain c.redraw-drawn.ensures _ c.in-Count.is c.redraw-drawn.auto.second))
+escapes-requires c = omega (arith, chain_room (drawn_chain c.redraw.ensures _ c.in_ok-n.was c.redraw.auto.second))
 
 pub by_short_arc-requires-then-escapes : goal.by_short_arc-requires-then-escapes
-by_short_arc-requires-then-escapes c = let p = c.requires in (omega (arith, p.0), omega (arith, p.1), p.2, p.3)
+by_short_arc-requires-then-escapes c = let p = c.requires in (omega (arith, p.0), omega (arith, p.1), p.2)
 
 pub returns-then-escapes : goal.returns-then-escapes
 returns-then-escapes c =
     let a = c.args in
-    let T = lent a.points a.curves a.reals a.parts a.ranges in
-    let l = c.redraw-drawn.auto.second in
-    let d = drawn_chain c.redraw-drawn.ensures _ c.in-Count.is l in
-    redrawn_is (redrawn_from c.by_short_arc-then-escapes.ensures a.first.now a.second.now c.redraw-drawn.auto.first l) _
-    (complement_escapes T a.edge a.r (room_of (length a.first.now) (length a.second.now)) a.p c.span.ensures (ap not c.if-not-span.false) d.chain d.is
+    let T = lent a.drawing.now.tables.now in
+    let e = a.drawing.now.edge in
+    let l = c.redraw.auto.second in
+    let d = drawn_chain c.redraw.ensures _ c.in_ok-n.was l in
+    redrawn_is (redrawn_from c.by_short_arc-then-escapes.ensures a.first.now a.second.now c.redraw.auto.first l) _
+    (complement_escapes T e a.r (room_of (length a.first.now) (length a.second.now)) a.p c.span.ensures (ap not c.if-not-span.false) d.chain d.is
     (chain_escapes d a.r _ _ _ _ c.reference.ensures c.escapes.ensures c.if-escapes.true))
 
-pub returns-in-Refused : goal.returns-in-Refused
-returns-in-Refused c =
+pub returns-in_err-n : goal.returns-in_err-n
+returns-in_err-n c =
     let a = c.args in
-    let T = lent a.points a.curves a.reals a.parts a.ranges in
-    redrawn_refused c.redraw-drawn.ensures _ _ _ c.in-Refused.is (complement_bind T a.edge a.r (room_of (length a.first.now) (length a.second.now)) a.p c.span.ensures (ap not c.if-not-span.false))
+    let T = lent a.drawing.now.tables.now in
+    let e = a.drawing.now.edge in
+    let p = err_from_is_err_and c.from_residual.result c.from_residual.ensures.1 in
+    rw (p.1, p.2)
+    (redrawn_refused c.redraw.ensures _ _ _ c.in_err-n.was (complement_bind T e a.r (room_of (length a.first.now) (length a.second.now)) a.p c.span.ensures (ap not c.if-not-span.false)))
 
-pub returns-else-escapes : goal.returns-else-escapes
-returns-else-escapes c =
+pub returns : goal.returns
+returns c =
     let a = c.args in
-    let T = lent a.points a.curves a.reals a.parts a.ranges in
-    let t = c.redraw-drawn.ensures in
-    let l = c.redraw-drawn.auto.second in
-    let d = drawn_chain t _ c.in-Count.is l in
+    let T = lent a.drawing.now.tables.now in
+    let e = a.drawing.now.edge in
+    let t = c.redraw.ensures in
+    let l = c.redraw.auto.second in
+    let d = drawn_chain t _ c.in_ok-n.was l in
     redrawn_second (second_is (kept_second Complement _ _ refl (chain_floats_lem d)) _ (ap (by Complement) (chain_reads d))) _ a.first.now a.second.now _ l t.first_holds
-    (complement_stays T a.edge a.r (room_of (length a.first.now) (length a.second.now)) a.p c.span.ensures (ap not c.if-not-span.false) d.chain d.is
+    (complement_stays T e a.r (room_of (length a.first.now) (length a.second.now)) a.p c.span.ensures (ap not c.if-not-span.false) d.chain d.is
     (chain_escapes d a.r _ _ _ _ c.reference.ensures c.escapes.ensures c.if-escapes.false))

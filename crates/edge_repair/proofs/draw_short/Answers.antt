@@ -6,28 +6,33 @@ use Rattle.draw_spec.specs.Draw.{room_of}
 use Rattle.brep.specs.Rows.{lent}
 use lib.ListN.{length}
 use native.Mathlib.Omega.{arith}
+use Rattle.std.proofs.lemmas.Result.{err_from_is_err_and}
 use mathlib.Core.Path.{ap, ◌∙◌}
 use Rattle.edge_repair.proofs.draw_short.Goals as goal
 
 pub arc_or_chord-requires : goal.arc_or_chord-requires
 arc_or_chord-requires c =
-    let d = drawn_chain c.redraw-drawn.ensures _ c.in-Count.is c.redraw-drawn.auto.second in
+    let d = drawn_chain c.redraw.ensures _ c.in_ok-n.was c.redraw.auto.second in
     (omega (arith, c.requires.1), chain_room d, chain_floats_lem d)
 
-pub returns-in-Refused : goal.returns-in-Refused
-returns-in-Refused c =
+pub returns-in_err-n : goal.returns-in_err-n
+returns-in_err-n c =
     let a = c.args in
-    let T = lent a.points a.curves a.reals a.parts a.ranges in
-    redrawn_refused c.redraw-drawn.ensures _ _ _ c.in-Refused.is (short_bind T a.edge a.r (room_of (length a.first.now) (length a.second.now)) c.requires.4 c.requires.5)
+    let T = lent a.drawing.now.tables.now in
+    let e = a.drawing.now.edge in
+    let p = err_from_is_err_and c.from_residual.result c.from_residual.ensures.1 in
+    rw (p.1, p.2)
+    (redrawn_refused c.redraw.ensures _ _ _ c.in_err-n.was (short_bind T e a.r (room_of (length a.first.now) (length a.second.now)) c.requires.3 c.requires.4))
 
-pub returns-in-Count : goal.returns-in-Count
-returns-in-Count c =
+pub returns : goal.returns
+returns c =
     let a = c.args in
-    let T = lent a.points a.curves a.reals a.parts a.ranges in
-    let t = c.redraw-drawn.ensures in
-    let l = c.redraw-drawn.auto.second in
-    let d = drawn_chain t _ c.in-Count.is l in
+    let T = lent a.drawing.now.tables.now in
+    let e = a.drawing.now.edge in
+    let t = c.redraw.ensures in
+    let l = c.redraw.auto.second in
+    let d = drawn_chain t _ c.in_ok-n.was l in
     redrawn_second
-    (second_is c.arc_or_chord.ensures _ (arc_points T a.edge a.r _ ∙ ap (arc_or_chord T a.edge a.r) (chain_reads d)))
+    (second_is c.arc_or_chord.ensures _ (arc_points T e a.r _ ∙ ap (arc_or_chord T e a.r) (chain_reads d)))
     _ a.first.now a.second.now _ l t.first_holds
-    (short_drawn T a.edge a.r (room_of (length a.first.now) (length a.second.now)) c.requires.4 c.requires.5 d.chain d.is)
+    (short_drawn T e a.r (room_of (length a.first.now) (length a.second.now)) c.requires.3 c.requires.4 d.chain d.is)

@@ -4,10 +4,10 @@ use Rattle.brep.specs.Rows.{lent}
 use Rattle.edge_repair.proofs.redraw.Goals as goal
 
 pub discretise-requires : goal.discretise-requires
-discretise-requires c = let p = c.requires in (p.1, p.0, rw c.with_range-d.ensures p.2, p.3)
+discretise-requires c = let p = c.requires in (p.1, p.0, p.2)
 
 pub returns : goal.returns
 returns c =
-    let s = c in
-    let a = s.args in
-    redrawn_chain (lent a.points a.curves a.reals a.parts a.ranges) _ _ a.r s.requires.0 s.requires.1 c.with_range-d.ensures c.discretise.ensures
+    let a = c.args in
+    let d = c.with_range in
+    redrawn_chain (lent a.drawing.now.tables.now) _ _ _ a.r c.requires.0 c.requires.1 d.ensures.over d.ensures.of c.discretise.ensures

@@ -4,26 +4,30 @@ use Rattle.edge_repair.proofs.Ways.{repaired_kept, repaired_complement, repaired
 use Rattle.draw_spec.specs.Repair.{by, repaired}
 use Rattle.edge_record.specs.Chain.{samples}
 use Rattle.brep.specs.Rows.{lent}
-use mathlib.Core.Path.{sym, ◌∙◌}
+use mathlib.Core.Path.{refl, sym, ◌∙◌}
 use Rattle.edge_repair.proofs.repair_runaway.Goals as goal
 
 pub returns-then-stays : goal.returns-then-stays
 returns-then-stays c =
     let a = c.args in
-    let T = lent a.points a.curves a.reals a.parts a.ranges in
+    let d = a.drawing.now in
     kept_after_lem _ a.way a.n a.first.now a.second.now
-    (repaired_kept T a.edge a.r _ (by a.way (samples a.n a.first.now)) (sym c.stays.ensures ∙ c.if-stays.true)) c.requires.7 c.requires.5 c.requires.6
+    (repaired_kept (lent d.tables.now) d.edge a.r _ (by a.way (samples a.n a.first.now)) (sym c.stays.ensures ∙ c.if-stays.true)) c.requires.6 c.requires.4 c.requires.5
 
-pub returns-in_default : goal.returns-in_default
-returns-in_default c =
+pub returns-in-Some : goal.returns-in-Some
+returns-in-Some c =
     let a = c.args in
-    let T = lent a.points a.curves a.reals a.parts a.ranges in
-    (redrawn_is c.by_short_arc.ensures (repaired T a.edge a.r (by a.way (samples a.n a.first.now)))
-    (repaired_short T a.edge a.r _ (by a.way (samples a.n a.first.now)) (sym c.stays.ensures ∙ c.if-stays.false) c.period-period.ensures c.in_default.is)).drawn
+    let d = a.drawing.now in
+    let T = lent d.tables.now in
+    let g = by a.way (samples a.n a.first.now) in
+    (redrawn_is c.by_complement.ensures (repaired T d.edge a.r g)
+    (repaired_complement T d.edge a.r _ g (sym c.stays.ensures ∙ c.if-stays.false) c.in-Some.ensures _ refl)).drawn
 
-pub returns : goal.returns
-returns c =
+pub returns-in-None : goal.returns-in-None
+returns-in-None c =
     let a = c.args in
-    let T = lent a.points a.curves a.reals a.parts a.ranges in
-    (redrawn_is c.by_complement.ensures (repaired T a.edge a.r (by a.way (samples a.n a.first.now)))
-    (repaired_complement T a.edge a.r _ (by a.way (samples a.n a.first.now)) (sym c.stays.ensures ∙ c.if-stays.false) c.period-period.ensures _ c.in-Every.is)).drawn
+    let d = a.drawing.now in
+    let T = lent d.tables.now in
+    let g = by a.way (samples a.n a.first.now) in
+    (redrawn_is c.by_short_arc.ensures (repaired T d.edge a.r g)
+    (repaired_short T d.edge a.r _ g (sym c.stays.ensures ∙ c.if-stays.false) c.in-None.ensures refl)).drawn

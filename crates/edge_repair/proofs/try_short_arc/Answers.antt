@@ -10,17 +10,18 @@ use Rattle.edge_repair.proofs.try_short_arc.Goals.{then-is_finite+then-span+else
 pub draw_short-requires : goal.draw_short-requires
 draw_short-requires c =
     let a = c.args in
-    let T = lent a.points a.curves a.reals a.parts a.ranges in
+    let T = lent a.drawing.now.tables.now in
+    let e = a.drawing.now.edge in
     let p = c.requires in
     let short = c.short_range-short.ensures in
-    (p.0, p.1, p.2, p.3, short_by T a.edge p.4 c.span-span.ensures c.is_finite.ensures true short c.span.ensures c.if-is_finite.true c.if-span.true c.if-span-2.true, short)
+    (p.0, p.1, p.2, short_by T e p.3 c.span-span.ensures c.is_finite.ensures true short c.span.ensures c.if-is_finite.true c.if-span.true c.if-span-2.true, short)
 
 pub returns : goal.returns
 returns c =
     let a = c.args in
-    let T = lent a.points a.curves a.reals a.parts a.ranges in
-    let e = a.edge in
-    let n = c.requires.4 in
+    let T = lent a.drawing.now.tables.now in
+    let e = a.drawing.now.edge in
+    let n = c.requires.3 in
     let w = c.span-span.ensures in
     let f = c.is_finite.ensures in
     redrawn_second c.runaway.ensures _ a.first.now a.second.now _ refl c.clear_from.ensures

@@ -2,9 +2,10 @@
 use mathlib.Core.Path.{refl, sym, ap, ◌∙◌}
 use native.Mathlib.Omega.{arith}
 use lib.ListN.{length}
+use lib.Seq.{length-take-le}
 use borrow.Author.Rules.{rules}
-use Rattle.brep.specs.Rows.{tables}
-use Rattle.brep.specs.Tree.{CurveTree, tree}
+use Rattle.brep.specs.Tree.{CurveTree}
+use Rattle.edge_drawing.specs.Drawing.{drawn_curve}
 use Rattle.edge_params.specs.Own.InRoom.{refined_in}
 use Rattle.edge_sample.specs.Sample.{sampler}
 use Rattle.edge_sample.specs.Own.Answered.{sampled_in}
@@ -17,7 +18,7 @@ use Rattle.edge_sample.proofs.sample_params.Goals as goal
 pub returns-in_default : goal.returns-in_default
 returns-in_default c =
     let st = c in
-    let curve : CurveTree = tree (tables st.args.points.now st.args.curves.now st.args.reals.now st.args.parts.now st.args.ranges.now) st.args.row in
+    let curve : CurveTree = drawn_curve st.args.drawing.now in
     let is = c.analytic_segments-form.ensures in
     let none = c.in_default.is in (
       answered_as c.refine.result.listed _ _ _ refl (λ n. refined_in n (sampler curve st.args.range st.args.r) st.args.range) (sampled_in (length st.args.out.now) curve st.args.range st.args.r) (no_form (length st.args.out.now) curve st.args.range st.args.r _ is none) c.refine.ensures.0,
@@ -30,47 +31,53 @@ settle-requires c = settle_room _ _ refl c.evenly-even.ensures
 pub returns-in_default-even : goal.returns-in_default-even
 returns-in_default-even c =
     let st = c in
-    let curve : CurveTree = tree (tables st.args.points.now st.args.curves.now st.args.reals.now st.args.parts.now st.args.ranges.now) st.args.row in
+    let curve : CurveTree = drawn_curve st.args.drawing.now in
     let e = c.in_default-even.is in (
-      parsed_as_lem _ _ c.unknown.ensures.0 (length st.args.out.now) (sampled_in (length st.args.out.now) curve st.args.range st.args.r) _ (settled _ _ refl c.evenly-even.ensures (length st.args.out.now) (sampled_in (length st.args.out.now) curve st.args.range st.args.r) refl (form_refused (length st.args.out.now) curve st.args.range st.args.r _ c.analytic_segments-form.ensures _ c.in-Segments.is refl _ c.evenly-even.ensures e) _ _ c.settle.ensures.0 c.settle.ensures.1),
-      ap (λ k. traced k st.args.chain.now) c.unknown.ensures.1 ∙ refused_traced (length st.args.out.now) curve st.args.range st.args.r _ c.analytic_segments-form.ensures _ c.in-Segments.is refl _ c.evenly-even.ensures st.args.chain.now e,
+      parsed_as_lem _ _ c.unknown.ensures.0 (length st.args.out.now) (sampled_in (length st.args.out.now) curve st.args.range st.args.r) _ (settled _ _ refl c.evenly-even.ensures (length st.args.out.now) (sampled_in (length st.args.out.now) curve st.args.range st.args.r) refl (form_refused (length st.args.out.now) curve st.args.range st.args.r _ c.analytic_segments-form.ensures _ c.in-Some.is refl _ c.evenly-even.ensures e) _ _ c.settle.ensures.0 c.settle.ensures.1),
+      ap (λ k. traced k st.args.chain.now) c.unknown.ensures.1 ∙ refused_traced (length st.args.out.now) curve st.args.range st.args.r _ c.analytic_segments-form.ensures _ c.in-Some.is refl _ c.evenly-even.ensures st.args.chain.now e,
     )
+
+-- the parameters that the check is lent are in the buffer
+pub slice_bounds-meets-end : goal.slice_bounds-meets-end
+slice_bounds-meets-end c = settle_room _ _ c.in-Some-even.is c.evenly-even.ensures
+
+pub slice_bounds-meets-end-2 : goal.slice_bounds-meets-end-2
+slice_bounds-meets-end-2 c = sym (length-take-le _ _ (settle_room _ _ c.in-Some-even.is c.evenly-even.ensures))
 
 pub meets-requires : goal.meets-requires
 meets-requires c =
     let st = c in
-    let curve : CurveTree = tree (tables st.args.points.now st.args.curves.now st.args.reals.now st.args.parts.now st.args.ranges.now) st.args.row in
-    let room = settle_room _ _ c.in-Count.is c.evenly-even.ensures in (
-      room,
-      omega (arith, room, c.evenly-even.auto.out, st.requires.1.wide),
-      form_plain curve st.args.range st.args.r _ (sym c.analytic_segments-form.ensures ∙ c.in-Segments.is),
+    let curve : CurveTree = drawn_curve st.args.drawing.now in
+    let room = settle_room _ _ c.in-Some-even.is c.evenly-even.ensures in (
+      omega (arith, room, length-take-le _ _ room, c.evenly-even.auto.out, st.requires.wide),
+      form_plain curve st.args.range st.args.r _ (sym c.analytic_segments-form.ensures ∙ c.in-Some.is),
     )
 
 pub settle-listed-requires : goal.settle-listed-requires
-settle-listed-requires c = settle_room _ _ c.in-Count.is c.evenly-even.ensures
+settle-listed-requires c = settle_room _ _ c.in-Some-even.is c.evenly-even.ensures
 
 pub returns-then-meets : goal.returns-then-meets
 returns-then-meets c =
     let st = c in
-    let curve : CurveTree = tree (tables st.args.points.now st.args.curves.now st.args.reals.now st.args.parts.now st.args.ranges.now) st.args.row in
+    let curve : CurveTree = drawn_curve st.args.drawing.now in
     let m = c.meets.ensures in
-    let e = c.in-Count.is in (
-      settled _ _ e c.evenly-even.ensures (length st.args.out.now) (sampled_in (length st.args.out.now) curve st.args.range st.args.r) refl (form_meets (length st.args.out.now) curve st.args.range st.args.r _ c.analytic_segments-form.ensures _ c.in-Segments.is refl _ c.evenly-even.ensures _ e _ m.0 c.if-meets.true) _ _ c.settle-listed.ensures.0 c.settle-listed.ensures.1,
-      meets_traced (length st.args.out.now) curve st.args.range st.args.r _ c.analytic_segments-form.ensures _ c.in-Segments.is refl _ c.evenly-even.ensures _ e _ m.0 st.args.chain.now m.1 c.if-meets.true,
+    let e = c.in-Some-even.is in (
+      settled _ _ e c.evenly-even.ensures (length st.args.out.now) (sampled_in (length st.args.out.now) curve st.args.range st.args.r) refl (form_meets (length st.args.out.now) curve st.args.range st.args.r _ c.analytic_segments-form.ensures _ c.in-Some.is refl _ c.evenly-even.ensures _ e _ m.0 c.if-meets.true) _ _ c.settle-listed.ensures.0 c.settle-listed.ensures.1,
+      meets_traced (length st.args.out.now) curve st.args.range st.args.r _ c.analytic_segments-form.ensures _ c.in-Some.is refl _ c.evenly-even.ensures _ e _ m.0 st.args.chain.now m.1 c.if-meets.true,
     )
 
 pub refine-requires-2 : goal.refine-requires-2
 refine-requires-2 c =
     let st = c in
-    (st.requires.0, record { taken = search rules; wide = omega (arith, c.meets.auto.chain, st.requires.1.wide, c.evenly-even.auto.out) })
+    record { taken = search rules; wide = omega (arith, c.meets.auto.chain, st.requires.wide, c.evenly-even.auto.out) }
 
 pub returns : goal.returns
 returns c =
     let st = c in
-    let curve : CurveTree = tree (tables st.args.points.now st.args.curves.now st.args.reals.now st.args.parts.now st.args.ranges.now) st.args.row in
+    let curve : CurveTree = drawn_curve st.args.drawing.now in
     let m = c.meets.ensures in
-    let e = c.in-Count.is in
+    let e = c.in-Some-even.is in
     let long = c.evenly-even.auto.out in (
-      answered_as c.refine-2.result.listed _ _ _ long (λ n. refined_in n (sampler curve st.args.range st.args.r) st.args.range) (sampled_in (length st.args.out.now) curve st.args.range st.args.r) (form_misses (length st.args.out.now) curve st.args.range st.args.r _ c.analytic_segments-form.ensures _ c.in-Segments.is refl _ c.evenly-even.ensures _ e _ m.0 c.if-meets.false) c.refine-2.ensures.0,
-      c.refine-2.ensures.1 ∙ misses_traced (length st.args.out.now) curve st.args.range st.args.r _ c.analytic_segments-form.ensures _ c.in-Segments.is refl _ c.evenly-even.ensures _ e _ m.0 st.args.chain.now m.1 _ long c.if-meets.false,
+      answered_as c.refine-2.result.listed _ _ _ long (λ n. refined_in n (sampler curve st.args.range st.args.r) st.args.range) (sampled_in (length st.args.out.now) curve st.args.range st.args.r) (form_misses (length st.args.out.now) curve st.args.range st.args.r _ c.analytic_segments-form.ensures _ c.in-Some.is refl _ c.evenly-even.ensures _ e _ m.0 c.if-meets.false) c.refine-2.ensures.0,
+      c.refine-2.ensures.1 ∙ misses_traced (length st.args.out.now) curve st.args.range st.args.r _ c.analytic_segments-form.ensures _ c.in-Some.is refl _ c.evenly-even.ensures _ e _ m.0 st.args.chain.now m.1 _ long c.if-meets.false,
     )

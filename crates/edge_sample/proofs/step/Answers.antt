@@ -1,40 +1,29 @@
 -- `edge_sample::step` meets its contract. Assumes nothing.
 use mathlib.Core.Path.{sym}
-use Rattle.brep.specs.Rows.{tables}
-use Rattle.brep.specs.Tree.{CurveTree, tree}
+use Rattle.curve_prepared.specs.Own.PreparedCurve.{curve_of}
 use Rattle.edge_subdivide.proofs.Recorded.{recorded_none, recorded_one, recorded_room, recorded_refused, recorded_then}
 use Rattle.edge_sample.proofs.Walking.{not_hi, is_hi}
 use Rattle.edge_sample.proofs.step.Goals as goal
 
-pub subdivide-inside-requires : goal.subdivide-inside-requires
-subdivide-inside-requires c =
-    let st = c in
-    (st.requires.0, record { options = st.args.r; own = st.requires.1 }, st.requires.2, st.requires.3, st.requires.4)
+pub subdivide-requires : goal.subdivide-requires
+subdivide-requires c = c.requires
 
-pub returns-in_default : goal.returns-in_default
-returns-in_default c =
-    let st = c in
-    let curve : CurveTree = tree (tables st.args.points.now st.args.curves.now st.args.reals.now st.args.parts.now st.args.ranges.now) st.args.row in
-    recorded_refused curve st.requires.4 (c.subdivide-inside.ensures st.args.r st.requires.1) c.in_default.is _
+pub returns-in_err-n : goal.returns-in_err-n
+returns-in_err-n c = rw c.from_residual.ensures (recorded_refused (curve_of c.args.curve.now) c.requires.2 c.subdivide.ensures c.in_err-n.was _)
 
 pub push_end-requires : goal.push_end-requires
-push_end-requires c =
-    let st = c in
-    let curve : CurveTree = tree (tables st.args.points.now st.args.curves.now st.args.reals.now st.args.parts.now st.args.ranges.now) st.args.row in
-    recorded_room curve st.requires.4 (c.subdivide-inside.ensures st.args.r st.requires.1) c.in-Count.is
+push_end-requires c = recorded_room (curve_of c.args.curve.now) c.requires.2 c.subdivide.ensures c.in_ok-n.was
 
 pub returns-then-right-range : goal.returns-then-right-range
 returns-then-right-range c =
-    let st = c in
-    let curve : CurveTree = tree (tables st.args.points.now st.args.curves.now st.args.reals.now st.args.parts.now st.args.ranges.now) st.args.row in
-    recorded_then curve st.requires.4 (c.subdivide-inside.ensures st.args.r st.requires.1) c.in-Count.is _ (rw
-    (sym (not_hi st.args.range st.args.right.t c.if-right-range.true))
-    (recorded_one curve st.args.right st.requires.3 c.push_end.ensures))
+    let a = c.args in
+    recorded_then (curve_of a.curve.now) c.requires.2 c.subdivide.ensures c.in_ok-n.was _ (rw
+    (sym (not_hi a.range a.right.t c.if-right-range.true))
+    (recorded_one (curve_of a.curve.now) a.right c.requires.1 c.push_end.ensures))
 
 pub returns : goal.returns
 returns c =
-    let st = c in
-    let curve : CurveTree = tree (tables st.args.points.now st.args.curves.now st.args.reals.now st.args.parts.now st.args.ranges.now) st.args.row in
-    let e = c.in-Count.is in
-    recorded_then curve st.requires.4 (c.subdivide-inside.ensures st.args.r st.requires.1) e _ (rw (sym (is_hi st.args.range st.args.right.t c.if-right-range.false))
-    (recorded_none curve (recorded_room curve st.requires.4 (c.subdivide-inside.ensures st.args.r st.requires.1) e)))
+    let a = c.args in
+    let e = c.in_ok-n.was in
+    recorded_then (curve_of a.curve.now) c.requires.2 c.subdivide.ensures e _ (rw (sym (is_hi a.range a.right.t c.if-right-range.false))
+    (recorded_none (curve_of a.curve.now) (recorded_room (curve_of a.curve.now) c.requires.2 c.subdivide.ensures e)))

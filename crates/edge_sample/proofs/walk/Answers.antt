@@ -1,92 +1,80 @@
 -- `edge_sample::walk` meets its contract: behind range.lo stands what the stops before number i pushed. Assumes nothing.
 use mathlib.Core.Path.{◌∙◌}
 use native.Mathlib.Omega.{arith}
-use Rattle.brep.specs.Rows.{tables}
-use Rattle.brep.specs.Tree.{CurveTree, tree}
+use Rattle.curve_prepared.specs.Own.PreparedCurve.{curve_of}
+use Rattle.edge_drawing.specs.Drawing.{drawn_curve}
 use Rattle.edge_subdivide.proofs.Recorded.{recorded_one}
-use Rattle.edge_sample.proofs.Walking.{end_own, low_refused, low_then, walking_start, walking_room, walking_length, walking_records, walking_refused, walking_next, walking_done}
+use Rattle.edge_sample.proofs.Walking.{prepared_drawn, end_own, span_of, low_refused, low_then, walking_start, walking_room, walking_length, walking_records, walking_refused, walking_next, walking_done}
 use Rattle.edge_sample.proofs.walk.Goals as goal
 
-pub end_at-low-requires : goal.end_at-low-requires
-end_at-low-requires c = c.prepare-prepared.ensures
+pub push_end-requires : goal.push_end-requires
+push_end-requires c = c.requires.1
 
-pub push_end-pushed-requires : goal.push_end-pushed-requires
-push_end-pushed-requires c = c.requires.1
-
-pub returns-in_default : goal.returns-in_default
-returns-in_default c =
-    let st = c in
-    let curve : CurveTree = tree (tables st.args.points.now st.args.curves.now st.args.reals.now st.args.parts.now st.args.ranges.now) st.args.row in
-    low_refused curve st.args.range st.args.r st.args.breaks.now st.requires.0 st.requires.1 _ c.end_at-low.ensures (recorded_one curve _ (end_own curve _ _ c.end_at-low.ensures) c.push_end-pushed.ensures) c.in_default.is
+pub returns-in_err-first : goal.returns-in_err-first
+returns-in_err-first c =
+    let a = c.args in
+    let p = c.new-curve in
+    let same = prepared_drawn a.drawing.now p.result p.ensures.tables p.ensures.row in
+    rw c.from_residual.ensures (low_refused (curve_of p.result) a.range a.r a.breaks.now (drawn_curve a.drawing.now) same c.requires.0 c.requires.1 _ c.end_at-low.ensures (recorded_one (curve_of p.result) _ (end_own (curve_of p.result) _ _ c.end_at-low.ensures) c.push_end.ensures) c.in_err-first.was)
 
 pub loop-i-init : goal.loop-i-init
 loop-i-init c =
-    let st = c in
-    let curve : CurveTree = tree (tables st.args.points.now st.args.curves.now st.args.reals.now st.args.parts.now st.args.ranges.now) st.args.row in
-    (omega arith, walking_start curve st.args.range st.args.r st.args.breaks.now st.requires.0 st.requires.1 _ c.end_at-low.ensures (recorded_one curve _ (end_own curve _ _ c.end_at-low.ensures) c.push_end-pushed.ensures) c.in-Count.is)
+    let a = c.args in
+    let p = c.new-curve in
+    let same = prepared_drawn a.drawing.now p.result p.ensures.tables p.ensures.row in
+    (omega arith, walking_start (curve_of p.result) a.range a.r a.breaks.now (drawn_curve a.drawing.now) same c.requires.0 c.requires.1 _ c.end_at-low.ensures (recorded_one (curve_of p.result) _ (end_own (curve_of p.result) _ _ c.end_at-low.ensures) c.push_end.ensures) c.in_ok-first.was)
 
-pub end_at-right-requires : goal.end_at-right-requires
-end_at-right-requires c = c.prepare-prepared.ensures
-
-pub step-stepped-requires : goal.step-stepped-requires
-step-stepped-requires c =
-    let st = c in
-    let curve : CurveTree = tree (tables st.args.points.now st.args.curves.now st.args.reals.now st.args.parts.now st.args.ranges.now) st.args.row in
+pub step-requires : goal.step-requires
+step-requires c =
+    let curve = curve_of c.new-curve.result in
     let s = c.loop-i.invariant.1 in
-    (c.prepare-prepared.ensures, c.limits_of-limits.ensures, s.own, end_own curve _ _ c.end_at-right.ensures, walking_room curve st.args.range st.args.r st.args.breaks.now s)
+    (s.own, end_own curve _ _ c.end_at-right.ensures, walking_room curve c.args.range c.args.r c.args.breaks.now s)
 
-pub shape_of-out-in_default-stepped : goal.shape_of-out-in_default-stepped
-shape_of-out-in_default-stepped c =
-    let st = c in
-    let curve : CurveTree = tree (tables st.args.points.now st.args.curves.now st.args.reals.now st.args.parts.now st.args.ranges.now) st.args.row in
-    c.step-stepped.auto.out ∙ walking_length curve st.args.range st.args.r st.args.breaks.now c.loop-i.invariant.1 ∙ c.push_end-pushed.auto.out
+pub shape_of-out-in_err-n : goal.shape_of-out-in_err-n
+shape_of-out-in_err-n c =
+    c.step.auto.out ∙ walking_length (curve_of c.new-curve.result) c.args.range c.args.r c.args.breaks.now c.loop-i.invariant.1 ∙ c.push_end.auto.out
 
-pub shape_of-chain-in_default-stepped : goal.shape_of-chain-in_default-stepped
-shape_of-chain-in_default-stepped c =
-    let st = c in
-    let curve : CurveTree = tree (tables st.args.points.now st.args.curves.now st.args.reals.now st.args.parts.now st.args.ranges.now) st.args.row in
-    c.step-stepped.auto.chain ∙ walking_records curve st.args.range st.args.r st.args.breaks.now c.loop-i.invariant.1 ∙ c.push_end-pushed.auto.chain
+pub shape_of-chain-in_err-n : goal.shape_of-chain-in_err-n
+shape_of-chain-in_err-n c =
+    c.step.auto.chain ∙ walking_records (curve_of c.new-curve.result) c.args.range c.args.r c.args.breaks.now c.loop-i.invariant.1 ∙ c.push_end.auto.chain
 
-pub returns-in_default-stepped : goal.returns-in_default-stepped
-returns-in_default-stepped c =
-    let st = c in
-    let curve : CurveTree = tree (tables st.args.points.now st.args.curves.now st.args.reals.now st.args.parts.now st.args.ranges.now) st.args.row in
-    low_then curve st.args.range st.args.r st.args.breaks.now st.requires.0 st.requires.1 _ c.end_at-low.ensures (recorded_one curve _ (end_own curve _ _ c.end_at-low.ensures) c.push_end-pushed.ensures) c.in-Count.is
-    (walking_refused curve st.args.range st.args.r st.args.breaks.now c.loop-i.invariant.1 c.loop-i-test.true _ c.stop_at-b.ensures _ c.end_at-right.ensures c.step-stepped.ensures c.in_default-stepped.is)
+pub returns-in_err-n : goal.returns-in_err-n
+returns-in_err-n c =
+    let a = c.args in
+    let p = c.new-curve in
+    let same = prepared_drawn a.drawing.now p.result p.ensures.tables p.ensures.row in
+    let g = span_of (curve_of p.result) a.range a.r _ c.limits_of-limits.ensures _ _ c.step.ensures in
+    rw c.from_residual-in_err-n.ensures (low_then (curve_of p.result) a.range a.r a.breaks.now (drawn_curve a.drawing.now) same c.requires.0 c.requires.1 _ c.end_at-low.ensures (recorded_one (curve_of p.result) _ (end_own (curve_of p.result) _ _ c.end_at-low.ensures) c.push_end.ensures) c.in_ok-first.was
+    (walking_refused (curve_of p.result) a.range a.r a.breaks.now c.loop-i.invariant.1 c.loop-i-test.true _ c.stop_at-b.ensures _ c.end_at-right.ensures g c.in_err-n.was))
 
 pub overflow_add-i : goal.overflow_add-i
-overflow_add-i c = omega (arith, c.loop-i-test.true, c.well_formed.1.1.1.1.1.1.1.1.0.1)
+overflow_add-i c = omega (arith, c.loop-i-test.true, c.well_formed.1.1.1.0.1)
 
 pub loop-i-preserved : goal.loop-i-preserved
 loop-i-preserved c =
-    let st = c in
-    let curve : CurveTree = tree (tables st.args.points.now st.args.curves.now st.args.reals.now st.args.parts.now st.args.ranges.now) st.args.row in (
+    let a = c.args in
+    let curve = curve_of c.new-curve.result in
+    let g = span_of curve a.range a.r _ c.limits_of-limits.ensures _ _ c.step.ensures in (
       omega (arith, c.loop-i-test.true),
-      walking_next curve st.args.range st.args.r st.args.breaks.now c.loop-i.invariant.1 c.loop-i-test.true _ c.stop_at-b.ensures _ c.end_at-right.ensures c.step-stepped.ensures _ c.in-Count-stepped.is,
+      walking_next curve a.range a.r a.breaks.now c.loop-i.invariant.1 c.loop-i-test.true _ c.stop_at-b.ensures _ c.end_at-right.ensures g _ c.in_ok-n.was,
     )
 
-pub push_end-requires : goal.push_end-requires
-push_end-requires c =
-    let st = c in
-    let curve : CurveTree = tree (tables st.args.points.now st.args.curves.now st.args.reals.now st.args.parts.now st.args.ranges.now) st.args.row in
-    walking_room curve st.args.range st.args.r st.args.breaks.now c.loop-i.invariant.1
+pub push_end-requires-2 : goal.push_end-requires-2
+push_end-requires-2 c = walking_room (curve_of c.new-curve.result) c.args.range c.args.r c.args.breaks.now c.loop-i.invariant.1
 
 pub shape_of-out : goal.shape_of-out
 shape_of-out c =
-    let st = c in
-    let curve : CurveTree = tree (tables st.args.points.now st.args.curves.now st.args.reals.now st.args.parts.now st.args.ranges.now) st.args.row in
-    c.push_end.auto.out ∙ walking_length curve st.args.range st.args.r st.args.breaks.now c.loop-i.invariant.1 ∙ c.push_end-pushed.auto.out
+    c.push_end-2.auto.out ∙ walking_length (curve_of c.new-curve.result) c.args.range c.args.r c.args.breaks.now c.loop-i.invariant.1 ∙ c.push_end.auto.out
 
 pub shape_of-chain : goal.shape_of-chain
 shape_of-chain c =
-    let st = c in
-    let curve : CurveTree = tree (tables st.args.points.now st.args.curves.now st.args.reals.now st.args.parts.now st.args.ranges.now) st.args.row in
-    c.push_end.auto.chain ∙ walking_records curve st.args.range st.args.r st.args.breaks.now c.loop-i.invariant.1 ∙ c.push_end-pushed.auto.chain
+    c.push_end-2.auto.chain ∙ walking_records (curve_of c.new-curve.result) c.args.range c.args.r c.args.breaks.now c.loop-i.invariant.1 ∙ c.push_end.auto.chain
 
 pub returns : goal.returns
 returns c =
-    let st = c in
-    let curve : CurveTree = tree (tables st.args.points.now st.args.curves.now st.args.reals.now st.args.parts.now st.args.ranges.now) st.args.row in
+    let a = c.args in
+    let p = c.new-curve in
     let s = c.loop-i.invariant.1 in
-    low_then curve st.args.range st.args.r st.args.breaks.now st.requires.0 st.requires.1 _ c.end_at-low.ensures (recorded_one curve _ (end_own curve _ _ c.end_at-low.ensures) c.push_end-pushed.ensures) c.in-Count.is
-    (walking_done curve st.args.range st.args.r st.args.breaks.now s (omega (arith, c.loop-i.invariant.0, c.loop-i-test.false)) (recorded_one curve _ s.own c.push_end.ensures))
+    let same = prepared_drawn a.drawing.now p.result p.ensures.tables p.ensures.row in
+    low_then (curve_of p.result) a.range a.r a.breaks.now (drawn_curve a.drawing.now) same c.requires.0 c.requires.1 _ c.end_at-low.ensures (recorded_one (curve_of p.result) _ (end_own (curve_of p.result) _ _ c.end_at-low.ensures) c.push_end.ensures) c.in_ok-first.was
+    (walking_done (curve_of p.result) a.range a.r a.breaks.now s (omega (arith, c.loop-i.invariant.0, c.loop-i-test.false)) (recorded_one (curve_of p.result) _ s.own c.push_end-2.ensures))

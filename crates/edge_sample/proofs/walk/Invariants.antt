@@ -1,15 +1,14 @@
 -- `edge_sample::walk` meets its contract: behind range.lo stands what the stops before number i pushed. Assumes nothing.
 use Prim.Native.Nat.{◌+◌, ◌-◌, ◌≤◌}
 use lib.ListN.{length}
-use Rattle.brep.specs.Rows.{tables}
-use Rattle.brep.specs.Tree.{tree}
+use Rattle.curve_prepared.specs.Own.PreparedCurve.{curve_of}
 use Rattle.edge_sample.proofs.Walking.{Walking}
 use Rattle.edge_sample.proofs.walk.Given as goal
 
 abbrev pub invariant-loop-i : goal.invariant-loop-i
 invariant-loop-i l =
     (l.i ≤ length l.breaks + 1)
-    × Walking (tree (tables l.points l.curves l.reals l.parts l.ranges) l.row) l.range l.r l.breaks l.initial.out l.initial.chain l.initial.k l.out l.chain l.left l.k l.i
+    × Walking (curve_of l.curve) l.range l.r l.breaks l.initial.out l.initial.chain l.initial.k l.out l.chain l.left l.k l.i
 
 abbrev pub decreases-loop-i : goal.decreases-loop-i
 decreases-loop-i l = length l.breaks + 1 - l.i

@@ -1,33 +1,28 @@
 -- `edge_sample::walk_breaks` meets its contract: the knots fit the array, and its first floats are the breaks. Assumes nothing.
 use mathlib.Core.Path.{refl, sym}
 use lib.Seq.{length-take-le}
-use Rattle.brep.specs.Rows.{tables}
-use Rattle.brep.specs.Tree.{CurveTree, tree}
+use Rattle.edge_drawing.specs.Drawing.{drawn_curve}
 use Rattle.knots_sort.specs.Own.Sortable.{most_knots}
 use Rattle.edge_sample.proofs.Broken.{not_many, kept_room, kept_list}
 use Rattle.edge_sample.proofs.walk_breaks.Goals as goal
 
-pub returns-in_default : goal.returns-in_default
-returns-in_default c =
-    let st = c in
-    let curve : CurveTree = tree (tables st.args.points.now st.args.curves.now st.args.reals.now st.args.parts.now st.args.ranges.now) st.args.row in
-    absurd (not_many curve st.args.range.lo st.args.range.hi st.args.r.sag most_knots c.kept_breaks-kept.result st.requires.0 c.kept_breaks-kept.ensures.0 c.in_default.is)
+pub returns-in_err-m : goal.returns-in_err-m
+returns-in_err-m c =
+    let a = c.args in
+    absurd (not_many (drawn_curve a.drawing.now) a.range.lo a.range.hi a.r.sag most_knots c.kept_breaks.result a.drawing.now.sortable c.kept_breaks.ensures.0 c.in_err-m.was)
 
 pub slice_bounds-breaks-end : goal.slice_bounds-breaks-end
 slice_bounds-breaks-end c =
-    let st = c in
-    let curve : CurveTree = tree (tables st.args.points.now st.args.curves.now st.args.reals.now st.args.parts.now st.args.ranges.now) st.args.row in
-    kept_room curve st.args.range.lo st.args.range.hi st.args.r.sag most_knots c.kept_breaks-kept.result st.requires.0 c.kept_breaks-kept.ensures.0 _ _ refl c.kept_breaks-kept.ensures.1 _ c.in-Count.is c.kept_breaks-kept.auto.out
+    let a = c.args in
+    kept_room (drawn_curve a.drawing.now) a.range.lo a.range.hi a.r.sag most_knots c.kept_breaks.result a.drawing.now.sortable c.kept_breaks.ensures.0 _ _ refl c.kept_breaks.ensures.1 _ c.in_ok-m.was c.kept_breaks.auto.out
 
 pub slice_bounds-walk-end : goal.slice_bounds-walk-end
 slice_bounds-walk-end c =
-    let st = c in
-    let curve : CurveTree = tree (tables st.args.points.now st.args.curves.now st.args.reals.now st.args.parts.now st.args.ranges.now) st.args.row in
+    let a = c.args in
     sym (length-take-le _ _
-    (kept_room curve st.args.range.lo st.args.range.hi st.args.r.sag most_knots c.kept_breaks-kept.result st.requires.0 c.kept_breaks-kept.ensures.0 _ _ refl c.kept_breaks-kept.ensures.1 _ c.in-Count.is c.kept_breaks-kept.auto.out))
+    (kept_room (drawn_curve a.drawing.now) a.range.lo a.range.hi a.r.sag most_knots c.kept_breaks.result a.drawing.now.sortable c.kept_breaks.ensures.0 _ _ refl c.kept_breaks.ensures.1 _ c.in_ok-m.was c.kept_breaks.auto.out))
 
 pub walk-requires : goal.walk-requires
 walk-requires c =
-    let st = c in
-    let curve : CurveTree = tree (tables st.args.points.now st.args.curves.now st.args.reals.now st.args.parts.now st.args.ranges.now) st.args.row in
-    (kept_list curve st.args.range.lo st.args.range.hi st.args.r.sag most_knots c.kept_breaks-kept.result st.requires.0 c.kept_breaks-kept.ensures.0 _ _ refl c.kept_breaks-kept.ensures.1 _ c.in-Count.is, st.requires.1)
+    let a = c.args in
+    (kept_list (drawn_curve a.drawing.now) a.range.lo a.range.hi a.r.sag most_knots c.kept_breaks.result a.drawing.now.sortable c.kept_breaks.ensures.0 _ _ refl c.kept_breaks.ensures.1 _ c.in_ok-m.was, c.requires)

@@ -1,30 +1,28 @@
 -- What the code of sample_params answers, and what it leaves in the buffer. Definitions only.
-use Rattle.std.specs.Prelude.{◌≡◌, true, false, List, [], ◌∷◌, ◌++◌, reverse, ℕ, length, Float}
+use Rattle.std.specs.Prelude.{◌≡◌, true, false, List, [], ◌∷◌, ◌++◌, reverse, ℕ, length, Float, Option, Some, None}
 use Rattle.std.specs.Float.Ieee.{lt}
-use Rattle.base_lists.specs.Result.{Result, each}
 use Rattle.base_lists.specs.Room.{filled}
 use Rattle.math.specs.declared.Interval.{Interval}
 use Rattle.brep.specs.Tree.{CurveTree}
 use Rattle.options.specs.declared.Resolved.{Resolved}
-use Rattle.edge_params.specs.declared.Listed.{Listed}
-use Rattle.edge_params.specs.declared.Listed.TheVariants.{Count, Refused}
 use Rattle.edge_params.specs.Own.Written.{said}
 use Rattle.edge_params.specs.Own.InRoom.{sample_params_in}
 use Rattle.base_lists.specs.Own.ListOf.{list_of}
 use Rattle.edge_sample.specs.Sample.{sampler}
+use Rattle.refusal.specs.Answer.{Answer, each}
 
 -- sample_params in a room, list by list
-unfoldable pub sampled_in : ℕ → CurveTree → Interval → Resolved → Result (List Float)
+unfoldable pub sampled_in : ℕ → CurveTree → Interval → Resolved → Answer (List Float)
 sampled_in room c range r = sample_params_in room (sampler c range r) range
 
 -- the length of the list, or the refusal; in a buffer of so many floats the list, and +0.0 behind it
-abbrev pub SampledInto : ℕ → Result (List Float) → Listed → List Float → Type 0
+abbrev pub SampledInto : ℕ → Answer (List Float) → Option ℕ → List Float → Type 0
 SampledInto room s w after = (said w ≡ each length s) × (after ≡ filled room (list_of s))
 
 -- how many floats of the buffer an answer keeps
-abbrev pub kept_floats : Listed → ℕ
-kept_floats (Count n) = n
-kept_floats Refused = 0
+abbrev pub kept_floats : Option ℕ → ℕ
+kept_floats (Some n) = n
+kept_floats None = 0
 
 -- where the walk stops: the breaks, the range's own way round, and range.hi
 unfoldable pub stops : Interval → List Float → List Float

@@ -1,14 +1,11 @@
 -- What sampling leaves in the chain, and whether that is the curve's records at the answer. Definitions only.
-use Rattle.std.specs.Prelude.{Bool, true, false, not, List, ℕ, ◌-◌, ltb, length, Float}
+use Rattle.std.specs.Prelude.{Bool, true, false, not, List, ℕ, ◌-◌, ltb, length, Float, Option, None, Some, Err, Ok}
 use Rattle.std.proofs.lemmas.List.Edits.{sets}
 use Rattle.std.specs.Float.Ieee.{le}
-use Rattle.base_lists.specs.Result.{Result, refused, got}
 use Rattle.arith.specs.Notation.{plus_zero}
 use Rattle.math.specs.declared.Interval.{Interval}
 use Rattle.brep.specs.Tree.{CurveTree}
 use Rattle.options.specs.declared.Resolved.{Resolved}
-use Rattle.edge_params.specs.declared.Closed.{Closed}
-use Rattle.edge_params.specs.declared.Closed.TheVariants.{Unknown, Segments}
 use Rattle.edge_params.specs.Params.{evenly}
 use Rattle.edge_params.specs.Own.Bisected.{bisected}
 use Rattle.edge_params.specs.Own.InRoom.{fitting}
@@ -16,6 +13,7 @@ use Rattle.edge_range.specs.Usable.{analytic_segments}
 use Rattle.edge_record.specs.Chain.{flat}
 use Rattle.edge_closed_form.specs.Located.{located}
 use Rattle.edge_sample.specs.Sample.{worst_miss, sampler}
+use Rattle.refusal.specs.Answer.{Answer}
 
 -- the chain, and whether its first records are those of the parameters that are answered
 pub record Traced : Type 0 where
@@ -30,9 +28,9 @@ abbrev pub over : CurveTree → List Float → List Float → List Float
 over c l chain = sets chain 0 (flat (located c l))
 
 -- of bisection's list, with the segment floor: whether it fits and is the answer
-unfoldable pub is_enough : ℕ → Result (List Float) → Bool
-is_enough least (refused n) = false
-is_enough least (got l) = not (ltb (length l - 1) least)
+unfoldable pub is_enough : ℕ → Answer (List Float) → Bool
+is_enough least (Err n) = false
+is_enough least (Ok l) = not (ltb (length l - 1) least)
 
 -- refine
 abbrev pub traced_refined : ℕ → CurveTree → Interval → Resolved → List Float → Traced
@@ -46,14 +44,14 @@ traced_checked room c range r chain true = traced true chain
 traced_checked room c range r chain false = traced_refined room c range r chain
 
 -- the steps of a closed form, which are checked if they fit
-unfoldable pub traced_steps : ℕ → CurveTree → Interval → Resolved → List Float → Result (List Float) → Traced
-traced_steps room c range r chain (refused n) = traced false chain
-traced_steps room c range r chain (got l) = traced_checked room c range r (over c l chain) (le (worst_miss c plus_zero l) r.sag)
+unfoldable pub traced_steps : ℕ → CurveTree → Interval → Resolved → List Float → Answer (List Float) → Traced
+traced_steps room c range r chain (Err n) = traced false chain
+traced_steps room c range r chain (Ok l) = traced_checked room c range r (over c l chain) (le (worst_miss c plus_zero l) r.sag)
 
 -- by the closed form that the curve has
-unfoldable pub traced_form : ℕ → CurveTree → Interval → Resolved → List Float → Closed → Traced
-traced_form room c range r chain Unknown = traced_refined room c range r chain
-traced_form room c range r chain (Segments n) = traced_steps room c range r chain (fitting room (evenly range n))
+unfoldable pub traced_form : ℕ → CurveTree → Interval → Resolved → List Float → Option ℕ → Traced
+traced_form room c range r chain None = traced_refined room c range r chain
+traced_form room c range r chain (Some n) = traced_steps room c range r chain (fitting room (evenly range n))
 
 -- sample_params
 abbrev pub traced_sampled : ℕ → CurveTree → Interval → Resolved → List Float → Traced

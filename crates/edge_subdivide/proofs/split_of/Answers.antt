@@ -1,25 +1,18 @@
 -- `edge_subdivide::split_of` meets its contract. Assumes nothing.
 use mathlib.Core.Path.{sym, ap, ◌∙◌}
+use Rattle.curve_prepared.specs.Own.PreparedCurve.{curve_of}
 use Rattle.edge_subdivide.specs.Bisect.{is_within}
-use Rattle.brep.specs.Rows.{tables}
-use Rattle.brep.specs.Tree.{CurveTree, tree}
-use Rattle.edge_params.specs.Params.{midpoint}
-use Rattle.edge_subdivide.proofs.Laws.{own_tangent, split_yes, split_no}
-use Rattle.curve_prepared.proofs.Laws.{own_point}
+use Rattle.edge_subdivide.proofs.Laws.{split_yes, split_no}
 use Rattle.edge_subdivide.proofs.split_of.Goals as goal
 
 pub returns-then-is_within : goal.returns-then-is_within
-returns-then-is_within c r e =
+returns-then-is_within c =
     let a = c.args in
-    let curve : CurveTree = tree (tables a.points.now a.curves.now a.reals.now a.parts.now a.ranges.now) a.row in
-    let p = own_point curve (midpoint a.a.t a.b.t) c.requires.0 c.point_of-point.ensures in
-    split_yes curve r a.a a.b (ap (is_within r a.a a.b) (sym p) ∙ sym (c.is_within.ensures r e) ∙ c.if-is_within.true)
+    let r = a.limits.now.options in
+    split_yes (curve_of a.curve.now) r a.a a.b (ap (is_within r a.a a.b) (sym c.point-point.ensures) ∙ sym c.is_within.ensures ∙ c.if-is_within.true)
 
 pub returns : goal.returns
-returns c r e =
+returns c =
     let a = c.args in
-    let curve : CurveTree = tree (tables a.points.now a.curves.now a.reals.now a.parts.now a.ranges.now) a.row in
-    let m = midpoint a.a.t a.b.t in
-    split_no curve r a.a a.b _ _ (own_point curve m c.requires.0 c.point_of-point.ensures)
-    (own_tangent curve m c.requires.0 c.derivative_of-slope.ensures c.try_normalized-tangent.ensures)
-    (sym (c.is_within.ensures r e) ∙ c.if-is_within.false)
+    split_no (curve_of a.curve.now) a.limits.now.options a.a a.b _ _ c.point-point.ensures c.tangent-tangent.ensures
+    (sym c.is_within.ensures ∙ c.if-is_within.false)

@@ -1,11 +1,5 @@
--- Keep flags, as the passes over them answer. Definitions only.
+-- Keep flags, as the walk over them looks for the next. Definitions only.
 use Rattle.std.specs.Prelude.{Bool, true, false, List, ◌≡◌, ℕ, ◌≤◌, ◌<◌, length, get_or}
-use Rattle.base_lists.specs.Result.{Result, refused, got}
-
--- what a pass over flags answers: the flags, or refusal 9, after which the flags are of no use
-abbrev pub flags : Bool → List Bool → Result (List Bool)
-flags true keep = got keep
-flags false keep = refused 9
 
 -- r is the first index from `from` on whose flag is set, or the number of flags
 pub record FirstKept (keep : List Bool) (from r : ℕ) : Type 0 where

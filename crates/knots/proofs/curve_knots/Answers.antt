@@ -1,22 +1,27 @@
 -- `knots::curve_knots` meets its contract. Assumes nothing.
-use Prim.Native.Nat.{◌*◌}
-use Rattle.brep.specs.Rows.{tables}
+use Rattle.brep.specs.Rows.{lent}
 use Rattle.brep.specs.Tree.{tree}
-use Rattle.knots.specs.Own.Gathered.{run_knots}
-use Rattle.knots.proofs.Laws.{run_length}
-use Rattle.knots.proofs.Answers.{gathered, not_gathered}
+use Rattle.knots.proofs.Laws.{run_is, run_counted}
+use Rattle.knots.proofs.Answers.{fitting, fitting_after, exceeding, exceeding_after}
 use Rattle.knots.proofs.curve_knots.Goals as goal
 
-pub returns-then-n-out : goal.returns-then-n-out
-returns-then-n-out c =
-    let r = c.run_of-run in
-    let a = c.args in
-    gathered (tree (tables a.points.now a.curves.now a.reals.now a.parts.now a.ranges.now) a.row) (run_knots a.parts.now a.ranges.now r.result.first r.result.count) (r.ensures a.parts.now a.ranges.now)
-    (2 * r.result.count) (run_length a.parts.now a.ranges.now r.result.first r.result.count) a.out.now c.if-n-out.true _ c.gather.ensures
+pub returns-then-out-n-clause-answer : goal.returns-then-out-n-clause-answer
+returns-then-out-n-clause-answer c =
+    let t = c.args.tables.now in
+    exceeding (tree (lent t) c.args.row) _ (run_counted t c.args.row c.run_of-run.result c.run_of-run.ensures) c.args.out.now c.if-out-n.true
 
-pub returns : goal.returns
-returns c =
-    let r = c.run_of-run in
-    let a = c.args in
-    not_gathered (tree (tables a.points.now a.curves.now a.reals.now a.parts.now a.ranges.now) a.row) (run_knots a.parts.now a.ranges.now r.result.first r.result.count) (r.ensures a.parts.now a.ranges.now)
-    (2 * r.result.count) (run_length a.parts.now a.ranges.now r.result.first r.result.count) a.out.now c.if-n-out.false
+pub returns-then-out-n-clause-buffer : goal.returns-then-out-n-clause-buffer
+returns-then-out-n-clause-buffer c =
+    let t = c.args.tables.now in
+    exceeding_after (tree (lent t) c.args.row) _ (run_counted t c.args.row c.run_of-run.result c.run_of-run.ensures) c.args.out.now c.if-out-n.true
+
+pub returns-clause-answer : goal.returns-clause-answer
+returns-clause-answer c =
+    let t = c.args.tables.now in
+    fitting (tree (lent t) c.args.row) _ (run_counted t c.args.row c.run_of-run.result c.run_of-run.ensures) c.args.out.now c.if-out-n.false
+
+pub returns-clause-buffer : goal.returns-clause-buffer
+returns-clause-buffer c =
+    let t = c.args.tables.now in
+    let run = c.run_of-run in
+    fitting_after (tree (lent t) c.args.row) _ (run_counted t c.args.row run.result run.ensures) c.args.out.now c.if-out-n.false _ _ (run_is t c.args.row run.result run.ensures) c.gather.ensures

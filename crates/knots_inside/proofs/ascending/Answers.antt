@@ -1,49 +1,21 @@
--- `knots_inside::ascending` meets its contract: what retain, sort and dedup leave at the start is the definition's list, and zeros stand after it.
--- Assumes nothing.
-use native.Mathlib.Omega.{arith}
-use mathlib.Core.Path.{sym, ap, ◌∙◌}
-use lib.ListN.{length}
-use Rattle.arith.specs.Notation.{◌⊕◌, ◌⊖◌, ◌⊗◌}
-use Rattle.base_lists.specs.Room.{filled}
-use Rattle.arith.specs.Constants.{billionth}
-use Rattle.knots_inside.proofs.Steps.{Retained, part_length, part_numbers, sorted_part_length, kept_room, kept_count, kept_floats_lem, some_between, none_between}
+-- `knots_inside::ascending` meets its contract: what passes, sorted and merged, is the definition's list, and zeros stand after it. Assumes nothing.
+use Rattle.std.proofs.Common.{sym, ap, ◌∙◌, subst, arith, length-take-le}
+use Rattle.base_lists.specs.All.{All}
+use Rattle.knots_sort.specs.Own.Sortable.{Number}
+use Rattle.knots_inside.specs.Breaks.{deduped}
+use Rattle.knots_inside.proofs.Kept.{passing_numbers}
+use Rattle.knots_inside.proofs.Steps.{cleared}
 use Rattle.knots_inside.proofs.ascending.Goals as goal
-
-pub slice_bounds-sort-end-then-width : goal.slice_bounds-sort-end-then-width
-slice_bounds-sort-end-then-width c =
-    let h : Retained c.args.knots.now c.retain-n.new.a c.retain-n.result (c.args.lo ⊕ (c.args.hi ⊖ c.args.lo) ⊗ billionth) (c.args.hi ⊖ (c.args.hi ⊖ c.args.lo) ⊗ billionth)
-    = record { fit = c.retain-n.ensures.0; same = c.retain-n.auto.a; kept = c.retain-n.ensures.1 } in
-    sym (part_length h)
 
 pub sort-requires : goal.sort-requires
 sort-requires c =
-    let h : Retained c.args.knots.now c.retain-n.new.a c.retain-n.result (c.args.lo ⊕ (c.args.hi ⊖ c.args.lo) ⊗ billionth) (c.args.hi ⊖ (c.args.hi ⊖ c.args.lo) ⊗ billionth)
-    = record { fit = c.retain-n.ensures.0; same = c.retain-n.auto.a; kept = c.retain-n.ensures.1 } in
-    (omega (arith, part_length h, h.fit, c.requires), part_numbers h)
-
-pub slice_bounds-dedup-end-then-width : goal.slice_bounds-dedup-end-then-width
-slice_bounds-dedup-end-then-width c =
-    let h : Retained c.args.knots.now c.retain-n.new.a c.retain-n.result (c.args.lo ⊕ (c.args.hi ⊖ c.args.lo) ⊗ billionth) (c.args.hi ⊖ (c.args.hi ⊖ c.args.lo) ⊗ billionth)
-    = record { fit = c.retain-n.ensures.0; same = c.retain-n.auto.a; kept = c.retain-n.ensures.1 } in
-    sym (sorted_part_length h c.sort.new.a c.sort.ensures)
-
-pub clear_from-requires : goal.clear_from-requires
-clear_from-requires c =
-    let h : Retained c.args.knots.now c.retain-n.new.a c.retain-n.result (c.args.lo ⊕ (c.args.hi ⊖ c.args.lo) ⊗ billionth) (c.args.hi ⊖ (c.args.hi ⊖ c.args.lo) ⊗ billionth)
-    = record { fit = c.retain-n.ensures.0; same = c.retain-n.auto.a; kept = c.retain-n.ensures.1 } in
-    kept_room h c.sort.new.a c.sort.ensures c.dedup-m.new.a c.dedup-m.result _ c.dedup-m.auto.a c.dedup-m.ensures.0 c.dedup-m.ensures.1
-
-pub returns-then-width : goal.returns-then-width
-returns-then-width c =
-    let h : Retained c.args.knots.now c.retain-n.new.a c.retain-n.result (c.args.lo ⊕ (c.args.hi ⊖ c.args.lo) ⊗ billionth) (c.args.hi ⊖ (c.args.hi ⊖ c.args.lo) ⊗ billionth)
-    = record { fit = c.retain-n.ensures.0; same = c.retain-n.auto.a; kept = c.retain-n.ensures.1 } in
-    let e = some_between c.args.knots.now c.args.lo c.args.hi c.if-width.true in (
-      kept_count h c.sort.new.a c.sort.ensures c.dedup-m.new.a c.dedup-m.result _ c.dedup-m.auto.a c.dedup-m.ensures.0 c.dedup-m.ensures.1 _ e,
-      kept_floats_lem h c.sort.new.a c.sort.ensures c.dedup-m.new.a c.dedup-m.result _ c.dedup-m.auto.a c.dedup-m.ensures.0 c.dedup-m.ensures.1 _ e _ c.clear_from.ensures,
-    )
+    let p = c.passing_upward-n in
+    (omega (arith, c.requires, p.ensures.within, p.auto.knots, length-take-le p.result p.new.knots (omega (arith, p.ensures.within, p.auto.knots))), subst (All Number) (sym p.ensures.kept) (passing_numbers c.args.knots.now c.args.lo c.args.hi))
 
 pub returns : goal.returns
 returns c =
     let a = c.args in
-    let e = none_between a.knots.now a.lo a.hi c.if-width.false in
-    (ap length e, c.clear_from-2.ensures ∙ ap (filled (length a.knots.now)) e)
+    let p = c.passing_upward-n in
+    let d = c.dedup-m in
+    cleared a.knots.now a.lo a.hi p.new.knots p.result p.auto.knots p.ensures.within p.ensures.kept
+    d.new.a d.result (d.auto.a ∙ c.sort.auto.a) (omega (arith, d.ensures.within, d.auto.a)) (d.ensures.kept ∙ ap (deduped _) c.sort.ensures) _ c.clear_from.ensures

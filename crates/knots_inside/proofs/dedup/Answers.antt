@@ -1,29 +1,12 @@
--- `knots_inside::dedup` meets its contract: the last one kept stands before the place of the next. Assumes nothing.
-use native.Mathlib.Omega.{arith}
-use mathlib.Core.Path.{sym, ◌∙◌}
-use Rattle.knots_inside.proofs.Keep.{dedup_none, dedup_start, dedup_skip, dedup_keep, dedup_done}
+-- `knots_inside::dedup` meets its contract: the first stays, and of the rest those that are not near the last one kept. Assumes nothing.
+use Rattle.std.proofs.Common.{rules}
+use Rattle.knots_inside.proofs.Keep.{apart_kept, none_kept, first_kept}
 use Rattle.knots_inside.proofs.dedup.Goals as goal
 
-pub returns-then-n-eq0 : goal.returns-then-n-eq0
-returns-then-n-eq0 c = (omega arith, dedup_none c.args.epsilon c.args.a.now c.if-n-eq0.true)
+pub returns-in_default-clause-kept : goal.returns-in_default-clause-kept
+returns-in_default-clause-kept c = none_kept _ _ c.in_default.ensures.cases
 
-pub loop-i-init : goal.loop-i-init
-loop-i-init c = let a = c.args in dedup_start a.epsilon a.a.now (omega arith)
-
-pub loop-i-preserved-then-near : goal.loop-i-preserved-then-near
-loop-i-preserved-then-near c =
-    let l = c.loop-i in
-    let a = c.args in
-    dedup_skip a.epsilon l.invariant c.loop-i-test.true (sym c.near.ensures ∙ c.if-near.true)
-
-pub loop-i-preserved : goal.loop-i-preserved
-loop-i-preserved c =
-    let l = c.loop-i in
-    let a = c.args in
-    dedup_keep a.epsilon l.invariant c.loop-i-test.true (sym c.near.ensures ∙ c.if-near.false)
-
-pub returns : goal.returns
-returns c =
-    let l = c.loop-i in
-    let a = c.args in
-    dedup_done a.epsilon l.invariant c.loop-i-test.false
+pub returns-clause-kept : goal.returns-clause-kept
+returns-clause-kept c =
+    first_kept _ _ _ _ _ _ c.in-Some.ensures.cases.0
+    (apart_kept _ (λ p. p.1.now) (λ p. p.0.now) (λ p x b q h. (search rules, search rules, search rules)) _ _ _ c.keep_if.ensures.kept)

@@ -1,25 +1,9 @@
--- `knots_inside::retain` meets its contract: what is kept, then what passes of the rest, is the whole. Assumes nothing.
-use mathlib.Core.Path.{sym, ◌∙◌}
-use Rattle.knots_inside.proofs.Keep.{retain_start, retain_skip, retain_keep, retain_done}
+-- `knots_inside::retain` meets its contract: the test is that of the definition. Assumes nothing.
+use Rattle.std.proofs.Common.{rules}
+use Rattle.std.proofs.lemmas.Fn.{filter_same}
+use Rattle.knots_inside.specs.Breaks.{retained_knots}
 use Rattle.knots_inside.proofs.retain.Goals as goal
 
-pub loop-i-init : goal.loop-i-init
-loop-i-init c = let a = c.args in retain_start a.above a.below a.a.now
-
-pub loop-i-preserved-then-strict : goal.loop-i-preserved-then-strict
-loop-i-preserved-then-strict c =
-    let l = c.loop-i in
-    let a = c.args in
-    retain_keep a.above a.below l.invariant c.loop-i-test.true (sym c.strict.ensures ∙ c.if-strict.true)
-
-pub loop-i-preserved : goal.loop-i-preserved
-loop-i-preserved c =
-    let l = c.loop-i in
-    let a = c.args in
-    retain_skip a.above a.below l.invariant c.loop-i-test.true (sym c.strict.ensures ∙ c.if-strict.false)
-
-pub returns : goal.returns
-returns c =
-    let l = c.loop-i in
-    let a = c.args in
-    retain_done a.above a.below l.invariant c.loop-i-test.false
+pub returns-clause-kept : goal.returns-clause-kept
+unfolding retained_knots
+returns-clause-kept c = filter_same _ _ _ (λ x b f' k. search rules) _ _ c.keep_if.ensures.kept

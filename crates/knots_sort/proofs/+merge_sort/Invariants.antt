@@ -1,4 +1,4 @@
--- The measure of `knots_sort::merge_sort`: each half is shorter than the whole.
+-- The measure of `knots_sort::merge_sort`: each half is shorter than the whole. Assumes nothing.
 use Rattle.std.proofs.Common.{length}
 use Rattle.knots_sort.proofs.+merge_sort.Given as goal
 

@@ -1,11 +1,14 @@
--- `knots_sort::merge` meets its contract: what is stored, then the merge of what is left, is the whole merge. Assumes nothing.
-use Prim.Native.Nat.{◌+◌, ◌-◌}
+-- The loops of `knots_sort::merge`: what is placed, then the merge of what is left, is the whole. Assumes nothing.
+use Prim.Native.Nat.{◌-◌}
 use lib.ListN.{length}
-use Rattle.knots_sort.proofs.Turn.{Merging}
+use Rattle.knots_sort.proofs.Turn.{Placing, Merging}
 use Rattle.knots_sort.proofs.merge.Given as goal
 
-abbrev pub invariant-loop-i : goal.invariant-loop-i
-invariant-loop-i l = Merging l.left l.initial.a l.a l.i l.j l.k
+abbrev pub invariant-loop-x : goal.invariant-loop-x
+invariant-loop-x l = Merging l.left l.initial.a l.a l.next l.to l.x-index
 
-abbrev pub decreases-loop-i : goal.decreases-loop-i
-decreases-loop-i l = (length l.left - l.i) + (length l.initial.a - l.j)
+abbrev pub invariant-loop-next : goal.invariant-loop-next
+invariant-loop-next l = Placing l.x l.initial.a l.initial.next l.initial.to l.a l.next l.to
+
+abbrev pub decreases-loop-next : goal.decreases-loop-next
+decreases-loop-next l = length l.initial.a - l.next

@@ -1,16 +1,10 @@
--- What the parts of `sort` answer: a list in order, two lists merged. Definitions only.
-use Rattle.std.specs.Prelude.{Bool, true, false, cond, List, [], ◌∷◌, ℕ, ◌≤◌, ◌<◌, length, take, drop, Float}
+-- What the parts of `sort` answer: two lists merged. Definitions only.
+use Rattle.std.specs.Prelude.{cond, List, [], ◌∷◌, ℕ, ◌≤◌, ◌<◌, length, take, drop, Float}
 use Rattle.std.specs.Float.Ieee.{lt}
 use Rattle.base_lists.specs.All.{All}
 use Rattle.base_lists.specs.Own.Sub.{Pairwise}
 use Rattle.base_lists.specs.Own.Way.{Up}
 use Rattle.knots_sort.specs.Own.Sortable.{Number}
-
--- none is below the one before
-unfoldable pub in_order : List Float → Bool
-in_order [] = true
-in_order (x ∷ []) = true
-in_order (x ∷ y ∷ l) = cond (lt y x) false (in_order (y ∷ l))
 
 -- what stands of y ∷ k before x, then x and what f makes of the rest
 unfoldable pub before : Float → (List Float → List Float) → List Float → List Float

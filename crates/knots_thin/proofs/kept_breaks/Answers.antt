@@ -1,21 +1,30 @@
 -- `knots_thin::kept_breaks` meets its contract: the part that was lent to `thin_breaks` holds the breaks. Assumes nothing.
-use mathlib.Core.Path.{sym}
-use Rattle.brep.specs.Rows.{tables}
+use Rattle.std.proofs.Common.{sym}
+use Rattle.brep.specs.Rows.{lent}
 use Rattle.brep.specs.Tree.{tree}
-use Rattle.knots_thin.proofs.Kept.{some_found, none_kept, part_room, part_length, some_kept}
+use Rattle.knots_thin.proofs.Kept.{Found, some_found, none_kept, part_room, part_length, some_kept}
 use Rattle.knots_thin.proofs.kept_breaks.Goals as goal
+use Rattle.knots_thin.proofs.kept_breaks.Goals.{In_ok-n}
 
-pub slice_bounds-kept-end : goal.slice_bounds-kept-end
-slice_bounds-kept-end c = part_room (some_found c.args.out.now (tree (tables c.args.points.now c.args.curves.now c.args.reals.now c.args.parts.now c.args.ranges.now) c.args.row) c.args.lo c.args.hi c.curve_breaks-found.result _ c.curve_breaks-found.ensures.0 c.curve_breaks-found.ensures.1 c.curve_breaks-found.auto.out c.in-Count.n c.in-Count.is)
+pub returns-in_err-n : goal.returns-in_err-n
+returns-in_err-n c =
+    let a = c.args in
+    let b = c.curve_breaks in
+    rw c.from_residual.ensures (none_kept a.out.now (tree (lent a.tables.now) a.row) a.range.lo a.range.hi b.result _ b.ensures.0 b.ensures.1 a.sag c.in_err-n.was)
 
-pub slice_bounds-kept-end-in-Count : goal.slice_bounds-kept-end-in-Count
-slice_bounds-kept-end-in-Count c = sym (part_length (some_found c.args.out.now (tree (tables c.args.points.now c.args.curves.now c.args.reals.now c.args.parts.now c.args.ranges.now) c.args.row) c.args.lo c.args.hi c.curve_breaks-found.result _ c.curve_breaks-found.ensures.0 c.curve_breaks-found.ensures.1 c.curve_breaks-found.auto.out c.in-Count.n c.in-Count.is))
+breaks_found : (c : In_ok-n) → Found c.args.out.now (tree (lent c.args.tables.now) c.args.row) c.args.range.lo c.args.range.hi c.curve_breaks.new.out c.in_ok-n.n
+breaks_found c =
+    let a = c.args in
+    let b = c.curve_breaks in
+    some_found a.out.now (tree (lent a.tables.now) a.row) a.range.lo a.range.hi b.result _ b.ensures.0 b.ensures.1 b.auto.out c.in_ok-n.n c.in_ok-n.was
 
-pub returns-in-Count : goal.returns-in-Count
-returns-in-Count c =
-    let t = c.thin_breaks-m in
-    some_kept (some_found c.args.out.now (tree (tables c.args.points.now c.args.curves.now c.args.reals.now c.args.parts.now c.args.ranges.now) c.args.row) c.args.lo c.args.hi c.curve_breaks-found.result _ c.curve_breaks-found.ensures.0 c.curve_breaks-found.ensures.1 c.curve_breaks-found.auto.out c.in-Count.n c.in-Count.is) c.args.sag t.result t.new.breaks t.auto.breaks t.ensures.0 t.ensures.1
+pub slice_bounds-thin_breaks-end : goal.slice_bounds-thin_breaks-end
+slice_bounds-thin_breaks-end c = part_room (breaks_found (goal.at.slice_bounds-thin_breaks-end c).In_ok-n)
 
-pub returns-in-TooMany : goal.returns-in-TooMany
-returns-in-TooMany c =
-    none_kept c.args.out.now (tree (tables c.args.points.now c.args.curves.now c.args.reals.now c.args.parts.now c.args.ranges.now) c.args.row) c.args.lo c.args.hi c.curve_breaks-found.result _ c.curve_breaks-found.ensures.0 c.curve_breaks-found.ensures.1 c.args.sag c.in-TooMany.is
+pub slice_bounds-thin_breaks-end-2 : goal.slice_bounds-thin_breaks-end-2
+slice_bounds-thin_breaks-end-2 c = sym (part_length (breaks_found (goal.at.slice_bounds-thin_breaks-end-2 c).In_ok-n))
+
+pub returns : goal.returns
+returns c =
+    let t = c.thin_breaks in
+    some_kept (breaks_found (goal.at.returns c).In_ok-n) c.args.sag t.result t.new.breaks t.auto.breaks t.ensures.count t.ensures.buffer

@@ -1,70 +1,36 @@
--- `knots_thin::thin_breaks` meets its contract: pa is the point of start, and what is kept, then what thinning leaves of the rest, is the whole.
--- Assumes nothing.
-use native.Mathlib.Omega.{arith}
-use Rattle.brep.specs.Rows.{tables}
-use Rattle.brep.specs.Tree.{tree}
-use Rattle.curve.specs.Eval.{point_at}
-use Rattle.knots.specs.Knots.{deviation}
-use Rattle.knots_thin.proofs.Thinning.{thinning_start, thinning_keep, thinning_skip, thinning_room, thinning_done, all_kept}
+-- `knots_thin::thin_breaks` meets its contract: what is kept, then what thinning leaves of the rest, is the whole. Assumes nothing.
+use Rattle.std.proofs.Common.{length, ap, ◌∙◌}
+use Rattle.base_lists.specs.Room.{filled}
+use Rattle.knots_thin.proofs.Thinning.{thinning_keep, thinning_skip, thinning_count, thinning_buffer, all_stay, filled_full}
 use Rattle.knots_thin.proofs.thin_breaks.Goals as goal
+use Rattle.knots_thin.proofs.thin_breaks.Goals.{then-sag-deviation, else-sag-deviation}
 
-pub loop-i-init : goal.loop-i-init
-loop-i-init c =
-    let st = c in
-    let a = st.args in
-    (c.point_at-pa.ensures, thinning_start (deviation (point_at (tree (tables a.points.now a.curves.now a.reals.now a.parts.now a.ranges.now) a.row))) a.sag a.hi a.lo a.breaks.now st.well_formed.1.1.1.1.1.1.1.1.1.0.1)
+pub returns-then-not-sag-clause-count : goal.returns-then-not-sag-clause-count
+returns-then-not-sag-clause-count c = let a = c.args in ap length (all_stay _ a.sag a.range.hi a.range.lo a.breaks.now c.if-not-sag.true)
 
-pub next_of-next-requires : goal.next_of-next-requires
-next_of-next-requires c =
-    let l = c.loop-i in
-    omega (arith, c.loop-i-test.true, l.invariant.1.filtering.same_length)
-
-pub deviation-d-requires : goal.deviation-d-requires
-deviation-d-requires c = c.loop-i.invariant.0
-
-pub overflow_add-i : goal.overflow_add-i
-overflow_add-i c =
-    let l = c.loop-i in
-    omega (arith, c.loop-i-test.true, l.invariant.1.small)
-
-pub offset_bounds-breaks-k : goal.offset_bounds-breaks-k
-offset_bounds-breaks-k c =
-    let l = c.loop-i in
-    omega (arith, c.loop-i-test.true, l.invariant.1.small, l.invariant.1.filtering.kept)
-
-pub bounds-breaks-k : goal.bounds-breaks-k
-bounds-breaks-k c =
-    let l = c.loop-i in
-    omega (arith, c.loop-i-test.true, l.invariant.1.filtering.same_length, l.invariant.1.filtering.kept)
-
-pub overflow_add-k : goal.overflow_add-k
-overflow_add-k c =
-    let l = c.loop-i in
-    omega (arith, c.loop-i-test.true, l.invariant.1.small, l.invariant.1.filtering.kept)
-
-pub loop-i-preserved-then-sag-d : goal.loop-i-preserved-then-sag-d
-loop-i-preserved-then-sag-d c =
-    let l = c.loop-i in
+pub returns-then-not-sag-clause-buffer : goal.returns-then-not-sag-clause-buffer
+returns-then-not-sag-clause-buffer c =
     let a = c.args in
-    (c.point_at-pa-then-sag-d.ensures, thinning_keep (deviation (point_at (tree (tables a.points.now a.curves.now a.reals.now a.parts.now a.ranges.now) a.row))) a.sag a.hi a.lo l.invariant.1 c.loop-i-test.true c.next_of-next.result c.deviation-d.result c.next_of-next.ensures c.deviation-d.ensures c.if-sag-d.true)
+    filled_full a.breaks.now ∙ ap (filled (length a.breaks.now)) (all_stay _ a.sag a.range.hi a.range.lo a.breaks.now c.if-not-sag.true)
 
 pub loop-i-preserved : goal.loop-i-preserved
 loop-i-preserved c =
+    let a = c.args in
     let l = c.loop-i in
-    let a = c.args in
-    (l.invariant.0, thinning_skip (deviation (point_at (tree (tables a.points.now a.curves.now a.reals.now a.parts.now a.ranges.now) a.row))) a.sag a.hi a.lo l.invariant.1 c.loop-i-test.true c.next_of-next.result c.deviation-d.result c.next_of-next.ensures c.deviation-d.ensures c.if-sag-d.false)
+    let n = c.next_of-next in
+    elim c.if-sag-deviation.branch [
+      | then-sag-deviation w ↦ rw (w.breaks-is, w.start-is, w.pa-is, w.k-is) (record {
+        point = w.point_at-pa-then-sag-deviation.ensures;
+        thinned = thinning_keep _ a.sag a.range.hi a.range.lo l.invariant.thinned c.loop-i-test.true n.result c.deviation.result n.ensures c.deviation.ensures w.if-sag-deviation.true;
+      })
+      | else-sag-deviation w ↦ rw (w.breaks-is, w.start-is, w.pa-is, w.k-is) (record {
+        point = l.invariant.point;
+        thinned = thinning_skip _ a.sag a.range.hi a.range.lo l.invariant.thinned c.loop-i-test.true n.result c.deviation.result n.ensures c.deviation.ensures w.if-sag-deviation.false;
+      })
+    ]
 
-pub clear_from-requires : goal.clear_from-requires
-clear_from-requires c =
-    let a = c.args in
-    thinning_room (deviation (point_at (tree (tables a.points.now a.curves.now a.reals.now a.parts.now a.ranges.now) a.row))) a.sag a.hi a.lo c.loop-i.invariant.1 c.loop-i-test.false
+pub returns-clause-count : goal.returns-clause-count
+returns-clause-count c = let a = c.args in thinning_count _ a.sag a.range.hi a.range.lo c.loop-i.start c.loop-i.invariant.thinned c.loop-i-test.false c.if-not-sag.false
 
-pub returns-then-sag : goal.returns-then-sag
-returns-then-sag c =
-    let a = c.args in
-    thinning_done (deviation (point_at (tree (tables a.points.now a.curves.now a.reals.now a.parts.now a.ranges.now) a.row))) a.sag a.hi a.lo c.loop-i.invariant.1 c.loop-i-test.false c.if-sag.true _ c.clear_from.ensures
-
-pub returns : goal.returns
-returns c =
-    let a = c.args in
-    all_kept (deviation (point_at (tree (tables a.points.now a.curves.now a.reals.now a.parts.now a.ranges.now) a.row))) a.sag a.hi a.lo a.breaks.now c.if-sag.false
+pub returns-clause-buffer : goal.returns-clause-buffer
+returns-clause-buffer c = let a = c.args in thinning_buffer _ a.sag a.range.hi a.range.lo c.loop-i.start c.loop-i.invariant.thinned c.loop-i-test.false c.if-not-sag.false _ c.clear_from.ensures

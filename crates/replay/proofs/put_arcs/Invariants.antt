@@ -1,10 +1,6 @@
--- `replay::put_arcs` meets its contract: the place grows up to the text's end. Assumes nothing.
-use Prim.Native.Nat.{◌-◌, ◌≤◌}
-use lib.ListN.{length}
+-- `replay::put_arcs` meets its contract: what is left of the lines gets shorter. Assumes nothing.
+use Rattle.std.proofs.Common.{length}
 use Rattle.replay.proofs.put_arcs.Given as goal
 
-abbrev pub invariant-loop-place : goal.invariant-loop-place
-invariant-loop-place l = l.initial.place ≤ l.place
-
-abbrev pub decreases-loop-place : goal.decreases-loop-place
-decreases-loop-place l = length l.text - l.place
+abbrev pub decreases-loop-rest : goal.decreases-loop-rest
+decreases-loop-rest l = length l.rest

@@ -1,32 +1,22 @@
 -- What the readers of a sheet's last two blocks answer.
-use Rattle.std.specs.Prelude.{List, ℕ, ◌-◌, length}
-use Rattle.text_format.specs.Format.{Format, Parsed, bad, parsed, ◌before◌}
+use Rattle.std.specs.Prelude.{List, ℕ}
+use Rattle.std.specs.Option.{option_map}
+use Rattle.text_format.specs.Format.{Format, Parsed, ◌before◌}
 use Rattle.text_format.specs.Table.{line}
-use Rattle.sheet_layout.specs.Own.Letters.{shape_of}
+use Rattle.sheet_layout.specs.declared.Column.{Column}
+use Rattle.sheet_layout.specs.Own.Columns.{shape_of}
 use Rattle.sheet_row.specs.Rows.{raw_edge_of, raw_options_of}
-use Rattle.sheet_edge.specs.declared.EdgeAt.{EdgeAt}
-use Rattle.sheet_edge.specs.declared.EdgeAt.TheVariants.{Edge, NoEdge}
-use Rattle.sheet_edge.specs.declared.OptionsAt.{OptionsAt}
-use Rattle.sheet_edge.specs.declared.OptionsAt.TheVariants.{Options, NoOptions}
-use Rattle.sheet_edge.specs.declared.Last.{Last}
-use Rattle.sheet_edge.specs.declared.Last.TheVariants.{Pair, NoPair}
+use Rattle.sheet_row.specs.declared.RawEdge.{RawEdge}
+use Rattle.sheet_row.specs.declared.RawOptions.{RawOptions}
 
--- a block of one line by its names and letters
-abbrev pub single_of : List ℕ → List ℕ → Format (List ℕ)
-single_of names shape = names before line (shape_of shape)
+-- a block of one line by its names and columns
+abbrev pub single_of : List ℕ → List Column → Format (List ℕ)
+single_of names columns = names before line (shape_of columns)
 
--- what a line stands for, and the place behind it; or that there is none
-unfoldable pub parsed_as : {X R : Type 0} → (X → ℕ → R) → R → (List ℕ → X) → List ℕ → Parsed (List ℕ) → R
-parsed_as made none value s bad = none
-parsed_as made none value s (parsed row rest) = made (value row) (length s - length rest)
+-- what stands for what was read, and what is left of the text
+abbrev pub parsed_as : {A B : Type 0} → (A → B) → Parsed A → Parsed B
+parsed_as value q = option_map (λ p. (value p.0, p.1)) q
 
-abbrev pub parsed_edge : List ℕ → Parsed (List ℕ) → EdgeAt
-parsed_edge = parsed_as Edge NoEdge raw_edge_of
-
-abbrev pub parsed_options : List ℕ → Parsed (List ℕ) → OptionsAt
-parsed_options = parsed_as Options NoOptions raw_options_of
-
--- the edge and the options, and the place behind them
-unfoldable pub parsed_ends : List ℕ → Parsed (List ℕ × List ℕ) → Last
-parsed_ends s bad = NoPair
-parsed_ends s (parsed t rest) = Pair (raw_edge_of t.0) (raw_options_of t.1) (length s - length rest)
+-- the edge and the options of their lines' numbers
+abbrev pub raw_ends_of : List ℕ × List ℕ → RawEdge × RawOptions
+raw_ends_of t = (raw_edge_of t.0, raw_options_of t.1)

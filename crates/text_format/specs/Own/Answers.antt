@@ -1,15 +1,13 @@
--- What a reader at a place of the text s answers of what its definition reads there.
-use Rattle.std.specs.Prelude.{List, ℕ, ◌-◌, length}
-use Rattle.text_format.specs.Format.{Parsed, bad, parsed}
-use Rattle.text_format.specs.declared.Num.{Num}
-use Rattle.text_format.specs.declared.Num.TheVariants.{Got, Bad}
+-- What a reader of the code answers: a value, and the rest of the text.
+use Rattle.std.specs.Prelude.{List, ℕ, Option, length}
+use Rattle.std.specs.Option.{option_map}
+use Rattle.std.specs.Borrow.{Bor}
+use Rattle.text_format.specs.Format.{Parsed}
 
--- the value and the place behind it, or Bad
-unfoldable pub parsed_at : List ℕ → Parsed ℕ → Num
-parsed_at s bad = Bad
-parsed_at s (parsed v rest) = Got v (length s - length rest)
+-- the value, and the rest itself in place of the reference to it
+abbrev pub as_read : {A : Type 0} → Option (A × Bor (List ℕ)) → Parsed A
+as_read r = option_map (λ p. (p.0, p.1.now)) r
 
--- of a list: how many, and the place behind them; or Bad
-unfoldable pub parsed_list : {A : Type 0} → List ℕ → Parsed (List A) → Num
-parsed_list s bad = Bad
-parsed_list s (parsed l rest) = Got (length l) (length s - length rest)
+-- of a list that was read: how many
+abbrev pub counted : {A : Type 0} → Parsed (List A) → Parsed ℕ
+counted q = option_map (λ p. (length p.0, p.1)) q

@@ -1,27 +1,17 @@
--- `text_listing::bits_or` meets its contract: what differs from itself is the NaN, and what lies above infinity a NaN's bits. Assumes nothing.
-use mathlib.Core.Path.{◌∙◌}
-use lib.Ieee.{binary64}
-use lib.Ieee.Bits.{nan_bits_above}
-use borrow.Author.Tests.{lt-ltb, le-ltb}
-use Rattle.arith.proofs.Cmp.{ne_self}
+-- `text_listing::bits_or` meets its contract. Assumes nothing.
+use Rattle.std.specs.Float.{binary64}
+use lib.Ieee.Bits.{nan_bits_is}
 use Rattle.text_listing.specs.Listing.{bits_or}
 use Rattle.text_listing.proofs.bits_or.Goals as goal
 
-pub float_to_bits-result : goal.float_to_bits-result
-float_to_bits-result c = rw (← ne_self, c.if-x.false) tt
-
-pub returns-then-own-gt-INFINITE : goal.returns-then-own-gt-INFINITE
+pub returns-then-not-is_nan : goal.returns-then-not-is_nan
 unfolding bits_or
-returns-then-own-gt-INFINITE c =
-    let own = c.args.own in
-    rw (← ne_self, c.if-x.true, nan_bits_above binary64 own ∙ lt-ltb _ _ c.if-own-gt-INFINITE.true)
+returns-then-not-is_nan c = rw (← c.if-not-is_nan.ensures.value)
 
-pub returns-else-own-gt-INFINITE : goal.returns-else-own-gt-INFINITE
+pub returns-then-is_nan : goal.returns-then-is_nan
 unfolding bits_or
-returns-else-own-gt-INFINITE c =
-    let own = c.args.own in
-    rw (← ne_self, c.if-x.true, nan_bits_above binary64 own ∙ le-ltb _ _ c.if-own-gt-INFINITE.false)
+returns-then-is_nan c = rw (← c.if-not-is_nan.ensures.value, nan_bits_is binary64 c.args.own, ← c.f64_from_bits_with_nan.ensures, ← c.if-is_nan.ensures.value)
 
-pub returns-else-x : goal.returns-else-x
+pub returns-else-is_nan : goal.returns-else-is_nan
 unfolding bits_or
-returns-else-x c = rw (← ne_self, c.if-x.false)
+returns-else-is_nan c = rw (← c.if-not-is_nan.ensures.value, nan_bits_is binary64 c.args.own, ← c.f64_from_bits_with_nan.ensures, ← c.if-is_nan.ensures.value)

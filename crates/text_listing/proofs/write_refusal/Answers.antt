@@ -1,19 +1,24 @@
 -- `text_listing::write_refusal` meets its contract. Assumes nothing.
-use mathlib.Core.Path.{◌∙◌}
-use native.Mathlib.Omega.{arith}
-use lib.ListN.{length-set}
+use Rattle.std.proofs.Common.{ap, ◌∙◌, [], ◌∷◌, ◌++◌, length, arith}
 use Rattle.text_format.specs.Bytes.{bytes}
-use Rattle.text_listing.proofs.Lines.{refusal_written}
-use Rattle.text_listing.proofs.Laws.{refusal_length, put_is}
+use Rattle.text_format.specs.Format.{decimal}
+use Rattle.text_listing.specs.Listing.{refusal}
+use Rattle.text_listing.proofs.Written.{written_then, written_all}
+use Rattle.text_listing.proofs.Laws.{refusal_length}
 use Rattle.text_listing.proofs.write_refusal.Goals as goal
 
-pub shape_of-out : goal.shape_of-out
-shape_of-out c = simp length-set (c.put_digits.auto.out ∙ c.put_bytes-at.auto.out)
+pub put-requires-2 : goal.put-requires-2
+unfolding refusal bytes
+put-requires-2 c =
+    let few = refusal_length c.args.cause (omega arith) in
+    let e = ap length (c.decimal.ensures ∙ ap (λ n. decimal n ++ 10 ∷ []) c.from.ensures) in
+    omega (arith, c.new-to.ensures.none.0, ap length c.new-to.ensures.none.1, c.put.ensures.count, c.put.ensures.length_is, c.requires)
 
 pub returns : goal.returns
-unfolding bytes
+unfolding refusal bytes
 returns c =
-    let a = c.args in
-    let few = refusal_length a.cause (omega arith) in
-    put_is _ a.out.now _ _ (omega arith)
-    (refusal_written a.cause c.top_of-top.result.count c.put_bytes-at.result a.out.now _ _ c.put_bytes-at.ensures.0 c.put_bytes-at.ensures.1 c.top_of-top.ensures.width c.put_digits.ensures)
+    let few = refusal_length c.args.cause (omega arith) in
+    let e = c.decimal.ensures ∙ ap (λ n. decimal n ++ 10 ∷ []) c.from.ensures in
+    let all = written_then c.put.ensures (rw e at c.put-2.ensures) in
+    let same = all.same in
+    written_all all c.new-to.ensures.none (omega (arith, few, c.requires)) (grind arith)

@@ -1,8 +1,0 @@
--- `arith_turn_limit::least_turn` meets its contract. Assumes nothing.
-use mathlib.Core.Path.{refl}
-use lib.Ieee.{of_bits, of_int}
-use Rattle.arith_turn_limit.proofs.least_turn.Goals as goal
-
-pub returns : goal.returns
-unfolding of_bits of_int
-returns c = refl

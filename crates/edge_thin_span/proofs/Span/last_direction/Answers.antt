@@ -1,0 +1,24 @@
+-- `last_direction` meets its contract.
+use Rattle.std.proofs.Common.{sym, ap, ◌∙◌, arith}
+use Rattle.edge_record.specs.Own.Stored.{record_point}
+use Rattle.edge_thin_span.specs.Span.{last_in}
+use Rattle.edge_thin_span.proofs.Loops.{last_here, last_earlier, ends_none}
+use Rattle.edge_thin_span.proofs.Span.last_direction.Goals as goal
+
+pub returns-in-Some : goal.returns-in-Some
+returns-in-Some c =
+    let s = c.args.self.now in
+    let l = c.loop-i in
+    last_here (record_point s.chain.now) s.a l.i (omega arith) c.in-Some.ensures ∙ l.invariant
+
+pub loop-i-preserved : goal.loop-i-preserved
+loop-i-preserved c =
+    let s = c.args.self.now in
+    let l = c.loop-i in
+    last_earlier (record_point s.chain.now) s.a l.i (omega arith) c.in_default.ensures ∙ l.invariant
+
+pub returns : goal.returns
+returns c =
+    let s = c.args.self.now in
+    let l = c.loop-i in
+    sym (ap last_in (ends_none (record_point s.chain.now) s.a l.i (omega arith))) ∙ l.invariant
