@@ -25,8 +25,8 @@ pub struct Hyperbolic {
     pub sinh: f64,
 }
 
-// e^r of an r at most half of ln 2 from 0: for each divisor d in turn, w becomes 1 + r / d * w, from 1. (In arith_trig's series the term is
-// taken off; one function of both would ask for a sign.)
+// e^r of an r at most half of ln 2 from 0: for each divisor d in turn, w becomes 1 + r / d * w, from 1. Stays:
+// in arith_trig's series the term is taken off, and one function of both would ask for a sign.
 fn series(r: f64, divisors: &[f64]) -> f64
     ensures { result ≡ fold (λ w d. exp_step r d w) one divisors.now }
 {

@@ -189,7 +189,7 @@ pub fn frame_at(points: &[f64], first: u32) -> Frame
     }
 }
 
-// Segment number i of the run that starts at first.
+// Segment number i of the run that starts at first. Stays: a sense is a number of the tables, which C lends.
 #[tactic(auto, unfolding(crate::specs::Rows::segment_of))]
 pub fn segment_at(parts: &[u32], ranges: &[f64], first: u32, i: u32) -> Segment
     ensures { result ≡ segment_of parts.now ranges.now (first + i) }

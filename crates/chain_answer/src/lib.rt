@@ -25,7 +25,7 @@ pub const FLOATS: usize = edge_record::WIDTH * POINTS;
 pub const BYTES: usize = text_listing::REFUSAL_BYTES + text_listing::FLOAT_BYTES * FLOATS;
 
 // The listing of an answer, whose chain lies in the first buffer or in the second. `lo` and `hi` are the bits of the edge's
-// range: a NaN parameter is a copy of one of them.
+// range: a NaN parameter is a copy of one of them. Stays: the match tells data of a way, two buffers and two numbers, and no step to run.
 fn show(
     drawn: Result<Drawn, Refusal>,
     first: &[f64],
@@ -70,7 +70,8 @@ pub fn draw_sheet(
     )
 }
 
-// THE ANSWER to a sheet: the bytes that the program prints, at the start of `out`, and how many they are.
+// THE ANSWER to a sheet: the bytes that the program prints, at the start of `out`, and how many they are. Stays: text, buffers and output are
+// what the program lends, once.
 pub fn answer(text: &[u8], first: &mut [f64], second: &mut [f64], out: &mut [u8]) -> usize
     requires { refusal_bytes + line_bytes * room_of (length first.old) (length second.old) ≤ length out.old }
     ensures { Prints text.now first.old second.old out.old result first.new second.new out.new }
@@ -86,7 +87,7 @@ pub fn answer(text: &[u8], first: &mut [f64], second: &mut [f64], out: &mut [u8]
 }
 
 // WHAT THE PROGRAM PRINTS for an input, and how many bytes: the answer, in chain buffers of `FLOATS` floats. The first n bytes
-// of `text` are what was read of the input: all of it, or as much as `text` has room for.
+// of `text` are what was read of the input: all of it, or as much as `text` has room for. Stays: the clause speaks of the room behind them.
 pub fn print(text: &[u8], n: usize, out: &mut [u8]) -> usize
     requires { (size < length text.now) × (n ≤ length text.now) × (refusal_bytes + float_bytes * program_floats ≤ length out.old) }
     ensures { (result ≤ length out.new)

@@ -22,7 +22,8 @@ fn is_far(t: f64) -> bool
 }
 
 // Whether the curve of a row, asked for its point at t, asks a hyperbola for a parameter that is too far. A composite asks for one on
-// the segment that t falls on, whose curve lies in a lower row.
+// the segment that t falls on, whose curve lies in a lower row. Stays: the slices one by one, since the contract holds whatever the
+// others hold.
 pub fn far_at(curves: &[u32], parts: &[u32], ranges: &[f64], row: u32, t: f64) -> bool
     ensures { (points reals : List Float) → result ≡ asks_far (tree (tables points curves.now reals parts.now ranges.now) row) t }
 {

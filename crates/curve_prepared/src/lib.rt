@@ -50,6 +50,7 @@ pub struct PreparedCurve<'a> {
     ghost own: { prepared ≡ prepared_of (tree (lent tables.now) row) },
 }
 
+// Stays: a parabola is another case, with one number.
 fn round_of(frame: Frame, major: f64, minor: f64) -> Prepared
     ensures { result ≡ round_of frame major minor }
 {
@@ -62,7 +63,6 @@ fn round_of(frame: Frame, major: f64, minor: f64) -> Prepared
     }
 }
 
-// Beside `round_of`: another case, with one number.
 fn parabola_of(frame: Frame, focal_dist: f64) -> Prepared
     ensures { result ≡ parabola_of frame focal_dist }
 {

@@ -36,7 +36,8 @@ pub fn signed_span(range: Interval, same_sense: bool) -> f64
     -1.0 * range.span()
 }
 
-// An ellipse's derivative, of its frame's two axes; a circle's is that of equal radii.
+// An ellipse's derivative, of its frame's two axes; a circle's is that of equal radii. Stays: a hyperbola's has other functions of t and
+// another sign, which is all that there is.
 #[tactic(auto, unfolding(crate::specs::Derivative::ellipse_derivative, arith_trig::specs::Own::SinCos::sin_cos_of))]
 pub fn ellipse_derivative(x: Vec3, y: Vec3, semi_major: f64, semi_minor: f64, t: f64) -> Vec3
     ensures { result ≡ ellipse_derivative x y semi_major semi_minor (cos_of t) (sin_of t) }
@@ -54,7 +55,7 @@ pub fn parabola_derivative(x: Vec3, y: Vec3, focal_dist: f64, t: f64) -> Vec3
     x.scale(2.0 * focal_dist * t).add(y.scale(2.0 * focal_dist))
 }
 
-// A hyperbola's derivative, of its frame's two axes. Beside an ellipse's: other functions of t and another sign, which is all that there is.
+// A hyperbola's derivative, of its frame's two axes.
 #[tactic(auto, unfolding(crate::specs::Derivative::hyperbola_derivative, arith_exp::specs::Own::Hyperbolic::hyperbolic_of))]
 pub fn hyperbola_derivative(x: Vec3, y: Vec3, semi_major: f64, semi_minor: f64, t: f64) -> Vec3
     ensures { result ≡ hyperbola_derivative x y semi_major semi_minor (cosh_of t) (sinh_of t) }

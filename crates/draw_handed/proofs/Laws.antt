@@ -2,7 +2,7 @@
 use Rattle.std.specs.Prelude.{Err, Ok}
 use mathlib.Core.Path.{◌≡◌, refl, sym, ap, ◌∙◌}
 use mathlib.Core.Bool.{Bool, true, false, cond}
-use mathlib.Core.List.{List, [], ◌∷◌}
+use mathlib.Core.List.{List, []}
 use Prim.Native.Nat.{ℕ, ◌*◌}
 use lib.ListN.{length, take}
 use lib.Ieee.{Float}
@@ -18,8 +18,6 @@ use Rattle.edge_record.proofs.Laws.{length_flat}
 use Rattle.draw_spec.specs.declared.Way.{Way}
 use Rattle.draw_spec.specs.Repair.{Got}
 use Rattle.draw_spec.specs.Draw.{drawn, answer_of, in_first, lies_in_first, chain_floats, first_after, second_after, Outcome, drawn_as}
-use Rattle.ffi_numbers.specs.declared.Codes.{Codes}
-use Rattle.ffi_numbers.specs.Numbers.{codes_of}
 use Rattle.draw_handed.specs.Handed.{chain_of, Handed}
 use Rattle.draw_spec.specs.declared.Drawn.{Drawn}
 use Rattle.refusal.specs.Answer.{Answer}
@@ -61,17 +59,22 @@ module _ (t : Tables) (e : Edge) (o : Options) (first second : List Float) (answ
   own_outcome = rw (← h.answered, ← h.first_holds, ← h.second_holds) h
 
 -- ---- drawn_chain
+lies : {A : Type 0} (d d' : Answer Drawn) (x x' y y' : A) → d ≡ d' → x ≡ x' → y ≡ y' → cond (lies_in_first d) x y ≡ cond (lies_in_first d') x' y'
+lies d d' x x' y y' e p q = rw (e, p, q)
+
 module _ (t : Tables) (e : Edge) (o : Options) (first second : MutBor (List Float)) (answer : Answer Drawn) (f s : Bor (List Float)) (h : Outcome t e o first.now second.now answer f.now s.now) where
-  pub hands_back : (part : Bor (List Float)) (x : Codes) → f.ref_ptr ≡ first.ref_ptr → s.ref_ptr ≡ second.ref_ptr
-      → part.now ≡ take (chain_floats answer) (cond (lies_in_first answer) f.now s.now) → part.ref_ptr ≡ cond (lies_in_first answer) f.ref_ptr s.ref_ptr → x ≡ codes_of answer
-      → Handed t e o first second x.refusal x.way x.count (part ∷ f ∷ s ∷ [])
-  hands_back part x p q l r w = record {
+  pub hands_back : (part : Bor (List Float)) → f.ref_ptr ≡ first.ref_ptr → s.ref_ptr ≡ second.ref_ptr
+      → part.now ≡ take (chain_floats answer) (cond (lies_in_first answer) f.now s.now) → part.ref_ptr ≡ cond (lies_in_first answer) f.ref_ptr s.ref_ptr
+      → Handed t e o first second (record { drawn = answer; chain = part; first = f; second = s })
+  hands_back part p q l r = record {
     handed = record {
-      hold = rw (l ∙ part_is_chain t e o first.now second.now answer f.now s.now h, h.first_holds, h.second_holds);
-      lie = rw (r, p, q, h.answered);
-      its_refusal = ap (λ (c : Codes). c.refusal) (w ∙ ap codes_of h.answered);
-      its_way = ap (λ (c : Codes). c.way) (w ∙ ap codes_of h.answered);
-      its_count = ap (λ (c : Codes). c.count) (w ∙ ap codes_of h.answered);
+      answered = h.answered;
+      chain_holds = l ∙ part_is_chain t e o first.now second.now answer f.now s.now h;
+      first_holds = h.first_holds;
+      second_holds = h.second_holds;
+      chain_lies = r ∙ lies _ _ _ _ _ _ h.answered p q;
+      first_lies = p;
+      second_lies = q;
     };
     outcome = own_outcome t e o first.now second.now answer f.now s.now h;
   }

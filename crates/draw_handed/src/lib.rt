@@ -11,27 +11,28 @@ use draw_spec::{Drawn, Way};
 use options::Options;
 use refusal::Refusal;
 
+// What a drawing hands back: its answer, the answer's chain as the part of the buffer that holds it, and both buffers whole.
+#[derive(Clone, Copy)]
+pub struct HandedBack<'a> {
+    pub drawn: Result<Drawn, Refusal>,
+    pub chain: &'a [f64],
+    pub first: &'a [f64],
+    pub second: &'a [f64],
+}
+
 // Whether a chain that was got in this way lies in the first buffer.
 fn is_in_first(way: Way) -> bool
     ensures { result ≡ in_first way }
 {
-    match way {
-        Way::AsDrawn => true,
-        Way::Chord => true,
-        Way::Complement => false,
-        Way::ShortArc => false,
-        Way::Runaway => false,
-    }
+    matches!(way, Way::AsDrawn | Way::Chord)
 }
 
-// The first n records of a buffer, or all of it where it has not so many.
+// The first n records of a buffer, or all of it where it has not so many. Stays: the number beside the buffer, since an answer has it,
+// and any buffer may be lent with an answer; `get` in place of the range would not say where the part begins.
 fn leading<'a>(buffer: &'a [f64], n: usize) -> &'a [f64]
     ensures { (result.now ≡ take (width * n) buffer.now) × (result.ref_ptr ≡ buffer.entry.ref_ptr) }
 {
-    if n <= buffer.len() / edge_record::WIDTH {
-        return &buffer[..edge_record::WIDTH * n];
-    }
-    buffer
+    &buffer[..edge_record::WIDTH.saturating_mul(n).min(buffer.len())]
 }
 
 // The chain of an answer: the leading part of the buffer that holds it. For a refusal it is empty. Both buffers are lent to be
@@ -52,26 +53,23 @@ pub fn chain_of<'a>(drawn: Result<Drawn, Refusal>, first: &'a [f64], second: &'a
     }
 }
 
-// Draws an edge, and hands back its chain, the first buffer whole and the second. The answer's numbers are those of
-// `ffi_numbers::codes_of`: the refusal's, 0 for a chain; its way's; and how many points it has.
+// Draws an edge, and hands back its answer and chain, the first buffer whole and the second.
 pub fn drawn_chain<'a>(
     tables: &LentTables<'_>,
     edge: Edge,
     options: Options,
     first: &'a mut [f64],
     second: &'a mut [f64],
-    refusal: &mut u32,
-    way: &mut u32,
-    count: &mut usize,
-) -> [&'a [f64]; 3]
-    ensures { Handed (lent tables.now) edge options first.entry second.entry refusal.new way.new count.new result }
+) -> HandedBack<'a>
+    ensures { Handed (lent tables.now) edge options first.entry second.entry result }
 {
     let drawn = draw::draw(tables, edge, options, &mut *first, &mut *second);
-    let codes = ffi_numbers::codes_of(drawn);
-    *refusal = codes.refusal;
-    *way = codes.way;
-    *count = codes.count;
-    let f = &first[..];
-    let s = &second[..];
-    [chain_of(drawn, f, s), f, s]
+    let first = &first[..];
+    let second = &second[..];
+    HandedBack {
+        drawn,
+        chain: chain_of(drawn, first, second),
+        first,
+        second,
+    }
 }

@@ -1,6 +1,7 @@
 #![tactic(auto)]
 // What drawing would ask a curve for, told before a chain is made of it: whether some of it is too far, and whether refusal 8 or 11 comes first. Where
-// a look at the rows says that no hyperbola can be asked for a parameter that is too far, nothing is gone through.
+// a look at the rows says that no hyperbola can be asked for a parameter that is too far, nothing is gone through. The slices are lent one by
+// one where a contract holds whatever the other tables hold.
 ghost use Rattle.std.specs.Prelude.{◌≡◌, ℕ, ◌<◌, ◌≤◌, ◌&&◌, List, nat_lt, Float, Some, None};
 ghost use Rattle.brep.specs.Rows.{tables};
 ghost use Rattle.brep.specs.Tree.{tree};
@@ -9,37 +10,37 @@ ghost use Rattle.curve_asks.specs.Own.Risk.{in_reach, is_hyperbola};
 ghost use Rattle.edge_params.specs.Work.{some_far, asking, within};
 ghost use Rattle.edge_params.specs.Params.{evenly};
 ghost use Rattle.edge_range.specs.Usable.{analytic_segments};
-ghost use Rattle.edge_drawing.specs.Drawing.{drawn_curve};
+ghost use Rattle.edge_drawing.specs.Own.Drawing.{drawn_curve};
 ghost use Rattle.edge_record.specs.Chain.{most};
 ghost use Rattle.edge_sample.specs.Own.Answered.{sampled_in};
 ghost use Rattle.draw_spec.specs.Edge.{listed};
 ghost use Rattle.draw_spec.specs.Repair.{sweep};
 ghost use Rattle.edge_asks.specs.Own.Told.{asked_first, told_of};
 
+use brep::Kind;
 use edge_drawing::Drawing;
 use math::Interval;
 use options::Resolved;
 use refusal::Refusal;
 
 // Whether one of the parameters that divide a range evenly is too far: n steps, both ends included. Each is looked at.
+// Stays: the slices one by one, since the contract holds whatever points and reals hold.
 fn steps_far(
     curves: &[u32],
     parts: &[u32],
     ranges: &[f64],
     row: u32,
     range: Interval,
-    n: u32,
+    n: u64,
 ) -> bool
     ensures { (points reals : List Float) → result ≡ some_far (asks_far (tree (tables points curves.now reals parts.now ranges.now) row)) (evenly range n) }
 {
-    let total = n as f64;
-    let mut i = 0u64;
-    while i <= n as u64 {
+    let total = std::num::nearest_u64_to_f64(n);
+    for i in 0..=n {
         let t = range.at(std::num::nearest_u64_to_f64(i) / total);
         if curve_asks::far_at(curves, parts, ranges, row, t) {
             return true;
         }
-        i += 1;
     }
     false
 }
@@ -51,7 +52,7 @@ fn evenly_far(
     ranges: &[f64],
     row: u32,
     range: Interval,
-    n: u32,
+    n: u64,
 ) -> bool
     ensures { (points reals : List Float) → result ≡ some_far (asks_far (tree (tables points curves.now reals parts.now ranges.now) row)) (evenly range n) }
 {
@@ -60,6 +61,7 @@ fn evenly_far(
 }
 
 // Whether edge_extent's nine probes are asked for, and one of them is too far. They are asked for whether or not the options use the extent.
+#[tactic(auto, unfolding(draw_spec::specs::Draw::probes, edge_params::specs::Work::some_far))]
 fn probes_far(
     curves: &[u32],
     parts: &[u32],
@@ -74,6 +76,7 @@ fn probes_far(
 }
 
 // Whether one of the 513 parameters at which repair looks for the vertices is too far.
+#[tactic(auto, unfolding(edge_params::specs::Work::some_far))]
 pub fn sweep_far(curves: &[u32], parts: &[u32], ranges: &[f64], row: u32, natural: Interval) -> bool
     ensures { (points reals : List Float) → result ≡ some_far (asks_far (tree (tables points curves.now reals parts.now ranges.now) row)) (sweep natural) }
 {
@@ -89,10 +92,8 @@ fn is_near_hyperbola(curves: &[u32], row: u32, range: Interval) -> bool
     ensures { (points reals : List Float) (parts : List ℕ) (ranges : List Float) → result ≡ is_hyperbola (tree (tables points curves.now reals parts ranges) row) && (in_reach range.lo && in_reach range.hi) }
 {
     let r = curve_parameter::under_trims(curves, row);
-    if brep::int_at(curves, r as usize * 3) == 8 {
-        return curve_asks::in_reach(range.lo) && curve_asks::in_reach(range.hi);
-    }
-    false
+    brep::kind_at(curves, r) == Some(Kind::Hyperbola)
+        && (curve_asks::in_reach(range.lo) && curve_asks::in_reach(range.hi))
 }
 
 // Whether the segment floor's even steps fit the room and one of them is too far. Steps that do not fit are refused before they are asked for.
@@ -105,13 +106,9 @@ fn floor_far(
     segments: u64,
     room: usize,
 ) -> bool
-    requires { room ≤ most }
     ensures { (points reals : List Float) → result ≡ nat_lt segments room && some_far (asks_far (tree (tables points curves.now reals parts.now ranges.now) row)) (evenly range segments) }
 {
-    if segments < room as u64 {
-        return steps_far(curves, parts, ranges, row, range, segments as u32);
-    }
-    false
+    segments < room as u64 && steps_far(curves, parts, ranges, row, range, segments)
 }
 
 // What a pass over the moves of sampling tells, and then the segment floor.
@@ -121,33 +118,27 @@ fn tell_by_count(
     r: Resolved,
     room: usize,
 ) -> Result<(), Refusal>
-    requires { (0 < r.depth) × (room ≤ most)
+    requires { (0 < r.depth)
         × (analytic_segments (drawn_curve drawing.now) range r ≡ None) }
     ensures { within room (listed (drawn_curve drawing.now) range r) ≡ told_of result (sampled_in room (drawn_curve drawing.now) range r) }
 {
     let tables = drawing.tables;
-    let row = drawing.edge.curve;
-    let counted = edge_count::count_range(drawing, range, r, room);
-    match counted {
-        Err(cause) => Err(cause),
-        Ok(n) => {
-            // Two parameters at least are counted, so that these are fewer segments than the floor.
-            if n as u64 <= r.segments
-                && floor_far(
-                    tables.curves,
-                    tables.parts,
-                    tables.ranges,
-                    row,
-                    range,
-                    r.segments,
-                    room,
-                )
-            {
-                return Err(Refusal::TooFar);
-            }
-            Ok(())
-        }
+    let n = edge_count::count_range(drawing, range, r, room)?;
+    // Two parameters at least are counted, so that these are fewer segments than the floor.
+    if n as u64 <= r.segments
+        && floor_far(
+            tables.curves,
+            tables.parts,
+            tables.ranges,
+            drawing.edge.curve,
+            range,
+            r.segments,
+            room,
+        )
+    {
+        return Err(Refusal::TooFar);
     }
+    Ok(())
 }
 
 // What sampling a range in a room comes to, as far as what may not be asked goes, behind the probes or not: `Ok` where the list is the one that

@@ -15,10 +15,13 @@ use Rattle.edge_record.specs.Chain.{width, row, flat}
 use Rattle.edge_record.proofs.Laws.{push}
 use Rattle.edge_closed_form.specs.Located.{located}
 
--- where there are parameters, there is a first
-pub positive : (params : List Float) → (length params ≡ 0 → ⊥) → 0 < length params
-positive [] h = absurd (h refl)
-positive (t ∷ l) h = omega arith
+-- the parameters behind the first
+abbrev pub rest_of : {params rest : List Float} {a : Float} → params ≡ a ∷ rest → List Float
+rest_of {params} {rest} {a} e = rest
+
+-- a parameter of the rest is the next one of all
+pub next_of : (params rest : List Float) (a : Float) (i : ℕ) → params ≡ a ∷ rest → get_or rest i nan ≡ get_or params (i + 1) nan
+next_of params rest a i e = rw (e, add-one i)
 
 abbrev pub on : CurveTree → Float → Sample
 on c t = record { point = point_at c t; param = t }

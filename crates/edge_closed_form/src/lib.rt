@@ -20,61 +20,61 @@ use curve_prepared::Prepared;
 use edge_record::Sample;
 use math::Vec3;
 
-// How far the middle of a curve lies from the middle of its chord from a to b, squared; pa and pb are its points there.
-fn miss_square(prepared: Prepared, a: f64, b: f64, pa: Vec3, pb: Vec3) -> f64
-    requires { (is_plain prepared ≡ true) × (pa ≡ plain_point prepared a) × (pb ≡ plain_point prepared b) }
-    ensures { (c : CurveTree) → prepared_of c ≡ prepared → result ≡ miss_square c a b }
+// How far the middle of a curve lies from the middle of its chord between two of its points, squared.
+#[tactic(auto, using(curve_prepared::proofs::Laws::plain_point_lem), unfolding(crate::specs::Own::Worst::miss_square))]
+fn miss_square(prepared: Prepared, from: Sample, to: Sample) -> f64
+    requires { (is_plain prepared ≡ true) × (from.point ≡ plain_point prepared from.param) × (to.point ≡ plain_point prepared to.param) }
+    ensures { (c : CurveTree) → prepared_of c ≡ prepared → result ≡ miss_square c from.param to.param }
 {
-    let t = 0.5 * (a + b);
+    let t = 0.5 * (from.param + to.param);
     let m = curve_prepared::plain_point(prepared, t);
-    m.sub(pa.add(pb).scale(0.5)).length_squared()
+    m.sub(from.point.add(to.point).scale(0.5)).length_squared()
 }
 
-// The larger of the worst square so far and the next; a NaN is passed over.
+// The larger of the worst square so far and the next; a NaN is passed over. Stays: one instruction, as rustc -O has it, since the worst is never a
+// NaN itself, which the library's max (7) and `arith::max` (10) would ask at each point.
+#[tactic(auto, unfolding(crate::specs::Own::Worst::larger_of))]
 fn larger(worst: f64, s: f64) -> f64
     ensures { result ≡ larger_of worst s }
 {
     if worst < s { s } else { worst }
 }
 
+// The curve's point at t, with t.
+fn sample_of(prepared: Prepared, t: f64) -> Sample
+    ensures point { result.point ≡ plain_point prepared result.param }
+    ensures param { result.param ≡ t }
+{
+    Sample {
+        point: curve_prepared::plain_point(prepared, t),
+        param: t,
+    }
+}
+
 // The square of the largest miss between parameters that follow each other, of a curve that needs no tables. Each point is
-// evaluated once, and is a record of the chain from then on.
+// evaluated once, and is a record of the chain from then on. Stays: two lists, as in `meets`.
 fn worst_square(prepared: Prepared, params: &[f64], chain: &mut [f64]) -> f64
     requires { (is_plain prepared ≡ true) × (width * length params.now ≤ length chain.old) }
     ensures { (c : CurveTree) → prepared_of c ≡ prepared → Alike (root_of result) (worst_miss c plus_zero params.now)
         × (chain.new ≡ sets chain.old 0 (flat (located c params.now))) }
 {
-    if params.len() == 0 {
+    let Some((first, rest)) = params.split_first() else {
         return 0.0;
-    }
-    let mut worst = 0.0;
-    let mut a = params[0];
-    let mut pa = curve_prepared::plain_point(prepared, a);
-    let mut i = 0usize;
-    while i + 1 < params.len() {
-        let here = Sample {
-            point: pa,
-            param: a,
-        };
-        edge_record::put(chain, i, here);
-        let b = params[i + 1];
-        let pb = curve_prepared::plain_point(prepared, b);
-        let s = miss_square(prepared, a, b, pa, pb);
-        worst = larger(worst, s);
-        a = b;
-        pa = pb;
-        i += 1;
-    }
-    let last = Sample {
-        point: pa,
-        param: a,
     };
-    edge_record::put(chain, i, last);
+    let mut worst = 0.0;
+    let mut last = sample_of(prepared, *first);
+    edge_record::put(chain, 0, last);
+    for (i, t) in rest.iter().enumerate() {
+        let next = sample_of(prepared, *t);
+        edge_record::put(chain, i + 1, next);
+        worst = larger(worst, miss_square(prepared, last, next));
+        last = next;
+    }
     worst
 }
 
 // Whether the chords between the parameters stay within the sag, of a curve that needs no tables. The chain then holds the points at
-// those.
+// those. Stays: the two lists are apart, as the caller has them; the C interface lends the chain, and a struct of both would be made for each call.
 pub fn meets(tables: &LentTables<'_>, row: u32, params: &[f64], sag: f64, chain: &mut [f64]) -> bool
     requires { (width * length params.now ≤ length chain.old) × (is_plain (prepared_of (tree (lent tables.now) row)) ≡ true) }
     ensures { (result ≡ le (worst_miss (tree (lent tables.now) row) plus_zero params.now) sag)

@@ -1,4 +1,4 @@
--- A count of moves, by the tests that the code makes: one parameter more, and the ways out of is_halved, count_subdivided and count_span.
+-- A count of moves, by the tests that the code makes: one parameter more, and the ways out of is_halved and of the methods of Counter.
 -- Assumes nothing.
 use Rattle.std.specs.Prelude.{Option, ℕ, Some, None, Err, Ok}
 use mathlib.Core.Path.{◌≡◌, refl, sym, ap, ◌∙◌}
@@ -25,6 +25,8 @@ use Rattle.edge_subdivide.specs.declared.End.{End}
 use Rattle.edge_subdivide.specs.Bisect.{end_at, within_budget}
 use Rattle.edge_subdivide.proofs.Laws.{end_t}
 use Rattle.edge_sample.proofs.Walking.{not_hi, is_hi}
+use Rattle.curve_prepared.specs.Own.PreparedCurve.{curve_of}
+use Rattle.edge_count.specs.declared.Counter.{Counter}
 use Rattle.refusal.specs.Answer.{Answer, bind}
 use Rattle.refusal.specs.declared.Refusal.{Refusal}
 use Rattle.refusal.specs.declared.Refusal.TheVariants.{NoRoom, TooFar}
@@ -150,40 +152,47 @@ module _ (within : Float → Float → Bool) (a b : Float) {out after : List Flo
 pub end_near : (c : CurveTree) (x : Float) (m : End) → m ≡ end_at c x → {v : Bool} → v ≡ asks_far c x → v ≡ false → asks_far c m.t ≡ false
 end_near c x m M F near = ap (asks_far c) (end_t c x m M) ∙ sym F ∙ near
 
--- ---- the ways out of count_subdivided
-module _ (c : CurveTree) (r : Resolved) (depth : ℕ) (a b : End) (fa : asks_far c a.t ≡ false) (fb : asks_far c b.t ≡ false) (room k : ℕ) where
+-- ---- what a count asks of its curve
+abbrev pub far_of : Counter → Float → Bool
+far_of o = asks_far (curve_of o.curve)
+
+abbrev pub budget_of : Counter → Float → Float → Bool
+budget_of o = within_budget (curve_of o.curve) o.limits.options
+
+-- ---- the ways out of Counter::subdivided
+module _ (o : Counter) (depth : ℕ) (a b : End) (fa : far_of o a.t ≡ false) (fb : far_of o b.t ≡ false) (k : ℕ) where
   abbrev span : Answer ℕ
-  span = all (asks_far c) (within_budget c r) depth a.t b.t room k
+  span = all (far_of o) (budget_of o) depth a.t b.t o.room k
 
   pub out_end : depth ≡ 0 → Ok k ≡ span
-  out_end h = at_end (asks_far c) (within_budget c r) depth a.t b.t room k h
+  out_end h = at_end (far_of o) (budget_of o) depth a.t b.t o.room k h
 
-  module _ (deep : depth ≡ 0 → ⊥) {v : Bool} (F : v ≡ asks_far c (midpoint a.t b.t)) where
+  module _ (deep : depth ≡ 0 → ⊥) {v : Bool} (F : v ≡ far_of o (midpoint a.t b.t)) where
     pub out_far : v ≡ true → Err TooFar ≡ span
-    out_far e = at_middle (asks_far c) (within_budget c r) depth a.t b.t room k deep fa fb (sym F ∙ e)
+    out_far e = at_middle (far_of o) (budget_of o) depth a.t b.t o.room k deep fa fb (sym F ∙ e)
 
-    module _ (near : v ≡ false) {w : Bool} (W : w ≡ not (within_budget c r a.t b.t)) where
-      told : within_budget c r a.t b.t ≡ not w
-      told = sym (ap not W ∙ not-not (within_budget c r a.t b.t))
+    module _ (near : v ≡ false) {w : Bool} (W : w ≡ not (budget_of o a.t b.t)) where
+      told : budget_of o a.t b.t ≡ not w
+      told = sym (ap not W ∙ not-not (budget_of o a.t b.t))
 
       -- counted on, by the test
-      on : (v : Bool) → within_budget c r a.t b.t ≡ v → counted (asks_far c) room k (after (within_budget c r) depth a.t b.t v) ≡ span
-      on = past_middle (asks_far c) (within_budget c r) depth a.t b.t room k deep fa fb (sym F ∙ near)
+      on : (v : Bool) → budget_of o a.t b.t ≡ v → counted (far_of o) o.room k (after (budget_of o) depth a.t b.t v) ≡ span
+      on = past_middle (far_of o) (budget_of o) depth a.t b.t o.room k deep fa fb (sym F ∙ near)
 
       pub out_within : not w ≡ true → Ok k ≡ span
       unfolding counted
       out_within e = on true (told ∙ e)
 
       -- the first half, the middle, the other half
-      module _ (split : not w ≡ false) (m : End) (M : m ≡ end_at c (midpoint a.t b.t)) where
+      module _ (split : not w ≡ false) (m : End) (M : m ≡ end_at (curve_of o.curve) (midpoint a.t b.t)) where
         abbrev first : Answer ℕ
-        first = counted (asks_far c) room k (subdividing (within_budget c r) (depth - 1) a.t m.t)
+        first = counted (far_of o) o.room k (subdividing (budget_of o) (depth - 1) a.t m.t)
 
         abbrev middle : ℕ → Answer ℕ
-        middle n = counted (asks_far c) room n (adds m.t ∷ [])
+        middle n = counted (far_of o) o.room n (adds m.t ∷ [])
 
         abbrev second : ℕ → Answer ℕ
-        second p = counted (asks_far c) room p (subdividing (within_budget c r) (depth - 1) m.t b.t)
+        second p = counted (far_of o) o.room p (subdividing (budget_of o) (depth - 1) m.t b.t)
 
         abbrev behind : ℕ → Answer ℕ
         behind n = bind (middle n) second
@@ -191,9 +200,9 @@ module _ (c : CurveTree) (r : Resolved) (depth : ℕ) (a b : End) (fa : asks_far
         halves : bind first behind ≡ span
         unfolding left right
         halves =
-            rw (end_t c (midpoint a.t b.t) m M)
-            (counted_three (asks_far c) room k (subdividing (within_budget c r) (depth - 1) a.t (midpoint a.t b.t)) (midpoint a.t b.t)
-            (subdividing (within_budget c r) (depth - 1) (midpoint a.t b.t) b.t)
+            rw (end_t (curve_of o.curve) (midpoint a.t b.t) m M)
+            (counted_three (far_of o) o.room k (subdividing (budget_of o) (depth - 1) a.t (midpoint a.t b.t)) (midpoint a.t b.t)
+            (subdividing (budget_of o) (depth - 1) (midpoint a.t b.t) b.t)
             ∙ on false (told ∙ split))
 
         pub first_refused : {i : Refusal} → Err i ≡ first → Err i ≡ span
@@ -206,42 +215,42 @@ module _ (c : CurveTree) (r : Resolved) (depth : ℕ) (a b : End) (fa : asks_far
           pub both_counted : {p : ℕ} → Ok p ≡ middle n → {x : Answer ℕ} → x ≡ second p → x ≡ span
           both_counted P X = X ∙ goes_on second P ∙ goes_on behind N ∙ halves
 
--- ---- the ways out of count_span
+-- ---- the ways out of Counter::span
 -- what bisection puts inside a span, then its end
 abbrev pub span_moves : CurveTree → Interval → Resolved → ℕ → Float → Float → List Move
 span_moves c range r depth a b = subdividing (within_budget c r) depth a b ++ map adds (unless_hi range b)
 
-module _ (c : CurveTree) (range : Interval) (r : Resolved) (depth : ℕ) (a b : Float) (room k : ℕ) where
-  -- what count_span answers
+module _ (o : Counter) (a b : Float) (k : ℕ) where
+  -- what it answers
   abbrev answer : Answer ℕ
-  answer = counted (asks_far c) room k (span_moves c range r depth a b)
+  answer = counted (far_of o) o.room k (span_moves (curve_of o.curve) o.range o.limits.options o.limits.options.depth a b)
 
   abbrev inside : Answer ℕ
-  inside = all (asks_far c) (within_budget c r) depth a b room k
+  inside = all (far_of o) (budget_of o) o.limits.options.depth a b o.room k
 
   abbrev ended : ℕ → Answer ℕ
-  ended n = counted (asks_far c) room n (map adds (unless_hi range b))
+  ended n = counted (far_of o) o.room n (map adds (unless_hi o.range b))
 
   joined : bind inside ended ≡ answer
-  joined = sym (counted_append (asks_far c) room k (subdividing (within_budget c r) depth a b) (map adds (unless_hi range b)))
+  joined = sym (counted_append (far_of o) o.room k (subdividing (budget_of o) o.limits.options.depth a b) (map adds (unless_hi o.range b)))
 
   -- an end that is too far is asked for first
-  module _ (deep : 0 < depth) {v : Bool} (F : v ≡ asks_far c a) where
+  module _ {v : Bool} (F : v ≡ far_of o a) where
     pub span_left : v ≡ true → Err TooFar ≡ answer
     span_left e =
-        ap (λ (x : Answer ℕ). bind x ended) (at_left (asks_far c) (within_budget c r) depth a b room k (λ z. omega arith) (sym F ∙ e)) ∙ joined
+        ap (λ (x : Answer ℕ). bind x ended) (at_left (far_of o) (budget_of o) o.limits.options.depth a b o.room k (λ z. omega (arith, o.deep)) (sym F ∙ e)) ∙ joined
 
-    pub span_right : v ≡ false → {w : Bool} → w ≡ asks_far c b → w ≡ true → Err TooFar ≡ answer
+    pub span_right : v ≡ false → {w : Bool} → w ≡ far_of o b → w ≡ true → Err TooFar ≡ answer
     span_right e G h =
-        ap (λ (x : Answer ℕ). bind x ended) (at_right (asks_far c) (within_budget c r) depth a b room k (λ z. omega arith) (sym F ∙ e) (sym G ∙ h)) ∙ joined
+        ap (λ (x : Answer ℕ). bind x ended) (at_right (far_of o) (budget_of o) o.limits.options.depth a b o.room k (λ z. omega (arith, o.deep)) (sym F ∙ e) (sym G ∙ h)) ∙ joined
 
   pub span_refused : {n : Refusal} → Err n ≡ inside → Err n ≡ answer
   span_refused e = stands ended e ∙ joined
 
   module _ {n : ℕ} (e : Ok n ≡ inside) where
-    pub span_more : ne b range.hi ≡ true → {x : Answer ℕ} → x ≡ counted (asks_far c) room n (adds b ∷ []) → x ≡ answer
-    span_more h X = X ∙ ap (λ (l : List Float). counted (asks_far c) room n (map adds l)) (not_hi range b h) ∙ goes_on ended e ∙ joined
+    pub span_more : ne b o.range.hi ≡ true → {x : Answer ℕ} → x ≡ counted (far_of o) o.room n (adds b ∷ []) → x ≡ answer
+    span_more h X = X ∙ ap (λ (l : List Float). counted (far_of o) o.room n (map adds l)) (not_hi o.range b h) ∙ goes_on ended e ∙ joined
 
-    pub span_hi : ne b range.hi ≡ false → Ok n ≡ answer
+    pub span_hi : ne b o.range.hi ≡ false → Ok n ≡ answer
     unfolding counted
-    span_hi h = ap (λ (l : List Float). counted (asks_far c) room n (map adds l)) (is_hi range b h) ∙ goes_on ended e ∙ joined
+    span_hi h = ap (λ (l : List Float). counted (far_of o) o.room n (map adds l)) (is_hi o.range b h) ∙ goes_on ended e ∙ joined

@@ -1,7 +1,8 @@
 -- The loop of thin_far: of what thin_breaks asks for, what is too far is in the rest of it. Assumes nothing.
+use Rattle.std.specs.List.{list_any}
 use mathlib.Core.Path.{◌≡◌, refl, sym, ap, ◌∙◌}
 use mathlib.Core.Bool.{Bool, true, false, ◌||◌}
-use mathlib.Core.List.{List, ◌∷◌}
+use mathlib.Core.List.{List, [], ◌∷◌}
 use Prim.Native.Nat.{ℕ, ◌+◌, ◌≤◌, ◌<◌}
 use native.Mathlib.Numerals.{add-one}
 use lib.ListN.{length, get_or, drop, drop_of_length-le}
@@ -19,16 +20,10 @@ use Rattle.edge_params.proofs.Asks.{some_far-++}
 module _ (far : Float → Bool) where
   -- ---- the points of deviation: k / 4 is exact
   pub five : (a b : Float)
-      → far a || (far b || (far (a ⊕ (b ⊖ a) ⊗ bits 0x3FD0000000000000) || (far (a ⊕ (b ⊖ a) ⊗ half) || far (a ⊕ (b ⊖ a) ⊗ bits 0x3FE8000000000000))))
+      → list_any far (a ∷ b ∷ (a ⊕ (b ⊖ a) ⊗ bits 0x3FD0000000000000) ∷ (a ⊕ (b ⊖ a) ⊗ half) ∷ (a ⊕ (b ⊖ a) ⊗ bits 0x3FE8000000000000) ∷ [])
       ≡ some_far far (deviation_asks a b)
   unfolding some_far div of_bits of_int
-  five a b =
-      ap (λ (v : Bool). far a || (far b || (far (a ⊕ (b ⊖ a) ⊗ bits 0x3FD0000000000000) || (far (a ⊕ (b ⊖ a) ⊗ half) || v))))
-      (last (far (a ⊕ (b ⊖ a) ⊗ bits 0x3FE8000000000000)))
-    where
-      last : (v : Bool) → v ≡ v || false
-      last true = refl
-      last false = refl
+  five a b = refl
 
   -- ---- a break, by the test that thin_breaks makes
   module _ (dev : Float → Float → Float) (sag hi : Float) where

@@ -3,7 +3,7 @@ use Rattle.std.specs.Prelude.{Option, Some, None, Err, Ok, ⊤}
 use mathlib.Core.Path.{◌≡◌, refl, sym, ap, subst, ◌∙◌}
 use mathlib.Core.Bool.{Bool, true, false}
 use mathlib.Core.List.{List, [], ◌++◌}
-use Prim.Native.Nat.{ℕ, ◌+◌, ◌-◌, ◌*◌, ◌≤◌}
+use Prim.Native.Nat.{ℕ, ◌+◌, ◌-◌, ◌*◌, ◌/◌, ◌≤◌}
 use native.Mathlib.Omega.{arith}
 use lib.ListN.{length, take, drop, replicate, length-append, length-replicate, replicate-append-replicate, take-append-drop}
 use lib.Seq.{sets, length-sets, length-take-le, take_at}
@@ -22,6 +22,9 @@ use Rattle.edge_params.specs.Own.Written.{said}
 use Rattle.edge_record.specs.declared.Sample.{Sample}
 use Rattle.edge_record.specs.Own.Stored.{counted_of}
 use Rattle.edge_record.specs.Chain.{width, most, flat, samples}
+use Rattle.edge_record.proofs.Laws.{lead}
+use Rattle.edge_discretise.proofs.Thinning.{flat_reads, leads_more}
+use Rattle.std.specs.Result.{result_unwrap_or}
 use Rattle.edge_range.specs.Usable.{usable_range}
 use Rattle.edge_subdivide.specs.Own.Recorded.{Room}
 use Rattle.base_lists.specs.Own.ListOf.{list_of}
@@ -35,9 +38,8 @@ use Rattle.draw_spec.specs.Draw.{probes, room_of}
 use Rattle.draw_spec.proofs.Listed.{over_within}
 use Rattle.edge_asks.specs.Own.Told.{asked_first, told_of}
 use Rattle.edge_asks.proofs.Telling.{told_clear}
-use Rattle.edge_place.proofs.Records.{read_back}
 use Rattle.edge_place.proofs.Laws.{placed_length}
-use Rattle.edge_discretise.specs.Own.Discretised.{ChainInto, asked_discretised, DiscretisedInto}
+use Rattle.edge_discretise.specs.Own.Discretised.{ChainInto, ChainLeads, asked_discretised, DiscretisedInto}
 use Rattle.refusal.specs.Answer.{Answer, bind, each}
 use Rattle.refusal.specs.declared.Refusal.{Refusal}
 use Rattle.refusal.specs.declared.Refusal.TheVariants.{NoRoom, TooFar}
@@ -48,8 +50,8 @@ into_is n m D E k e p = record {
   holds = p.holds ∙ ap (λ (i : ℕ). filled i (flat (list_of D))) k ∙ ap (λ (x : Answer (List Sample)). filled m (flat (list_of x))) e;
 }
 
-pub into_as : {n m : ℕ} {D : Answer (List Sample)} {w : Answer ℕ} {g : List Float} → n ≡ m → ChainInto n D w g → ChainInto m D w g
-into_as {n} {m} {D} e p = into_is n m D D e refl p
+leads_is : (D E : Answer (List Sample)) {w : Answer ℕ} {g : List Float} → D ≡ E → ChainLeads D w g → ChainLeads E w g
+leads_is D E {w} {g} e = subst (λ (X : Answer (List Sample)). ChainLeads X w g) e
 
 -- ---- `draw_sampled`
 -- the part of the chain that is lent for records: one for each float of scratch
@@ -102,30 +104,34 @@ module _ (T : Tables) (e : Edge) (r : Resolved) (range : Interval) (room : ℕ) 
   over_in : within room (over_range T e r range) ≡ bind (sampled_in room (edge_curve T e) range r) (finished T e r)
   over_in = over_within T e r range room ∙ ap (λ (x : Answer (List Float)). bind x (finished T e r)) near
 
-  pub into_over : {n : ℕ} {w : Answer ℕ} {g : List Float} → ChainInto n (bind (sampled_in room (edge_curve T e) range r) (finished T e r)) w g
-      → ChainInto n (within room (over_range T e r range)) w g
-  into_over {n} = into_is n n _ _ refl (sym over_in)
+  pub leads_over : {w : Answer ℕ} {g : List Float} → ChainLeads (bind (sampled_in room (edge_curve T e) range r) (finished T e r)) w g
+      → ChainLeads (within room (over_range T e r range)) w g
+  leads_over = leads_is _ _ (sym over_in)
 
 module _ {room : ℕ} (T : Tables) (e : Edge) (r : Resolved) (range : Interval) {n : ℕ} {out : List Float} (s : Sampling room (sampled_in room (edge_curve T e) range r) n out)
     (chain d : List Float) (fits : width * n ≤ length chain) (p : d ≡ sets chain 0 (flat (placed T e (take n out)))) where
   pub placed_room : width * n ≤ length d
   placed_room = omega (arith, ap length p, length-sets chain 0 (flat (placed T e (take n out))))
 
-  reads_placed : samples n d ≡ placed T e s.params
+  reads_placed : samples (length (take (width * n) d) / width) (take (width * n) d) ≡ placed T e s.params
   reads_placed =
       let P = placed T e s.params in
-      let k : length P ≡ n = placed_length T e s.params ∙ s.size in
-      ap (λ (i : ℕ). samples i d) (sym k) ∙ ap (samples (length P)) (p ∙ ap (λ (l : List Float). sets chain 0 (flat (placed T e l))) (params_of s)) ∙ read_back chain P (omega arith)
+      let k : n ≡ length P = sym (placed_length T e s.params ∙ s.size) in
+      flat_reads P (take (width * n) d)
+      (ap (λ (i : ℕ). take (width * i) d) k
+      ∙ ap (take (width * length P)) (p ∙ ap (λ (l : List Float). sets chain 0 (flat (placed T e l))) (params_of s))
+      ∙ lead chain P (omega arith))
 
   -- that it was known that nothing asked for is too far
   module _ (near : within room (listed (edge_curve T e) range r) ≡ sampled_in room (edge_curve T e) range r) where
-    over_some : thinned_merged T e r (samples n d) ≡ within room (over_range T e r range)
+    over_some : thinned_merged T e r (samples (length (take (width * n) d) / width) (take (width * n) d)) ≡ within room (over_range T e r range)
     unfolding finished
     over_some =
         ap (thinned_merged T e r) reads_placed ∙ ap (λ (x : Answer (List Float)). bind x (finished T e r)) (sym s.is) ∙ sym (over_in T e r range room near)
 
-    pub into_some : (w : Answer ℕ) (g : List Float) → ChainInto (length d) (thinned_merged T e r (samples n d)) w g → ChainInto (length chain) (within room (over_range T e r range)) w g
-    into_some w g = into_is (length d) (length chain) _ _ (ap length p ∙ length-sets chain 0 (flat (placed T e (take n out)))) over_some
+    pub leads_some : (w : Answer ℕ) (f more : List Float) → ChainLeads (thinned_merged T e r (samples (length (take (width * n) d) / width) (take (width * n) d))) w f
+        → ChainLeads (within room (over_range T e r range)) w (f ++ more)
+    leads_some w f more h = leads_is _ _ over_some (leads_more more h)
 
 -- what sample_params left in the part of the chain that it was lent, where it says that these are the parameters' records
 module _ {room : ℕ} (T : Tables) (e : Edge) (r : Resolved) (range : Interval) {n : ℕ} {out : List Float} (s : Sampling room (sampled_in room (edge_curve T e) range r) n out)
@@ -137,11 +143,11 @@ module _ {room : ℕ} (T : Tables) (e : Edge) (r : Resolved) (range : Interval) 
       ∙ reads_held (edge_curve T e) s.params room range r part more wide s.is (sym (ap (λ (t : Traced). t.known) p) ∙ h)
       ∙ ap (located (edge_curve T e)) (sym (params_of s))
 
-pub into_none : (S : Answer (List Float)) (f : List Float → Answer (List Sample)) (w : Option ℕ) (chain g : List Float) → said w ≡ each length S → w ≡ None
-    → g ≡ filled (length chain) (take 0 chain) → ChainInto (length chain) (bind S f) (Err NoRoom) g
+pub leads_none : (S : Answer (List Float)) (f : List Float → Answer (List Sample)) (w : Option ℕ) (g : List Float) → said w ≡ each length S → w ≡ None
+    → ChainLeads (bind S f) (Err NoRoom) g
 unfolding flat
-into_none (Err n) f w chain g a e b = let q : ◌≡◌ {A = Answer ℕ} (Err NoRoom) (Err n) = ap said (sym e) ∙ a in record { answered = cc; holds = b }
-into_none (Ok l) f w chain g a e b = let q : ◌≡◌ {A = Answer ℕ} (Err NoRoom) (Ok (length l)) = ap said (sym e) ∙ a in cc
+leads_none (Err n) f w g a e = let q : ◌≡◌ {A = Answer ℕ} (Err NoRoom) (Err n) = ap said (sym e) ∙ a in record { answered = cc; fits = omega arith; holds = refl }
+leads_none (Ok l) f w g a e = let q : ◌≡◌ {A = Answer ℕ} (Err NoRoom) (Ok (length l)) = ap said (sym e) ∙ a in cc
 
 pub none_listed : (room : ℕ) (S : Answer (List Float)) (w : Option ℕ) {out : List Float} → said w ≡ each length S → w ≡ None → out ≡ filled room (list_of S) → out ≡ filled room []
 none_listed room (Err n) w a e h = h
@@ -170,14 +176,14 @@ module _ (T : Tables) (e : Edge) (r : Resolved) (range : Interval) (room : ℕ) 
   pub clear : w ≡ Ok tt → (some_far far before ≡ false) × (within room (listed (edge_curve T e) range r) ≡ sampled_in room (edge_curve T e) range r)
   clear q = told_clear room (edge_curve T e) range r before (own ∙ ap (λ (v : Answer ⊤). told_of v (sampled_in room (edge_curve T e) range r)) q)
 
-  pub into_clear : {k : ℕ} {a : Answer ℕ} {g : List Float} → w ≡ Ok tt → ChainInto k (within room (over_range T e r range)) a g → ChainInto k (within room asked) a g
-  into_clear {k} q = into_is k k _ _ refl (sym (ap (within room) (asking_clear far before (over_range T e r range) (clear q).0)))
+  pub leads_clear : {a : Answer ℕ} {g : List Float} → w ≡ Ok tt → ChainLeads (within room (over_range T e r range)) a g → ChainLeads (within room asked) a g
+  leads_clear q = leads_is _ _ (sym (ap (within room) (asking_clear far before (over_range T e r range) (clear q).0)))
 
-  pub into_told : (n : Refusal) (k : ℕ) (g : List Float) → w ≡ Err n → g ≡ filled k [] → ChainInto k (within room asked) (Err n) g
+  pub leads_told : (n : Refusal) (g : List Float) → w ≡ Err n → ChainLeads (within room asked) (Err n) g
   unfolding flat
-  into_told n k g q h =
+  leads_told n g q =
       let x : within room asked ≡ Err n = over_asked ∙ ap (λ (x : Answer (List Float)). bind x (finished T e r)) (own ∙ ap (λ (v : Answer ⊤). told_of v (sampled_in room (edge_curve T e) range r)) q) in
-      into_is k k (Err n) _ refl (sym x) (record { answered = refl; holds = h })
+      leads_is (Err n) _ (sym x) (record { answered = refl; fits = omega arith; holds = refl })
 
 -- ---- `discretise_usable`
 -- n is the room that both buffers give, and scratch's first n floats are lent
@@ -216,6 +222,23 @@ cleared_whole n left scratch h l q =
     q ∙ ap (λ (i : ℕ). filled i (take n (left ++ drop n scratch))) (whole_length n left scratch (m ∙ sym k))
     ∙ ap (filled (length scratch)) (take_at left (drop n scratch) n m ∙ clear)
     ∙ filled_twice (length scratch) n h
+
+-- so many records of the chain are kept, and the rest is cleared
+pub kept_count : {D : Answer (List Sample)} {w : Answer ℕ} {f : List Float} {k : ℕ} → ChainLeads D w f → k ≡ result_unwrap_or w 0 → k ≡ length (list_of D)
+kept_count {D} {w} p e = e ∙ ap (λ (x : Answer ℕ). result_unwrap_or x 0) p.answered ∙ go D
+  where
+    go : (D : Answer (List Sample)) → result_unwrap_or (counted_of D) 0 ≡ length (list_of D)
+    go (Err n) = refl
+    go (Ok l) = refl
+
+pub cleared_rest : {D : Answer (List Sample)} {w : Answer ℕ} {f g : List Float} {n k : ℕ} → ChainLeads D w f → k ≡ result_unwrap_or w 0 → length f ≡ n
+    → g ≡ filled (length f) (take (width * k) f) → ChainInto n D w g
+cleared_rest {D} {w} {f} {g} {n} {k} p e l q = record {
+  answered = p.answered;
+  holds =
+      q ∙ ap (λ (i : ℕ). filled i (take (width * k) f)) l
+      ∙ ap (λ (i : ℕ). filled n (take (width * i) f)) (kept_count p e) ∙ ap (filled n) p.holds;
+}
 
 -- an edge that is not probed is discretised, and no more
 pub unprobed : (T : Tables) (e : Edge) (r : Resolved) {chain scratch : List Float} {w : Answer ℕ} {f g : List Float}

@@ -2,14 +2,15 @@
 use Rattle.std.specs.Prelude.{Err, Ok}
 use mathlib.Core.Path.{◌≡◌, refl, sym, ap, subst, ◌∙◌}
 use mathlib.Core.Bool.{Bool, true, false, cond, not, ◌||◌}
-use mathlib.Core.List.{List, [], ◌∷◌}
-use Prim.Native.Nat.{ℕ, ◌+◌, ◌-◌, ◌*◌, ◌≤◌, min}
+use mathlib.Core.List.{List, [], ◌∷◌, ◌++◌}
+use Prim.Native.Nat.{ℕ, ◌+◌, ◌-◌, ◌*◌, ◌/◌, ◌≤◌, min}
 use native.Mathlib.Omega.{arith}
-use lib.ListN.{length, take, set, replicate, length-set, length-replicate}
+use lib.ListN.{length, take, set, replicate, length-append, length-set, length-replicate}
+use Rattle.std.proofs.lemmas.List.{append-nil, take-append-le}
 use lib.Seq.{sets, length-sets}
 use lib.Dec.{ltb}
 use lib.Ieee.{Float, lt}
-use Rattle.base_lists.specs.Room.{filled}
+use Rattle.base_lists.specs.Own.ListOf.{list_of}
 use Rattle.base_lists.proofs.Order.{sub_length}
 use Rattle.arith.specs.Notation.{◌⊗◌, plus_zero}
 use Rattle.arith.specs.Constants.{hundredth}
@@ -18,7 +19,7 @@ use Rattle.options.specs.declared.Resolved.{Resolved}
 use Rattle.edge_record.specs.declared.Sample.{Sample}
 use Rattle.edge_record.specs.Own.Stored.{counted_of, after, ChainStored}
 use Rattle.edge_record.specs.Chain.{width, most, flat, sample_point, samples}
-use Rattle.edge_record.proofs.Laws.{samples_from-length, samples_own, rest_cleared}
+use Rattle.edge_record.proofs.Laws.{samples_from-length, samples_own, length_flat, lead, reads}
 use Rattle.edge_record.proofs.Shorter.{Shorter, shorter_same, shorter_sub, shorter_two}
 use Rattle.edge_merge.specs.Merge.{merged}
 use Rattle.edge_merge.proofs.Laws.{merge_shorter}
@@ -28,8 +29,7 @@ use Rattle.edge_thin.specs.Thin.{with_floor, restored, retained_by, thinned}
 use Rattle.edge_thin.proofs.Loops.{length_marks}
 use Rattle.edge_thin.proofs.Laws.{thin_shorter}
 use Rattle.draw_spec.specs.Edge.{thinned_if}
-use Rattle.edge_place.proofs.Records.{read_back}
-use Rattle.edge_discretise.specs.Own.Discretised.{ChainInto}
+use Rattle.edge_discretise.specs.Own.Discretised.{ChainLeads}
 use Rattle.refusal.specs.Answer.{Answer, each}
 use Rattle.refusal.specs.declared.Refusal.{Refusal}
 
@@ -119,49 +119,58 @@ thin_some b r c n w m d two room p e =
           floats = b;
         }
 
+-- a part that holds a chain and nothing else, read
+pub flat_reads : (l : List Sample) (p : List Float) → p ≡ flat l → samples (length p / width) p ≡ l
+flat_reads l p e =
+    let n : length p / width ≡ length l = omega (arith, ap length e, length_flat l) in
+    ap (λ (k : ℕ). samples k p) n ∙ ap (samples (length l)) (e ∙ sym (append-nil (flat l))) ∙ reads l []
+
+-- a chain at the start of a part stands at the start of the buffer
+pub leads_more : {D : Answer (List Sample)} {w : Answer ℕ} {f : List Float} (more : List Float) → ChainLeads D w f → ChainLeads D w (f ++ more)
+leads_more {D} {w} {f} more p = record {
+  answered = p.answered;
+  fits = omega (arith, p.fits, length-append f more);
+  holds = take-append-le (width * length (list_of D)) f more p.fits ∙ p.holds;
+}
+
 module _ {c : List Float} {X : Answer (List Sample)} {m : ℕ} {d : List Float} (t : Thin c X m d) where
-  pub thin_length : length d ≡ length c
+  thin_length : length d ≡ length c
   thin_length = ap length t.floats ∙ length-sets c 0 (flat t.chain)
 
-  pub thin_room : width * m ≤ length d
-  thin_room = omega (arith, t.size, t.fits, thin_length)
+  pub thin_few : width * m ≤ length c
+  thin_few = omega (arith, t.size, t.fits)
 
-  thin_reads : samples m d ≡ t.chain
-  thin_reads =
-      sym (ap (λ (k : ℕ). samples k d) t.size) ∙ ap (samples (length t.chain)) t.floats ∙ read_back c t.chain t.fits
+  pub thin_room : width * m ≤ length d
+  thin_room = omega (arith, thin_few, thin_length)
+
+  thin_part : take (width * m) d ≡ flat t.chain
+  thin_part = ap (λ (k : ℕ). take (width * k) d) (sym t.size) ∙ ap (take (width * length t.chain)) t.floats ∙ lead c t.chain t.fits
 
   -- merged, with the floor that `merge_floor` answered
-  module _ (answered floor : Float) (same : answered ≡ floor) {k : ℕ} {f : List Float} (merging : ChainStored d f k (merged answered (samples m d))) where
-    stored : ChainStored d f k (merged floor t.chain)
-    stored = subst (λ (x : Float). ChainStored d f k (merged x t.chain)) same (subst (λ (l : List Sample). ChainStored d f k (merged answered l)) thin_reads merging)
+  module _ (answered floor : Float) (same : answered ≡ floor) {k : ℕ} {f : List Float}
+      (merging : ChainStored (take (width * m) d) f k (merged answered (samples (length (take (width * m) d) / width) (take (width * m) d)))) where
+    stored : ChainStored (flat t.chain) f k (merged floor t.chain)
+    stored =
+        subst (λ (x : Float). ChainStored (flat t.chain) f k (merged x t.chain)) same
+        (subst (λ (l : List Sample). ChainStored (flat t.chain) f k (merged answered l)) (flat_reads t.chain (take (width * m) d) thin_part)
+        (subst (λ (p : List Float). ChainStored p f k (merged answered (samples (length (take (width * m) d) / width) (take (width * m) d)))) thin_part merging))
 
-    merged_length : length f ≡ length d
-    merged_length = ap length stored.floats ∙ length-sets d 0 (flat (merged floor t.chain))
+    merged_fits : width * length (merged floor t.chain) ≤ length (flat t.chain)
+    merged_fits = omega (arith, length_flat t.chain, sub_length (shorter_sub (merged floor t.chain) t.chain (merge_shorter floor t.chain t.two)))
 
-    merged_fits : width * length (merged floor t.chain) ≤ length d
-    merged_fits =
-        let n = sub_length (shorter_sub (merged floor t.chain) t.chain (merge_shorter floor t.chain t.two)) in
-        omega (arith, t.fits, thin_length)
-
-    pub merged_few : width * k ≤ length c
-    merged_few = omega (arith, stored.count, merged_fits, thin_length)
-
-    pub merged_room : width * k ≤ length f
-    merged_room = omega (arith, stored.count, merged_fits, merged_length)
-
-    pub finished_some : (g : List Float) → g ≡ filled (length f) (take (width * k) f)
-        → ChainInto (length c) (each (merged floor) X) (Ok k) g
-    finished_some g e =
+    pub finished_some : (more : List Float) → ChainLeads (each (merged floor) X) (Ok k) (f ++ more)
+    finished_some more =
         let M = merged floor t.chain in
-        let w : g ≡ filled (length c) (flat M) =
-        e ∙ ap (λ (n : ℕ). filled (length f) (take (width * n) f)) stored.count
-        ∙ ap (λ (l : List Float). filled (length l) (take (width * length M) l)) stored.floats
-        ∙ rest_cleared d M merged_fits ∙ ap (λ (n : ℕ). filled n (flat M)) thin_length in
-        rw t.is (record { answered = ap Ok stored.count; holds = w })
+        let l : length f ≡ length (flat t.chain) = ap length stored.floats ∙ length-sets (flat t.chain) 0 (flat M) in
+        leads_more more
+        (rw t.is
+        (record {
+          answered = ap Ok stored.count;
+          fits = omega (arith, merged_fits, l);
+          holds = ap (take (width * length M)) stored.floats ∙ lead (flat t.chain) M merged_fits;
+        }))
 
-pub finished_none : (c : List Float) (X : Answer (List Sample)) (floor : Float) (w : Answer ℕ) (n : Refusal) (d g : List Float) → Passed c X w d → w ≡ Err n
-    → g ≡ filled (length d) (take 0 d)
-    → ChainInto (length c) (each (merged floor) X) (Err n) g
+pub finished_none : (c : List Float) (X : Answer (List Sample)) (floor : Float) (n : Refusal) (d : List Float) → Passed c X (Err n) d → ChainLeads (each (merged floor) X) (Err n) d
 unfolding flat
-finished_none c (Err x) floor w n d g p e q = record { answered = sym e ∙ p.0; holds = q ∙ ap (λ (l : List Float). filled (length l) []) p.1 }
-finished_none c (Ok l) floor w n d g p e q = let z : ◌≡◌ {A = Answer ℕ} (Err n) (Ok (length l)) = sym e ∙ p.0 in cc
+finished_none c (Err x) floor n d p = record { answered = p.0; fits = omega arith; holds = refl }
+finished_none c (Ok l) floor n d p = let z : ◌≡◌ {A = Answer ℕ} (Err n) (Ok (length l)) = p.0 in cc

@@ -1,6 +1,6 @@
 #![tactic(auto)]
 // The chain of an edge: discretise of edge.rs, on rows.
-ghost use Rattle.std.specs.Prelude.{◌≡◌, [], ◌*◌, ◌<◌, ◌≤◌, min, length, Some};
+ghost use Rattle.std.specs.Prelude.{◌≡◌, [], ◌*◌, ◌/◌, ◌<◌, ◌≤◌, length, Some};
 ghost use Rattle.base_lists.specs.Room.{filled};
 ghost use Rattle.brep.specs.Rows.{lent};
 ghost use Rattle.brep.specs.Tree.{tree};
@@ -13,7 +13,7 @@ ghost use Rattle.edge_record.specs.Chain.{width, shortest, most, samples};
 ghost use Rattle.draw_spec.specs.Edge.{thinned_if, thinned_merged, listed, over_range, discretised};
 ghost use Rattle.draw_spec.specs.Draw.{room_of};
 ghost use Rattle.edge_asks.specs.Own.Told.{asked_first};
-ghost use Rattle.edge_discretise.specs.Own.Discretised.{ChainInto, asked_discretised, DiscretisedInto};
+ghost use Rattle.edge_discretise.specs.Own.Discretised.{ChainLeads, asked_discretised, DiscretisedInto};
 
 use brep::{Edge, LentTables};
 use edge_drawing::Drawing;
@@ -22,71 +22,51 @@ use math::Interval;
 use options::Resolved;
 use refusal::Refusal;
 
-// The smaller of two.
-fn least(a: usize, b: usize) -> usize
-    ensures { result ≡ min a b }
-{
-    if a < b { a } else { b }
-}
-
 // How many records there is room for, in buffers of so many floats.
 fn room(first: usize, second: usize) -> usize
     ensures { result ≡ room_of first second }
 {
-    least(
-        edge_record::MOST,
-        least(first / edge_record::WIDTH, second / edge_record::WIDTH),
-    )
+    edge_record::MOST.min((first / edge_record::WIDTH).min(second / edge_record::WIDTH))
 }
 
-// Thins the first n records where the curve of the row is a polyline or a trim of one.
+// Thins a chain, the whole records of the slice, in place, where the curve of the row is a polyline or a trim of one. Stays: that a chain has
+// no more than so many records is a clause; a struct round the slice would be made at each call, with the same proof.
 fn thin_sampled(
     tables: &LentTables<'_>,
     row: u32,
     r: Resolved,
     chain: &mut [f64],
-    n: usize,
 ) -> Result<usize, Refusal>
-    requires { (n ≤ most) × (width * n ≤ length chain.old) }
-    ensures { (result ≡ counted_of (thinned_if (is_sampled (tree (lent tables.now) row)) r (samples n chain.old)))
-        × (chain.new ≡ after chain.old (thinned_if (is_sampled (tree (lent tables.now) row)) r (samples n chain.old))) }
+    requires { length chain.old / width ≤ most }
+    ensures { (result ≡ counted_of (thinned_if (is_sampled (tree (lent tables.now) row)) r (samples (length chain.old / width) chain.old)))
+        × (chain.new ≡ after chain.old (thinned_if (is_sampled (tree (lent tables.now) row)) r (samples (length chain.old / width) chain.old))) }
 {
     if curve::is_sampled(tables, row) {
         // A chain has no more than MOST records, so that a higher floor says nothing more.
-        let floor = least(r.segments as usize, edge_record::MOST) + 1;
-        return edge_thin::thin(chain, n, r.sag * 0.01, r.angle, floor);
+        let floor = (r.segments as usize).min(edge_record::MOST) + 1;
+        return edge_thin::thin(chain, r.sag * 0.01, r.angle, floor);
     }
-    Ok(n)
+    Ok(chain.len() / edge_record::WIDTH)
 }
 
-// Thins and merges the first n records, and leaves +0.0 behind what is kept, or everywhere where thinning refuses.
+// Thins and merges a chain, the whole records of the slice. What is kept is moved to the slice's start.
 fn finish(
     tables: &LentTables<'_>,
     edge: Edge,
     r: Resolved,
     chain: &mut [f64],
-    n: usize,
 ) -> Result<usize, Refusal>
-    requires { (2 ≤ n) × (n ≤ most) × (width * n ≤ length chain.old) }
-    ensures { ChainInto (length chain.old) (thinned_merged (lent tables.now) edge r (samples n chain.old)) result chain.new }
+    requires { (2 ≤ length chain.old / width) × (length chain.old / width ≤ most) }
+    ensures { ChainLeads (thinned_merged (lent tables.now) edge r (samples (length chain.old / width) chain.old)) result chain.new }
 {
-    let thinned = thin_sampled(tables, edge.curve, r, chain, n);
-    match thinned {
-        Ok(m) => {
-            let floor = edge_merge::merge_floor(edge.tolerance, r.sag);
-            let k = edge_merge::merge(chain, m, floor);
-            base_lists::clear_from(chain, edge_record::WIDTH * k);
-            Ok(k)
-        }
-        Err(cause) => {
-            base_lists::clear_from(chain, 0);
-            Err(cause)
-        }
-    }
+    let m = thin_sampled(tables, edge.curve, r, chain)?;
+    let floor = edge_merge::merge_floor(edge.tolerance, r.sag);
+    let kept = &mut chain[..edge_record::WIDTH * m];
+    Ok(edge_merge::merge(kept, floor))
 }
 
-// Samples a usable range, of which it is known that nothing asked for is too far, into scratch, whose length is the room; finishes the chain,
-// and leaves scratch cleared.
+// Samples a usable range, of which it is known that nothing asked for is too far, into scratch, whose length is the room; finishes the chain
+// at the buffer's start, and leaves scratch cleared.
 fn draw_sampled(
     drawing: &Drawing<'_>,
     range: Interval,
@@ -96,7 +76,7 @@ fn draw_sampled(
 ) -> Result<usize, Refusal>
     requires { (length scratch.old ≤ most) × (width * length scratch.old ≤ length chain.old)
         × (within (length scratch.old) (listed (tree (lent drawing.now.tables.now) drawing.now.edge.curve) range r) ≡ sampled_in (length scratch.old) (tree (lent drawing.now.tables.now) drawing.now.edge.curve) range r) }
-    ensures { ChainInto (length chain.old) (within (length scratch.old) (over_range (lent drawing.now.tables.now) drawing.now.edge r range)) result chain.new
+    ensures { ChainLeads (within (length scratch.old) (over_range (lent drawing.now.tables.now) drawing.now.edge r range)) result chain.new
         × (scratch.new ≡ filled (length scratch.old) []) }
 {
     let wide = edge_record::WIDTH * scratch.len();
@@ -105,14 +85,14 @@ fn draw_sampled(
     let known = sampled.known;
     let listed = sampled.listed;
     let Some(n) = listed else {
-        base_lists::clear_from(chain, 0);
         return Err(Refusal::NoRoom);
     };
     let params = &scratch[..n];
     edge_place::place(drawing.tables, drawing.edge, params, known, chain);
     let used = &mut scratch[..n];
     base_lists::clear_from(used, 0);
-    finish(drawing.tables, drawing.edge, r, chain, n)
+    let placed = &mut chain[..edge_record::WIDTH * n];
+    finish(drawing.tables, drawing.edge, r, placed)
 }
 
 // The chain over a usable range, which is probed before that or not. Whether something asked for is too far, and comes before the room is full,
@@ -127,14 +107,13 @@ fn draw_range(
 ) -> Result<usize, Refusal>
     requires { (length scratch.old ≤ most) × (width * length scratch.old ≤ length chain.old)
         × (0 < r.depth) }
-    ensures { ChainInto (length chain.old) (within (length scratch.old) (asking (asks_far (tree (lent drawing.now.tables.now) drawing.now.edge.curve)) (asked_first probes_first (Some range)) (over_range (lent drawing.now.tables.now) drawing.now.edge r range))) result chain.new
+    ensures { ChainLeads (within (length scratch.old) (asking (asks_far (tree (lent drawing.now.tables.now) drawing.now.edge.curve)) (asked_first probes_first (Some range)) (over_range (lent drawing.now.tables.now) drawing.now.edge r range))) result chain.new
         × (scratch.new ≡ filled (length scratch.old) []) }
 {
     let room = scratch.len();
     let told = edge_asks::tell(drawing, range, probes_first, r, room);
     match told {
         Err(cause) => {
-            base_lists::clear_from(chain, 0);
             base_lists::clear_from(scratch, 0);
             Err(cause)
         }
@@ -170,6 +149,9 @@ pub fn discretise_usable(
     let n = room(chain.len(), scratch.len());
     let part = &mut scratch[..n];
     let drawn = draw_range(drawing, range, probes_first, r, chain, part);
+    // A refusal keeps no record.
+    let kept = drawn.unwrap_or(0);
+    base_lists::clear_from(chain, edge_record::WIDTH * kept);
     base_lists::clear_from(scratch, n);
     drawn
 }

@@ -1,3 +1,4 @@
 pub mod Near
+pub mod Records
 pub mod Search
 pub mod Sweep

@@ -1,11 +1,13 @@
--- The loops over a chain: of what is left they find what they would find of the whole. Assumes nothing.
-use mathlib.Core.Path.{◌≡◌, refl, sym, ap, ◌∙◌}
-use mathlib.Core.Bool.{Bool, true, false, ◌||◌}
-use mathlib.Core.List.{List, [], ◌∷◌}
-use Prim.Native.Nat.{ℕ, suc, ◌+◌, ◌-◌, ◌<◌, ◌≤◌}
-use native.Mathlib.Numerals.{add-one}
-use native.Mathlib.Omega.{arith}
-use lib.Ieee.{Float, lt, le}
+-- What the tests of a chain's points, record by record, say of the chain. Assumes nothing.
+use Rattle.std.proofs.Common.{◌≡◌, refl, sym, ap, ◌∙◌, Bool, true, false, ◌||◌, ℕ, zero, suc, ◌+◌, ◌*◌, ◌/◌, ◌<◌, List, [], ◌∷◌, length, get_or, arith, add-zero, suc-add, add-suc}
+use Rattle.std.proofs.Math.Bool.{or-false, or_assoc}
+use Rattle.std.proofs.Math.Nat.{mul_comm, zero-add}
+use Rattle.std.specs.Float.Ieee.{Float, nan, lt, le}
+use Rattle.std.specs.Prelude.{Option, Some, None, IsTrue, IfSome, MatchBool}
+use Rattle.std.specs.Option.{option_map}
+use Rattle.std.specs.Iterator.Runs.{Run, AnyItemGives, AllItemsGive, CallKeepsClosure}
+use Rattle.std.proofs.lemmas.Bool.{true≢false}
+use denote.Param.Members.{Mut, Called}
 use Rattle.arith.specs.Notation.{◌⊗◌}
 use Rattle.arith.specs.Constants.{ten}
 use Rattle.arith.specs.Pick.{max_of}
@@ -14,10 +16,12 @@ use Rattle.math.specs.declared.Aabb.{Aabb}
 use Rattle.math.specs.Math.{distance, centre}
 use Rattle.brep.specs.declared.Edge.{Edge}
 use Rattle.options.specs.declared.Resolved.{Resolved}
+use Rattle.causes_bounds.specs.Some.{some_below}
 use Rattle.edge_record.specs.declared.Sample.{Sample}
 use Rattle.edge_record.specs.Own.Stored.{record_point}
-use Rattle.edge_record.specs.Chain.{samples_from, samples}
+use Rattle.edge_record.specs.Chain.{width, sample_at, samples_from, samples}
 use Rattle.draw_spec.specs.Repair.{escape_limit, escapes, reaches}
+use Rattle.edge_escape.specs.Own.Records.{records_of}
 
 -- some point of a chain passes a test
 abbrev some_of : (Vec3 → Bool) → List Sample → Bool
@@ -31,25 +35,31 @@ beyond limit centre p = lt limit (distance p centre)
 abbrev pub close : Float → Vec3 → Vec3 → Bool
 close limit q p = le (distance p q) limit
 
-module _ (P : Vec3 → Bool) (c : List Float) (n : ℕ) where
-  -- of the records from i on
-  abbrev pub left : ℕ → Bool
-  left i = some_of P (samples_from c i (n - i))
+-- ---- record by record
+module _ (P : Vec3 → Bool) (c : List Float) where
+  some_more : (i n : ℕ) → some_of P (samples_from c i (suc n)) ≡ some_of P (samples_from c i n) || P (record_point c (i + n))
+  unfolding samples_from
+  some_more i zero = or-false (P (record_point c i)) ∙ ap (λ k. P (record_point c k)) (sym (add-zero i))
+  some_more i (suc n) =
+      ap (λ b. P (record_point c i) || b) (some_more (suc i) n)
+      ∙ sym (or_assoc (P (record_point c i)) (some_of P (samples_from c (suc i) n)) _)
+      ∙ ap (λ k. (P (record_point c i) || some_of P (samples_from c (suc i) n)) || P (record_point c k)) (suc-add i n ∙ sym (add-suc i n))
 
-  module _ (i : ℕ) where
-    one_more : i < n → left i ≡ P (record_point c i) || left (i + 1)
-    unfolding samples_from
-    one_more h = let q : n - i ≡ suc (n - (i + 1)) = omega arith in rw (q, add-one i)
+  pub some_records : (n : ℕ) → some_below n (λ k. P (record_point c k)) ≡ some_of P (samples n c)
+  unfolding some_below samples_from
+  some_records zero = refl
+  some_records (suc n) =
+      ap (λ b. b || P (record_point c n)) (some_records n)
+      ∙ ap (λ k. some_of P (samples n c) || P (record_point c k)) (sym (zero-add n))
+      ∙ sym (some_more 0 n)
 
-    pub found : {b : Bool} → i < n → b ≡ P (record_point c i) → b ≡ true → true ≡ left i
-    found h e t = let k : P (record_point c i) ≡ true = sym e ∙ t in sym (one_more h ∙ rw k)
-
-    pub passed : {b : Bool} → i < n → b ≡ P (record_point c i) → b ≡ false → left (i + 1) ≡ left i
-    passed h e t = let k : P (record_point c i) ≡ false = sym e ∙ t in sym (one_more h ∙ rw k)
-
-    pub none : n ≤ i → false ≡ left i
-    unfolding samples_from
-    none h = let q : n - i ≡ 0 = omega arith in rw q
+-- a chunk's point is its record's
+pub chunk_point : (x c : List Float) (k : ℕ) → ((j : ℕ) (d : Float) → j < width → get_or x j d ≡ get_or c (k * width + j) d) → record_point x 0 ≡ record_point c k
+unfolding sample_at
+chunk_point x c k at =
+    let here : (j : ℕ) → j < width → get_or x j nan ≡ get_or c (width * k + j) nan = λ j l. at j nan l ∙ ap (λ i. get_or c (i + j) nan) (mul_comm k width) in
+    let first = here 0 (omega arith) in
+    rw (rw add-zero at first, here 1 (omega arith), here 2 (omega arith))
 
 abbrev near : Edge → Resolved → Float
 near e r = max_of r.sag (e.tolerance ⊗ ten)
@@ -65,9 +75,19 @@ reaches_list e r p [] = refl
 reaches_list e r p (s ∷ l) = ap (λ (b : Bool). close (near e r) p s.point || b) (reaches_list e r p l)
 
 -- the whole chain
-module _ (c : List Float) (n : ℕ) (r : Resolved) (limit : Float) (q : Vec3) where
-  pub escapes_whole : (box : Aabb) → limit ≡ escape_limit box r → q ≡ centre box → left (beyond limit q) c n 0 ≡ escapes box r (samples n c)
-  escapes_whole box e f = let z : n - 0 ≡ n = omega arith in rw (e, f, z) (escapes_list box r (samples n c))
+module _ (c : List Float) (r : Resolved) (limit : Float) (q : Vec3) where
+  pub escapes_whole : (box : Aabb) → limit ≡ escape_limit box r → q ≡ centre box → some_below (length c / width) (λ k. beyond limit q (record_point c k)) ≡ escapes box r (records_of c)
+  escapes_whole box e f = some_records (beyond limit q) c (length c / width) ∙ rw (e, f) (escapes_list box r (records_of c))
 
-  pub reaches_whole : (e : Edge) → limit ≡ near e r → left (close limit q) c n 0 ≡ reaches e r q (samples n c)
-  reaches_whole e f = let z : n - 0 ≡ n = omega arith in rw (f, z) (reaches_list e r q (samples n c))
+  pub reaches_whole : (e : Edge) → limit ≡ near e r → some_below (length c / width) (λ k. close limit q (record_point c k)) ≡ reaches e r q (records_of c)
+  reaches_whole e f = some_records (close limit q) c (length c / width) ∙ rw f (reaches_list e r q (records_of c))
+
+-- ---- what `all` has answered over a run, whose item number k shows P of k
+module _ {S A F : Type 0} {steps : S → Option A → S → Type 0} (p : Run steps) {g : Mut F (A × Unit {0}) Bool} {f : F} (P : ℕ → Type 0) (n : ℕ) (d : A) where
+  pub all_of_run : (r : Bool) → MatchBool r (IsTrue p.whole × AllItemsGive p g f true) (AnyItemGives p g f false) → r ≡ true → CallKeepsClosure g f → (p.whole ≡ true → p.len ≡ n) → {IsAt : ℕ → A → Type 0} → ((k : ℕ) → IfSome (p.at k) (IsAt k)) → ((k : ℕ) (x : A) → IsAt k x → Called g f (x, tt) true f → P k) → (k : ℕ) → k < n → P k
+  all_of_run false any e keeps long {IsAt = IsAt} at each k l = absurd (true≢false (sym e))
+  all_of_run true all e keeps long {IsAt = IsAt} at each k l = let same = long all.0 in passed (p.at k) (at k) (all.1 keeps k) (p.reads k d (omega arith))
+    where
+      passed : (o : Option A) {y : A} → IfSome o (IsAt k) → IfSome o (λ x. Called g f (x, tt) true f) → option_map (λ y. y) o ≡ Some y → P k
+      passed None i c s = cc
+      passed (Some x) i c s = each k x i c

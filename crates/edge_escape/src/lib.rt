@@ -1,18 +1,19 @@
 #![tactic(auto)]
 // The closures of repair_runaway: does a chain leave the reference box, does it reach a vertex, and which parameter is nearest to one.
-ghost use Rattle.std.specs.Prelude.{◌≡◌, true, false, [], ◌∷◌, ◌*◌, ◌≤◌, length, Float};
+ghost use Rattle.std.specs.Prelude.{◌≡◌, true, false, [], ◌∷◌, Float};
 ghost use Rattle.std.specs.Float.Ieee.{le};
 ghost use Rattle.arith.specs.Notation.{plus_zero};
 ghost use Rattle.arith_root.specs.Root.{root_of};
 ghost use Rattle.brep.specs.Rows.{lent};
 ghost use Rattle.brep.specs.Tree.{tree};
-ghost use Rattle.edge_record.specs.Chain.{width, samples};
 ghost use Rattle.draw_spec.specs.Repair.{escape_limit, escapes, reaches, sweep_at, nearest};
 ghost use Rattle.edge_escape.specs.Own.Best.{measured, nearer_of};
+ghost use Rattle.edge_escape.specs.Own.Records.{records_of};
 
 use arith_root_limit::Limit;
 use brep::{Edge, LentTables};
 use curve_prepared::PreparedCurve;
+use edge_record::WIDTH;
 use math::{Aabb, Interval, Vec3};
 use options::Resolved;
 
@@ -35,34 +36,28 @@ pub struct Ends {
 
 // Whether no point of the chain lies further from the box's centre than its diagonal, whose square is given, by the squares. `false` says
 // nothing.
-fn all_near(reference: Aabb, r: Resolved, square: f64, chain: &[f64], n: usize) -> bool
-    requires { (width * n ≤ length chain.now) × (le (root_of square) (escape_limit reference r) ≡ true) }
-    ensures { result ≡ true → false ≡ escapes reference r (samples n chain.now) }
+fn all_near(reference: Aabb, r: Resolved, square: f64, chain: &[f64]) -> bool
+    requires { le (root_of square) (escape_limit reference r) ≡ true }
+    ensures { result ≡ true → false ≡ escapes reference r (records_of chain.now) }
 {
     let centre = reference.centre();
-    let mut i = 0usize;
-    while i < n {
-        let p = edge_record::record_point(chain, i);
-        let s = p.sub(centre).length_squared();
-        if s <= square {
-            i += 1;
-        } else {
-            return false;
-        }
-    }
-    true
+    chain
+        .chunks_exact(WIDTH)
+        .all(|record| edge_record::record_point(record, 0)
+            .sub(centre)
+            .length_squared()
+            <= square)
 }
 
 // Whether the squares tell that no point of the chain lies further from the box's centre than its diagonal and 16 sags. `false` says
 // nothing.
-fn is_near(reference: Aabb, r: Resolved, chain: &[f64], n: usize) -> bool
-    requires { width * n ≤ length chain.now }
-    ensures { result ≡ true → false ≡ escapes reference r (samples n chain.now) }
+fn is_near(reference: Aabb, r: Resolved, chain: &[f64]) -> bool
+    ensures { result ≡ true → false ≡ escapes reference r (records_of chain.now) }
 {
     let square = reference.size().length_squared();
     let sag = r.sag;
     if 0.0 <= sag && 0.0 <= square {
-        return all_near(reference, r, square, chain, n);
+        return all_near(reference, r, square, chain);
     }
     false
 }
@@ -83,38 +78,30 @@ pub fn are_near(reference: Aabb, p: Vec3, q: Vec3) -> bool
 }
 
 // Whether a point of the chain lies further from the box's centre than its diagonal and 16 sags.
-pub fn escapes(reference: Aabb, r: Resolved, chain: &[f64], n: usize) -> bool
-    requires { width * n ≤ length chain.now }
-    ensures { result ≡ escapes reference r (samples n chain.now) }
+pub fn escapes(reference: Aabb, r: Resolved, chain: &[f64]) -> bool
+    ensures { result ≡ escapes reference r (records_of chain.now) }
 {
     // Most chains lie within the box, and need no root.
-    if is_near(reference, r, chain, n) {
+    if is_near(reference, r, chain) {
         return false;
     }
     let limit = Limit::new(reference.diagonal() + r.sag * 16.0);
     let centre = reference.centre();
-    for i in 0..n {
-        let p = edge_record::record_point(chain, i);
-        if limit.is_root_above(p.sub(centre).length_squared()) {
-            return true;
-        }
-    }
-    false
+    chain.chunks_exact(WIDTH).any(|record| {
+        let p = edge_record::record_point(record, 0);
+        limit.is_root_above(p.sub(centre).length_squared())
+    })
 }
 
 // Whether a point of the chain lies within max(sag, tolerance * 10) of p.
-pub fn reaches(edge: Edge, r: Resolved, p: Vec3, chain: &[f64], n: usize) -> bool
-    requires { width * n ≤ length chain.now }
-    ensures { result ≡ reaches edge r p (samples n chain.now) }
+pub fn reaches(edge: Edge, r: Resolved, p: Vec3, chain: &[f64]) -> bool
+    ensures { result ≡ reaches edge r p (records_of chain.now) }
 {
     let limit = Limit::new(arith::max(r.sag, edge.tolerance * 10.0));
-    for i in 0..n {
-        let q = edge_record::record_point(chain, i);
-        if limit.is_root_within(q.sub(p).length_squared()) {
-            return true;
-        }
-    }
-    false
+    chain.chunks_exact(WIDTH).any(|record| {
+        let q = edge_record::record_point(record, 0);
+        limit.is_root_within(q.sub(p).length_squared())
+    })
 }
 
 fn measured(target: Vec3, t: f64, p: Vec3) -> Best
@@ -154,10 +141,9 @@ pub fn nearest(tables: &LentTables<'_>, row: u32, start: Vec3, end: Vec3) -> End
     let p = curve.point(first);
     let mut a = measured(start, first, p);
     let mut b = measured(end, first, p);
-    let mut i = 0u32;
-    while i < STEPS {
-        i += 1;
-        let t = sweep_at(natural, i);
+    // One sweep for both vertices: each parameter's point is asked for once, and no slice is indexed.
+    for i in 0..STEPS {
+        let t = sweep_at(natural, i + 1);
         let q = curve.point(t);
         a = nearer(a, start, t, q);
         b = nearer(b, end, t, q);

@@ -1,5 +1,4 @@
 -- The probes, one after the other. Assumes nothing.
-use Rattle.std.specs.Prelude.{Option}
 use mathlib.Core.Path.{◌≡◌, refl, ap, ◌∙◌}
 use mathlib.Core.Bool.{Bool, true, false, cond, ◌||◌}
 use Prim.Native.Nat.{ℕ, suc, ◌+◌, ◌≤◌}
@@ -14,10 +13,9 @@ use Rattle.arith.specs.Pick.{min_of, max_of}
 use Rattle.math.specs.declared.Vec3.{Vec3}
 use Rattle.math.specs.declared.Aabb.{Aabb}
 use Rattle.math.specs.declared.Interval.{Interval}
-use Rattle.math.specs.Math.{v_add, v_scale, v_finite, v_min, v_max, empty_box, add_point, box_size, at}
-use Rattle.brep.specs.declared.Edge.{Edge}
+use Rattle.math.specs.Math.{v_add, v_scale, v_finite, v_min, v_max, add_point, at}
 use Rattle.brep.specs.declared.LentTables.{LentTables}
-use Rattle.brep.specs.Rows.{Tables, lent}
+use Rattle.brep.specs.Rows.{lent}
 use Rattle.brep.specs.Tree.{CurveTree, tree}
 use Rattle.curve.specs.Eval.{point_at}
 use Rattle.curve_prepared.specs.declared.Prepared.TheVariants.{Line}
@@ -25,8 +23,7 @@ use Rattle.curve_prepared.specs.declared.PreparedCurve.{PreparedCurve}
 use Rattle.curve_prepared.specs.Own.Prepared.{prepared_of, is_plain, plain_point}
 use Rattle.curve_prepared.specs.Own.PreparedCurve.{curve_of}
 use Rattle.curve_prepared.proofs.Laws.{plain_point_lem}
-use Rattle.edge_range.specs.Usable.{usable_range}
-use Rattle.draw_spec.specs.Edge.{edge_curve, edge_start, edge_end, probed, extent_box, edge_extent}
+use Rattle.draw_spec.specs.Edge.{probed}
 
 -- a line's point
 pub line_point : (c : CurveTree) {o d : Vec3} → prepared_of c ≡ Line o d → (t : Float) → v_add o (v_scale d t) ≡ point_at c t
@@ -46,12 +43,6 @@ module _ (c : CurveTree) (range : Interval) (b : Aabb) (i : ℕ) {found : Aabb} 
 
   pub all_nine : i ≤ 9 → 9 ≤ i → found ≡ probed c range b 9
   all_nine h k = e ∙ ap (probed c range b) (omega arith)
-
--- edge_extent, step by step
-module _ (T : Tables) (edge : Edge) where
-  pub longest_side : {p q : Vec3} {b₀ b₁ b₂ b : Aabb} {found : Option Interval} {size : Vec3} {m r : Float} → p ≡ edge_start T edge → q ≡ edge_end T edge → b₀ ≡ empty_box → b₁ ≡ add_point b₀ p → b₂ ≡ add_point b₁ q → found ≡ usable_range (edge_curve T edge) edge.range → b ≡ extent_box (edge_curve T edge) found b₂ → size ≡ box_size b → m ≡ max_of size.x size.y → r ≡ max_of m size.z → r ≡ edge_extent T edge
-  unfolding edge_extent
-  longest_side ep eq e₀ e₁ e₂ ef eb es em er = rw (er, em, es, eb, ef, e₂, e₁, e₀, eq, ep)
 
 -- ---- a point inside the box leaves it as it is
 no_lower : (a p : Float) → le a p ≡ true → min_of a p ≡ a

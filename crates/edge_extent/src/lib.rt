@@ -3,9 +3,11 @@
 ghost use Rattle.std.specs.Prelude.{◌≡◌, true, cond, T, Float};
 ghost use Rattle.std.specs.Float.Ieee.{le};
 ghost use Rattle.arith.specs.Notation.{◌⊕◌, ◌⊗◌};
+ghost use Rattle.math.specs.declared.Vec3.{Vec3};
 ghost use Rattle.math.specs.Math.{v_finite, add_point};
 ghost use Rattle.brep.specs.Rows.{lent};
 ghost use Rattle.brep.specs.Tree.{CurveTree, tree};
+ghost use Rattle.curve.specs.Eval.{point_at};
 ghost use Rattle.curve_prepared.specs.declared.Prepared.TheVariants.{Line};
 ghost use Rattle.curve_prepared.specs.Own.Prepared.{prepared_of};
 ghost use Rattle.curve_prepared.specs.Own.PreparedCurve.{curve_of};
@@ -88,61 +90,45 @@ fn is_line_inside(origin: Vec3, direction: Vec3, range: Interval, b: Aabb) -> bo
     false
 }
 
-// The box with a line's points at each eighth of a range, worked out here: a call for each would cost more.
-fn probe_line(origin: Vec3, direction: Vec3, range: Interval, b: Aabb) -> Aabb
-    ensures { (c : CurveTree) → prepared_of c ≡ Line origin direction → result ≡ probed c range b 9 }
+// The box with the points that a curve has, by `point`, at each eighth of a range. The number i is of the formula, and no index.
+#[tactic(auto, unfolding(draw_spec::specs::Edge::probed))]
+fn probe_each<F: Fn(f64) -> Vec3>(point: F, range: Interval, b: Aabb) -> Aabb
+    requires { F.IsAlwaysCallable point }
+    ensures { (c : CurveTree) → ((t : Float) (p : Vec3) → F.post point t p → p ≡ point_at c t) → result ≡ probed c range b 9 }
 {
     let mut found = b;
-    let mut i: u32 = 0;
-    while i <= LAST_PROBE {
-        let t = range.at(i as f64 / EIGHTHS);
-        let p = origin.add(direction.scale(t));
-        found = add_finite(found, p);
-        i += 1;
+    for i in 0..=LAST_PROBE {
+        found = add_finite(found, point(range.at(i as f64 / EIGHTHS)));
     }
     found
 }
 
-// The box with the points of a curve prepared at each eighth of a range.
-fn probe_each(curve: &PreparedCurve<'_>, range: Interval, b: Aabb) -> Aabb
+// The box with the curve's points at each eighth of a range. A line's are worked out in place: a call for each would cost more.
+fn probe(curve: &PreparedCurve<'_>, range: Interval, b: Aabb) -> Aabb
     ensures { result ≡ probed (curve_of curve.now) range b 9 }
 {
-    let mut found = b;
-    let mut i: u32 = 0;
-    while i <= LAST_PROBE {
-        let t = range.at(i as f64 / EIGHTHS);
-        let p = curve.point(t);
-        found = add_finite(found, p);
-        i += 1;
-    }
-    found
-}
-
-// The box with the curve's points at each eighth of a range.
-fn probe(tables: &LentTables<'_>, row: u32, range: Interval, b: Aabb) -> Aabb
-    ensures { result ≡ probed (tree (lent tables.now) row) range b 9 }
-{
-    let curve = PreparedCurve::new(tables, row);
     if let Prepared::Line { origin, direction } = curve.prepared {
         if is_line_inside(origin, direction, range, b) {
             return b;
         }
-        return probe_line(origin, direction, range, b);
+        return probe_each(move |t| origin.add(direction.scale(t)), range, b);
     }
-    probe_each(&curve, range, b)
+    probe_each(|t| curve.point(t), range, b)
 }
 
 // A curve with no usable range is not probed: the vertices are all there is.
+#[tactic(auto, using(crate::proofs::Laws::of_row), unfolding(draw_spec::specs::Edge::extent_box))]
 fn extent_box(tables: &LentTables<'_>, row: u32, usable: Option<Interval>, b: Aabb) -> Aabb
     ensures { result ≡ extent_box (tree (lent tables.now) row) usable b }
 {
     match usable {
-        Some(range) => probe(tables, row, range, b),
+        Some(range) => probe(&PreparedCurve::new(tables, row), range, b),
         None => b,
     }
 }
 
 // The longest side of the box of the vertices and the probes, where the usable range is known.
+#[tactic(auto, using(math::proofs::Constants::empty_is), unfolding(draw_spec::specs::Edge::edge_extent))]
 pub fn extent_usable(tables: &LentTables<'_>, edge: Edge, usable: Option<Interval>) -> f64
     requires { usable ≡ usable_range (tree (lent tables.now) edge.curve) edge.range }
     ensures { result ≡ edge_extent (lent tables.now) edge }

@@ -1,6 +1,6 @@
 #![tactic(auto)]
 // The merge block of `discretise`: points of a chain that lie too near the one before them go.
-ghost use Rattle.std.specs.Prelude.{◌≡◌, true, cond, ◌&&◌, ◌*◌, ◌-◌, ◌≤◌, length, ltb};
+ghost use Rattle.std.specs.Prelude.{◌≡◌, true, cond, ◌&&◌, ◌-◌, ◌/◌, ◌≤◌, length, ltb};
 ghost use Rattle.std.specs.Float.Ieee.{lt, le};
 ghost use Rattle.math.specs.Math.{distance};
 ghost use Rattle.edge_record.specs.Own.Stored.{ChainStored};
@@ -46,11 +46,11 @@ fn before_end(k: usize, last: Vec3, end: Vec3, floor: f64) -> usize
     k
 }
 
-// Merges the first n records in place. What is kept is moved to the buffer's start; answers how many there are.
-pub fn merge(chain: &mut [f64], n: usize, floor: f64) -> usize
-    requires { width * n ≤ length chain.old }
-    ensures { ChainStored chain.old chain.new result (merged floor (samples n chain.old)) }
+// Merges a chain, the whole records of the slice, in place. What is kept is moved to the slice's start; answers how many there are.
+pub fn merge(chain: &mut [f64], floor: f64) -> usize
+    ensures { ChainStored chain.old chain.new result (merged floor (samples (length chain.old / width) chain.old)) }
 {
+    let n = chain.len() / edge_record::WIDTH;
     if n <= 2 {
         return n;
     }

@@ -7,8 +7,8 @@ ghost use Rattle.edge_params.specs.Own.Written.{ListWritten, ListAppended};
 
 use math::Interval;
 
-// x behind the first k floats. The length goes beside the buffer, which is lent since memory is fixed; bisection counts a chain's
-// records by the same k.
+// x behind the first k floats. Stays: the length goes beside the buffer, which is lent since memory is fixed; bisection counts a
+// chain's records by the same k.
 pub fn push(out: &mut [f64], k: usize, x: f64) -> Option<usize>
     requires { k ≤ length out.old }
     ensures { ListAppended out.old k (x ∷ []) result out.new }

@@ -1,12 +1,12 @@
 -- A placed chain by what stands in the buffer: its records turned round where they run back, then pinned; and the two-vertex chord. Assumes nothing.
 use mathlib.Core.Path.{◌≡◌, refl, sym, ap, ◌∙◌}
 use mathlib.Core.Bool.{Bool, true, false, cond, not}
-use mathlib.Core.List.{List, [], ◌∷◌, reverse}
+use mathlib.Core.List.{List, [], ◌∷◌, ◌++◌, reverse}
 use Prim.Native.Nat.{ℕ, zero, suc, ◌+◌, ◌-◌, ◌*◌, ◌<◌, ◌≤◌}
 use native.Mathlib.Nat.{add-zero, add-suc, suc-add}
 use native.Mathlib.Omega.{arith}
-use lib.ListN.{length, get_or, take, set, length-set, length-reverse}
-use lib.Seq.{sets}
+use lib.ListN.{length, get_or, take, drop, set, length-set, length-reverse}
+use lib.Seq.{sets, length-sets, length-take-le}
 use lib.Ieee.{Float, lt, le}
 use lib.Dec.{eqb}
 use Rattle.base_lists.specs.Room.{filled}
@@ -24,8 +24,8 @@ use Rattle.edge_record.specs.Own.Stored.{record_point}
 use Rattle.edge_record.proofs.Laws.{flat_one, push, samples_from-length, rest_cleared}
 use Rattle.edge_closed_form.proofs.Located.{located_length}
 use Rattle.draw_spec.specs.Edge.{edge_curve, edge_start, edge_end, located, near_squared, degenerate_ends, is_reversed, oriented, moved_to, last_pinned, pinned, chord_of, placed}
-use Rattle.edge_place.specs.Own.Place.{of_points, chord_between}
-use Rattle.edge_place.proofs.Records.{pass, put_at, read_at, own_samples}
+use Rattle.edge_place.specs.Own.Place.{records_of, chord_between}
+use Rattle.edge_place.proofs.Records.{stored, pass, put_at, read_at, own_samples, filled_by, records_all, first_records}
 
 -- the curve of a row that was prepared
 pub of_row : (curve : PreparedCurve) {slices : LentTables} {row : ℕ} → curve.tables.now ≡ slices → curve.row ≡ row → curve_of curve ≡ tree (lent slices) row
@@ -107,12 +107,6 @@ module _ (T : Tables) (e : Edge) where
       go true = length-reverse (s ∷ l)
       go false = refl
 
-  -- the points alone tell the direction
-  oriented_points : (l : List Sample) → oriented (of_points T.points) e l ≡ oriented T e l
-  unfolding oriented is_reversed degenerate_ends
-  oriented_points [] = refl
-  oriented_points (s ∷ l) = refl
-
   oriented_ends : (c : List Float) (n : ℕ) → 1 ≤ n
       → cond (is_reversed T e (record_point c 0) (record_point c (n - 1))) (reverse (samples n c)) (samples n c) ≡ oriented T e (samples n c)
   unfolding oriented samples_from
@@ -137,21 +131,44 @@ module _ (T : Tables) (e : Edge) where
   unfolding placed
   placed_length params = pinned_length (edge_start T e) (edge_end T e) _ ∙ oriented_length (located (edge_curve T e) params) ∙ located_length (edge_curve T e) params
 
-  -- located, oriented, pinned
+  -- in the buffer's first records: located, oriented, pinned
   module _ (params c : List Float) (fits : width * length params ≤ length c) where
-    pub placed_by : (held mid next : List Float) → held ≡ sets c 0 (flat (located (edge_curve T e) params))
-        → mid ≡ sets held 0 (flat (oriented (of_points T.points) e (samples (length params) held)))
-        → next ≡ sets mid 0 (flat (pinned (edge_start T e) (edge_end T e) (samples (length params) mid))) → next ≡ sets c 0 (flat (placed T e params))
+    abbrev pub n : ℕ
+    n = length params
+
+    abbrev pub records : List Float
+    records = take (width * n) c
+
+    long : length records ≡ width * n
+    long = length-take-le (width * n) c fits
+
+    -- what is left of them after a pass
+    over : (d next : List Float) (l : List Sample) (f : List Sample → List Sample) → length l ≡ n → length (f l) ≡ length l → d ≡ sets records 0 (flat l)
+        → next ≡ sets d 0 (flat (f (records_of d))) → next ≡ sets records 0 (flat (f l))
+    over d next l f k h p q =
+        let all : records_of d ≡ samples n d = records_all d n (ap length p ∙ length-sets records 0 (flat l) ∙ long) in
+        pass records n d next l f k (omega (arith, long)) h p (q ∙ ap (λ (z : List Sample). sets d 0 (flat (f z))) all)
+
+    pub placed_by : (held mid next : List Float) → held ≡ sets records 0 (flat (located (edge_curve T e) params))
+        → mid ≡ sets held 0 (flat (oriented T e (records_of held)))
+        → next ≡ sets mid 0 (flat (pinned (edge_start T e) (edge_end T e) (records_of mid)))
+        → next ++ drop (width * n) c ≡ sets c 0 (flat (placed T e params))
     unfolding placed
     placed_by held mid next h p q =
         let l = located (edge_curve T e) params in
-        let k : length l ≡ length params = located_length (edge_curve T e) params in
-        let o : mid ≡ sets c 0 (flat (oriented T e l)) = pass c (length params) held mid l (oriented T e) k fits (oriented_length l) h (p ∙ ap (λ (z : List Sample). sets held 0 (flat z)) (oriented_points _)) in
-        pass c (length params) mid next (oriented T e l) (pinned (edge_start T e) (edge_end T e)) (oriented_length l ∙ k) fits (pinned_length (edge_start T e) (edge_end T e) (oriented T e l)) o q
+        let k : length l ≡ n = located_length (edge_curve T e) params in
+        let o = over held mid l (oriented T e) k (oriented_length l) h p in
+        let m = pinned (edge_start T e) (edge_end T e) (oriented T e l) in
+        let w = over mid next (oriented T e l) (pinned (edge_start T e) (edge_end T e)) (oriented_length l ∙ k) (pinned_length (edge_start T e) (edge_end T e) (oriented T e l)) o q in
+        let z : length m ≡ n = placed_length params in
+        ap (λ (x : List Float). x ++ drop (width * n) c) (w ∙ filled_by records n m z long)
+        ∙ ap (λ (x : ℕ). flat m ++ drop (width * x) c) (sym z)
+        ∙ sym (stored c m (omega arith))
 
     -- what is known stands there already
-    pub held_known : samples (length params) c ≡ located (edge_curve T e) params → {held : List Float} → held ≡ c → held ≡ sets c 0 (flat (located (edge_curve T e) params))
-    held_known s q = q ∙ own_samples c (length params) ∙ ap (λ (z : List Sample). sets c 0 (flat z)) s
+    pub held_known : samples n c ≡ located (edge_curve T e) params → {held : List Float} → held ≡ records → held ≡ sets records 0 (flat (located (edge_curve T e) params))
+    held_known s q =
+        q ∙ first_records c n fits ∙ ap flat s ∙ sym (filled_by records n (located (edge_curve T e) params) (located_length (edge_curve T e) params) long)
 
 -- ---- `chord_between` and `chord`
 

@@ -1,15 +1,17 @@
 -- Samples that stand at a buffer's start: one read, one replaced, all replaced. Assumes nothing.
 use mathlib.Core.Path.{◌≡◌, refl, sym, ap, ◌∙◌}
-use mathlib.Core.List.{List, [], ◌∷◌, ◌++◌, append_assoc}
-use Prim.Native.Nat.{ℕ, suc, ◌+◌, ◌*◌, ◌<◌, ◌≤◌}
+use mathlib.Core.List.{List, [], ◌∷◌, ◌++◌, append_assoc, append-nil}
+use Prim.Native.Nat.{ℕ, suc, ◌+◌, ◌*◌, ◌/◌, ◌<◌, ◌≤◌}
 use native.Mathlib.Nat.{zero-add}
 use native.Mathlib.Omega.{arith}
 use lib.ListN.{length, get_or, take, drop, set, length-append, length-set}
 use lib.Seq.{sets, sets-eq, take_at, drop_at, drop-append-add, split_at, set_split, length-take-le}
 use lib.Ieee.{Float}
+use Rattle.std.proofs.lemmas.List.{drop_all}
 use Rattle.edge_record.specs.declared.Sample.{Sample}
 use Rattle.edge_record.specs.Chain.{width, row, flat, sample_at, samples}
-use Rattle.edge_record.proofs.Laws.{flat_append, length_flat, reads, samples_own, samples_from-at}
+use Rattle.edge_place.specs.Own.Place.{records_of}
+use Rattle.edge_record.proofs.Laws.{flat_append, length_flat, lead, reads, samples_own, samples_from-at, samples_from-length}
 
 -- a run of floats stored over another of its length
 over_at : (p a b q : List Float) → length a ≡ length b → sets (p ++ (a ++ q)) (length p) b ≡ p ++ (b ++ q)
@@ -20,7 +22,7 @@ over_at p a b q e =
     ∙ ap (λ (k : List Float). p ++ (b ++ k)) (drop-append-add p (a ++ q) (length b) ∙ drop_at a q (length b) e)
 
 module _ (c : List Float) where
-  stored : (l : List Sample) → width * length l ≤ length c → sets c 0 (flat l) ≡ flat l ++ drop (width * length l) c
+  pub stored : (l : List Sample) → width * length l ≤ length c → sets c 0 (flat l) ≡ flat l ++ drop (width * length l) c
   stored l h = sets-eq (flat l) c 0 (omega (arith, length_flat l)) ∙ ap (λ (k : ℕ). flat l ++ drop k c) (zero-add (length (flat l)) ∙ length_flat l)
 
   pub read_back : (l : List Sample) → width * length l ≤ length c → samples (length l) (sets c 0 (flat l)) ≡ l
@@ -86,6 +88,20 @@ module _ (c : List Float) where
       ∙ over_at [] (flat l) (flat (f l)) (drop (width * length l) c) (length_flat l ∙ ap (λ (z : ℕ). width * z) (sym e) ∙ sym (length_flat (f l)))
       ∙ ap (λ (z : ℕ). flat (f l) ++ drop (width * z) c) (sym e)
       ∙ sym (stored (f l) (omega arith))
+
+-- a slice that n records fill
+module _ (c : List Float) (n : ℕ) where
+  pub filled_by : (l : List Sample) → length l ≡ n → length c ≡ width * n → sets c 0 (flat l) ≡ flat l
+  filled_by l k h = stored c l (omega arith) ∙ ap (λ (z : List Float). flat l ++ z) (drop_all (width * length l) c (omega arith)) ∙ append-nil (flat l)
+
+  pub records_all : length c ≡ width * n → records_of c ≡ samples n c
+  records_all h = let k : length c / width ≡ n = omega arith in ap (λ (z : ℕ). samples z c) k
+
+  -- a buffer's first n
+  pub first_records : width * n ≤ length c → take (width * n) c ≡ flat (samples n c)
+  first_records h =
+      let k = samples_from-length c 0 n in
+      ap (take (width * n)) (sym (samples_own c 0 n)) ∙ ap (λ (z : ℕ). take (width * z) (sets c 0 (flat (samples n c)))) (sym k) ∙ lead c (samples n c) (omega arith)
 
 -- the samples of a buffer's first n records stand at its start
 pub own_samples : (c : List Float) (n : ℕ) → c ≡ sets c 0 (flat (samples n c))

@@ -7,9 +7,9 @@ ghost use Rattle.base_lists.specs.Room.{filled};
 ghost use Rattle.brep.specs.Rows.{Tables, lent};
 ghost use Rattle.brep.specs.Tree.{tree};
 ghost use Rattle.edge_record.specs.Chain.{width, shortest, row, flat, sample_at, samples};
-ghost use Rattle.edge_record.specs.Own.Stored.{record_point};
+ghost use Rattle.edge_record.specs.Own.Stored.{HasRecord};
 ghost use Rattle.draw_spec.specs.Edge.{edge_curve, edge_start, edge_end, located, is_reversed, oriented, moved_to, pinned, chord_of, placed};
-ghost use Rattle.edge_place.specs.Own.Place.{of_points, chord_between};
+ghost use Rattle.edge_place.specs.Own.Place.{of_points, records_of, chord_between};
 
 use brep::{Edge, LentTables};
 use curve_prepared::PreparedCurve;
@@ -28,21 +28,9 @@ pub fn runs_back(edge: Edge, start: Vec3, end: Vec3, head: Vec3, tail: Vec3) -> 
     tail.sub(start).length_squared() < head.sub(start).length_squared()
 }
 
-// Whether n records that follow their parameters run against the edge.
-fn is_reversed(points: &[f64], edge: Edge, n: usize, chain: &[f64]) -> bool
-    requires { (1 ≤ n) × (width * n ≤ length chain.now) }
-    ensures { result ≡ is_reversed (of_points points.now) edge (record_point chain.now 0) (record_point chain.now (n - 1)) }
-{
-    let start = brep::point(points, edge.start);
-    let end = brep::point(points, edge.end);
-    let head = edge_record::record_point(chain, 0);
-    let tail = edge_record::record_point(chain, n - 1);
-    runs_back(edge, start, end, head, tail)
-}
-
-// Exchanges two records.
+// Exchanges two records. Stays: here and below a record is reached by its index, as in edge_record, whose head says why.
 fn swap(chain: &mut [f64], i: usize, j: usize)
-    requires { (width * i + width ≤ length chain.old) × (width * j + width ≤ length chain.old) }
+    requires { HasRecord chain.old i × HasRecord chain.old j }
     ensures { chain.new ≡ sets (sets chain.old (width * i) (row (sample_at chain.old j))) (width * j) (row (sample_at chain.old i)) }
 {
     let a = edge_record::sample_at(chain, i);
@@ -51,84 +39,83 @@ fn swap(chain: &mut [f64], i: usize, j: usize)
     edge_record::put(chain, j, a);
 }
 
-// Turns the first n records round.
-fn turn(chain: &mut [f64], n: usize)
-    requires { width * n ≤ length chain.old }
-    ensures { chain.new ≡ sets chain.old 0 (flat (reverse (samples n chain.old))) }
+// Turns the records round. By their places, two at a time: `as_chunks_mut` and `chunks_exact_mut` would lend the records themselves, to
+// `reverse` or to exchange, but their contracts say nothing of what the slice ends as.
+fn turn(records: &mut [f64])
+    ensures { records.new ≡ sets records.old 0 (flat (reverse (records_of records.old))) }
 {
+    let n = records.len() / edge_record::WIDTH;
     let half = n / 2;
     for i in 0..half {
-        swap(chain, i, n - 1 - i);
+        swap(records, i, n - 1 - i);
     }
 }
 
-// Turns the first n records round where they run against the edge.
-fn orient(points: &[f64], edge: Edge, n: usize, chain: &mut [f64])
-    requires { (1 ≤ n) × (width * n ≤ length chain.old) }
-    ensures { chain.new ≡ sets chain.old 0 (flat (oriented (of_points points.now) edge (samples n chain.old))) }
+// Turns the records, which follow their parameters, round where they run against the edge, whose vertices are at start and end.
+fn orient(edge: Edge, start: Vec3, end: Vec3, records: &mut [f64])
+    requires { HasRecord records.old 0 }
+    ensures { (T : Tables) → start ≡ edge_start T edge → end ≡ edge_end T edge
+        → records.new ≡ sets records.old 0 (flat (oriented T edge (records_of records.old))) }
 {
-    if is_reversed(points, edge, n, chain) {
-        turn(chain, n);
+    let last = records.len() / edge_record::WIDTH - 1;
+    let head = edge_record::record_point(records, 0);
+    let tail = edge_record::record_point(records, last);
+    if runs_back(edge, start, end, head, tail) {
+        turn(records);
     }
 }
 
 // Moves record i to a vertex. Its parameter stands.
 fn pin(chain: &mut [f64], i: usize, vertex: Vec3)
-    requires { width * i + width ≤ length chain.old }
+    requires { HasRecord chain.old i }
     ensures { chain.new ≡ sets chain.old (width * i) (row (moved_to vertex (sample_at chain.old i))) }
 {
     let s = edge_record::sample_at(chain, i);
-    let param = s.param;
-    edge_record::put(
-        chain,
-        i,
-        Sample {
-            point: vertex,
-            param,
-        },
-    );
+    edge_record::put(chain, i, Sample { point: vertex, ..s });
 }
 
-// Moves the first and the last of n records to the edge's vertices.
-fn pin_ends(points: &[f64], edge: Edge, n: usize, chain: &mut [f64])
-    requires { (1 ≤ n) × (width * n ≤ length chain.old) }
-    ensures { chain.new ≡ sets chain.old 0
-        (flat (pinned (edge_start (of_points points.now) edge) (edge_end (of_points points.now) edge) (samples n chain.old))) }
+// Moves the first and the last of the records to the vertices.
+fn pin_ends(start: Vec3, end: Vec3, records: &mut [f64])
+    requires { HasRecord records.old 0 }
+    ensures { records.new ≡ sets records.old 0 (flat (pinned start end (records_of records.old))) }
 {
-    let start = brep::point(points, edge.start);
-    let end = brep::point(points, edge.end);
-    pin(chain, 0, start);
-    pin(chain, n - 1, end);
+    let last = records.len() / edge_record::WIDTH - 1;
+    pin(records, 0, start);
+    pin(records, last, end);
 }
 
-// Evaluates the curve of a row at each parameter: the chain's first records are its points there.
+// Evaluates the curve of a row at each parameter: the chain's first records are its points there. Stays: the parameters lie apart from the
+// chain, as the caller has them; the C interface lends the chain, and the parameters are in scratch.
 fn locate(tables: &LentTables<'_>, row: u32, params: &[f64], chain: &mut [f64])
     requires { width * length params.now ≤ length chain.old }
     ensures { chain.new ≡ sets chain.old 0 (flat (located (tree (lent tables.now) row) params.now)) }
 {
     let curve = PreparedCurve::new(tables, row);
-    let n = params.len();
-    for i in 0..n {
-        let param = params[i];
+    for (i, t) in params.iter().enumerate() {
+        let param = *t;
         let point = curve.point(param);
         edge_record::put(chain, i, Sample { point, param });
     }
 }
 
 // Writes a record for each parameter, from the chain's start. Where `known`, the records hold the curve's points and the
-// parameters already, and nothing is evaluated: a chain that runs back is turned round where it stands.
+// parameters already, and nothing is evaluated: a chain that runs back is turned round where it stands. Stays: parameters and
+// chain are the caller's two buffers, as for `locate`.
 pub fn place(tables: &LentTables<'_>, edge: Edge, params: &[f64], known: bool, chain: &mut [f64])
     requires { (2 ≤ length params.now) × (width * length params.now ≤ length chain.old)
         × (known ≡ true → samples (length params.now) chain.old ≡ located (edge_curve (lent tables.now) edge) params.now) }
     ensures { chain.new ≡ sets chain.old 0 (flat (placed (lent tables.now) edge params.now)) }
 {
-    let n = params.len();
+    let wide = edge_record::WIDTH * params.len();
+    let records = &mut chain[..wide];
     if !known {
         let row = edge.curve;
-        locate(tables, row, params, chain);
+        locate(tables, row, params, records);
     }
-    orient(tables.points, edge, n, chain);
-    pin_ends(tables.points, edge, n, chain);
+    let start = brep::point(tables.points, edge.start);
+    let end = brep::point(tables.points, edge.end);
+    orient(edge, start, end, records);
+    pin_ends(start, end, records);
 }
 
 // The chord of two points with the parameters a and b, and +0.0 behind it.

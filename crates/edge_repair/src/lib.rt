@@ -14,11 +14,13 @@ ghost use Rattle.edge_drawing.specs.Range.{with_range};
 ghost use Rattle.draw_spec.specs.Repair.{by, reference, runaway, serves, arc_or_chord, short_range, has_short_arc, short_arc_tried, by_short_arc, by_complement, stays, repaired};
 ghost use Rattle.draw_spec.specs.Draw.{room_of, in_first};
 ghost use Rattle.edge_place.specs.Own.Place.{of_points, chord_between};
+ghost use Rattle.edge_escape.specs.Own.Records.{records_of};
 ghost use Rattle.edge_repair.specs.Own.Redrawn.{RedrawnChain, InSecond, RedrawnInto, DrawnInto};
 
 use brep::{Edge, LentTables};
 use draw_spec::{Drawn, Way};
 use edge_drawing::Drawing;
+use edge_record::WIDTH;
 use math::{Aabb, Interval, Vec3};
 use options::Resolved;
 use refusal::Refusal;
@@ -45,20 +47,21 @@ fn runaway(points: &[f64], edge: Edge, second: &mut [f64]) -> Result<Drawn, Refu
     })
 }
 
-// Whether an arc stays inside and reaches both vertices.
-fn serves(points: &[f64], edge: Edge, r: Resolved, chain: &[f64], n: usize) -> bool
-    requires { width * n ≤ length chain.now }
-    ensures { result ≡ serves (of_points points.now) edge r (samples n chain.now) }
+// Whether an arc stays inside and reaches both vertices. Points and edge, here and below, are what is read of a Drawing: `stays_between` has
+// no more.
+fn serves(points: &[f64], edge: Edge, r: Resolved, chain: &[f64]) -> bool
+    ensures { result ≡ serves (of_points points.now) edge r (records_of chain.now) }
 {
-    if edge_escape::escapes(reference(points, edge), r, chain, n) {
+    if edge_escape::escapes(reference(points, edge), r, chain) {
         return false;
     }
     let start = brep::point(points, edge.start);
     let end = brep::point(points, edge.end);
-    edge_escape::reaches(edge, r, start, chain, n) && edge_escape::reaches(edge, r, end, chain, n)
+    edge_escape::reaches(edge, r, start, chain) && edge_escape::reaches(edge, r, end, chain)
 }
 
-// The arc in the second buffer where it serves, else the chord.
+// The arc in the second buffer where it serves, else the chord. The buffer is lent whole, with the arc's count beside it, since the chord is
+// written over the arc.
 fn arc_or_chord(
     points: &[f64],
     edge: Edge,
@@ -69,7 +72,7 @@ fn arc_or_chord(
     requires { (shortest ≤ length second.old) × (width * n ≤ length second.old) × (second.old ≡ filled (length second.old) (flat (samples n second.old))) }
     ensures { InSecond (arc_or_chord (of_points points.now) edge r (samples n second.old)) (length second.old) result second.new }
 {
-    if serves(points, edge, r, second, n) {
+    if serves(points, edge, r, &second[..WIDTH * n]) {
         return Ok(Drawn {
             way: Way::ShortArc,
             count: n,
@@ -196,7 +199,8 @@ fn by_complement(
         return by_short_arc(drawing, r, first, second);
     }
     let n = redraw(drawing, complement, r, first, second)?;
-    if edge_escape::escapes(reference(drawing.tables.points, drawing.edge), r, second, n) {
+    let arc = &second[..WIDTH * n];
+    if edge_escape::escapes(reference(drawing.tables.points, drawing.edge), r, arc) {
         return by_short_arc(drawing, r, first, second);
     }
     Ok(Drawn {
@@ -206,16 +210,15 @@ fn by_complement(
 }
 
 // Whether a chain stays: a box of no extent cannot say that anything ran away from it.
-fn stays(points: &[f64], edge: Edge, r: Resolved, chain: &[f64], n: usize) -> bool
-    requires { width * n ≤ length chain.now }
-    ensures { result ≡ stays (of_points points.now) edge r (samples n chain.now) }
+fn stays(points: &[f64], edge: Edge, r: Resolved, chain: &[f64]) -> bool
+    ensures { result ≡ stays (of_points points.now) edge r (records_of chain.now) }
 {
     let b = reference(points, edge);
     if b.is_empty() {
         return true;
     }
     // The diagonal costs a root, and is asked for only where something escapes.
-    if edge_escape::escapes(b, r, chain, n) {
+    if edge_escape::escapes(b, r, chain) {
         return !(0.0 < b.diagonal());
     }
     true
@@ -233,7 +236,7 @@ pub fn stays_between(points: &[f64], edge: Edge, p: Vec3, q: Vec3) -> bool
 }
 
 // Keeps the chain of n records that stands alone in the first buffer, or draws another way into the second and clears
-// the first.
+// the first: the buffer is lent whole, with the chain's count beside it, since all of it is drawn into.
 pub fn repair_runaway(
     drawing: &Drawing<'_>,
     r: Resolved,
@@ -246,7 +249,7 @@ pub fn repair_runaway(
         × (width * n ≤ length first.old) × (first.old ≡ filled (length first.old) (flat (samples n first.old))) × (second.old ≡ filled (length second.old) []) × (in_first way ≡ true) }
     ensures { DrawnInto (within (room_of (length first.old) (length second.old)) (repaired (lent drawing.now.tables.now) drawing.now.edge r (by way (samples n first.old)))) first.old second.old result first.new second.new }
 {
-    if stays(drawing.tables.points, drawing.edge, r, first, n) {
+    if stays(drawing.tables.points, drawing.edge, r, &first[..WIDTH * n]) {
         return Ok(Drawn { way, count: n });
     }
     match curve::period(drawing.tables, drawing.edge.curve) {

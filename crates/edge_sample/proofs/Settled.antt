@@ -55,6 +55,13 @@ module _ {out l after : List Float} (v w : Option ℕ) (e : v ≡ w) (h : ListWr
             ap (λ (m : ℕ). filled m []) (written_length h ∙ long)
             ∙ ap (filled room) (sym (refused_list (fitting room l) (h.answer ∙ ap (λ (n : ℕ). each length (fitting n l)) long)))
 
+    -- of a buffer that is read where it was lent from
+    pub settled_back : (w' : Option ℕ) {from last : List Float} → w' ≡ w → last ≡ filled (length from) (take (kept_floats w) from) → from ≡ after → SampledInto room s w' last
+    settled_back w' {last = last} same b back = settled w' last same (b ∙ ap (λ (l : List Float). filled (length l) (take (kept_floats w) l)) back)
+
+pub length_back : {out l after from : List Float} {w : Option ℕ} → ListWritten out l w after → from ≡ after → length from ≡ length out
+length_back h back = ap length back ∙ written_length h
+
 -- ---- refine
 through_long : (s : Sampler) (range : Interval) (bs : List Float) → 2 ≤ length (through s range bs)
 unfolding through

@@ -3,7 +3,7 @@ use Rattle.std.specs.Prelude.{Option, ℕ, Some, None}
 use mathlib.Core.Path.{◌≡◌, refl, sym, ap, subst, ◌∙◌}
 use mathlib.Core.Bool.{Bool, true, false}
 use mathlib.Core.List.{List, [], ◌∷◌, ◌++◌, append_assoc}
-use Prim.Native.Nat.{ℕ, ◌+◌, ◌*◌, ◌≤◌}
+use Prim.Native.Nat.{ℕ, ◌+◌, ◌≤◌}
 use native.Mathlib.Numerals.{add-one}
 use lib.ListN.{length, get_or, drop}
 use lib.Ieee.{Float, nan, ne}
@@ -12,19 +12,18 @@ use Rattle.brep.specs.Tree.{CurveTree}
 use Rattle.curve_prepared.specs.declared.PreparedCurve.{PreparedCurve}
 use Rattle.curve_prepared.specs.Own.PreparedCurve.{curve_of}
 use Rattle.edge_drawing.specs.declared.Drawing.{Drawing}
-use Rattle.edge_drawing.specs.Drawing.{drawn_curve}
+use Rattle.edge_drawing.specs.Own.Drawing.{drawn_curve}
 use Rattle.options.specs.declared.Resolved.{Resolved}
 use Rattle.edge_params.specs.Params.{breaks_along, unless_hi}
 use Rattle.edge_params.specs.Own.Bisected.{subdivided, walked, through, bisected}
-use Rattle.edge_params.proofs.Written.{written_length}
 use Rattle.knots_thin.specs.Thin.{kept_breaks}
-use Rattle.edge_record.specs.Chain.{width}
 use Rattle.edge_subdivide.specs.declared.End.{End}
 use Rattle.edge_subdivide.specs.Bisect.{end_at, within_budget}
-use Rattle.edge_subdivide.specs.Own.Recorded.{Room, ListRecorded}
+use Rattle.edge_subdivide.specs.declared.recorder.Recorder.{Recorder}
+use Rattle.edge_subdivide.specs.Own.Recorder.{Records}
 use Rattle.edge_subdivide.proofs.Laws.{end_t}
 pub use Rattle.edge_subdivide.proofs.Laws.{end_own}
-use Rattle.edge_subdivide.proofs.Recorded.{recorded_none, recorded_room, recorded_refused, recorded_then}
+use Rattle.edge_subdivide.proofs.Recorded.{records_none, records_refused, records_then}
 use Rattle.edge_sample.specs.Sample.{sampler}
 use Rattle.edge_sample.specs.Own.Answered.{stops}
 use Rattle.edge_sample.proofs.Stops.{stop_last, stops_from, stops_past}
@@ -61,67 +60,56 @@ module _ (c : CurveTree) (range : Interval) (r : Resolved) where
   unfolding onwards walked sampler
   onwards_more left b bs = simp append_assoc
 
-  -- behind the first k₁ places of out₁ and chain₁; left is the end at the last stop, i the number of the next one
-  pub record Walking (breaks out₁ chain₁ : List Float) (k₁ : ℕ) (out chain : List Float) (left : End) (k i : ℕ) : Type 0 where
+  -- behind what first holds; left is the end at the last stop, i the number of the next one
+  pub record Walking (breaks : List Float) (first to : Recorder) (left : End) (i : ℕ) : Type 0 where
     pub own : left ≡ end_at c left.t
     pub last : left.t ≡ get_or (range.lo ∷ stops range breaks) i nan
-    pub begun : Room out₁ chain₁ k₁
     pub front : List Float
-    pub held : ListRecorded c out₁ chain₁ k₁ front (Some k) out chain
+    pub held : Records c front (Some tt) first to
     pub all : front ++ onwards left.t (drop i (stops range breaks)) ≡ onwards range.lo (stops range breaks)
 
   -- the options that the limits are of are the walk's
-  pub span_of : (o : Resolved) → o ≡ r → (a b : Float) {out chain : List Float} {k : ℕ} {w : Option ℕ} {out' chain' : List Float}
-      → ListRecorded c out chain k (subdivided (within_budget c o) r.depth a b ++ unless_hi range b) w out' chain' → ListRecorded c out chain k (span a b) w out' chain'
-  span_of o e a b {out} {chain} {k} {w} {out'} {chain'} h =
-      subst (λ (x : Resolved). ListRecorded c out chain k (subdivided (within_budget c x) r.depth a b ++ unless_hi range b) w out' chain') e h
+  pub span_of : (o : Resolved) → o ≡ r → (a b : Float) {w : Option (Unit {0})} {old new : Recorder}
+      → Records c (subdivided (within_budget c o) r.depth a b ++ unless_hi range b) w old new → Records c (span a b) w old new
+  span_of o e a b {w} {old} {new} h =
+      subst (λ (x : Resolved). Records c (subdivided (within_budget c x) r.depth a b ++ unless_hi range b) w old new) e h
 
   module _ (breaks : List Float) where
-    -- range.lo, and what is written behind it; the breaks are those of the curve d, which the walk's own is
-    module _ (d : CurveTree) (same : c ≡ d) (B : breaks ≡ kept_breaks d range.lo range.hi r.sag) {out₀ chain₀ : List Float} (room : Room out₀ chain₀ 0) (low : End)
-        (L : low ≡ end_at c range.lo) {w₁ : Option ℕ} {out₁ chain₁ : List Float} (h : ListRecorded c out₀ chain₀ 0 (low.t ∷ []) w₁ out₁ chain₁) where
+    -- range.lo, and what is put behind it; the breaks are those of the curve d, which the walk's own is
+    module _ (d : CurveTree) (same : c ≡ d) (B : breaks ≡ kept_breaks d range.lo range.hi r.sag) (low : End)
+        (L : low ≡ end_at c range.lo) {w₁ : Option (Unit {0})} {start first : Recorder} (h : Records c (low.t ∷ []) w₁ start first) where
       whole : low.t ∷ onwards range.lo (stops range breaks) ≡ bisected (sampler c range r) range
       unfolding onwards through breaks_along stops sampler
       whole =
           ap (λ (t : Float). t ∷ onwards range.lo (stops range breaks)) (end_t c range.lo low L)
           ∙ ap (λ (bs : List Float). range.lo ∷ onwards range.lo (stops range bs)) (B ∙ ap (λ (x : CurveTree). kept_breaks x range.lo range.hi r.sag) (sym same))
 
-      whole_of : {w : Option ℕ} {out chain : List Float} → ListRecorded c out₀ chain₀ 0 (low.t ∷ onwards range.lo (stops range breaks)) w out chain
-          → ListRecorded d out₀ chain₀ 0 (bisected (sampler d range r) range) w out chain
-      whole_of {w} {out} {chain} g =
-          subst (λ (x : CurveTree). ListRecorded x out₀ chain₀ 0 (bisected (sampler x range r) range) w out chain) same
-          (subst (λ (l : List Float). ListRecorded c out₀ chain₀ 0 l w out chain) whole g)
+      whole_of : {w : Option (Unit {0})} {to : Recorder} → Records c (low.t ∷ onwards range.lo (stops range breaks)) w start to
+          → Records d (bisected (sampler d range r) range) w start to
+      whole_of {w} {to} g =
+          subst (λ (x : CurveTree). Records x (bisected (sampler x range r) range) w start to) same
+          (subst (λ (l : List Float). Records c l w start to) whole g)
 
-      pub low_refused : w₁ ≡ None → ListRecorded d out₀ chain₀ 0 (bisected (sampler d range r) range) None out₁ chain₁
-      low_refused e = whole_of (recorded_refused c room h e (onwards range.lo (stops range breaks)))
+      pub low_refused : w₁ ≡ None → Records d (bisected (sampler d range r) range) None start first
+      low_refused e = whole_of (records_refused c h e (onwards range.lo (stops range breaks)))
 
-      pub low_then : {k₁ : ℕ} → w₁ ≡ Some k₁ → {w : Option ℕ} {out chain : List Float} → ListRecorded c out₁ chain₁ k₁ (onwards range.lo (stops range breaks)) w out chain
-          → ListRecorded d out₀ chain₀ 0 (bisected (sampler d range r) range) w out chain
-      low_then e g = whole_of (recorded_then c room h e (onwards range.lo (stops range breaks)) g)
+      pub low_then : w₁ ≡ Some tt → {w : Option (Unit {0})} {to : Recorder} → Records c (onwards range.lo (stops range breaks)) w first to
+          → Records d (bisected (sampler d range r) range) w start to
+      low_then e g = whole_of (records_then c h e (onwards range.lo (stops range breaks)) g)
 
-      pub walking_start : {k₁ : ℕ} → w₁ ≡ Some k₁ → Walking breaks out₁ chain₁ k₁ out₁ chain₁ low k₁ 0
-      walking_start e = record {
+      pub walking_start : Walking breaks first first low 0
+      walking_start = record {
         own = end_own c range.lo low L;
         last = end_t c range.lo low L;
-        begun = recorded_room c room h e;
         front = [];
-        held = recorded_none c (recorded_room c room h e);
+        held = records_none c first;
         all = ap (λ (x : Float). onwards x (stops range breaks)) (end_t c range.lo low L);
       }
 
-    module _ {out₁ chain₁ out chain : List Float} {k₁ k i : ℕ} {left : End} (s : Walking breaks out₁ chain₁ k₁ out chain left k i) where
-      pub walking_room : Room out chain k
-      walking_room = recorded_room c s.begun s.held refl
-
-      pub walking_length : length out ≡ length out₁
-      walking_length = written_length s.held.listed
-
-      pub walking_records : length chain ≡ length chain₁
-      walking_records = walking_room.wide ∙ ap (λ (n : ℕ). width * n) walking_length ∙ sym s.begun.wide
-
+    module _ {first to : Recorder} {left : End} {i : ℕ} (s : Walking breaks first to left i) where
       -- one stop more
       module _ (h : i ≤ length breaks) (b : Float) (is : b ≡ get_or (stops range breaks) i nan) (right : End) (own : right ≡ end_at c b)
-          {w : Option ℕ} {out' chain' : List Float} (g : ListRecorded c out chain k (span left.t right.t) w out' chain') where
+          {w : Option (Unit {0})} {new : Recorder} (g : Records c (span left.t right.t) w to new) where
         rest : List Float
         rest = onwards right.t (drop (i + 1) (stops range breaks))
 
@@ -139,30 +127,28 @@ module _ (c : CurveTree) (range : Interval) (r : Resolved) where
             (onwards_more left.t right.t (drop (i + 1) (stops range breaks)) ∙ ap (onwards left.t) behind)
             ∙ s.all
 
-        joined : ListRecorded c out₁ chain₁ k₁ (s.front ++ span left.t right.t) w out' chain'
-        joined = recorded_then c s.begun s.held refl (span left.t right.t) g
+        joined : Records c (s.front ++ span left.t right.t) w first new
+        joined = records_then c s.held refl (span left.t right.t) g
 
-        pub walking_refused : w ≡ None → ListRecorded c out₁ chain₁ k₁ (onwards range.lo (stops range breaks)) None out' chain'
-        walking_refused e =
-            subst (λ (l : List Float). ListRecorded c out₁ chain₁ k₁ l None out' chain') more (recorded_refused c s.begun joined e rest)
+        pub walking_refused : w ≡ None → Records c (onwards range.lo (stops range breaks)) None first new
+        walking_refused e = subst (λ (l : List Float). Records c l None first new) more (records_refused c joined e rest)
 
-        pub walking_next : (n : ℕ) → w ≡ Some n → Walking breaks out₁ chain₁ k₁ out' chain' right n (i + 1)
+        pub walking_next : w ≡ Some tt → Walking breaks first new right (i + 1)
         unfolding rest
-        walking_next n e = record {
+        walking_next e = record {
           own = end_own c b right own;
           last = here ∙ ap (λ (j : ℕ). get_or (range.lo ∷ stops range breaks) j nan) (sym (add-one i));
-          begun = s.begun;
           front = s.front ++ span left.t right.t;
-          held = subst (λ (q : Option ℕ). ListRecorded c out₁ chain₁ k₁ (s.front ++ span left.t right.t) q out' chain') e joined;
+          held = subst (λ (q : Option (Unit {0})). Records c (s.front ++ span left.t right.t) q first new) e joined;
           all = more;
         }
 
       -- range.hi
-      pub walking_done : i ≡ length breaks + 1 → {w : Option ℕ} {out' chain' : List Float} → ListRecorded c out chain k (left.t ∷ []) w out' chain'
-          → ListRecorded c out₁ chain₁ k₁ (onwards range.lo (stops range breaks)) w out' chain'
-      walking_done e {w} {out'} {chain'} g =
-          subst (λ (l : List Float). ListRecorded c out₁ chain₁ k₁ l w out' chain') done
-          (recorded_then c s.begun s.held refl (left.t ∷ []) g)
+      pub walking_done : i ≡ length breaks + 1 → {w : Option (Unit {0})} {new : Recorder} → Records c (left.t ∷ []) w to new
+          → Records c (onwards range.lo (stops range breaks)) w first new
+      walking_done e {w} {new} g =
+          subst (λ (l : List Float). Records c l w first new) done
+          (records_then c s.held refl (left.t ∷ []) g)
         where
           hi : left.t ≡ range.hi
           hi =

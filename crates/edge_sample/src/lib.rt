@@ -4,20 +4,21 @@ ghost use Rattle.std.specs.Prelude.{◌≡◌, false, ◌++◌, ◌≤◌, lengt
 ghost use Rattle.std.specs.Float.{nan};
 ghost use Rattle.base_lists.specs.Room.{filled};
 ghost use Rattle.curve_prepared.specs.Own.PreparedCurve.{curve_of};
-ghost use Rattle.edge_drawing.specs.Drawing.{drawn_curve};
+ghost use Rattle.edge_drawing.specs.Own.Drawing.{drawn_curve};
 ghost use Rattle.edge_params.specs.Params.{unless_hi};
 ghost use Rattle.edge_params.specs.Own.Bisected.{subdivided, bisected};
 ghost use Rattle.edge_params.specs.Own.InRoom.{refined_in};
 ghost use Rattle.knots_thin.specs.Thin.{kept_breaks};
 ghost use Rattle.edge_subdivide.specs.Bisect.{end_at, within_budget};
-ghost use Rattle.edge_subdivide.specs.Own.Recorded.{Room, ListRecorded};
+ghost use Rattle.edge_subdivide.specs.Own.Recorded.{Room};
+ghost use Rattle.edge_subdivide.specs.Own.Recorder.{Records};
 ghost use Rattle.edge_sample.specs.Sample.{sampler};
 ghost use Rattle.edge_sample.specs.Own.Traced.{traced, traced_refined, traced_sampled};
 ghost use Rattle.edge_sample.specs.Own.Answered.{sampled_in, SampledInto, kept_floats, stops};
 
 use curve_prepared::PreparedCurve;
 use edge_drawing::Drawing;
-use edge_subdivide::{End, Limits};
+use edge_subdivide::{End, Limits, Recorder};
 use math::Interval;
 use options::Resolved;
 
@@ -45,18 +46,16 @@ fn step(
     limits: &Limits,
     left: End,
     right: End,
-    out: &mut [f64],
-    chain: &mut [f64],
-    k: usize,
-) -> Option<usize>
-    requires { (left ≡ end_at (curve_of curve.now) left.t) × (right ≡ end_at (curve_of curve.now) right.t) × Room out.old chain.old k }
-    ensures { ListRecorded (curve_of curve.now) out.old chain.old k (subdivided (within_budget (curve_of curve.now) limits.now.options) r.depth left.t right.t ++ unless_hi range right.t) result out.new chain.new }
+    to: &mut Recorder<'_>,
+) -> Option<()>
+    requires { (left ≡ end_at (curve_of curve.now) left.t) × (right ≡ end_at (curve_of curve.now) right.t) }
+    ensures { Records (curve_of curve.now) (subdivided (within_budget (curve_of curve.now) limits.now.options) r.depth left.t right.t ++ unless_hi range right.t) result to.old to.new }
 {
-    let n = edge_subdivide::subdivide(curve, limits, left, right, r.depth, out, chain, k)?;
+    edge_subdivide::subdivide(curve, limits, left, right, r.depth, to)?;
     if right.t != range.hi {
-        return edge_subdivide::push_end(out, chain, n, right);
+        return to.push(right);
     }
-    Some(n)
+    Some(())
 }
 
 // range.lo, the spans between the stops, range.hi.
@@ -65,29 +64,22 @@ fn walk(
     range: Interval,
     r: Resolved,
     breaks: &[f64],
-    out: &mut [f64],
-    chain: &mut [f64],
-) -> Option<usize>
-    requires { (breaks.now ≡ kept_breaks (drawn_curve drawing.now) range.lo range.hi r.sag) × Room out.old chain.old 0 }
-    ensures { ListRecorded (drawn_curve drawing.now) out.old chain.old 0
-        (bisected (sampler (drawn_curve drawing.now) range r) range) result out.new chain.new }
+    to: &mut Recorder<'_>,
+) -> Option<()>
+    requires { breaks.now ≡ kept_breaks (drawn_curve drawing.now) range.lo range.hi r.sag }
+    ensures { Records (drawn_curve drawing.now) (bisected (sampler (drawn_curve drawing.now) range r) range) result to.old to.new }
 {
     let curve = PreparedCurve::new(drawing.tables, drawing.edge.curve);
     let limits = edge_subdivide::limits_of(r);
-    let low = edge_subdivide::end_at(&curve, range.lo);
-    let first = edge_subdivide::push_end(out, chain, 0, low)?;
-    let mut k = first;
-    let mut left = low;
-    let mut i = 0usize;
-    while i <= breaks.len() {
-        let b = stop_at(range, breaks, i);
-        let right = edge_subdivide::end_at(&curve, b);
-        let n = step(&curve, range, r, &limits, left, right, out, chain, k)?;
-        k = n;
+    let mut left = edge_subdivide::end_at(&curve, range.lo);
+    to.push(left)?;
+    // By number: only here it is known which way round the breaks are read, and an iterator that goes either way is no plainer.
+    for i in 0..=breaks.len() {
+        let right = edge_subdivide::end_at(&curve, stop_at(range, breaks, i));
+        step(&curve, range, r, &limits, left, right, to)?;
         left = right;
-        i += 1;
     }
-    edge_subdivide::push_end(out, chain, k, left)
+    to.push(left)
 }
 
 // The walk over the breaks of a curve that has knots.
@@ -95,12 +87,9 @@ fn walk_breaks(
     drawing: &Drawing<'_>,
     range: Interval,
     r: Resolved,
-    out: &mut [f64],
-    chain: &mut [f64],
-) -> Option<usize>
-    requires { Room out.old chain.old 0 }
-    ensures { ListRecorded (drawn_curve drawing.now) out.old chain.old 0
-        (bisected (sampler (drawn_curve drawing.now) range r) range) result out.new chain.new }
+    to: &mut Recorder<'_>,
+) -> Option<()>
+    ensures { Records (drawn_curve drawing.now) (bisected (sampler (drawn_curve drawing.now) range r) range) result to.old to.new }
 {
     let mut breaks = [0.0; knots_sort::MOST_KNOTS];
     // Never none: the knots fit.
@@ -111,7 +100,7 @@ fn walk_breaks(
         r.sag,
         &mut breaks,
     )?;
-    walk(drawing, range, r, &breaks[..m], out, chain)
+    walk(drawing, range, r, &breaks[..m], to)
 }
 
 // Bisection between the breaks. Most curves have no knots, and need no room for breaks.
@@ -119,18 +108,15 @@ fn bisect_range(
     drawing: &Drawing<'_>,
     range: Interval,
     r: Resolved,
-    out: &mut [f64],
-    chain: &mut [f64],
-) -> Option<usize>
-    requires { Room out.old chain.old 0 }
-    ensures { ListRecorded (drawn_curve drawing.now) out.old chain.old 0
-        (bisected (sampler (drawn_curve drawing.now) range r) range) result out.new chain.new }
+    to: &mut Recorder<'_>,
+) -> Option<()>
+    ensures { Records (drawn_curve drawing.now) (bisected (sampler (drawn_curve drawing.now) range r) range) result to.old to.new }
 {
     if knots::knot_count(drawing.tables, drawing.edge.curve) == 0 {
         let none = [0.0; 1];
-        return walk(drawing, range, r, &none[..0], out, chain);
+        return walk(drawing, range, r, &none[..0], to);
     }
-    walk_breaks(drawing, range, r, out, chain)
+    walk_breaks(drawing, range, r, to)
 }
 
 // +0.0 behind the list, or everywhere where it was refused.
@@ -138,16 +124,8 @@ fn settle(listed: Option<usize>, out: &mut [f64]) -> Option<usize>
     requires { kept_floats listed ≤ length out.old }
     ensures { (result ≡ listed) × (out.new ≡ filled (length out.old) (take (kept_floats listed) out.old)) }
 {
-    match listed {
-        Some(n) => {
-            base_lists::clear_from(out, n);
-            Some(n)
-        }
-        None => {
-            base_lists::clear_from(out, 0);
-            None
-        }
-    }
+    base_lists::clear_from(out, listed.unwrap_or(0));
+    listed
 }
 
 // What sampling answers: how many parameters there are, or that they were refused; and whether the chain's records hold the
@@ -167,7 +145,8 @@ fn unknown(listed: Option<usize>) -> Sampled
     }
 }
 
-// Bisection, then the segment floor: even steps where the list has fewer segments. Bisection's points are left in the chain.
+// Bisection, then the segment floor: even steps where the list has fewer segments. Bisection's points are left in the chain. Stays: two
+// buffers, as the caller lends them; what follows bisection reads and writes the parameters alone.
 fn refine(
     drawing: &Drawing<'_>,
     range: Interval,
@@ -179,15 +158,20 @@ fn refine(
     ensures { SampledInto (length out.old) (refined_in (length out.old) (sampler (drawn_curve drawing.now) range r) range) result.listed out.new
         × (traced result.known chain.new ≡ traced_refined (length out.old) (drawn_curve drawing.now) range r chain.old) }
 {
-    let listed = bisect_range(drawing, range, r, out, chain);
-    let Some(n) = listed else {
-        return unknown(settle(listed, out));
+    let mut to = Recorder {
+        params: out,
+        chain,
+        len: 0,
     };
+    let Some(()) = bisect_range(drawing, range, r, &mut to) else {
+        return unknown(settle(None, out));
+    };
+    let n = to.len;
     if (n as u64) - 1 < r.segments {
         let even = edge_params::evenly(range, r.segments, out);
         return unknown(settle(even, out));
     }
-    let kept = settle(listed, out);
+    let kept = settle(Some(n), out);
     Sampled {
         listed: kept,
         known: true,
@@ -197,7 +181,7 @@ fn refine(
 // The parameters of the curve of a row over a range, from the start of out, and +0.0 behind them; refusal 8, and +0.0 everywhere,
 // where a list is longer than out. A closed form gives even steps, but only where it is given the right radius: it is checked
 // against the sag, and where it misses that the curve is bisected. Its points for the check, and those of bisection, are left in
-// the chain, which has a record for each float of out.
+// the chain, which has a record for each float of out. Stays: two buffers, as for `refine`.
 pub fn sample_params(
     drawing: &Drawing<'_>,
     range: Interval,

@@ -20,9 +20,10 @@ use Rattle.options.specs.declared.Resolved.{Resolved}
 use Rattle.edge_params.specs.Params.{midpoint}
 use Rattle.edge_params.specs.Own.Bisected.{subdivided}
 use Rattle.edge_params.proofs.Lists.{subdivided_zero, subdivided_within, subdivided_split}
-use Rattle.edge_subdivide.specs.Own.Recorded.{Room, ListRecorded}
-use Rattle.edge_subdivide.proofs.Recorded.{recorded_none}
+use Rattle.edge_subdivide.specs.Own.Recorder.{Records}
+use Rattle.edge_subdivide.proofs.Recorded.{records_none}
 use Rattle.edge_subdivide.specs.declared.End.{End}
+use Rattle.edge_subdivide.specs.declared.recorder.Recorder.{Recorder}
 use Rattle.edge_subdivide.specs.Own.Split.{split_of}
 use Rattle.edge_subdivide.specs.Bisect.{end_at, sag_of, tangent_turn, is_within, within_budget}
 
@@ -118,29 +119,30 @@ module _ (c : CurveTree) (x : Float) (m : End) (e : m ≡ end_at c x) where
 -- ---- the ways out of subdivide
 module _ (c : CurveTree) (r : Resolved) (depth : ℕ) (a b : End) (A : a ≡ end_at c a.t) (B : b ≡ end_at c b.t) where
   -- nothing is pushed
-  none : {out chain : List Float} {k : ℕ} → Room out chain k → subdivided (within_budget c r) depth a.t b.t ≡ []
-      → ListRecorded c out chain k (subdivided (within_budget c r) depth a.t b.t) (Some k) out chain
-  none {out} {chain} {k} room e = subst (λ (l : List Float). ListRecorded c out chain k l (Some k) out chain) (sym e) (recorded_none c room)
+  none : (to : Recorder) → subdivided (within_budget c r) depth a.t b.t ≡ []
+      → Records c (subdivided (within_budget c r) depth a.t b.t) (Some tt) to to
+  none to e = subst (λ (l : List Float). Records c l (Some tt) to to) (sym e) (records_none c to)
 
-  pub none_deep : {out chain : List Float} {k : ℕ} → Room out chain k → depth ≡ 0
-      → ListRecorded c out chain k (subdivided (within_budget c r) depth a.t b.t) (Some k) out chain
-  none_deep room e = none room (subdivided_zero (within_budget c r) depth a.t b.t e)
+  pub none_deep : (to : Recorder) → depth ≡ 0 → Records c (subdivided (within_budget c r) depth a.t b.t) (Some tt) to to
+  none_deep to e = none to (subdivided_zero (within_budget c r) depth a.t b.t e)
 
   module _ (deep : depth ≡ 0 → ⊥) (s : Option End) (S : s ≡ split_of c r a b) where
-    pub none_within : {out chain : List Float} {k : ℕ} → Room out chain k → s ≡ None
-        → ListRecorded c out chain k (subdivided (within_budget c r) depth a.t b.t) (Some k) out chain
-    none_within room e = none room (subdivided_within (within_budget c r) depth a.t b.t deep (was_within c r a b A B (sym e ∙ S)))
+    pub none_within : (to : Recorder) → s ≡ None → Records c (subdivided (within_budget c r) depth a.t b.t) (Some tt) to to
+    none_within to e = none to (subdivided_within (within_budget c r) depth a.t b.t deep (was_within c r a b A B (sym e ∙ S)))
 
-    module _ (m : End) (M : s ≡ Some m) where
-      w : Was-split c r a b A B m
-      w = was_split c r a b A B m (sym M ∙ S)
-
-      pub middle_own : m ≡ end_at c m.t
-      middle_own = end_own c (midpoint a.t b.t) m w.middle
-
-      pub halves : subdivided (within_budget c r) (depth - 1) a.t m.t ++ m.t ∷ subdivided (within_budget c r) (depth - 1) m.t b.t
+    -- the middle is the curve's, and the list that of the two halves
+    pub record Halved (m : End) : Type 0 where
+      pub own : m ≡ end_at c m.t
+      pub both : subdivided (within_budget c r) (depth - 1) a.t m.t ++ m.t ∷ subdivided (within_budget c r) (depth - 1) m.t b.t
           ≡ subdivided (within_budget c r) depth a.t b.t
-      halves =
-          ap (λ (x : Float). subdivided (within_budget c r) (depth - 1) a.t x ++ x ∷ subdivided (within_budget c r) (depth - 1) x b.t)
-          (end_t c (midpoint a.t b.t) m w.middle)
-          ∙ sym (subdivided_split (within_budget c r) depth a.t b.t deep w.over)
+
+    pub halved : (m : End) → s ≡ Some m → Halved m
+    halved m M =
+        let w = was_split c r a b A B m (sym M ∙ S) in
+        record {
+          own = end_own c (midpoint a.t b.t) m w.middle;
+          both =
+              ap (λ (x : Float). subdivided (within_budget c r) (depth - 1) a.t x ++ x ∷ subdivided (within_budget c r) (depth - 1) x b.t)
+              (end_t c (midpoint a.t b.t) m w.middle)
+              ∙ sym (subdivided_split (within_budget c r) depth a.t b.t deep w.over);
+        }

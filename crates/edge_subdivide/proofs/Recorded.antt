@@ -17,9 +17,11 @@ use Rattle.edge_closed_form.specs.Located.{located}
 use Rattle.edge_closed_form.proofs.Located.{located_length, located_append}
 use Rattle.edge_subdivide.specs.declared.End.{End}
 use Rattle.edge_subdivide.specs.Bisect.{end_at}
-use Rattle.edge_subdivide.specs.Own.Recorded.{Room, ListRecorded}
+use Rattle.edge_subdivide.specs.declared.recorder.Recorder.{Recorder}
+use Rattle.edge_subdivide.specs.Own.Recorded.{Room}
+use Rattle.edge_subdivide.specs.Own.Recorder.{count_if, Pushes, Records}
 
--- ---- one end, as push_end leaves it
+-- ---- one end, as push leaves it
 module _ {out chain : List Float} {k : ℕ} (room : Room out chain k) (x : Float) {w : Option ℕ} (out' : List Float) (h : ListAppended out k (x ∷ []) w out') where
   pub one_as : (v : Option ℕ) → w ≡ v → ListAppended out k (x ∷ []) v out'
   one_as v e = subst (λ (q : Option ℕ). ListAppended out k (x ∷ []) q out') e h
@@ -31,61 +33,79 @@ module _ {out chain : List Float} {k : ℕ} (room : Room out chain k) (x : Float
   one_fits n e =
       omega (arith, room.wide, behind_room out k (x ∷ []) out' h n e, written_length h, behind_count out k (x ∷ []) out' h room.taken n e)
 
+  pub one_room : (n : ℕ) → w ≡ Some n → (s : Sample) {chain' : List Float} → chain' ≡ sets chain (width * k) (row s) → Room out' chain' n
+  one_room n e s same = record {
+    taken = behind_room out k (x ∷ []) out' h n e;
+    wide = ap length same ∙ length-sets chain (width * k) (row s) ∙ room.wide ∙ ap (λ (j : ℕ). width * j) (sym (written_length h));
+  }
+
 module _ (c : CurveTree) where
-  pub recorded_none : {out chain : List Float} {k : ℕ} → Room out chain k → ListRecorded c out chain k [] (Some k) out chain
+  pub records_none : (to : Recorder) → Records c [] (Some tt) to to
   unfolding located flat
-  recorded_none {out} {k = k} room = record { listed = behind_none out k room.taken; records = refl }
+  records_none to = record {
+    same = record { params = refl; chain = refl };
+    recorded = record { listed = behind_none to.params.now to.len to.room.taken; records = refl };
+  }
 
-  pub recorded_one : {out chain : List Float} {k : ℕ} (m : End) → m ≡ end_at c m.t → {w : Option ℕ} {out' chain' : List Float}
-      → ListAppended out k (m.t ∷ []) w out' × (chain' ≡ sets chain (width * k) (row (record { point = m.point; param = m.t })))
-      → ListRecorded c out chain k (m.t ∷ []) w out' chain'
+  pub records_one : (m : End) → m ≡ end_at c m.t → {w : Option (Unit {0})} {old new : Recorder} → Pushes m w old new → Records c (m.t ∷ []) w old new
   unfolding located flat end_at
-  recorded_one {chain = chain} {k} m own p = record { listed = p.0; records = p.1 ∙ ap (λ (n : End). sets chain (width * k) (row (record { point = n.point; param = m.t }))) own }
+  records_one m own {old = old} p = record {
+    same = p.same;
+    recorded = record {
+      listed = p.listed;
+      records = p.records ∙ ap (λ (n : End). sets old.chain.now (width * old.len) (row (record { point = n.point; param = m.t }))) own;
+    };
+  }
 
-  module _ {out chain : List Float} {k : ℕ} (room : Room out chain k) where
-    module _ {a : List Float} {w : Option ℕ} {mid left : List Float} (h : ListRecorded c out chain k a w mid left) where
-      -- a front, and what is stored behind it
-      records_then : (b : List Float) → sets chain (width * k) (flat (located c (a ++ b))) ≡ sets left (width * (k + length a)) (flat (located c b))
-      records_then b =
-          let n : width * k + length (flat (located c a)) ≡ width * (k + length a) = omega (arith, length_flat (located c a), located_length c a) in
-          ap (λ (l : List Sample). sets chain (width * k) (flat l)) (located_append c a b)
-          ∙ ap (sets chain (width * k)) (flat_append (located c a) (located c b))
-          ∙ sets_append chain (width * k) (flat (located c a)) (flat (located c b))
-          ∙ ap (λ (l : List Float). sets l (width * k + length (flat (located c a))) (flat (located c b))) (sym h.records)
-          ∙ ap (λ (i : ℕ). sets left i (flat (located c b))) n
+  module _ {a : List Float} {w : Option (Unit {0})} {old mid : Recorder} (h : Records c a w old mid) where
+    -- a front, and what is stored behind it
+    records_more : (b : List Float) → sets old.chain.now (width * old.len) (flat (located c (a ++ b))) ≡ sets mid.chain.now (width * (old.len + length a)) (flat (located c b))
+    records_more b =
+        let n : width * old.len + length (flat (located c a)) ≡ width * (old.len + length a) = omega (arith, length_flat (located c a), located_length c a) in
+        ap (λ (l : List Sample). sets old.chain.now (width * old.len) (flat l)) (located_append c a b)
+        ∙ ap (sets old.chain.now (width * old.len)) (flat_append (located c a) (located c b))
+        ∙ sets_append old.chain.now (width * old.len) (flat (located c a)) (flat (located c b))
+        ∙ ap (λ (l : List Float). sets l (width * old.len + length (flat (located c a))) (flat (located c b))) (sym h.recorded.records)
+        ∙ ap (λ (i : ℕ). sets mid.chain.now i (flat (located c b))) n
 
-      wide : length left ≡ width * length out
-      wide = ap length h.records ∙ length-sets chain (width * k) (flat (located c a)) ∙ room.wide
+    counts : (v : Option (Unit {0})) → w ≡ v → count_if w mid.len ≡ count_if v mid.len
+    counts v e = ap (λ (u : Option (Unit {0})). count_if u mid.len) e
 
-      pub recorded_refused : w ≡ None → (b : List Float) → ListRecorded c out chain k (a ++ b) None mid left
-      recorded_refused e b = record {
-        listed = behind_refused out k a mid h.listed e b;
-        records = sym (records_then b ∙ sets_out left (width * (k + length a)) (flat (located c b)) (omega (arith, wide, behind_full out k a mid h.listed room.taken e)));
-      }
+    pub records_refused : w ≡ None → (b : List Float) → Records c (a ++ b) None old mid
+    records_refused e b = record {
+      same = h.same;
+      recorded = record {
+        listed = behind_refused old.params.now old.len a mid.params.now h.recorded.listed (counts None e) b;
+        records =
+            let full = behind_full old.params.now old.len a mid.params.now h.recorded.listed old.room.taken (counts None e) in
+            sym (records_more b ∙ sets_out mid.chain.now (width * (old.len + length a)) (flat (located c b)) (omega (arith, full, mid.room.wide, written_length h.recorded.listed)));
+      };
+    }
 
-      module _ {n : ℕ} (e : w ≡ Some n) where
-        pub recorded_room : Room mid left n
-        recorded_room = record { taken = behind_room out k a mid h.listed n e; wide = wide ∙ ap (λ (i : ℕ). width * i) (sym (written_length h.listed)) }
+    pub records_then : w ≡ Some tt → (b : List Float) {v : Option (Unit {0})} {new : Recorder} → Records c b v mid new → Records c (a ++ b) v old new
+    records_then e b g = record {
+      same = record { params = g.same.params ∙ h.same.params; chain = g.same.chain ∙ h.same.chain };
+      recorded = record {
+        listed = behind_then old.params.now old.len a mid.params.now h.recorded.listed mid.len (counts (Some tt) e) b g.recorded.listed;
+        records =
+            g.recorded.records
+            ∙ ap (λ (i : ℕ). sets mid.chain.now (width * i) (flat (located c b))) (behind_count old.params.now old.len a mid.params.now h.recorded.listed old.room.taken mid.len (counts (Some tt) e))
+            ∙ sym (records_more b);
+      };
+    }
 
-        pub recorded_then : (b : List Float) {q : Option ℕ} {last left' : List Float} → ListRecorded c mid left n b q last left' → ListRecorded c out chain k (a ++ b) q last left'
-        recorded_then b g = record {
-          listed = behind_then out k a mid h.listed n e b g.listed;
-          records = g.records ∙ ap (λ (i : ℕ). sets left (width * i) (flat (located c b))) (behind_count out k a mid h.listed room.taken n e) ∙ sym (records_then b);
-        }
+  -- a list, one more, and another list: the ways in which code that puts the three one after the other comes out
+  module _ (front : List Float) (x : Float) (back : List Float) {whole : List Float} (all : front ++ x ∷ back ≡ whole)
+      {w₁ : Option (Unit {0})} {old first : Recorder} (h : Records c front w₁ old first) where
+    pub front_refused : w₁ ≡ None → Records c whole None old first
+    front_refused z = subst (λ (l : List Float). Records c l None old first) all (records_refused h z (x ∷ back))
 
-  -- a list, one more, and another list: the ways in which code that writes the three one after the other comes out
-  module _ {out chain : List Float} {k : ℕ} (room : Room out chain k) (front : List Float) (x : Float) (back : List Float) {whole : List Float} (all : front ++ x ∷ back ≡ whole)
-      {r₁ : Option ℕ} {out₁ chain₁ : List Float} (h : ListRecorded c out chain k front r₁ out₁ chain₁) where
-    pub front_refused : r₁ ≡ None → ListRecorded c out chain k whole None out₁ chain₁
-    front_refused z = subst (λ (l : List Float). ListRecorded c out chain k l None out₁ chain₁) all (recorded_refused room h z (x ∷ back))
+    module _ (N : w₁ ≡ Some tt) {w₂ : Option (Unit {0})} {second : Recorder} (g : Records c (x ∷ []) w₂ first second) where
+      joined : {w : Option (Unit {0})} {new : Recorder} → Records c (x ∷ back) w first new → Records c whole w old new
+      joined {w} {new} f = subst (λ (l : List Float). Records c l w old new) all (records_then h N (x ∷ back) f)
 
-    module _ {n : ℕ} (N : r₁ ≡ Some n) {r₂ : Option ℕ} {out₂ chain₂ : List Float} (g : ListRecorded c out₁ chain₁ n (x ∷ []) r₂ out₂ chain₂) where
-      joined : {r₃ : Option ℕ} {out₃ chain₃ : List Float} → ListRecorded c out₁ chain₁ n (x ∷ back) r₃ out₃ chain₃ → ListRecorded c out chain k whole r₃ out₃ chain₃
-      joined {r₃} {out₃} {chain₃} f = subst (λ (l : List Float). ListRecorded c out chain k l r₃ out₃ chain₃) all (recorded_then room h N (x ∷ back) f)
+      pub one_refused : w₂ ≡ None → Records c whole None old second
+      one_refused z = joined (records_refused g z back)
 
-      pub one_refused : r₂ ≡ None → ListRecorded c out chain k whole None out₂ chain₂
-      one_refused z = joined (recorded_refused (recorded_room room h N) g z back)
-
-      pub all_three : {m : ℕ} → r₂ ≡ Some m → {r₃ : Option ℕ} {out₃ chain₃ : List Float} → ListRecorded c out₂ chain₂ m back r₃ out₃ chain₃
-          → ListRecorded c out chain k whole r₃ out₃ chain₃
-      all_three M f = joined (recorded_then (recorded_room room h N) g M back f)
+      pub all_three : w₂ ≡ Some tt → {w : Option (Unit {0})} {new : Recorder} → Records c back w second new → Records c whole w old new
+      all_three M f = joined (records_then g M back f)

@@ -1,22 +1,21 @@
 #![tactic(auto)]
 // Bisection of a curve's spans: subdivide of edge.rs, on rows. Each point and each tangent is evaluated once and handed down.
-ghost use Rattle.std.specs.Prelude.{◌≡◌, [], ◌∷◌, ◌*◌};
-ghost use Rattle.std.proofs.lemmas.List.Edits.{sets};
+ghost use Rattle.std.specs.Prelude.{◌≡◌};
 ghost use Rattle.arith_trig.specs.Trig.{acos_of};
 ghost use Rattle.curve_prepared.specs.Own.PreparedCurve.{curve_of};
 ghost use Rattle.edge_params.specs.Own.Bisected.{subdivided};
-ghost use Rattle.edge_params.specs.Own.Written.{ListAppended};
-ghost use Rattle.edge_record.specs.Chain.{width, row};
-ghost use Rattle.edge_subdivide.specs.Own.Recorded.{Room, ListRecorded};
+ghost use Rattle.edge_subdivide.specs.Own.Recorder.{Records};
 ghost use Rattle.edge_subdivide.specs.Own.Split.{split_of};
 ghost use Rattle.edge_subdivide.specs.Bisect.{end_at, tangent_turn, is_within, within_budget};
 
 use arith_root_limit::Limit;
 use arith_turn_limit::TurnLimit;
 use curve_prepared::PreparedCurve;
-use edge_record::Sample;
 use math::Vec3;
 use options::Resolved;
+pub use recorder::Recorder;
+
+mod recorder;
 
 // An end of a span: its parameter, and the curve's point and tangent there.
 #[derive(Clone, Copy)]
@@ -36,7 +35,7 @@ pub struct Limits {
     ghost own_turn: { turn ≡ options.angle },
 }
 
-// The limits of the options, worked out once for many spans.
+// The limits of the options, worked out once for many spans. Stays: as a conversion it would not show that the cuts take work.
 pub fn limits_of(options: Resolved) -> Limits
     ensures { result.options ≡ options }
 {
@@ -100,44 +99,27 @@ fn split_of(curve: &PreparedCurve<'_>, limits: &Limits, a: End, b: End) -> Optio
     Some(End { t, point, tangent })
 }
 
-// The parameter of an end behind the first k floats of out, and the record of its point as number k of chain.
-pub fn push_end(out: &mut [f64], chain: &mut [f64], k: usize, end: End) -> Option<usize>
-    requires { Room out.old chain.old k }
-    ensures { ListAppended out.old k (end.t ∷ []) result out.new
-        × (chain.new ≡ sets chain.old (width * k) (row (record { point = end.point; param = end.t }))) }
-{
-    let n = edge_params::push(out, k, end.t)?;
-    let here = Sample {
-        point: end.point,
-        param: end.t,
-    };
-    edge_record::put(chain, k, here);
-    Some(n)
-}
-
-// What bisection puts between a and b, behind the first k floats of out, with the records behind the first k of chain.
+// What bisection puts between a and b, behind what is recorded; none where there is no room for it.
 pub fn subdivide(
     curve: &PreparedCurve<'_>,
     limits: &Limits,
     a: End,
     b: End,
     depth: u32,
-    out: &mut [f64],
-    chain: &mut [f64],
-    k: usize,
-) -> Option<usize>
-    requires { (a ≡ end_at (curve_of curve.now) a.t) × (b ≡ end_at (curve_of curve.now) b.t) × Room out.old chain.old k }
-    ensures { ListRecorded (curve_of curve.now) out.old chain.old k
+    to: &mut Recorder<'_>,
+) -> Option<()>
+    requires { (a ≡ end_at (curve_of curve.now) a.t) × (b ≡ end_at (curve_of curve.now) b.t) }
+    ensures { Records (curve_of curve.now)
         (subdivided (within_budget (curve_of curve.now) limits.now.options) depth a.t b.t)
-        result out.new chain.new }
+        result to.old to.new }
 {
     if depth == 0 {
-        return Some(k);
+        return Some(());
     }
     let Some(m) = split_of(curve, limits, a, b) else {
-        return Some(k);
+        return Some(());
     };
-    let n = subdivide(curve, limits, a, m, depth - 1, out, chain, k)?;
-    let next = push_end(out, chain, n, m)?;
-    subdivide(curve, limits, m, b, depth - 1, out, chain, next)
+    subdivide(curve, limits, a, m, depth - 1, to)?;
+    to.push(m)?;
+    subdivide(curve, limits, m, b, depth - 1, to)
 }

@@ -3,18 +3,18 @@ use mathlib.Core.Path.{◌≡◌, refl, sym, ap, ◌∙◌}
 use mathlib.Core.Bool.{Bool, true, false, cond}
 use mathlib.Core.List.{List, [], ◌∷◌, ◌++◌}
 use Prim.Native.Nat.{ℕ, suc, ◌+◌, ◌-◌, ◌*◌, ◌/◌, ◌<◌, ◌≤◌, max}
-use native.Mathlib.Nat.{le-max_left, mul-le-mul, mul-le-mul_right, div-le_of_le-mul, max-eq_left, max-eq_right}
+use native.Mathlib.Nat.{le-max_left, mul-le-mul, mul-le-mul_right, div-le_of_le-mul}
 use native.Mathlib.Numerals.{add-one}
 use native.Mathlib.Omega.{arith}
-use lib.ListN.{length, get_or, set, take, drop, length-append, length-set}
-use lib.Seq.{sets, take-suc, drop-cons}
+use lib.ListN.{length, get_or, set, drop, length-append, length-set}
+use lib.Seq.{sets, drop-cons}
 use lib.Ieee.{Float}
 use Rattle.edge_record.specs.declared.Sample.{Sample}
 use Rattle.edge_record.specs.Own.Stored.{ChainStored}
 use Rattle.edge_record.specs.Chain.{width, most, row, sample_at, samples}
 use Rattle.edge_record.proofs.Compact.{Compacted, compact_start, compact_skip, compact_keep, compact_done}
 use Rattle.edge_thin_mark.specs.Spans.{marks}
-use Rattle.edge_thin.specs.Thin.{flag_count, even_at, evens, retained_by}
+use Rattle.edge_thin.specs.Thin.{even_at, evens, retained_by}
 
 -- ---- `mark_evenly`
 marks_append : (keep : List Bool) (a b : List ℕ) → marks keep (a ++ b) ≡ marks (marks keep a) b

@@ -3,29 +3,32 @@ use Rattle.std.specs.Prelude.{ℕ, Err, Ok}
 use mathlib.Core.Path.{◌≡◌, refl, sym, ap, ◌∙◌}
 use mathlib.Core.Bool.{Bool, true, false, cond, ◌||◌}
 use mathlib.Core.Logic.{◌⊎◌, inl, inr, ⊎_elim}
-use mathlib.Core.List.{List, ◌∷◌}
-use Prim.Native.Nat.{ℕ, zero, suc, ◌*◌, ◌<◌, ◌≤◌, min}
+use mathlib.Core.List.{List}
+use Prim.Native.Nat.{ℕ, ◌<◌, ◌≤◌}
 use native.Mathlib.Omega.{arith}
-use lib.ListN.{length, take, replicate, length-replicate}
+use lib.ListN.{length, take, replicate}
 use lib.Seq.{sets}
-use Rattle.std.proofs.lemmas.List.{take-replicate}
+use Rattle.std.proofs.lemmas.List.{length-replicate, take-replicate}
 use lib.Dec.{ltb}
 use lib.Ieee.{Float, lt}
 use borrow.Author.Tests.{lt-ltb, le-ltb}
 use Rattle.arith.specs.Notation.{plus_zero}
 use Rattle.edge_record.specs.declared.Sample.{Sample}
 use Rattle.edge_record.specs.Own.Stored.{record_point, counted_of, after, ChainStored}
-use Rattle.edge_record.specs.Chain.{width, most, flat, samples, sample_point}
+use Rattle.edge_record.specs.Chain.{flat, samples, sample_point}
 use Rattle.edge_record.proofs.Laws.{samples_from-length, samples_own, point_of-samples}
-use Rattle.edge_thin_mark.specs.Spans.{marks, flagged}
+use Rattle.edge_thin_mark.specs.Spans.{flagged}
 use Rattle.edge_thin_mark.proofs.Same.{flagged_same}
-use Rattle.edge_thin.specs.Thin.{flag_count, evens, restored, with_floor, retained_by, thinned}
+use Rattle.edge_thin.specs.Thin.{with_floor, retained_by, thinned}
 use Rattle.refusal.specs.Answer.{Answer, each}
 use Rattle.refusal.specs.declared.Refusal.{Refusal}
 
--- the first n of flags that are not set
-pub lent : (n : ℕ) (flags : List Bool) → flags ≡ replicate (length flags) false → n ≤ length flags → take n flags ≡ replicate n false
-lent n flags e h = ap (take n) e ∙ take-replicate n (length flags) false h
+-- the first n of m flags that are not set
+pub lent_length : (n m : ℕ) → n ≤ m → length (take n (replicate m false)) ≡ n
+lent_length n m h = ap length (take-replicate n m false h) ∙ length-replicate n false
+
+pub lent : (n m : ℕ) → n ≤ m → take n (replicate m false) ≡ replicate (length (take n (replicate m false))) false
+lent n m h = take-replicate n m false h ∙ ap (λ (k : ℕ). replicate k false) (sym (lent_length n m h))
 
 module _ (tolerance angle : Float) (floor n : ℕ) (c : List Float) where
   abbrev thinning : Answer (List Sample)

@@ -1,6 +1,6 @@
 #![tactic(auto)]
 // `thin`: drops the points of a sampled polyline that it does not need, to a bounded deviation.
-ghost use Rattle.std.specs.Prelude.{◌≡◌, true, false, ◌*◌, ◌<◌, ◌≤◌, length, replicate};
+ghost use Rattle.std.specs.Prelude.{◌≡◌, true, false, ◌*◌, ◌/◌, ◌<◌, ◌≤◌, length, replicate};
 ghost use Rattle.std.specs.Float.Ieee.{lt};
 ghost use Rattle.arith.specs.Notation.{plus_zero};
 ghost use Rattle.edge_record.specs.Own.Stored.{counted_of, after, ChainStored};
@@ -22,7 +22,8 @@ fn count_kept(keep: &[bool]) -> usize
     keep.iter().filter(|kept| **kept).count()
 }
 
-// Sets `want` flags at even steps.
+// Sets `want` flags at even steps. Stays: that there are no more flags than a chain has records is a clause; a struct round the slice would be
+// made at each call, with the same proof.
 fn mark_evenly(keep: &mut [bool], want: usize)
     requires { (0 < length keep.old) × (want ≤ length keep.old) × (length keep.old ≤ most) }
     ensures { keep.new ≡ marks keep.old (evens (length keep.old) want want) }
@@ -63,43 +64,38 @@ fn retain(chain: &mut [f64], keep: &[bool]) -> usize
     k
 }
 
-// Thins the first n records by as many of the flags, none of which is set. What is kept is moved to the buffer's start; a refusal leaves
-// the buffer as it was.
+// Thins the first records, as many as there are flags, none of which is set. What is kept is moved to the buffer's start; a refusal
+// leaves the buffer as it was.
 fn thin_by(
     chain: &mut [f64],
-    n: usize,
     bounds: Bounds,
     floor: usize,
-    flags: &mut [bool],
+    keep: &mut [bool],
 ) -> Result<usize, Refusal>
-    requires { (2 < n) × (n ≤ most) × (width * n ≤ length chain.old) × (n ≤ length flags.old) × (flags.old ≡ replicate (length flags.old) false) × (lt plus_zero bounds.tolerance ≡ true) }
-    ensures { (result ≡ counted_of (thinned bounds.tolerance bounds.angle floor (samples n chain.old)))
-        × (chain.new ≡ after chain.old (thinned bounds.tolerance bounds.angle floor (samples n chain.old))) }
+    requires { (2 < length keep.old) × (length keep.old ≤ most) × (width * length keep.old ≤ length chain.old) × (keep.old ≡ replicate (length keep.old) false) × (lt plus_zero bounds.tolerance ≡ true) }
+    ensures { (result ≡ counted_of (thinned bounds.tolerance bounds.angle floor (samples (length keep.old) chain.old)))
+        × (chain.new ≡ after chain.old (thinned bounds.tolerance bounds.angle floor (samples (length keep.old) chain.old))) }
 {
-    let keep = &mut flags[..n];
     edge_thin_mark::mark(chain, bounds, keep)?;
     restore(keep, floor);
     Ok(retain(chain, keep))
 }
 
-// Thins the first n records in place.
-pub fn thin(
-    chain: &mut [f64],
-    n: usize,
-    tolerance: f64,
-    angle: f64,
-    floor: usize,
-) -> Result<usize, Refusal>
-    requires { (n ≤ most) × (width * n ≤ length chain.old) }
-    ensures { (result ≡ counted_of (thinned tolerance angle floor (samples n chain.old)))
-        × (chain.new ≡ after chain.old (thinned tolerance angle floor (samples n chain.old))) }
+// Thins a chain, the whole records of the slice, in place.
+pub fn thin(chain: &mut [f64], tolerance: f64, angle: f64, floor: usize) -> Result<usize, Refusal>
+    requires { length chain.old / width ≤ most }
+    ensures { (result ≡ counted_of (thinned tolerance angle floor (samples (length chain.old / width) chain.old)))
+        × (chain.new ≡ after chain.old (thinned tolerance angle floor (samples (length chain.old / width) chain.old))) }
 {
+    let n = chain.len() / edge_record::WIDTH;
     if n < 3 || !(tolerance > 0.0) {
         return Ok(n);
     }
     let bounds = Bounds { tolerance, angle };
     if n <= FEW {
-        return thin_by(chain, n, bounds, floor, &mut [false; FEW]);
+        let mut flags = [false; FEW];
+        return thin_by(chain, bounds, floor, &mut flags[..n]);
     }
-    thin_by(chain, n, bounds, floor, &mut [false; edge_record::MOST])
+    let mut flags = [false; edge_record::MOST];
+    thin_by(chain, bounds, floor, &mut flags[..n])
 }

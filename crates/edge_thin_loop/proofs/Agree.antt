@@ -1,8 +1,6 @@
 -- What an account of our answer gives: it agrees with the Rust's. Assumes nothing.
 use Rattle.std.specs.Prelude.{Err, Ok}
 use mathlib.Core.Path.{◌≡◌, refl, ap, subst}
-use Prim.Native.Nat.{ℕ}
-use native.Mathlib.Omega.{arith}
 use Rattle.edge_thin_loop.specs.Claims.{Agrees}
 use Rattle.refusal.specs.Answer.{Answer}
 use Rattle.refusal.specs.declared.Refusal.TheVariants.{Endless}

@@ -33,7 +33,7 @@ pub fn start_at(chain: &[f64], forward: bool) -> usize
     }
 }
 
-// The step from a place. One with no point left keeps its place.
+// The step from a place. One with no point left keeps its place. Stays: the place beside the chain, since under C names the caller keeps it.
 #[tactic(auto, unfolding(crate::specs::Walk::stepped))]
 pub fn step_at(chain: &[f64], at: usize, forward: bool) -> Stepped
     ensures { result ≡ stepped chain.now at forward }

@@ -69,17 +69,16 @@ pub fn mode_of(strict: bool) -> Mode
     }
 }
 
-// 0, or the number of the cause.
+// 0, or the number of the cause: the C interface has no `Result`.
 #[tactic(auto, unfolding(crate::specs::Numbers::cause_of))]
 pub fn cause_of(verdict: Result<(), Refusal>) -> u32
     ensures { result ≡ cause_of verdict }
 {
-    match verdict {
-        Ok(()) => 0,
-        Err(cause) => cause.number(),
-    }
+    verdict.err().map_or(0, u32::from)
 }
 
+// Stays: the C interface needs a way's number. The five stand here by name: by `as u32` they would hang on the order of another crate's variants,
+// and a `From` of a way would stand in that crate, which has no numbers and no code.
 #[tactic(auto, unfolding(crate::specs::Numbers::number_of))]
 fn number_of(way: Way) -> u32
     ensures { result ≡ number_of way }
@@ -120,18 +119,16 @@ pub fn codes_of(drawn: Result<Drawn, Refusal>) -> Codes
     }
 }
 
-// 1 for a step that passed a point, else 0.
+// 1 for a step that passed a point, else 0: the C interface has no `Option`.
 #[tactic(auto, unfolding(crate::specs::Numbers::passed))]
 pub fn has_passed(step: Option<Sample>) -> u32
     ensures { result ≡ passed step }
 {
-    match step {
-        Some(_) => 1,
-        None => 0,
-    }
+    u32::from(step.is_some())
 }
 
-// The point that a step passed; without one the point stays.
+// The point that a step passed; without one the point is as it was. Stays: a match says so as plainly as `map_or`, which would hand the point through a
+// call and back.
 #[tactic(auto, unfolding(crate::specs::Numbers::point_after))]
 pub fn point_after(
     point: [f64; edge_record::WIDTH],

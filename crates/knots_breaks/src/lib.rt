@@ -44,7 +44,8 @@ fn strict_breaks(
     Some(k)
 }
 
-// The breaks of the curve of a row inside a range, from the start of out, and +0.0 after them; none where its knots do not fit.
+// The breaks of the curve of a row inside a range, from the start of out, and +0.0 after them; none where its knots do not fit. Stays:
+// the mode is an enum by value, as the request for strict mode has it, and has two cases.
 #[tactic(auto, unfolding(crate::specs::Breaks::breaks_in))]
 pub fn breaks_in(
     tables: &LentTables<'_>,

@@ -7,7 +7,7 @@ ghost use Rattle.knots_sort.specs.Own.Sortable.{most_knots};
 ghost use Rattle.knots_inside.specs.Breaks.{is_strict, retained_knots, is_near, deduped, passing_upward, passing_knots, inside_upward, inside_of};
 
 // Keeps those that pass a test, which is asked of each in turn, from the start. It answers how many, as those below, and not the part: the
-// rest is cleared afterwards.
+// rest is cleared afterwards. Stays: what is read by number is written by number too, behind what was read.
 fn keep_if<F: FnMut(f64) -> bool>(a: &mut [f64], mut passes: F) -> usize
     requires { F.IsAlwaysCallable passes }
     ensures within { result ≤ length a.old }
@@ -64,7 +64,8 @@ fn dedup(a: &mut [f64], epsilon: f64) -> usize
     })
 }
 
-// Keeps those that pass between lo and hi, lo being the smaller, from the start; answers how many.
+// Keeps those that pass between lo and hi, lo being the smaller, from the start; answers how many. Stays: two numbers, since a range of
+// `math` may run down, and this crate stands beside it.
 #[tactic(auto, unfolding(crate::specs::Breaks::passing_upward))]
 fn passing_upward(knots: &mut [f64], lo: f64, hi: f64) -> usize
     ensures within { result ≤ length knots.old }
@@ -79,7 +80,7 @@ fn passing_upward(knots: &mut [f64], lo: f64, hi: f64) -> usize
 }
 
 // Keeps those that pass between lo and hi, whichever way the range runs, from the start; answers how many. They stay in their order, and
-// none is merged with another.
+// none is merged with another. Stays: `inside` turns the range round in the same way, which a function over closures would hide.
 #[tactic(auto, unfolding(crate::specs::Breaks::passing_knots))]
 pub fn passing(knots: &mut [f64], lo: f64, hi: f64) -> usize
     ensures within { result ≤ length knots.old }
@@ -105,8 +106,7 @@ fn ascending(knots: &mut [f64], lo: f64, hi: f64) -> usize
     m
 }
 
-// The distinct knots strictly between lo and hi, in order, at the start of knots, and +0.0 after them; answers how many. As `passing`, it
-// only turns the range round, which a function over closures would hide.
+// The distinct knots strictly between lo and hi, in order, at the start of knots, and +0.0 after them; answers how many.
 #[tactic(auto, unfolding(crate::specs::Breaks::inside_of))]
 pub fn inside(knots: &mut [f64], lo: f64, hi: f64) -> usize
     requires { length knots.old ≤ most_knots }

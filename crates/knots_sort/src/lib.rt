@@ -12,7 +12,7 @@ ghost use Rattle.knots_sort.specs.Own.Merge.{merged_runs, Halves};
 pub const MOST_KNOTS: usize = 8192;
 
 // The list left merged with what stands behind its length in a, into a from its start. Where it is read and written next depends on what
-// is compared, so no range counts that. Both loops stand here: with the inner one in a function of its own the merge takes up to a tenth
+// is compared, so no range counts that. Stays: both loops stand here, since with the inner one in a function of its own the merge takes up to a tenth
 // more instructions.
 fn merge(left: &[f64], a: &mut [f64])
     requires { length left.now ≤ length a.old }

@@ -102,7 +102,7 @@ impl Vec3 {
         self.add(o.sub(self).scale(t))
     }
 
-    // The lesser of each coordinate.
+    // The lesser of each coordinate. Stays: `max` is the same of the other choice, and no plainer with the choice handed in.
     #[tactic(auto, unfolding(crate::specs::Math::v_min))]
     fn min(self, o: Vec3) -> Vec3
         ensures { result ≡ v_min self o }
@@ -114,7 +114,7 @@ impl Vec3 {
         }
     }
 
-    // The greater of each coordinate. Beside `min`: the same of the other choice, and no plainer with the choice handed in.
+    // The greater of each coordinate.
     #[tactic(auto, unfolding(crate::specs::Math::v_max))]
     fn max(self, o: Vec3) -> Vec3
         ensures { result ≡ v_max self o }

@@ -115,7 +115,7 @@ impl Default for Options {
 }
 
 impl Options {
-    // For a quick preview.
+    // For a quick preview. Stays: each preset has its two numbers in sight.
     pub fn draft() -> Options
         ensures { result ≡ draft_options }
     {
@@ -126,7 +126,7 @@ impl Options {
         }
     }
 
-    // For close inspection. Each preset has its two numbers in sight.
+    // For close inspection.
     pub fn fine() -> Options
         ensures { result ≡ fine_options }
     {

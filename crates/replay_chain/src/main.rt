@@ -108,6 +108,7 @@ fn put_refusal(cause: Refusal, out: &mut Waiting) {
     out.put_decimal(u64::from(cause.number()), b'\n');
 }
 
+// Stays: a way's words are no step to run.
 fn put_way(way: Way, out: &mut Waiting) {
     match way {
         Way::AsDrawn => out.put_word(b"as drawn"),

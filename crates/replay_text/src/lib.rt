@@ -1,7 +1,7 @@
 #![tactic(auto)]
 // Text for a program to write, which waits in a buffer until that is full. And the parts of a program's input. Both buffer in
 // fixed memory, since the library's `BufWriter` and `BufReader` allocate.
-ghost use Rattle.std.specs.Prelude.{◌≡◌, [], ◌∷◌, ◌++◌};
+ghost use Rattle.std.specs.Prelude.{◌≡◌, [], ◌∷◌, ◌++◌, ◌≤◌, length};
 ghost use Rattle.std.specs.Float.{binary64};
 ghost use Rattle.std.specs.Float.Ieee.{to_bits};
 ghost use Rattle.text_format.specs.Format.{decimal, hex16};
@@ -152,7 +152,9 @@ impl<const SIZE: usize> Parts<SIZE> {
     }
 
     // The next byte of the input. A chunk without bytes is its end.
-    fn next_byte(&mut self) -> Option<u8> {
+    fn next_byte(&mut self) -> Option<u8>
+        ensures { self.new ≡ self.old }
+    {
         if self.taken == self.read {
             self.read = self.from.read(&mut self.chunk).unwrap_or(0);
             self.taken = 0;
@@ -166,7 +168,9 @@ impl<const SIZE: usize> Parts<SIZE> {
     }
 
     // One byte more of the part. What has no room is left out.
-    fn keep(&mut self, b: u8) {
+    fn keep(&mut self, b: u8)
+        ensures { length self.new ≤ SIZE }
+    {
         if self.len < SIZE {
             self.text[self.len] = b;
             self.len += 1;
@@ -175,7 +179,9 @@ impl<const SIZE: usize> Parts<SIZE> {
 
     // Reads the next part; answers whether a separator ended it. The loop counts its turns, up to a number that no run reaches,
     // since nothing says that an input ends.
-    pub fn read_part(&mut self) -> bool {
+    pub fn read_part(&mut self) -> bool
+        ensures { length self.new ≤ SIZE }
+    {
         self.len = 0;
         let mut equals = 0u32;
         for _ in 0..u64::MAX {

@@ -53,7 +53,7 @@ pub struct SheetTables {
     pub ranges: [f64; RANGES],
 }
 
-// The edge of its numbers. No `From`: both types are of other crates.
+// The edge of its numbers. Stays: no `From`, since both types are of other crates.
 fn edge_from(raw: RawEdge) -> Edge
     ensures { result ≡ edge_from raw }
 {
@@ -72,7 +72,7 @@ fn edge_from(raw: RawEdge) -> Edge
     }
 }
 
-// The options of their numbers, the angle in radians. No `From`: both types are of other crates.
+// The options of their numbers, the angle in radians. Stays: no `From`, as above.
 pub fn options_from(raw: RawOptions) -> Options
     ensures { result ≡ options_from raw }
 {

@@ -98,7 +98,7 @@ impl Element for u32 {
     }
 }
 
-// A row's elements into their table, from `at` on; answers the next place. Fixed memory: a lent table and a place, not a Vec.
+// A row's elements into their table, from `at` on; answers the next place. Stays: a lent table and a place, since memory is fixed.
 fn put<T: Element>(shape: &[Column], row: &[u64], out: &mut [T], at: usize) -> usize
     requires room { at + length (chosen T.holds (shape_of shape.now) row.now) ≤ length out.old }
     requires fit { All T.fits (chosen T.holds (shape_of shape.now) row.now) }
@@ -116,7 +116,7 @@ fn put<T: Element>(shape: &[Column], row: &[u64], out: &mut [T], at: usize) -> u
     k
 }
 
-// A row's floats into their table, from `at` on; answers the next place.
+// A row's floats into their table, from `at` on; answers the next place. Stays: as `put`.
 #[tactic(auto, using(crate::proofs::Chosen::any_fit))]
 pub fn put_floats(shape: &[Column], row: &[u64], out: &mut [f64], at: usize) -> usize
     requires { at + length (floats_of (shape_of shape.now) row.now) ≤ length out.old }
@@ -126,7 +126,7 @@ pub fn put_floats(shape: &[Column], row: &[u64], out: &mut [f64], at: usize) -> 
     put(shape, row, out, at)
 }
 
-// A row's whole numbers into their table, from `at` on; answers the next place.
+// A row's whole numbers into their table, from `at` on; answers the next place. Stays: as `put`.
 pub fn put_wholes(shape: &[Column], row: &[u64], out: &mut [u32], at: usize) -> usize
     requires { (at + length (wholes_of (shape_of shape.now) row.now) ≤ length out.old)
         × All (λ n. n < 2 ^ 32) (wholes_of (shape_of shape.now) row.now) }
@@ -136,7 +136,7 @@ pub fn put_wholes(shape: &[Column], row: &[u64], out: &mut [u32], at: usize) -> 
     put(shape, row, out, at)
 }
 
-// The edge of its line's numbers. Not a `From`, which asks nothing: some numbers must have 32 bits.
+// The edge of its line's numbers. Stays: no `From`, which asks nothing, while some numbers must have 32 bits.
 pub fn raw_edge_of(row: &[u64; 9]) -> RawEdge
     requires { Narrow row.now (0 ∷ 1 ∷ 2 ∷ 3 ∷ 7 ∷ 8 ∷ []) }
     ensures { result ≡ raw_edge_of row.now }
@@ -154,7 +154,7 @@ pub fn raw_edge_of(row: &[u64; 9]) -> RawEdge
     }
 }
 
-// The options of their line's numbers. Not a `From`, as above.
+// The options of their line's numbers. Stays: no `From`, as above.
 pub fn raw_options_of(row: &[u64; 9]) -> RawOptions
     requires { Narrow row.now (2 ∷ 4 ∷ []) }
     ensures { result ≡ raw_options_of row.now }

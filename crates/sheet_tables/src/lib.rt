@@ -76,7 +76,8 @@ impl Lists<'_> {
         base_lists::fill_from(self.floats, f, 0.0);
     }
 
-    // The rows of a table, up to the empty line behind them: how many, and what is left of the text.
+    // The rows of a table, up to the empty line behind them: how many, and what is left of the text. Stays: rows are counted as they are
+    // read, with two places besides.
     fn put_rows<'b>(
         &mut self,
         text: SheetText<'b>,
@@ -140,7 +141,7 @@ pub fn points<'a>(text: SheetText<'a>, floats: &mut [f64]) -> Option<(usize, She
     lists.put_table(text, b"x y z\n", &[Float, Float, Float])
 }
 
-// The curves' block: kind first count, and p q.
+// The curves' block: kind first count, and p q. Stays: whole numbers and floats in two lists, as the tables have them.
 pub fn curves<'a>(
     text: SheetText<'a>,
     wholes: &mut [u32],
@@ -160,7 +161,7 @@ pub fn curves<'a>(
     )
 }
 
-// The segments' block: curve sense, and lo hi.
+// The segments' block: curve sense, and lo hi. Stays: two lists, as above.
 pub fn segments<'a>(
     text: SheetText<'a>,
     wholes: &mut [u32],

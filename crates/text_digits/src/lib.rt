@@ -10,7 +10,8 @@ pub const HEX: usize = 17;
 // The most digits of a plain decimal and the byte behind them.
 pub const DECIMAL: usize = 21;
 
-// The digits of v, one in each place.
+// The digits of v, one in each place. Stays: the invariant says which places are left by their number, and an iterator turned round would
+// have to be asked for it.
 fn put_digits<const BASE: u64>(v: u64, out: &mut [u8])
     requires base { (1 < BASE) × (BASE ≤ 16) }
     requires few { v < BASE ^ length out.old }

@@ -83,7 +83,7 @@ fn own_of(first: u64, last: u64, n: usize, i: usize) -> u64
 }
 
 // The listing of a chain, at the buffer's start; answers how many bytes it has. `first` and `last` are the bits that the first
-// and the last parameter were copied from if they are NaN.
+// and the last parameter were copied from if they are NaN. Stays: the chain and the bytes are no parallel arrays.
 pub fn write_chain(chain: &[f64], first: u64, last: u64, out: &mut [u8]) -> usize
     requires { heading_bytes + line_bytes * (length chain.now / width) ≤ length out.old }
     ensures { Put (listing first last (samples (length chain.now / width) chain.now)) out.old result out.new }

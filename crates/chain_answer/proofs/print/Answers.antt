@@ -1,14 +1,9 @@
 -- `chain_answer::print` meets its contract: there is room for every listing, and what is left of the input changes nothing.
 -- Assumes nothing.
-use mathlib.Core.Path.{sym}
 use native.Mathlib.Omega.{arith}
-use lib.Seq.{length-take-le}
 use Rattle.draw_spec.specs.Draw.{room_of}
 use Rattle.chain_answer.proofs.Laws.{put_for_all}
 use Rattle.chain_answer.proofs.print.Goals as goal
-
-pub slice_bounds-answer-end : goal.slice_bounds-answer-end
-slice_bounds-answer-end c = sym (length-take-le _ _ (omega arith))
 
 pub answer-requires : goal.answer-requires
 unfolding room_of

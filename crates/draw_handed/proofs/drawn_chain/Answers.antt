@@ -7,4 +7,4 @@ use Rattle.draw_handed.proofs.drawn_chain.Goals as goal
 pub returns : goal.returns
 returns c =
     let a = c.args in
-    hands_back (lent a.tables.now) a.edge a.options a.first a.second _ _ _ c.draw-drawn.ensures _ _ refl refl c.chain_of.ensures.0 c.chain_of.ensures.1 c.codes_of-codes.ensures
+    hands_back (lent a.tables.now) a.edge a.options a.first a.second _ _ _ c.draw-drawn.ensures _ refl refl c.chain_of.ensures.0 c.chain_of.ensures.1

@@ -1,13 +1,11 @@
 -- `draw_handed::leading` meets its contract. Assumes nothing.
-use mathlib.Core.Path.{refl, sym}
-use native.Mathlib.Omega.{arith}
-use Prim.Native.Nat.{◌*◌}
-use lib.Seq.{take_all, length-take-le}
+use Rattle.std.proofs.Common.{◌≡◌, ℕ, ◌*◌, min, length, take, refl, ap, ◌∙◌, arith}
+use Rattle.std.proofs.lemmas.List.{take_min}
 use Rattle.edge_record.specs.Chain.{width}
 use Rattle.draw_handed.proofs.leading.Goals as goal
 
-pub slice_bounds-result-end : goal.slice_bounds-result-end
-slice_bounds-result-end c = sym (length-take-le _ _ (omega (arith, c.if-n-buffer.true)))
-
 pub returns : goal.returns
-returns c = (sym (take_all (width * c.args.n) c.args.buffer.now (omega (arith, c.if-n-buffer.false))), refl)
+returns c =
+    let l = c.args.buffer.now in
+    let least : c.min.result ≡ min (width * c.args.n) (length l) = omega arith in
+    (ap (λ (m : ℕ). take m l) least ∙ take_min (width * c.args.n) l, refl)

@@ -1,6 +1,5 @@
 -- `edge_asks::steps_far` meets its contract. The loop's invariant: none of the first i steps is too far. Assumes nothing.
-use Rattle.std.proofs.Common.{◌≡◌, suc, List, sym, ◌∙◌, add-one, arith}
-use lib.Ieee.{Float}
+use Rattle.std.proofs.Common.{◌≡◌, sym, ◌∙◌, add-one, arith}
 use Rattle.brep.specs.Rows.{tables}
 use Rattle.brep.specs.Tree.{tree}
 use Rattle.curve_asks.specs.Asks.{asks_far}
@@ -9,27 +8,26 @@ use Rattle.edge_asks.proofs.Steps.{steps_none, steps_passed, evenly_found}
 use Rattle.edge_asks.proofs.steps_far.Goals as goal
 
 pub loop-i-init : goal.loop-i-init
-loop-i-init c = (omega arith, λ points reals. steps_none _ _ _)
+loop-i-init c points reals = steps_none _ _ _
 
 pub returns-then-far_at : goal.returns-then-far_at
 returns-then-far_at c points reals =
     -- what far_at answers, of step number i
     let looked : c.far_at.result ≡ asks_far (tree (tables points c.args.curves.now reals c.args.parts.now c.args.ranges.now) c.args.row) (step_at c.args.range c.args.n c.loop-i.i) =
-    rw (c.at-t.ensures, c.nearest_u64_to_f64.ensures) at (c.far_at.ensures points reals) in
+    rw (c.at-t.ensures, c.nearest_u64_to_f64.ensures, c.nearest_u64_to_f64-total.ensures) at (c.far_at.ensures points reals) in
     evenly_found _ _ _ c.loop-i.i (omega arith) (sym looked ∙ c.if-far_at.true)
 
 pub loop-i-preserved : goal.loop-i-preserved
-loop-i-preserved c =
-    let l = c.loop-i in (
-      omega arith,
-      λ (points reals : List Float).
-          let looked : c.far_at.result ≡ asks_far (tree (tables points c.args.curves.now reals c.args.parts.now c.args.ranges.now) c.args.row) (step_at c.args.range c.args.n c.loop-i.i) =
-          rw (c.at-t.ensures, c.nearest_u64_to_f64.ensures) at (c.far_at.ensures points reals) in
-          rw add-one (steps_passed _ _ _ l.i (l.invariant.1 points reals) (sym looked ∙ c.if-far_at.false)),
-    )
-
-pub returns : goal.returns
-returns c points reals =
+loop-i-preserved c points reals =
     let l = c.loop-i in
-    let z : l.i ≡ suc c.args.n = omega (arith, l.invariant.0) in
-    sym (rw z at (l.invariant.1 points reals))
+    let looked : c.far_at.result ≡ asks_far (tree (tables points c.args.curves.now reals c.args.parts.now c.args.ranges.now) c.args.row) (step_at c.args.range c.args.n l.i) =
+    rw (c.at-t.ensures, c.nearest_u64_to_f64.ensures, c.nearest_u64_to_f64-total.ensures) at (c.far_at.ensures points reals) in
+    rw add-one (steps_passed _ _ _ l.i (l.invariant points reals) (sym looked ∙ c.if-far_at.false))
+
+pub returns-else-far_at : goal.returns-else-far_at
+returns-else-far_at c points reals =
+    let l = c.loop-i in
+    let looked : c.far_at.result ≡ asks_far (tree (tables points c.args.curves.now reals c.args.parts.now c.args.ranges.now) c.args.row) (step_at c.args.range c.args.n l.i) =
+    rw (c.at-t.ensures, c.nearest_u64_to_f64.ensures, c.nearest_u64_to_f64-total.ensures) at (c.far_at.ensures points reals) in
+    let z : l.i ≡ c.args.n = omega arith in
+    sym (rw z at (steps_passed _ _ _ l.i (l.invariant points reals) (sym looked ∙ c.if-far_at.false)))

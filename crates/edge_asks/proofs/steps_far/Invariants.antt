@@ -1,5 +1,5 @@
 -- `edge_asks::steps_far` meets its contract. The loop's invariant: none of the first i steps is too far. Assumes nothing.
-use Rattle.std.proofs.Common.{◌≡◌, ◌+◌, ◌-◌, ◌≤◌, false, List}
+use Rattle.std.proofs.Common.{◌≡◌, false, List}
 use lib.Ieee.{Float}
 use Rattle.brep.specs.Rows.{tables}
 use Rattle.brep.specs.Tree.{tree}
@@ -10,7 +10,4 @@ use Rattle.edge_asks.proofs.steps_far.Given as goal
 
 abbrev pub invariant-loop-i : goal.invariant-loop-i
 invariant-loop-i l =
-    (l.i ≤ l.n + 1) × ((points reals : List Float) → some_far (asks_far (tree (tables points l.curves reals l.parts l.ranges) l.row)) (steps l.range l.n l.i) ≡ false)
-
-abbrev pub decreases-loop-i : goal.decreases-loop-i
-decreases-loop-i l = l.n + 1 - l.i
+    (points reals : List Float) → some_far (asks_far (tree (tables points l.curves reals l.parts l.ranges) l.row)) (steps l.range l.n l.i) ≡ false

@@ -5,7 +5,7 @@ use lib.Ieee.{Float}
 use Rattle.math.specs.declared.Interval.{Interval}
 use Rattle.options.specs.declared.Resolved.{Resolved}
 use Rattle.brep.specs.Tree.{CurveTree}
-use Rattle.edge_drawing.specs.Drawing.{drawn_curve}
+use Rattle.edge_drawing.specs.Own.Drawing.{drawn_curve}
 use Rattle.curve_asks.specs.Asks.{asks_far}
 use Rattle.edge_params.specs.Work.{some_far, asking, within}
 use Rattle.edge_range.specs.Usable.{analytic_segments}
@@ -65,7 +65,7 @@ tell_by_count-requires c =
     let a = c.args in
     let k = drawn_curve a.drawing.now in
     let p = c.requires in
-    (p.0, p.1, may_open _ k (sym (c.may_ask.ensures a.drawing.now.tables.now.points.now a.drawing.now.tables.now.reals.now).0 ∙ c.if-not-may_ask.false) a.range a.r)
+    (p.0, may_open _ k (sym (c.may_ask.ensures a.drawing.now.tables.now.points.now a.drawing.now.tables.now.reals.now).0 ∙ c.if-not-may_ask.false) a.range a.r)
 
 pub returns : goal.returns
 returns c =

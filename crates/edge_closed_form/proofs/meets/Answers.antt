@@ -4,14 +4,8 @@ use lib.Ieee.{le}
 use Rattle.arith_root.specs.Root.{root_of}
 use Rattle.brep.specs.Rows.{lent}
 use Rattle.brep.specs.Tree.{tree}
-use Rattle.curve_prepared.specs.Own.Prepared.{is_plain}
 use Rattle.edge_closed_form.proofs.Squares.{same_test}
 use Rattle.edge_closed_form.proofs.meets.Goals as goal
-
-pub worst_square-worst-requires : goal.worst_square-worst-requires
-worst_square-worst-requires c =
-    let st = c in
-    (ap is_plain c.prepare-prepared.ensures ∙ st.requires.1, st.requires.0)
 
 pub returns : goal.returns
 returns c =

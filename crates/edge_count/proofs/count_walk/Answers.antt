@@ -4,61 +4,57 @@ use native.Mathlib.Omega.{arith}
 use Rattle.std.proofs.lemmas.Result.{err_from_is_err_and}
 use Rattle.brep.specs.Tree.{CurveTree}
 use Rattle.curve_prepared.specs.Own.PreparedCurve.{curve_of}
-use Rattle.edge_drawing.specs.Drawing.{drawn_curve}
+use Rattle.curve_asks.specs.Asks.{asks_far}
+use Rattle.edge_drawing.specs.Own.Drawing.{drawn_curve}
 use Rattle.knots_thin.specs.Thin.{kept_breaks}
 use Rattle.edge_count.proofs.Walking.{end_own, low_refused, walking_start, walking_refused, walking_next, walking_done}
 use Rattle.edge_count.proofs.count_walk.Goals as goal
+use Rattle.edge_count.proofs.count_walk.Goals.{else-loop-i-test, then-loop-i-test+in_ok-k-2+else-i-i-end}
 
-pub returns-in_err-first : goal.returns-in_err-first
-returns-in_err-first c =
+pub returns-in_err-k : goal.returns-in_err-k
+returns-in_err-k c =
     let a = c.args in
-    let curve : CurveTree = curve_of c.new-curve.result in
-    let same : curve ≡ drawn_curve a.drawing.now = rw (c.new-curve.ensures.tables, c.new-curve.ensures.row) refl in
+    let curve : CurveTree = curve_of c.new.result in
+    let same : curve ≡ drawn_curve a.drawing.now = rw (c.new.ensures.tables, c.new.ensures.row) refl in
     let kept : a.breaks.now ≡ kept_breaks curve a.range.lo a.range.hi a.r.sag = rw same c.requires.0 in
     let p = err_from_is_err_and c.from_residual.result c.from_residual.ensures.1 in
-    rw (p.1, p.2) (rw same at (low_refused curve a.range a.r a.room a.breaks.now kept (c.in_err-first.ensures _ _)))
+    rw (p.1, p.2) (rw same at (low_refused curve a.range a.r a.room a.breaks.now kept (c.in_err-k.ensures _ _)))
 
 pub loop-i-init : goal.loop-i-init
 loop-i-init c =
     let a = c.args in
-    let curve : CurveTree = curve_of c.new-curve.result in
-    let same : curve ≡ drawn_curve a.drawing.now = rw (c.new-curve.ensures.tables, c.new-curve.ensures.row) refl in
+    let curve : CurveTree = curve_of c.new.result in
+    let same : curve ≡ drawn_curve a.drawing.now = rw (c.new.ensures.tables, c.new.ensures.row) refl in
     let kept : a.breaks.now ≡ kept_breaks curve a.range.lo a.range.hi a.r.sag = rw same c.requires.0 in
-    (omega arith, walking_start curve a.range a.r a.room a.breaks.now kept (c.in_ok-first.ensures _ _) _ c.end_at-left.ensures)
+    walking_start curve a.range a.r a.room a.breaks.now kept (c.in_ok-k.ensures _ _) _ c.end_at-left.ensures
 
-pub count_span-requires : goal.count_span-requires
-count_span-requires c =
-    let curve : CurveTree = curve_of c.new-curve.result in
-    (c.loop-i.invariant.1.own, end_own curve _ _ c.end_at-right.ensures, c.requires.1)
+pub span-requires : goal.span-requires
+span-requires c = (c.loop-i.invariant.own, end_own (curve_of c.new.result) _ _ c.end_at-right.ensures)
 
-pub returns-in_err-n : goal.returns-in_err-n
-returns-in_err-n c =
+pub returns-in_err-k-2 : goal.returns-in_err-k-2
+returns-in_err-k-2 c =
     let a = c.args in
-    let curve : CurveTree = curve_of c.new-curve.result in
-    let same : curve ≡ drawn_curve a.drawing.now = rw (c.new-curve.ensures.tables, c.new-curve.ensures.row) refl in
-    let kept : a.breaks.now ≡ kept_breaks curve a.range.lo a.range.hi a.r.sag = rw same c.requires.0 in
-    let p = err_from_is_err_and c.from_residual-in_err-n.result c.from_residual-in_err-n.ensures.1 in
-    rw (p.1, p.2) (rw same at (walking_refused curve a.range a.r a.room a.breaks.now c.loop-i.invariant.1 c.loop-i-test.true _ c.stop_at-b.ensures _ c.end_at-right.ensures
-    (rw c.limits_of-limits.ensures at c.in_err-n.ensures)))
-
-pub overflow_add-i : goal.overflow_add-i
-overflow_add-i c = omega (arith, c.loop-i-test.true)
+    let curve : CurveTree = curve_of c.new.result in
+    let same : curve ≡ drawn_curve a.drawing.now = rw (c.new.ensures.tables, c.new.ensures.row) refl in
+    let p = err_from_is_err_and c.from_residual-in_err-k-2.result c.from_residual-in_err-k-2.ensures.1 in
+    rw (p.1, p.2) (rw same at (walking_refused curve a.range a.r a.room a.breaks.now c.loop-i.invariant (omega arith) _ c.stop_at.ensures _ c.end_at-right.ensures
+    (rw c.limits_of.ensures at c.in_err-k-2.ensures)))
 
 pub loop-i-preserved : goal.loop-i-preserved
 loop-i-preserved c =
     let a = c.args in
-    let curve : CurveTree = curve_of c.new-curve.result in
-    let same : curve ≡ drawn_curve a.drawing.now = rw (c.new-curve.ensures.tables, c.new-curve.ensures.row) refl in
-    let kept : a.breaks.now ≡ kept_breaks curve a.range.lo a.range.hi a.r.sag = rw same c.requires.0 in (
-      omega (arith, c.loop-i-test.true),
-      walking_next curve a.range a.r a.room a.breaks.now c.loop-i.invariant.1 c.loop-i-test.true _ c.stop_at-b.ensures _ c.end_at-right.ensures
-          (rw c.limits_of-limits.ensures at c.in_ok-n.ensures),
-    )
+    let curve : CurveTree = curve_of c.new.result in
+    walking_next curve a.range a.r a.room a.breaks.now c.loop-i.invariant (omega arith) _ c.stop_at.ensures _ c.end_at-right.ensures
+    (rw c.limits_of.ensures at c.in_ok-k-2.ensures)
 
 pub returns : goal.returns
 returns c =
     let a = c.args in
-    let curve : CurveTree = curve_of c.new-curve.result in
-    let same : curve ≡ drawn_curve a.drawing.now = rw (c.new-curve.ensures.tables, c.new-curve.ensures.row) refl in
-    let kept : a.breaks.now ≡ kept_breaks curve a.range.lo a.range.hi a.r.sag = rw same c.requires.0 in
-    rw same at (walking_done curve a.range a.r a.room a.breaks.now c.loop-i.invariant.1 (omega (arith, c.loop-i.invariant.0, c.loop-i-test.false)) (c.count_one-2.ensures _ _))
+    let curve : CurveTree = curve_of c.new.result in
+    let same : curve ≡ drawn_curve a.drawing.now = rw (c.new.ensures.tables, c.new.ensures.row) refl in
+    elim c.loop-i-test.branch [
+      | else-loop-i-test w ↦ absurd (omega arith)
+      | then-loop-i-test+in_ok-k-2+else-i-i-end w ↦ rw same at (walking_done curve a.range a.r a.room a.breaks.now
+          (walking_next curve a.range a.r a.room a.breaks.now c.loop-i.invariant (omega arith) _ w.stop_at.ensures _ w.end_at-right.ensures (rw c.limits_of.ensures at w.in_ok-k-2.ensures))
+          (omega arith) (rw w.k-is at (c.one-2.ensures (asks_far curve) a.range.hi)))
+    ]

@@ -4,7 +4,7 @@ use native.Mathlib.Omega.{arith}
 use lib.ListN.{length}
 use Rattle.brep.specs.Rows.{lent}
 use Rattle.draw_spec.specs.Draw.{room_of}
-use Rattle.edge_discretise.proofs.Drawing.{Lent, lent_part, whole_length, cleared_whole, into_range, into_chord}
+use Rattle.edge_discretise.proofs.Drawing.{Lent, lent_part, whole_length, cleared_whole, cleared_rest, kept_count, into_range, into_chord}
 use Rattle.edge_discretise.proofs.discretise_usable.Goals as goal
 
 pub returns-in_default : goal.returns-in_default
@@ -31,10 +31,16 @@ draw_range-drawn-requires c =
     let p = c.requires in
     (omega (arith, l.few, l.size), omega (arith, l.fits, l.size), p.2)
 
-pub clear_from-requires-2 : goal.clear_from-requires-2
-clear_from-requires-2 c =
+pub clear_from-requires-3 : goal.clear_from-requires-3
+clear_from-requires-3 c =
     let l : Lent (length c.args.chain.now) c.room-n.result c.args.scratch.now = lent_part _ _ _ c.room-n.ensures in
     omega (arith, l.inside, whole_length c.room-n.result c.draw_range-drawn.new.scratch c.args.scratch.now c.draw_range-drawn.auto.scratch)
+
+pub overflow_mul-kept : goal.overflow_mul-kept
+overflow_mul-kept c = omega (arith, kept_count c.draw_range-drawn.ensures.0 c.unwrap_or-kept.ensures, c.draw_range-drawn.ensures.0.fits, c.draw_range-drawn.auto.chain)
+
+pub clear_from-requires-2 : goal.clear_from-requires-2
+clear_from-requires-2 c = omega (arith, kept_count c.draw_range-drawn.ensures.0 c.unwrap_or-kept.ensures, c.draw_range-drawn.ensures.0.fits)
 
 pub returns : goal.returns
 returns c =
@@ -45,6 +51,6 @@ returns c =
     record {
       drawn =
           into_range (room_of (length a.chain.now) (length a.scratch.now)) (lent a.drawing.now.tables.now) a.drawing.now.edge a.probes_first a.r (length a.chain.now) _ a.drawing.now.own _ _ c.in-Some.is
-          (l.size ∙ n.ensures) d.ensures.0;
-      cleared = cleared_whole n.result d.new.scratch a.scratch.now l.inside d.ensures.1 c.clear_from-2.ensures;
+          (l.size ∙ n.ensures) (cleared_rest d.ensures.0 c.unwrap_or-kept.ensures d.auto.chain c.clear_from-2.ensures);
+      cleared = cleared_whole n.result d.new.scratch a.scratch.now l.inside d.ensures.1 c.clear_from-3.ensures;
     }

@@ -1,7 +1,7 @@
 -- `draw_range` meets its contract, by what is told of the range. Assumes nothing.
 use lib.ListN.{length}
 use Rattle.brep.specs.Rows.{lent}
-use Rattle.edge_discretise.proofs.Drawing.{clear, into_clear, into_told}
+use Rattle.edge_discretise.proofs.Drawing.{clear, leads_clear, leads_told}
 use Rattle.edge_discretise.proofs.draw_range.Goals as goal
 
 pub tell-told-requires : goal.tell-told-requires
@@ -18,11 +18,11 @@ pub returns-in-Err : goal.returns-in-Err
 returns-in-Err c =
     let st = c in
     let t = c.tell-told in
-    (into_told (lent st.args.drawing.now.tables.now) st.args.drawing.now.edge st.args.r st.args.range (length st.args.scratch.now) _ t.result t.ensures c.in-Err.cause (length st.args.chain.now) _ c.in-Err.is c.clear_from.ensures, c.clear_from-in-Err.ensures)
+    (leads_told (lent st.args.drawing.now.tables.now) st.args.drawing.now.edge st.args.r st.args.range (length st.args.scratch.now) _ t.result t.ensures c.in-Err.cause _ c.in-Err.is, c.clear_from.ensures)
 
 pub returns-in-Ok : goal.returns-in-Ok
 returns-in-Ok c =
     let st = c in
     let t = c.tell-told in
     let d = c.draw_sampled.ensures in
-    (into_clear (lent st.args.drawing.now.tables.now) st.args.drawing.now.edge st.args.r st.args.range (length st.args.scratch.now) _ t.result t.ensures c.in-Ok.is d.0, d.1)
+    (leads_clear (lent st.args.drawing.now.tables.now) st.args.drawing.now.edge st.args.r st.args.range (length st.args.scratch.now) _ t.result t.ensures c.in-Ok.is d.0, d.1)

@@ -4,11 +4,12 @@ use mathlib.Core.Path.{sym}
 use Prim.Native.Nat.{◌*◌}
 use native.Mathlib.Omega.{arith}
 use lib.ListN.{length, drop}
+use lib.Seq.{length-take-le}
 use Rattle.edge_record.specs.Chain.{width}
 use Rattle.edge_sample.specs.Own.Answered.{sampled_in}
 use Rattle.draw_spec.specs.Edge.{edge_curve}
 use Rattle.brep.specs.Rows.{lent}
-use Rattle.edge_discretise.proofs.Drawing.{records_room, records_length, sampling_some, part_room, part_length, cleared_used, placed_room, held, into_as, into_over, into_some, into_none, none_listed, whole_length}
+use Rattle.edge_discretise.proofs.Drawing.{records_room, records_length, sampling_some, part_room, part_length, cleared_used, placed_room, held, leads_over, leads_some, leads_none, none_listed, whole_length}
 use Rattle.edge_discretise.proofs.draw_sampled.Goals as goal
 
 pub slice_bounds-records-end-2 : goal.slice_bounds-records-end-2
@@ -21,12 +22,10 @@ pub returns-in_default : goal.returns-in_default
 returns-in_default c =
     let a = c.args in
     let T = lent a.drawing.now.tables.now in
-    let wide = width * length a.scratch.now in
     let sampling = sampled_in (length a.scratch.now) (edge_curve T a.drawing.now.edge) a.range a.r in
-    let left = c.sample_params-sampled.new.chain in
     let p = c.sample_params-sampled.ensures.0 in
     let e = c.in_default.is in
-    (into_over T a.drawing.now.edge a.r a.range (length a.scratch.now) c.requires.2 (into_as (whole_length wide left a.chain.now c.sample_params-sampled.auto.chain) (into_none sampling _ _ (left ++ drop wide a.chain.now) _ p.0 e c.clear_from.ensures)), none_listed _ sampling _ p.0 e p.1)
+    (leads_over T a.drawing.now.edge a.r a.range (length a.scratch.now) c.requires.2 (leads_none sampling _ _ _ p.0 e), none_listed _ sampling _ p.0 e p.1)
 
 -- in the following, `s`: scratch after sampling, which did not refuse
 pub slice_bounds-params-end : goal.slice_bounds-params-end
@@ -73,13 +72,33 @@ slice_bounds-used-end-2 c =
     let s = sampling_some (length a.scratch.now) (edge_curve T a.drawing.now.edge) a.range a.r t.result.listed c.in-Some.n _ t.ensures.0 c.in-Some.is in
     sym (part_length s)
 
-pub clear_from-requires-2 : goal.clear_from-requires-2
-clear_from-requires-2 c =
+pub clear_from-requires : goal.clear_from-requires
+clear_from-requires c =
     let a = c.args in
     let T = lent a.drawing.now.tables.now in
     let t = c.sample_params-sampled in
     let s = sampling_some (length a.scratch.now) (edge_curve T a.drawing.now.edge) a.range a.r t.result.listed c.in-Some.n _ t.ensures.0 c.in-Some.is in
     omega (arith, part_length s)
+
+pub slice_bounds-placed-end : goal.slice_bounds-placed-end
+slice_bounds-placed-end c =
+    let a = c.args in
+    let T = lent a.drawing.now.tables.now in
+    let t = c.sample_params-sampled in
+    let s = sampling_some (length a.scratch.now) (edge_curve T a.drawing.now.edge) a.range a.r t.result.listed c.in-Some.n _ t.ensures.0 c.in-Some.is in
+    let wide = width * length a.scratch.now in
+    let long = whole_length wide t.new.chain a.chain.now t.auto.chain in
+    placed_room T a.drawing.now.edge a.r a.range s (t.new.chain ++ drop wide a.chain.now) _ (omega (arith, s.fits, c.requires.1, long)) c.place.ensures
+
+pub slice_bounds-placed-end-2 : goal.slice_bounds-placed-end-2
+slice_bounds-placed-end-2 c =
+    let a = c.args in
+    let T = lent a.drawing.now.tables.now in
+    let t = c.sample_params-sampled in
+    let s = sampling_some (length a.scratch.now) (edge_curve T a.drawing.now.edge) a.range a.r t.result.listed c.in-Some.n _ t.ensures.0 c.in-Some.is in
+    let wide = width * length a.scratch.now in
+    let long = whole_length wide t.new.chain a.chain.now t.auto.chain in
+    sym (length-take-le (width * c.in-Some.n) c.place.new.chain (placed_room T a.drawing.now.edge a.r a.range s (t.new.chain ++ drop wide a.chain.now) _ (omega (arith, s.fits, c.requires.1, long)) c.place.ensures))
 
 pub finish-requires : goal.finish-requires
 finish-requires c =
@@ -89,7 +108,9 @@ finish-requires c =
     let s = sampling_some (length a.scratch.now) (edge_curve T a.drawing.now.edge) a.range a.r t.result.listed c.in-Some.n _ t.ensures.0 c.in-Some.is in
     let wide = width * length a.scratch.now in
     let long = whole_length wide t.new.chain a.chain.now t.auto.chain in
-    (s.two, omega (arith, s.fits, c.requires.0), placed_room T a.drawing.now.edge a.r a.range s (t.new.chain ++ drop wide a.chain.now) _ (omega (arith, s.fits, c.requires.1, long)) c.place.ensures)
+    let r = placed_room T a.drawing.now.edge a.r a.range s (t.new.chain ++ drop wide a.chain.now) _ (omega (arith, s.fits, c.requires.1, long)) c.place.ensures in
+    let l = length-take-le (width * c.in-Some.n) c.place.new.chain r in
+    (omega (arith, s.two, l), omega (arith, s.fits, c.requires.0, l))
 
 pub returns : goal.returns
 returns c =
@@ -99,6 +120,6 @@ returns c =
     let s = sampling_some (length a.scratch.now) (edge_curve T a.drawing.now.edge) a.range a.r t.result.listed c.in-Some.n _ t.ensures.0 c.in-Some.is in
     let wide = width * length a.scratch.now in
     let long = whole_length wide t.new.chain a.chain.now t.auto.chain in (
-      into_as long (into_some T a.drawing.now.edge a.r a.range s (t.new.chain ++ drop wide a.chain.now) _ (omega (arith, s.fits, c.requires.1, long)) c.place.ensures c.requires.2 _ _ c.finish.ensures),
-      cleared_used s c.clear_from-2.ensures,
+      leads_some T a.drawing.now.edge a.r a.range s (t.new.chain ++ drop wide a.chain.now) _ (omega (arith, s.fits, c.requires.1, long)) c.place.ensures c.requires.2 _ _ _ c.finish.ensures,
+      cleared_used s c.clear_from.ensures,
     )

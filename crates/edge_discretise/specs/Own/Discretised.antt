@@ -1,5 +1,5 @@
 -- What `discretise` and its parts make of a chain. Definitions only.
-use Rattle.std.specs.Prelude.{◌≡◌, Bool, List, [], ℕ, length, Float}
+use Rattle.std.specs.Prelude.{◌≡◌, Bool, List, [], ℕ, ◌*◌, ◌≤◌, length, take, Float}
 use Rattle.base_lists.specs.Own.ListOf.{list_of}
 use Rattle.base_lists.specs.Room.{filled}
 use Rattle.brep.specs.declared.Edge.{Edge}
@@ -10,7 +10,7 @@ use Rattle.edge_params.specs.Work.{Work, asking, within}
 use Rattle.edge_range.specs.Usable.{usable_range}
 use Rattle.edge_record.specs.declared.Sample.{Sample}
 use Rattle.edge_record.specs.Own.Stored.{counted_of}
-use Rattle.edge_record.specs.Chain.{flat}
+use Rattle.edge_record.specs.Chain.{width, flat}
 use Rattle.draw_spec.specs.Edge.{edge_curve, discretised}
 use Rattle.draw_spec.specs.Draw.{room_of}
 use Rattle.edge_asks.specs.Own.Told.{asked_first}
@@ -20,6 +20,12 @@ use Rattle.refusal.specs.Answer.{Answer}
 pub record ChainInto (n : ℕ) (D : Answer (List Sample)) (answer : Answer ℕ) (chain : List Float) : Type 0 where
   pub answered : answer ≡ counted_of D
   pub holds : chain ≡ filled n (flat (list_of D))
+
+-- what is answered of D, and that a chain buffer then has its chain, if any, at its start
+pub record ChainLeads (D : Answer (List Sample)) (answer : Answer ℕ) (chain : List Float) : Type 0 where
+  pub answered : answer ≡ counted_of D
+  pub fits : width * length (list_of D) ≤ length chain
+  pub holds : take (width * length (list_of D)) chain ≡ flat (list_of D)
 
 -- discretise, before which edge_extent's probes are asked for or not
 abbrev pub asked_discretised : Bool → Tables → Edge → Resolved → Work (List Sample)

@@ -1,36 +1,21 @@
--- `edge_escape::escapes` meets its contract. The invariant: the records from i on answer as the whole chain does. Assumes nothing.
-use Rattle.edge_escape.proofs.Search.{beyond, found, passed, none, escapes_whole}
+-- `edge_escape::escapes` meets its contract, record by record. Assumes nothing.
+use Rattle.std.proofs.Common.{rules, ◌/◌, length, arith, [], ◌∙◌}
+use Rattle.edge_record.specs.Chain.{width}
+use Rattle.edge_record.specs.Own.Stored.{record_point}
+use Rattle.causes_bounds.proofs.Laws.{some_of_run}
 use Rattle.math.specs.Math.{v_length}
-use native.Mathlib.Omega.{arith}
-use mathlib.Core.Path.{refl, ◌∙◌}
+use Rattle.edge_escape.proofs.Search.{beyond, chunk_point, escapes_whole}
 use Rattle.edge_escape.proofs.escapes.Goals as goal
 
 pub returns-then-is_near : goal.returns-then-is_near
 returns-then-is_near c = c.is_near.ensures c.if-is_near.true
 
-pub loop-i-init : goal.loop-i-init
-loop-i-init c = (omega arith, refl)
-
-pub returns-then-is_root_above : goal.returns-then-is_root_above
-unfolding v_length
-returns-then-is_root_above c =
-    let a = c.args in
-    let l = c.loop-i in
-    found (beyond _ _) a.chain.now a.n l.i c.loop-i-test.true (rw (c.is_root_above.ensures, c.length_squared.ensures, c.sub.ensures, c.record_point-p.ensures)) c.if-is_root_above.true
-    ∙ l.invariant.1
-    ∙ escapes_whole a.chain.now a.n a.r _ _ a.reference (rw (c.new-limit.ensures, c.diagonal.ensures)) c.centre-centre.ensures
-
-pub loop-i-preserved : goal.loop-i-preserved
-unfolding v_length
-loop-i-preserved c =
-    let a = c.args in
-    let l = c.loop-i in
-    (omega arith, passed (beyond _ _) a.chain.now a.n l.i c.loop-i-test.true (rw (c.is_root_above.ensures, c.length_squared.ensures, c.sub.ensures, c.record_point-p.ensures)) c.if-is_root_above.false ∙ l.invariant.1)
-
 pub returns : goal.returns
+unfolding v_length
 returns c =
     let a = c.args in
-    let l = c.loop-i in
-    none (beyond _ _) a.chain.now a.n l.i c.loop-i-test.false
-    ∙ l.invariant.1
-    ∙ escapes_whole a.chain.now a.n a.r _ _ a.reference (rw (c.new-limit.ensures, c.diagonal.ensures)) c.centre-centre.ensures
+    let any = c.any.ensures.runs in
+    let chunks = (rw (any.1, c.chunks_exact.ensures.size, c.chunks_exact.ensures.rest) at (c.chunks_exact.ensures.runs any.0 any.0.seen)) (omega arith) in
+    some_of_run any.0 (λ k. beyond c.new-limit.result c.centre-centre.result (record_point a.chain.now k)) (length a.chain.now / width) (record { ref_ptr = (0, 0); now = [] }) c.any.result any.2 (search rules) (search rules)
+    chunks.2 (λ k x b part called. (omega arith, rw (← chunk_point x.now a.chain.now k part.2.2) (search rules)))
+    ∙ escapes_whole a.chain.now a.r _ _ a.reference (rw (c.new-limit.ensures, c.diagonal.ensures)) c.centre-centre.ensures

@@ -11,7 +11,7 @@ unfolding v_length diagonal
 all_near-requires c =
     let l = c in
     let e = l.length_squared-square.ensures ∙ ap v_length_squared l.size.ensures in
-    (search rules, rw (sym e) (in_limit l.length_squared-square.result l.args.r.sag (search rules) c.if-sag.true c.if-square.true))
+    rw (sym e) (in_limit l.length_squared-square.result l.args.r.sag (search rules) c.if-sag.true c.if-square.true)
 
 pub returns-then-square : goal.returns-then-square
 returns-then-square c = c.all_near.ensures

@@ -6,8 +6,6 @@ use Rattle.edge_escape.proofs.nearest.Goals as goal
 pub loop-i-init : goal.loop-i-init
 loop-i-init c =
     let p = rw (c.new-curve.ensures.tables, c.new-curve.ensures.row) at c.point-p.ensures in (
-      omega arith,
-      c.natural_range-natural.ensures,
       swept_first _ _ c.sweep_at-first.ensures p c.measured-a.ensures,
       swept_first _ _ c.sweep_at-first.ensures p c.measured-b.ensures,
     )
@@ -16,15 +14,13 @@ pub loop-i-preserved : goal.loop-i-preserved
 loop-i-preserved c =
     let l = c.loop-i in
     let q = rw (c.new-curve.ensures.tables, c.new-curve.ensures.row) at c.point-q.ensures in (
-      omega arith,
-      l.invariant.1,
-      swept_more l.invariant.2 _ _ c.sweep_at-t.ensures q c.nearer-a.ensures,
-      swept_more l.invariant.3 _ _ c.sweep_at-t.ensures q c.nearer-b.ensures,
+      swept_more l.invariant.0 _ _ c.sweep_at-t.ensures q c.nearer-a.ensures,
+      swept_more l.invariant.1 _ _ c.sweep_at-t.ensures q c.nearer-b.ensures,
     )
 
 pub returns : goal.returns
 returns c =
     let l = c.loop-i in (
-      swept_all l.invariant.2 l.invariant.1 l.invariant.0 c.loop-i-test.false,
-      swept_all l.invariant.3 l.invariant.1 l.invariant.0 c.loop-i-test.false,
+      swept_all l.invariant.0 c.natural_range-natural.ensures (omega arith) (omega arith),
+      swept_all l.invariant.1 c.natural_range-natural.ensures (omega arith) (omega arith),
     )

@@ -6,6 +6,3 @@ pub returns-then-p-b-3 : goal.returns-then-p-b-3
 returns-then-p-b-3 c =
     let a = c.args in
     inside a.b a.p c.if-b-p.true c.if-p-b.true c.if-b-p-2.true c.if-p-b-2.true c.if-b-p-3.true c.if-p-b-3.true
-
-pub returns : goal.returns
-returns c = c.add_outside.ensures

@@ -11,6 +11,3 @@ returns-then-q-high c = λ w (t : Float) h k.
     let a = f.args in
     coordinate a.o a.d a.first a.last a.low a.high t (holds (sym f.is_finite.ensures ∙ f.if-is_finite.true)) (holds (sym f.is_finite-then-is_finite.ensures ∙ f.if-is_finite-2.true))
     (holds c.if-low-p.true) (holds c.if-p-high.true) (holds c.if-low-q.true) (holds c.if-q-high.true) h k
-
-pub returns : goal.returns
-returns c = λ e. absurd (holds e)

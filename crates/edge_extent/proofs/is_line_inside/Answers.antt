@@ -23,9 +23,3 @@ returns-then-is_between-3 c = λ w (k : CurveTree) e.
     (λ (t : Float) f l. c.is_between.ensures c.if-is_between.true t (subst (λ (x : Float). T (le x t)) (sym c.at-first.ensures) f) (subst (λ (x : Float). T (le t x)) (sym c.at-last.ensures) l))
     (λ (t : Float) f l. c.is_between-then-is_between.ensures c.if-is_between-2.true t (subst (λ (x : Float). T (le x t)) (sym c.at-first.ensures) f) (subst (λ (x : Float). T (le t x)) (sym c.at-last.ensures) l))
     (λ (t : Float) f l. c.is_between-then-is_between-2.ensures c.if-is_between-3.true t (subst (λ (x : Float). T (le x t)) (sym c.at-first.ensures) f) (subst (λ (x : Float). T (le t x)) (sym c.at-last.ensures) l))
-
-pub returns-else-is_between : goal.returns-else-is_between
-returns-else-is_between c = λ e. absurd (holds e)
-
-pub returns-else-lo : goal.returns-else-lo
-returns-else-lo c = λ e. absurd (holds e)

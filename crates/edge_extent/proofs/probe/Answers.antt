@@ -1,23 +1,16 @@
 -- `edge_extent::probe` meets its contract. Assumes nothing.
-use mathlib.Core.Path.{sym, ap, ◌∙◌}
-use Rattle.brep.specs.Tree.{CurveTree}
-use Rattle.curve_prepared.specs.Own.Prepared.{prepared_of}
-use Rattle.draw_spec.specs.Edge.{probed}
-use Rattle.edge_extent.proofs.Laws.{of_row}
+use mathlib.Core.Path.{◌≡◌, sym, ◌∙◌}
+use borrow.Author.Rules.{rules}
+use Rattle.math.specs.Math.{v_add, v_scale}
+use Rattle.edge_extent.proofs.Laws.{line_point}
 use Rattle.edge_extent.proofs.probe.Goals as goal
 
 pub returns-then-is_line_inside : goal.returns-then-is_line_inside
-returns-then-is_line_inside c =
-    let n = c.new-curve in
-    c.is_line_inside.ensures c.if-is_line_inside.true _ (ap prepared_of (sym (of_row n.result n.ensures.tables n.ensures.row)) ∙ sym n.result.own ∙ c.in-Line.is)
+returns-then-is_line_inside c = c.is_line_inside.ensures c.if-is_line_inside.true _ (sym c.args.curve.now.own ∙ c.in-Line.is)
 
 pub returns-in-Line : goal.returns-in-Line
 returns-in-Line c =
-    let n = c.new-curve in
-    c.probe_line.ensures _ (ap prepared_of (sym (of_row n.result n.ensures.tables n.ensures.row)) ∙ sym n.result.own ∙ c.in-Line.is)
-
-pub returns : goal.returns
-returns c =
-    let a = c.args in
-    let n = c.new-curve in
-    c.probe_each.ensures ∙ ap (λ (k : CurveTree). probed k a.range a.b 9) (of_row n.result n.ensures.tables n.ensures.row)
+    let w = c.in-Line in
+    c.probe_each.ensures _ (λ t p h.
+    let e : p ≡ v_add w.origin (v_scale w.direction t) = search rules in
+    e ∙ line_point _ (sym c.args.curve.now.own ∙ w.is) t)

@@ -2,7 +2,6 @@
 -- The measure is what is left of the records. Assumes nothing.
 use mathlib.Core.Path.{refl, ap, ◌∙◌}
 use Prim.Native.Nat.{◌*◌}
-use lib.Ieee.{Float, lt}
 use lib.ListN.{length}
 use lib.Seq.{length-sets}
 use Rattle.edge_record.specs.Chain.{width, row}

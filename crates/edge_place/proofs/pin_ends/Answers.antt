@@ -1,9 +1,12 @@
 -- `pin_ends` meets its contract. Assumes nothing.
+use native.Mathlib.Omega.{arith}
+use Prim.Native.Nat.{◌/◌}
+use lib.ListN.{length}
+use Rattle.edge_record.specs.Chain.{width}
 use Rattle.edge_place.proofs.Laws.{pin_both}
 use Rattle.edge_place.proofs.pin_ends.Goals as goal
 
 pub returns : goal.returns
 returns c =
-    let st = c in
-    rw (← c.point-start.ensures, ← c.point-end.ensures)
-    (pin_both st.args.chain.now _ _ st.args.n _ _ st.requires.0 st.requires.1 c.pin.ensures c.pin-2.ensures)
+    let a = c.args in
+    pin_both a.records.now _ _ (length a.records.now / width) a.start a.end (omega (arith, c.requires)) (omega arith) c.pin.ensures c.pin-2.ensures

@@ -5,13 +5,14 @@ use Prim.Native.Nat.{◌≤◌, ◌-◌}
 use lib.ListN.{length}
 use lib.Seq.{sets}
 use Rattle.edge_record.specs.declared.Sample.{Sample}
-use Rattle.edge_record.specs.Chain.{flat, sample_at, samples}
+use Rattle.edge_record.specs.Chain.{flat, sample_at}
+use Rattle.edge_place.specs.Own.Place.{records_of}
 use Rattle.edge_place.proofs.Turned.{Turned}
 use Rattle.edge_place.proofs.turn.Given as goal
 
 abbrev pub invariant-loop-i : goal.invariant-loop-i
 invariant-loop-i l =
-    (l.i ≤ l.half) × (length l.chain ≡ length l.initial.chain) × ((m : List Sample) × (l.chain ≡ sets l.initial.chain 0 (flat m)) × Turned (sample_at l.initial.chain 0) (samples l.n l.initial.chain) m l.i)
+    (l.i ≤ l.half) × (length l.records ≡ length l.initial.records) × ((m : List Sample) × (l.records ≡ sets l.initial.records 0 (flat m)) × Turned (sample_at l.initial.records 0) (records_of l.initial.records) m l.i)
 
 abbrev pub decreases-loop-i : goal.decreases-loop-i
 decreases-loop-i l = l.half - l.i

@@ -3,6 +3,7 @@ use Rattle.edge_repair.proofs.Buffers.{kept_second, second_is}
 use Rattle.edge_repair.proofs.Ways.{arc_kept, arc_chord}
 use Rattle.draw_spec.specs.declared.Way.TheVariants.{ShortArc}
 use Rattle.edge_place.specs.Own.Place.{of_points}
+use Rattle.edge_escape.proofs.Records.{leading}
 use mathlib.Core.Path.{refl, sym, ◌∙◌}
 use Rattle.edge_repair.proofs.arc_or_chord.Goals as goal
 
@@ -11,11 +12,11 @@ returns-then-serves c =
     let s = c in
     let a = s.args in
     second_is (kept_second ShortArc a.n a.second.now refl s.requires.2)
-    _ (arc_kept (of_points a.points.now) a.edge a.r _ (sym c.serves.ensures ∙ c.if-serves.true))
+    _ (arc_kept (of_points a.points.now) a.edge a.r _ (sym (rw (leading a.n a.second.now s.requires.1) at c.serves.ensures) ∙ c.if-serves.true))
 
 pub returns : goal.returns
 returns c =
     let f = c in
     let a = f.args in
     second_is c.runaway.ensures
-    _ (arc_chord (of_points a.points.now) a.edge a.r _ (sym f.serves.ensures ∙ f.if-serves.false))
+    _ (arc_chord (of_points a.points.now) a.edge a.r _ (sym (rw (leading a.n a.second.now f.requires.1) at f.serves.ensures) ∙ f.if-serves.false))

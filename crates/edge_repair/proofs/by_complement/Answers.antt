@@ -5,6 +5,8 @@ use Rattle.draw_spec.specs.declared.Way.TheVariants.{Complement}
 use Rattle.draw_spec.specs.Repair.{by}
 use Rattle.draw_spec.specs.Draw.{room_of}
 use Rattle.brep.specs.Rows.{lent}
+use Rattle.edge_escape.proofs.Records.{leading}
+use Rattle.std.proofs.Common.{rules}
 use lib.ListN.{length}
 use native.Mathlib.Omega.{arith}
 use mathlib.Core.Bool.{not}
@@ -19,8 +21,14 @@ returns-then-not-span c =
     let e = a.drawing.now.edge in
     redrawn_is c.by_short_arc.ensures _ (complement_none T e a.r (room_of (length a.first.now) (length a.second.now)) a.p c.span.ensures (ap not c.if-not-span.true))
 
-pub escapes-requires : goal.escapes-requires
-escapes-requires c = omega (arith, chain_room (drawn_chain c.redraw.ensures _ c.in_ok-n.was c.redraw.auto.second))
+pub overflow_mul-arc : goal.overflow_mul-arc
+overflow_mul-arc c = let room = chain_room (drawn_chain c.redraw.ensures _ c.in_ok-n.was c.redraw.auto.second) in search rules
+
+pub slice_bounds-arc-end : goal.slice_bounds-arc-end
+slice_bounds-arc-end c = let room = chain_room (drawn_chain c.redraw.ensures _ c.in_ok-n.was c.redraw.auto.second) in search rules
+
+pub slice_bounds-arc-end-2 : goal.slice_bounds-arc-end-2
+slice_bounds-arc-end-2 c = let room = chain_room (drawn_chain c.redraw.ensures _ c.in_ok-n.was c.redraw.auto.second) in search rules
 
 pub by_short_arc-requires-then-escapes : goal.by_short_arc-requires-then-escapes
 by_short_arc-requires-then-escapes c = let p = c.requires in (omega (arith, p.0), omega (arith, p.1), p.2)
@@ -34,7 +42,7 @@ returns-then-escapes c =
     let d = drawn_chain c.redraw.ensures _ c.in_ok-n.was l in
     redrawn_is (redrawn_from c.by_short_arc-then-escapes.ensures a.first.now a.second.now c.redraw.auto.first l) _
     (complement_escapes T e a.r (room_of (length a.first.now) (length a.second.now)) a.p c.span.ensures (ap not c.if-not-span.false) d.chain d.is
-    (chain_escapes d a.r _ _ _ _ c.reference.ensures c.escapes.ensures c.if-escapes.true))
+    (chain_escapes d a.r _ _ _ _ c.reference.ensures (rw (leading _ _ (chain_room d)) at c.escapes.ensures) c.if-escapes.true))
 
 pub returns-in_err-n : goal.returns-in_err-n
 returns-in_err-n c =
@@ -55,4 +63,4 @@ returns c =
     let d = drawn_chain t _ c.in_ok-n.was l in
     redrawn_second (second_is (kept_second Complement _ _ refl (chain_floats_lem d)) _ (ap (by Complement) (chain_reads d))) _ a.first.now a.second.now _ l t.first_holds
     (complement_stays T e a.r (room_of (length a.first.now) (length a.second.now)) a.p c.span.ensures (ap not c.if-not-span.false) d.chain d.is
-    (chain_escapes d a.r _ _ _ _ c.reference.ensures c.escapes.ensures c.if-escapes.false))
+    (chain_escapes d a.r _ _ _ _ c.reference.ensures (rw (leading _ _ (chain_room d)) at c.escapes.ensures) c.if-escapes.false))

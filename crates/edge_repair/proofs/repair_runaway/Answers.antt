@@ -4,6 +4,7 @@ use Rattle.edge_repair.proofs.Ways.{repaired_kept, repaired_complement, repaired
 use Rattle.draw_spec.specs.Repair.{by, repaired}
 use Rattle.edge_record.specs.Chain.{samples}
 use Rattle.brep.specs.Rows.{lent}
+use Rattle.edge_escape.proofs.Records.{leading}
 use mathlib.Core.Path.{refl, sym, ◌∙◌}
 use Rattle.edge_repair.proofs.repair_runaway.Goals as goal
 
@@ -12,7 +13,7 @@ returns-then-stays c =
     let a = c.args in
     let d = a.drawing.now in
     kept_after_lem _ a.way a.n a.first.now a.second.now
-    (repaired_kept (lent d.tables.now) d.edge a.r _ (by a.way (samples a.n a.first.now)) (sym c.stays.ensures ∙ c.if-stays.true)) c.requires.6 c.requires.4 c.requires.5
+    (repaired_kept (lent d.tables.now) d.edge a.r _ (by a.way (samples a.n a.first.now)) (sym (rw (leading a.n a.first.now c.requires.3) at c.stays.ensures) ∙ c.if-stays.true)) c.requires.6 c.requires.4 c.requires.5
 
 pub returns-in-Some : goal.returns-in-Some
 returns-in-Some c =
@@ -21,7 +22,7 @@ returns-in-Some c =
     let T = lent d.tables.now in
     let g = by a.way (samples a.n a.first.now) in
     (redrawn_is c.by_complement.ensures (repaired T d.edge a.r g)
-    (repaired_complement T d.edge a.r _ g (sym c.stays.ensures ∙ c.if-stays.false) c.in-Some.ensures _ refl)).drawn
+    (repaired_complement T d.edge a.r _ g (sym (rw (leading a.n a.first.now c.requires.3) at c.stays.ensures) ∙ c.if-stays.false) c.in-Some.ensures _ refl)).drawn
 
 pub returns-in-None : goal.returns-in-None
 returns-in-None c =
@@ -30,4 +31,4 @@ returns-in-None c =
     let T = lent d.tables.now in
     let g = by a.way (samples a.n a.first.now) in
     (redrawn_is c.by_short_arc.ensures (repaired T d.edge a.r g)
-    (repaired_short T d.edge a.r _ g (sym c.stays.ensures ∙ c.if-stays.false) c.in-None.ensures refl)).drawn
+    (repaired_short T d.edge a.r _ g (sym (rw (leading a.n a.first.now c.requires.3) at c.stays.ensures) ∙ c.if-stays.false) c.in-None.ensures refl)).drawn

@@ -5,7 +5,7 @@ use lib.ListN.{length}
 use lib.Seq.{length-take-le}
 use borrow.Author.Rules.{rules}
 use Rattle.brep.specs.Tree.{CurveTree}
-use Rattle.edge_drawing.specs.Drawing.{drawn_curve}
+use Rattle.edge_drawing.specs.Own.Drawing.{drawn_curve}
 use Rattle.edge_params.specs.Own.InRoom.{refined_in}
 use Rattle.edge_sample.specs.Sample.{sampler}
 use Rattle.edge_sample.specs.Own.Answered.{sampled_in}

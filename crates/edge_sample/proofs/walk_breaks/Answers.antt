@@ -1,7 +1,7 @@
 -- `edge_sample::walk_breaks` meets its contract: the knots fit the array, and its first floats are the breaks. Assumes nothing.
 use mathlib.Core.Path.{refl, sym}
 use lib.Seq.{length-take-le}
-use Rattle.edge_drawing.specs.Drawing.{drawn_curve}
+use Rattle.edge_drawing.specs.Own.Drawing.{drawn_curve}
 use Rattle.knots_sort.specs.Own.Sortable.{most_knots}
 use Rattle.edge_sample.proofs.Broken.{not_many, kept_room, kept_list}
 use Rattle.edge_sample.proofs.walk_breaks.Goals as goal
@@ -25,4 +25,4 @@ slice_bounds-walk-end c =
 pub walk-requires : goal.walk-requires
 walk-requires c =
     let a = c.args in
-    (kept_list (drawn_curve a.drawing.now) a.range.lo a.range.hi a.r.sag most_knots c.kept_breaks.result a.drawing.now.sortable c.kept_breaks.ensures.0 _ _ refl c.kept_breaks.ensures.1 _ c.in_ok-m.was, c.requires)
+    kept_list (drawn_curve a.drawing.now) a.range.lo a.range.hi a.r.sag most_knots c.kept_breaks.result a.drawing.now.sortable c.kept_breaks.ensures.0 _ _ refl c.kept_breaks.ensures.1 _ c.in_ok-m.was

@@ -1,6 +1,7 @@
 -- What the code of sample_params answers, and what it leaves in the buffer. Definitions only.
-use Rattle.std.specs.Prelude.{◌≡◌, true, false, List, [], ◌∷◌, ◌++◌, reverse, ℕ, length, Float, Option, Some, None}
+use Rattle.std.specs.Prelude.{◌≡◌, true, false, List, [], ◌∷◌, ◌++◌, reverse, ℕ, length, Float, Option}
 use Rattle.std.specs.Float.Ieee.{lt}
+use Rattle.std.specs.Option.{unwrap_or}
 use Rattle.base_lists.specs.Room.{filled}
 use Rattle.math.specs.declared.Interval.{Interval}
 use Rattle.brep.specs.Tree.{CurveTree}
@@ -21,8 +22,7 @@ SampledInto room s w after = (said w ≡ each length s) × (after ≡ filled roo
 
 -- how many floats of the buffer an answer keeps
 abbrev pub kept_floats : Option ℕ → ℕ
-kept_floats (Some n) = n
-kept_floats None = 0
+kept_floats w = unwrap_or w 0
 
 -- where the walk stops: the breaks, the range's own way round, and range.hi
 unfoldable pub stops : Interval → List Float → List Float

@@ -1,5 +1,5 @@
 -- `mark_evenly` meets its contract. A product of two numbers below 16,384 fits, and a step's index lies inside.
-use Rattle.std.proofs.Common.{◌≡◌, refl, ap, ◌∙◌, ℕ, ◌-◌, ◌<◌, max, length, arith}
+use Rattle.std.proofs.Common.{◌≡◌, refl, ap, ◌∙◌, ℕ, ◌-◌, max, length, arith}
 use Rattle.edge_thin_mark.specs.Spans.{marks}
 use Rattle.edge_thin.specs.Thin.{evens}
 use Rattle.edge_thin.proofs.Loops.{even_next, even_fits, even_inside}
