@@ -14,7 +14,7 @@ ghost use Rattle.edge_drawing.specs.Range.{with_range};
 ghost use Rattle.draw_spec.specs.Repair.{by, reference, runaway, serves, arc_or_chord, short_range, has_short_arc, short_arc_tried, by_short_arc, by_complement, stays, repaired};
 ghost use Rattle.draw_spec.specs.Draw.{room_of, in_first};
 ghost use Rattle.edge_place.specs.Own.Place.{of_points, chord_between};
-ghost use Rattle.edge_escape.specs.Own.Records.{records_of};
+ghost use Rattle.edge_record.specs.Own.Records.{records_of};
 ghost use Rattle.edge_repair.specs.Own.Redrawn.{RedrawnChain, InSecond, RedrawnInto, DrawnInto};
 
 use brep::{Edge, LentTables};

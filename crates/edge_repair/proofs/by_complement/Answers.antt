@@ -5,7 +5,7 @@ use Rattle.draw_spec.specs.declared.Way.TheVariants.{Complement}
 use Rattle.draw_spec.specs.Repair.{by}
 use Rattle.draw_spec.specs.Draw.{room_of}
 use Rattle.brep.specs.Rows.{lent}
-use Rattle.edge_escape.proofs.Records.{leading}
+use Rattle.edge_record.proofs.Leading.{leading}
 use Rattle.std.proofs.Common.{rules}
 use lib.ListN.{length}
 use native.Mathlib.Omega.{arith}

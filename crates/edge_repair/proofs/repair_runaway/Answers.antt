@@ -4,7 +4,7 @@ use Rattle.edge_repair.proofs.Ways.{repaired_kept, repaired_complement, repaired
 use Rattle.draw_spec.specs.Repair.{by, repaired}
 use Rattle.edge_record.specs.Chain.{samples}
 use Rattle.brep.specs.Rows.{lent}
-use Rattle.edge_escape.proofs.Records.{leading}
+use Rattle.edge_record.proofs.Leading.{leading}
 use mathlib.Core.Path.{refl, sym, ◌∙◌}
 use Rattle.edge_repair.proofs.repair_runaway.Goals as goal
 
