@@ -1,5 +1,5 @@
 -- A row by its kind's number, for callers that read a row's numbers one by one. Assumes nothing.
-use mathlib.Core.Path.{◌≡◌, refl, sym, ◌∙◌, subst}
+use mathlib.Core.Path.{◌≡◌, refl, sym, ap, ◌∙◌, subst}
 use mathlib.Core.List.{List, []}
 use Prim.Native.Nat.{ℕ, ◌+◌, ◌*◌}
 use lib.ListN.{get_or}
@@ -9,6 +9,7 @@ use Rattle.math.specs.declared.Vec3.{Vec3}
 use Rattle.math.specs.Math.{interval}
 use Rattle.brep.specs.declared.Curve.{Curve}
 use Rattle.brep.specs.declared.Curve.TheVariants.{Line, Circle, Ellipse, Parabola, Polyline, Trimmed, Composite, Hyperbola}
+use Rattle.brep.specs.declared.Run.{Run}
 use Rattle.std.specs.Prelude.{Option, Some, None}
 use Rattle.brep.specs.declared.Kind.{Kind}
 use Rattle.brep.specs.declared.Kind.TheVariants as kinds
@@ -34,6 +35,14 @@ row_p T row = get_or T.reals (row * 2) nan
 
 abbrev pub row_q : Tables → ℕ → Float
 row_q T row = get_or T.reals (row * 2 + 1) nan
+
+-- the two numbers of a run that was read of a row
+module _ {r read : Run} (e : r ≡ read) where
+  pub first_read : r.first ≡ read.first
+  first_read = ap (λ (x : Run). x.first) e
+
+  pub count_read : r.count ≡ read.count
+  count_read = ap (λ (x : Run). x.count) e
 
 -- none of them, or a trim's
 abbrev pub UnknownOrTrim : ℕ → Type 0

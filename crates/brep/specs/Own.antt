@@ -1,1 +1,2 @@
+pub mod RunAt
 pub mod RunOf

@@ -5,6 +5,7 @@ ghost use Rattle.std.specs.Prelude.{◌≡◌, ◌+◌, get_or};
 ghost use Rattle.std.specs.Float.{nan};
 ghost use Rattle.brep.specs.Kind.{kind_numbered, kind_at};
 ghost use Rattle.brep.specs.Rows.{point_of, frame_of, segment_of, kind_of, curve_of};
+ghost use Rattle.brep.specs.Own.RunAt.{run_at};
 
 use math::{Frame, Interval, Vec3};
 
@@ -96,6 +97,13 @@ pub struct LentTables<'a> {
     pub reals: &'a [f64],
     pub parts: &'a [u32],
     pub ranges: &'a [f64],
+}
+
+// So many points or segments of a table, from number first on: a polyline's points, or a composite's segments.
+#[derive(Clone, Copy, Debug)]
+pub struct Run {
+    pub first: u32,
+    pub count: u32,
 }
 
 // CompositeSegment: a curve row, the part of it that is run through, and whether that is in its own direction.
@@ -213,11 +221,23 @@ pub fn kind_at(curves: &[u32], row: u32) -> Option<Kind>
     Kind::of(int_at(curves, row as usize * 3))
 }
 
+// The run that a row's two numbers name.
+pub fn run_at(curves: &[u32], row: u32) -> Run
+    ensures { result ≡ run_at curves.now row }
+{
+    let at = row as usize * 3;
+    Run {
+        first: int_at(curves, at + 1),
+        count: int_at(curves, at + 2),
+    }
+}
+
 // A row's numbers as a curve of its kind; of an unknown kind, the empty polyline.
 #[tactic(auto, unfolding(crate::specs::Rows::kind_of))]
-fn kind_of(points: &[f64], kind: Option<Kind>, first: u32, count: u32, p: f64, q: f64) -> Curve
-    ensures { result ≡ kind_of points.now kind first count p q }
+fn kind_of(points: &[f64], kind: Option<Kind>, run: Run, p: f64, q: f64) -> Curve
+    ensures { result ≡ kind_of points.now kind run.first run.count p q }
 {
+    let Run { first, count } = run;
     match kind {
         Some(Kind::Line) => Curve::Line {
             origin: point_in(points, first, 0),
@@ -256,11 +276,9 @@ fn kind_of(points: &[f64], kind: Option<Kind>, first: u32, count: u32, p: f64, q
 pub fn row_at(points: &[f64], curves: &[u32], reals: &[f64], row: u32) -> Curve
     ensures { result ≡ curve_of points.now curves.now reals.now row }
 {
-    let at = row as usize * 3;
     let kind = kind_at(curves, row);
-    let first = int_at(curves, at + 1);
-    let count = int_at(curves, at + 2);
+    let run = run_at(curves, row);
     let p = float_at(reals, row as usize * 2);
     let q = float_at(reals, row as usize * 2 + 1);
-    kind_of(points, kind, first, count, p, q)
+    kind_of(points, kind, run, p, q)
 }

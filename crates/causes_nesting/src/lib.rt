@@ -172,14 +172,10 @@ fn row_depth<D: Depths>(depths: &mut D, curves: &[u32], row: u32) -> u8
     ensures value { result ≡ row_depth curves.now (D.seen depths.old) row }
     ensures same { D.seen depths.new ≡ D.seen depths.old }
 {
-    let at = row as usize * 3;
-    let first = brep::int_at(curves, at + 1);
+    let run = brep::run_at(curves, row);
     match brep::kind_at(curves, row) {
-        Some(Kind::Trimmed) => one_deeper(depths.of_row(first)),
-        Some(Kind::Composite) => {
-            let count = brep::int_at(curves, at + 2);
-            one_deeper(depths.of_run(first, first + count))
-        }
+        Some(Kind::Trimmed) => one_deeper(depths.of_row(run.first)),
+        Some(Kind::Composite) => one_deeper(depths.of_run(run.first, run.first + run.count)),
         _ => 0,
     }
 }

@@ -32,7 +32,7 @@ use Rattle.draw_spec.specs.declared.Drawn.{Drawn}
 use Rattle.refusal.specs.Answer.{Answer}
 use Rattle.refusal.specs.declared.Refusal.{Refusal}
 use Rattle.refusal.specs.Refusal.{number_of}
-use Rattle.text_listing.proofs.Leading.{leading as leads}
+use Rattle.edge_record.proofs.Leading.{leading as leads}
 use Rattle.edge_record.specs.declared.Sample.{Sample}
 use Rattle.sheet.specs.declared.Sheet.{Sheet}
 

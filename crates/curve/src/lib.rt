@@ -10,7 +10,7 @@ ghost use Rattle.brep.specs.Tree.{tree, run, polyline};
 ghost use Rattle.curve.specs.Own.Alone.{alone};
 ghost use Rattle.curve.specs.Eval.{polyline_range, natural_range, spans_agree, is_closed, every_span, period, is_sampled};
 
-use brep::{Kind, LentTables};
+use brep::{Kind, LentTables, Run};
 use curve_parameter::closes_at;
 use math::Interval;
 
@@ -79,20 +79,17 @@ fn spans_agree(range: Interval, own: Interval) -> bool
 pub fn is_closed(tables: &LentTables<'_>, row: u32) -> bool
     ensures { result ≡ is_closed (tree (lent tables.now) row) }
 {
-    let at = row as usize * 3;
-    let first = brep::int_at(tables.curves, at + 1);
     match brep::kind_at(tables.curves, row) {
         Some(Kind::Line) => false,
         Some(Kind::Circle) => true,
         Some(Kind::Ellipse) => true,
         Some(Kind::Parabola) => false,
-        Some(Kind::Polyline) => {
-            closes_at(tables.points, first, brep::int_at(tables.curves, at + 2))
-        }
+        Some(Kind::Polyline) => closes_at(tables.points, brep::run_at(tables.curves, row)),
         Some(Kind::Trimmed) => {
-            first < row
-                && is_closed(tables, first)
-                && spans_agree(range_at(tables.reals, row), natural_range(tables, first))
+            let base = brep::int_at(tables.curves, row as usize * 3 + 1);
+            base < row
+                && is_closed(tables, base)
+                && spans_agree(range_at(tables.reals, row), natural_range(tables, base))
         }
         Some(Kind::Composite) => false,
         Some(Kind::Hyperbola) => false,
@@ -110,11 +107,11 @@ fn every_span(span: f64) -> Option<f64>
 
 // A polyline's period, where it closes, is its range's span.
 #[tactic(auto, using(brep::proofs::Laws::length_run), unfolding(crate::specs::Eval::period, crate::specs::Eval::natural_range))]
-fn polyline_period(points: &[f64], first: u32, count: u32) -> Option<f64>
-    ensures { result ≡ period (polyline (run points.now first count)) }
+fn polyline_period(points: &[f64], vertices: Run) -> Option<f64>
+    ensures { result ≡ period (polyline (run points.now vertices.first vertices.count)) }
 {
-    if closes_at(points, first, count) {
-        return every_span(polyline_range(count).span());
+    if closes_at(points, vertices) {
+        return every_span(polyline_range(vertices.count).span());
     }
     None
 }
@@ -124,16 +121,12 @@ fn polyline_period(points: &[f64], first: u32, count: u32) -> Option<f64>
 fn own_period(tables: &LentTables<'_>, row: u32) -> Option<f64>
     ensures { result ≡ period (alone (lent tables.now) row) }
 {
-    let at = row as usize * 3;
     match brep::kind_at(tables.curves, row)? {
         Kind::Line => None,
         Kind::Circle => Some(TAU),
         Kind::Ellipse => Some(TAU),
         Kind::Parabola => None,
-        Kind::Polyline => {
-            let first = brep::int_at(tables.curves, at + 1);
-            polyline_period(tables.points, first, brep::int_at(tables.curves, at + 2))
-        }
+        Kind::Polyline => polyline_period(tables.points, brep::run_at(tables.curves, row)),
         // Its base does not fall.
         Kind::Trimmed => None,
         Kind::Composite => None,

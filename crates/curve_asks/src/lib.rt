@@ -9,7 +9,7 @@ ghost use Rattle.curve_asks.specs.Asks.{is_far, asks_far};
 ghost use Rattle.curve_asks.specs.Own.Numbers.{kind_below, run_may_ask};
 ghost use Rattle.curve_asks.specs.Own.Risk.{in_reach, is_calm, never_asks, some_hyperbola, may_ask};
 
-use brep::Kind;
+use brep::{Kind, Run};
 use curve_parameter::under_trims;
 use math::Interval;
 
@@ -30,10 +30,8 @@ pub fn far_at(curves: &[u32], parts: &[u32], ranges: &[f64], row: u32, t: f64) -
     let r = under_trims(curves, row);
     let kind = brep::kind_at(curves, r);
     if kind == Some(Kind::Composite) {
-        let at = r as usize * 3;
-        let first = brep::int_at(curves, at + 1);
-        let count = brep::int_at(curves, at + 2);
-        let Some(on) = curve_parameter::segment_under(parts, ranges, first, count, t) else {
+        let run = brep::run_at(curves, r);
+        let Some(on) = curve_parameter::segment_under(parts, ranges, run, t) else {
             return false;
         };
         let base = on.segment.curve;
@@ -89,21 +87,14 @@ fn some_hyperbola(curves: &[u32]) -> bool
 // Whether a composite's run of segments may ask. The rows are gone through only where a composite lies among the segments: what
 // it holds is not looked at.
 #[tactic(auto, using(crate::proofs::Laws::some_more, crate::proofs::Laws::some_at, crate::proofs::Laws::is_kind_below))]
-fn run_may_ask(
-    curves: &[u32],
-    parts: &[u32],
-    ranges: &[f64],
-    row: u32,
-    first: u32,
-    count: u32,
-) -> bool
-    ensures { result ≡ run_may_ask curves.now parts.now ranges.now row first count }
+fn run_may_ask(curves: &[u32], parts: &[u32], ranges: &[f64], row: u32, run: Run) -> bool
+    ensures { result ≡ run_may_ask curves.now parts.now ranges.now row run.first run.count }
 {
     let mut composite = false;
-    for i in 0..count {
-        let base = brep::int_at(parts, (first as usize + i as usize) * 2);
+    for i in 0..run.count {
+        let base = brep::int_at(parts, (run.first as usize + i as usize) * 2);
         let kind = kind_below(curves, row, base);
-        if kind == Some(Kind::Hyperbola) && is_wild(parts, ranges, first, i) {
+        if kind == Some(Kind::Hyperbola) && is_wild(parts, ranges, run.first, i) {
             return true;
         }
         composite |= kind == Some(Kind::Composite);
@@ -125,10 +116,7 @@ pub fn may_ask(curves: &[u32], parts: &[u32], ranges: &[f64], row: u32) -> bool
     let r = under_trims(curves, row);
     let kind = brep::kind_at(curves, r);
     if kind == Some(Kind::Composite) {
-        let at = r as usize * 3;
-        let first = brep::int_at(curves, at + 1);
-        let count = brep::int_at(curves, at + 2);
-        return run_may_ask(curves, parts, ranges, r, first, count);
+        return run_may_ask(curves, parts, ranges, r, brep::run_at(curves, r));
     }
     kind == Some(Kind::Hyperbola)
 }

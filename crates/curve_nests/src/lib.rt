@@ -8,7 +8,7 @@ ghost use Rattle.brep.specs.Tree.{tree};
 ghost use Rattle.curve_nests.specs.Own.Numbers.{composite_row, refers_to_composite, some_refers};
 ghost use Rattle.curve_nests.specs.Nests.{nests};
 
-use brep::Kind;
+use brep::{Kind, Run};
 use curve_parameter::under_trims;
 
 // Whether the curve of a row is a composite, under any trims.
@@ -27,11 +27,11 @@ fn refers_to_composite(curves: &[u32], row: u32, base: u32) -> bool
 }
 
 // Whether some segment of a row's run is one.
-fn some_composite(curves: &[u32], parts: &[u32], row: u32, first: u32, count: u32) -> bool
-    ensures { result ≡ some_refers curves.now parts.now row first count }
+fn some_composite(curves: &[u32], parts: &[u32], row: u32, run: Run) -> bool
+    ensures { result ≡ some_refers curves.now parts.now row run.first run.count }
 {
-    let first = first as usize;
-    (first..first + count as usize).any(|i| refers_to_composite(
+    let first = run.first as usize;
+    (first..first + run.count as usize).any(|i| refers_to_composite(
         curves,
         row,
         brep::int_at(parts, i * 2),
@@ -44,13 +44,6 @@ pub fn nests(curves: &[u32], parts: &[u32], row: u32) -> bool
     ensures { (points reals ranges : List Float) → result ≡ nests (tree (tables points curves.now reals parts.now ranges) row) }
 {
     let r = under_trims(curves, row);
-    let at = r as usize * 3;
     brep::kind_at(curves, r) == Some(Kind::Composite)
-        && some_composite(
-            curves,
-            parts,
-            r,
-            brep::int_at(curves, at + 1),
-            brep::int_at(curves, at + 2),
-        )
+        && some_composite(curves, parts, r, brep::run_at(curves, r))
 }

@@ -6,7 +6,7 @@ ghost use Rattle.curve_parameter.specs.Own.Falls.{leg_under, segment_under};
 ghost use Rattle.curve_parameter.specs.Own.Under.{lower_base, under};
 ghost use Rattle.curve_parameter.specs.Run.{closes, index_in, parameter_of, own_parameter};
 
-use brep::{Kind, Segment};
+use brep::{Kind, Run, Segment};
 use math::{Interval, Vec3};
 
 // Where a polyline's parameter falls: the leg, by its two ends, and how far along it.
@@ -50,14 +50,14 @@ pub fn under_trims(curves: &[u32], row: u32) -> u32
 
 // Whether a run of points ends where it begins.
 #[tactic(auto, using(crate::proofs::Laws::closes_few, crate::proofs::Laws::closes_many))]
-pub fn closes_at(points: &[f64], first: u32, count: u32) -> bool
-    ensures { result ≡ closes (run points.now first count) }
+pub fn closes_at(points: &[f64], vertices: Run) -> bool
+    ensures { result ≡ closes (run points.now vertices.first vertices.count) }
 {
-    if count < 3 {
+    if vertices.count < 3 {
         return false;
     }
-    let a = brep::point_in(points, first, 0);
-    let b = brep::point_in(points, first, count - 1);
+    let a = brep::point_in(points, vertices.first, 0);
+    let b = brep::point_in(points, vertices.first, vertices.count - 1);
     a.sub(b).length_squared() < 1e-20
 }
 
@@ -82,15 +82,15 @@ pub fn parameter_of(count: u32, closed: bool, t: f64) -> f64
 
 // The leg of a run of points that a polyline's parameter falls on, where there are two points; whether the polyline closes is at hand.
 #[tactic(auto, unfolding(crate::specs::Own::Falls::leg_under))]
-pub fn leg_under(points: &[f64], first: u32, count: u32, closed: bool, t: f64) -> Option<OnLeg>
-    ensures { result ≡ leg_under points.now first count closed t }
+pub fn leg_under(points: &[f64], vertices: Run, closed: bool, t: f64) -> Option<OnLeg>
+    ensures { result ≡ leg_under points.now vertices.first vertices.count closed t }
 {
-    let last = count.checked_sub(2)?;
-    let u = parameter_of(count, closed, t);
+    let last = vertices.count.checked_sub(2)?;
+    let u = parameter_of(vertices.count, closed, t);
     let i = index_in(last as usize, u) as u32;
     Some(OnLeg {
-        from: brep::point_in(points, first, i),
-        to: brep::point_in(points, first, i + 1),
+        from: brep::point_in(points, vertices.first, i),
+        to: brep::point_in(points, vertices.first, i + 1),
         local: u - i as f64,
     })
 }
@@ -108,19 +108,13 @@ pub fn own_parameter(range: Interval, same_sense: bool, local: f64) -> f64
 
 // The segment of a run that a composite's parameter falls on, where there is one.
 #[tactic(auto, unfolding(crate::specs::Own::Falls::segment_under))]
-pub fn segment_under(
-    parts: &[u32],
-    ranges: &[f64],
-    first: u32,
-    count: u32,
-    t: f64,
-) -> Option<OnSegment>
-    ensures { result ≡ segment_under parts.now ranges.now first count t }
+pub fn segment_under(parts: &[u32], ranges: &[f64], segments: Run, t: f64) -> Option<OnSegment>
+    ensures { result ≡ segment_under parts.now ranges.now segments.first segments.count t }
 {
-    let last = count.checked_sub(1)?;
-    let clamped = arith::clamp(t, 0.0, count as f64);
+    let last = segments.count.checked_sub(1)?;
+    let clamped = arith::clamp(t, 0.0, segments.count as f64);
     let i = index_in(last as usize, clamped) as u32;
-    let segment = brep::segment_at(parts, ranges, first, i);
+    let segment = brep::segment_at(parts, ranges, segments.first, i);
     let local = clamped - i as f64;
     Some(OnSegment {
         segment,

@@ -10,19 +10,19 @@ ghost use Rattle.curve_point.specs.Own.Turn.{sin_cos_for};
 ghost use Rattle.curve_point.specs.Point.{polyline_point, axes_point, parabola_point, point_at};
 
 use arith_trig::SinCos;
-use brep::{Curve, Kind, LentTables};
+use brep::{Curve, Kind, LentTables, Run};
 use math::{Frame, Vec3};
 
 // A polyline's point, of its run of points; whether it closes is at hand.
 #[tactic(auto, using(crate::proofs::Laws::polyline_one, crate::proofs::Laws::polyline_none, crate::proofs::Laws::polyline_some))]
-pub fn polyline_point(points: &[f64], first: u32, count: u32, closed: bool, t: f64) -> Vec3
-    requires { closed ≡ closes (run points.now first count) }
-    ensures { result ≡ polyline_point (run points.now first count) t }
+pub fn polyline_point(points: &[f64], vertices: Run, closed: bool, t: f64) -> Vec3
+    requires { closed ≡ closes (run points.now vertices.first vertices.count) }
+    ensures { result ≡ polyline_point (run points.now vertices.first vertices.count) t }
 {
-    if count == 1 {
-        return brep::point_in(points, first, 0);
+    if vertices.count == 1 {
+        return brep::point_in(points, vertices.first, 0);
     }
-    let Some(leg) = curve_parameter::leg_under(points, first, count, closed, t) else {
+    let Some(leg) = curve_parameter::leg_under(points, vertices, closed, t) else {
         return Vec3::ZERO;
     };
     leg.from.lerp(leg.to, leg.local)
@@ -109,12 +109,13 @@ pub fn point_at(tables: &LentTables<'_>, row: u32, t: f64) -> Vec3
             parabola_point(frame.origin, frame.ref_dir, frame.y_dir(), focal_dist, t)
         }
         Curve::Polyline { first, count } => {
-            let closed = curve_parameter::closes_at(tables.points, first, count);
-            polyline_point(tables.points, first, count, closed, t)
+            let vertices = Run { first, count };
+            let closed = curve_parameter::closes_at(tables.points, vertices);
+            polyline_point(tables.points, vertices, closed, t)
         }
         // Its base does not fall.
         Curve::Trimmed { base: _, range: _ } => Vec3::ZERO,
-        Curve::Composite { first, count } => { composite_at(tables, r, first, count, t) }
+        Curve::Composite { first, count } => composite_at(tables, r, Run { first, count }, t),
         Curve::Hyperbola {
             frame,
             semi_major,
@@ -125,11 +126,10 @@ pub fn point_at(tables: &LentTables<'_>, row: u32, t: f64) -> Vec3
 
 // The point of a composite's run of segments; their curves lie in rows below row.
 #[cycle(composite_at_point_at)]
-fn composite_at(tables: &LentTables<'_>, row: u32, first: u32, count: u32, t: f64) -> Vec3
-    ensures { result ≡ point_at (run_of (lent tables.now) row first count) t }
+fn composite_at(tables: &LentTables<'_>, row: u32, segments: Run, t: f64) -> Vec3
+    ensures { result ≡ point_at (run_of (lent tables.now) row segments.first segments.count) t }
 {
-    let Some(on) = curve_parameter::segment_under(tables.parts, tables.ranges, first, count, t)
-    else {
+    let Some(on) = curve_parameter::segment_under(tables.parts, tables.ranges, segments, t) else {
         return Vec3::ZERO;
     };
     let base = on.segment.curve;

@@ -10,7 +10,7 @@ ghost use Rattle.curve_tangent.specs.Derivative.{polyline_derivative, derivative
 ghost use Rattle.curve_prepared.specs.declared.Prepared.TheVariants.{Line, Other};
 ghost use Rattle.curve_prepared.specs.Own.Prepared.{round_of, parabola_of, prepared_of, line_only, hyperbola_slope, plain_point};
 
-use brep::{Kind, LentTables};
+use brep::{Kind, LentTables, Run};
 use math::{Frame, Vec3};
 
 // Axes are as they are: nothing is normalised. A circle is round with equal axes.
@@ -101,26 +101,24 @@ pub fn prepare(tables: &LentTables<'_>, row: u32) -> Prepared
     ensures { result ≡ prepared_of (tree (lent tables.now) row) }
 {
     let r = curve_parameter::under_trims(tables.curves, row);
-    let at = r as usize * 3;
-    let first = brep::int_at(tables.curves, at + 1);
+    let run = brep::run_at(tables.curves, r);
     match brep::kind_at(tables.curves, r) {
-        Some(Kind::Line) => line_of(tables.points, first),
+        Some(Kind::Line) => line_of(tables.points, run.first),
         Some(Kind::Circle) => {
             let p = brep::float_at(tables.reals, r as usize * 2);
-            round_of(brep::frame_at(tables.points, first), p, p)
+            round_of(brep::frame_at(tables.points, run.first), p, p)
         }
         Some(Kind::Ellipse) => {
             let p = brep::float_at(tables.reals, r as usize * 2);
             let q = brep::float_at(tables.reals, r as usize * 2 + 1);
-            round_of(brep::frame_at(tables.points, first), p, q)
+            round_of(brep::frame_at(tables.points, run.first), p, q)
         }
         Some(Kind::Parabola) => {
             let p = brep::float_at(tables.reals, r as usize * 2);
-            parabola_of(brep::frame_at(tables.points, first), p)
+            parabola_of(brep::frame_at(tables.points, run.first), p)
         }
         Some(Kind::Polyline) => {
-            let count = brep::int_at(tables.curves, at + 2);
-            let closed = curve_parameter::closes_at(tables.points, first, count);
+            let closed = curve_parameter::closes_at(tables.points, run);
             Prepared::Other { closed }
         }
         // Its base does not fall.
@@ -162,10 +160,8 @@ fn other_point(tables: &LentTables<'_>, row: u32, closed: bool, t: f64) -> Vec3
 {
     let r = curve_parameter::under_trims(tables.curves, row);
     if brep::kind_at(tables.curves, r) == Some(Kind::Polyline) {
-        let at = r as usize * 3;
-        let first = brep::int_at(tables.curves, at + 1);
-        let count = brep::int_at(tables.curves, at + 2);
-        curve_point::polyline_point(tables.points, first, count, closed, t)
+        let run = brep::run_at(tables.curves, r);
+        curve_point::polyline_point(tables.points, run, closed, t)
     } else {
         curve_point::point_at(tables, row, t)
     }
@@ -194,18 +190,12 @@ fn other_derivative<'a>(tables: &'a LentTables<'a>, row: u32, closed: bool, t: f
     let Some(kind) = brep::kind_at(tables.curves, r) else {
         return Vec3::ZERO;
     };
-    let at = r as usize * 3;
     match kind {
         Kind::Polyline => {
-            let first = brep::int_at(tables.curves, at + 1);
-            let count = brep::int_at(tables.curves, at + 2);
-            curve_tangent::polyline_derivative(tables.points, first, count, closed, t)
+            let run = brep::run_at(tables.curves, r);
+            curve_tangent::polyline_derivative(tables.points, run, closed, t)
         }
-        Kind::Composite => {
-            let first = brep::int_at(tables.curves, at + 1);
-            let count = brep::int_at(tables.curves, at + 2);
-            composite_slope(tables, r, first, count, t)
-        }
+        Kind::Composite => composite_slope(tables, r, brep::run_at(tables.curves, r), t),
         Kind::Hyperbola => hyperbola_slope(tables.points, tables.curves, tables.reals, r, t),
         // A trim whose base does not fall: no points. (No other kind is prepared as `Other`.)
         _ => Vec3::ZERO,
@@ -214,11 +204,10 @@ fn other_derivative<'a>(tables: &'a LentTables<'a>, row: u32, closed: bool, t: f
 
 // The derivative of a composite's run of segments; their curves lie in rows below row. Each is prepared, as the composite was.
 #[cycle(derivative)]
-fn composite_slope<'a>(tables: &'a LentTables<'a>, row: u32, first: u32, count: u32, t: f64) -> Vec3
-    ensures { result ≡ derivative_at (run_of (lent tables.now) row first count) t }
+fn composite_slope<'a>(tables: &'a LentTables<'a>, row: u32, segments: Run, t: f64) -> Vec3
+    ensures { result ≡ derivative_at (run_of (lent tables.now) row segments.first segments.count) t }
 {
-    let Some(on) = curve_parameter::segment_under(tables.parts, tables.ranges, first, count, t)
-    else {
+    let Some(on) = curve_parameter::segment_under(tables.parts, tables.ranges, segments, t) else {
         return Vec3::ZERO;
     };
     let base = on.segment.curve;

@@ -9,16 +9,16 @@ ghost use Rattle.brep.specs.Tree.{tree, run};
 ghost use Rattle.curve_parameter.specs.Run.{closes};
 ghost use Rattle.curve_tangent.specs.Derivative.{polyline_derivative, signed_span, ellipse_derivative, parabola_derivative, hyperbola_derivative, derivative_at, tangent_at};
 
-use brep::{Curve, LentTables};
+use brep::{Curve, LentTables, Run};
 use math::{Interval, Vec3};
 
 // A polyline's derivative, of its run of points; whether it closes is at hand.
 #[tactic(auto, using(crate::proofs::Laws::slope_few, crate::proofs::Laws::slope_many))]
-pub fn polyline_derivative(points: &[f64], first: u32, count: u32, closed: bool, t: f64) -> Vec3
-    requires { closed ≡ closes (run points.now first count) }
-    ensures { result ≡ polyline_derivative (run points.now first count) t }
+pub fn polyline_derivative(points: &[f64], vertices: Run, closed: bool, t: f64) -> Vec3
+    requires { closed ≡ closes (run points.now vertices.first vertices.count) }
+    ensures { result ≡ polyline_derivative (run points.now vertices.first vertices.count) t }
 {
-    match curve_parameter::leg_under(points, first, count, closed, t) {
+    match curve_parameter::leg_under(points, vertices, closed, t) {
         Some(leg) => leg.to.sub(leg.from),
         None => Vec3::ZERO,
     }
@@ -89,12 +89,16 @@ pub fn derivative_at(tables: &LentTables<'_>, row: u32, t: f64) -> Vec3
             parabola_derivative(frame.ref_dir, frame.y_dir(), focal_dist, t)
         }
         Curve::Polyline { first, count } => {
-            let closed = curve_parameter::closes_at(tables.points, first, count);
-            polyline_derivative(tables.points, first, count, closed, t)
+            let vertices = Run { first, count };
+            let closed = curve_parameter::closes_at(tables.points, vertices);
+            polyline_derivative(tables.points, vertices, closed, t)
         }
         // Its base does not fall.
         Curve::Trimmed { base: _, range: _ } => Vec3::ZERO,
-        Curve::Composite { first, count } => composite_derivative(tables, r, first, count, t),
+        Curve::Composite { first, count } => {
+            let segments = Run { first, count };
+            composite_derivative(tables, r, segments, t)
+        }
         Curve::Hyperbola {
             frame,
             semi_major,
@@ -105,11 +109,10 @@ pub fn derivative_at(tables: &LentTables<'_>, row: u32, t: f64) -> Vec3
 
 // The derivative of a composite's run of segments; their curves lie in rows below row.
 #[cycle(composite_derivative_derivative_at)]
-fn composite_derivative(tables: &LentTables<'_>, row: u32, first: u32, count: u32, t: f64) -> Vec3
-    ensures { result ≡ derivative_at (run_of (lent tables.now) row first count) t }
+fn composite_derivative(tables: &LentTables<'_>, row: u32, segments: Run, t: f64) -> Vec3
+    ensures { result ≡ derivative_at (run_of (lent tables.now) row segments.first segments.count) t }
 {
-    let Some(on) = curve_parameter::segment_under(tables.parts, tables.ranges, first, count, t)
-    else {
+    let Some(on) = curve_parameter::segment_under(tables.parts, tables.ranges, segments, t) else {
         return Vec3::ZERO;
     };
     let base = on.segment.curve;

@@ -154,10 +154,10 @@ end_near c x m M F near = ap (asks_far c) (end_t c x m M) ∙ sym F ∙ near
 
 -- ---- what a count asks of its curve
 abbrev pub far_of : Counter → Float → Bool
-far_of o = asks_far (curve_of o.curve)
+far_of o = asks_far (curve_of o.bisection.curve)
 
 abbrev pub budget_of : Counter → Float → Float → Bool
-budget_of o = within_budget (curve_of o.curve) o.limits.options
+budget_of o = within_budget (curve_of o.bisection.curve) o.bisection.limits.options
 
 -- ---- the ways out of Counter::subdivided
 module _ (o : Counter) (depth : ℕ) (a b : End) (fa : far_of o a.t ≡ false) (fb : far_of o b.t ≡ false) (k : ℕ) where
@@ -184,7 +184,7 @@ module _ (o : Counter) (depth : ℕ) (a b : End) (fa : far_of o a.t ≡ false) (
       out_within e = on true (told ∙ e)
 
       -- the first half, the middle, the other half
-      module _ (split : not w ≡ false) (m : End) (M : m ≡ end_at (curve_of o.curve) (midpoint a.t b.t)) where
+      module _ (split : not w ≡ false) (m : End) (M : m ≡ end_at (curve_of o.bisection.curve) (midpoint a.t b.t)) where
         abbrev first : Answer ℕ
         first = counted (far_of o) o.room k (subdividing (budget_of o) (depth - 1) a.t m.t)
 
@@ -200,7 +200,7 @@ module _ (o : Counter) (depth : ℕ) (a b : End) (fa : far_of o a.t ≡ false) (
         halves : bind first behind ≡ span
         unfolding left right
         halves =
-            rw (end_t (curve_of o.curve) (midpoint a.t b.t) m M)
+            rw (end_t (curve_of o.bisection.curve) (midpoint a.t b.t) m M)
             (counted_three (far_of o) o.room k (subdividing (budget_of o) (depth - 1) a.t (midpoint a.t b.t)) (midpoint a.t b.t)
             (subdividing (budget_of o) (depth - 1) (midpoint a.t b.t) b.t)
             ∙ on false (told ∙ split))
@@ -223,26 +223,26 @@ span_moves c range r depth a b = subdividing (within_budget c r) depth a b ++ ma
 module _ (o : Counter) (a b : Float) (k : ℕ) where
   -- what it answers
   abbrev answer : Answer ℕ
-  answer = counted (far_of o) o.room k (span_moves (curve_of o.curve) o.range o.limits.options o.limits.options.depth a b)
+  answer = counted (far_of o) o.room k (span_moves (curve_of o.bisection.curve) o.range o.bisection.limits.options o.bisection.limits.options.depth a b)
 
   abbrev inside : Answer ℕ
-  inside = all (far_of o) (budget_of o) o.limits.options.depth a b o.room k
+  inside = all (far_of o) (budget_of o) o.bisection.limits.options.depth a b o.room k
 
   abbrev ended : ℕ → Answer ℕ
   ended n = counted (far_of o) o.room n (map adds (unless_hi o.range b))
 
   joined : bind inside ended ≡ answer
-  joined = sym (counted_append (far_of o) o.room k (subdividing (budget_of o) o.limits.options.depth a b) (map adds (unless_hi o.range b)))
+  joined = sym (counted_append (far_of o) o.room k (subdividing (budget_of o) o.bisection.limits.options.depth a b) (map adds (unless_hi o.range b)))
 
   -- an end that is too far is asked for first
   module _ {v : Bool} (F : v ≡ far_of o a) where
     pub span_left : v ≡ true → Err TooFar ≡ answer
     span_left e =
-        ap (λ (x : Answer ℕ). bind x ended) (at_left (far_of o) (budget_of o) o.limits.options.depth a b o.room k (λ z. omega (arith, o.deep)) (sym F ∙ e)) ∙ joined
+        ap (λ (x : Answer ℕ). bind x ended) (at_left (far_of o) (budget_of o) o.bisection.limits.options.depth a b o.room k (λ z. omega (arith, o.deep)) (sym F ∙ e)) ∙ joined
 
     pub span_right : v ≡ false → {w : Bool} → w ≡ far_of o b → w ≡ true → Err TooFar ≡ answer
     span_right e G h =
-        ap (λ (x : Answer ℕ). bind x ended) (at_right (far_of o) (budget_of o) o.limits.options.depth a b o.room k (λ z. omega (arith, o.deep)) (sym F ∙ e) (sym G ∙ h)) ∙ joined
+        ap (λ (x : Answer ℕ). bind x ended) (at_right (far_of o) (budget_of o) o.bisection.limits.options.depth a b o.room k (λ z. omega (arith, o.deep)) (sym F ∙ e) (sym G ∙ h)) ∙ joined
 
   pub span_refused : {n : Refusal} → Err n ≡ inside → Err n ≡ answer
   span_refused e = stands ended e ∙ joined

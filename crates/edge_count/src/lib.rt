@@ -19,39 +19,18 @@ ghost use Rattle.edge_count.specs.Own.Said.{range_counted};
 use brep::LentTables;
 use curve_prepared::PreparedCurve;
 use edge_drawing::Drawing;
-use edge_subdivide::{End, Limits, Recorder};
+use edge_subdivide::{Bisection, End, Recorder};
 use math::Interval;
 use options::Resolved;
 use refusal::Refusal;
 
-// Whether bisection halves the span from a to b, by the list that it makes of the span with a depth of one: the middle, or nothing. (With a
-// second caller, what `subdivide` decides this by would not be read in place there any more, and every bisected curve would pay.)
-fn is_halved(curve: &PreparedCurve<'_>, limits: &Limits, a: End, b: End) -> bool
-    requires { (a ≡ end_at (curve_of curve.now) a.t)
-        × (b ≡ end_at (curve_of curve.now) b.t) }
-    ensures { result ≡ not (within_budget (curve_of curve.now) limits.now.options a.t b.t) }
-{
-    let mut list = Recorder {
-        params: &mut [0.0; 1],
-        chain: &mut [0.0; edge_record::WIDTH],
-        len: 0,
-    };
-    // Never else: there is room for one.
-    let Some(()) = edge_subdivide::subdivide(curve, limits, a, b, 1, &mut list) else {
-        return true;
-    };
-    list.len != 0
-}
-
-// What a count goes by: the curve, the range whose parameters are counted, what its spans are held to, and the room for parameters. (That
-// an end is the curve's stands in the clauses, and not in `End`: that is of edge_subdivide, and would carry the curve from span to span.)
+// What a count goes by: the curve, with what its spans are held to, the range whose parameters are counted, and the room for parameters.
 #[derive(Drop)]
 struct Counter<'a> {
-    pub curve: PreparedCurve<'a>,
+    pub bisection: Bisection<'a>,
     pub range: Interval,
-    pub limits: Limits,
     pub room: usize,
-    ghost deep: { 0 < limits.options.depth },
+    ghost deep: { 0 < bisection.limits.options.depth },
 }
 
 impl Counter<'_> {
@@ -68,9 +47,9 @@ impl Counter<'_> {
 
     // Whether the curve may not be asked for its point at t.
     fn is_far(&self, t: f64) -> bool
-        ensures { result ≡ asks_far (curve_of self.now.curve) t }
+        ensures { result ≡ asks_far (curve_of self.now.bisection.curve) t }
     {
-        let curve = &self.curve;
+        let curve = &self.bisection.curve;
         curve_asks::far_at(
             curve.tables.curves,
             curve.tables.parts,
@@ -80,14 +59,33 @@ impl Counter<'_> {
         )
     }
 
+    // Whether bisection halves the span from a to b, by the list that it makes of the span with a depth of one: the middle, or nothing. (With a
+    // second caller, what `subdivide` decides this by would not be read in place there any more, and every bisected curve would pay.)
+    fn is_halved(&self, a: End, b: End) -> bool
+        requires { (a ≡ end_at (curve_of self.now.bisection.curve) a.t)
+            × (b ≡ end_at (curve_of self.now.bisection.curve) b.t) }
+        ensures { result ≡ not (within_budget (curve_of self.now.bisection.curve) self.now.bisection.limits.options a.t b.t) }
+    {
+        let mut list = Recorder {
+            params: &mut [0.0; 1],
+            chain: &mut [0.0; edge_record::WIDTH],
+            len: 0,
+        };
+        // Never else: there is room for one.
+        let Some(()) = self.bisection.subdivide(a, b, 1, &mut list) else {
+            return true;
+        };
+        list.len != 0
+    }
+
     // How many parameters there are after bisection between a and b, where there were k before it.
     fn subdivided(&self, a: End, b: End, depth: u32, k: usize) -> Result<usize, Refusal>
-        requires { (a ≡ end_at (curve_of self.now.curve) a.t)
-            × (b ≡ end_at (curve_of self.now.curve) b.t)
-            × (asks_far (curve_of self.now.curve) a.t ≡ false)
-            × (asks_far (curve_of self.now.curve) b.t ≡ false) }
-        ensures { result ≡ counted (asks_far (curve_of self.now.curve)) self.now.room k
-            (subdividing (within_budget (curve_of self.now.curve) self.now.limits.options) depth a.t b.t) }
+        requires { (a ≡ end_at (curve_of self.now.bisection.curve) a.t)
+            × (b ≡ end_at (curve_of self.now.bisection.curve) b.t)
+            × (asks_far (curve_of self.now.bisection.curve) a.t ≡ false)
+            × (asks_far (curve_of self.now.bisection.curve) b.t ≡ false) }
+        ensures { result ≡ counted (asks_far (curve_of self.now.bisection.curve)) self.now.room k
+            (subdividing (within_budget (curve_of self.now.bisection.curve) self.now.bisection.limits.options) depth a.t b.t) }
     {
         if depth == 0 {
             return Ok(k);
@@ -96,10 +94,10 @@ impl Counter<'_> {
         if self.is_far(t) {
             return Err(Refusal::TooFar);
         }
-        if !is_halved(&self.curve, &self.limits, a, b) {
+        if !self.is_halved(a, b) {
             return Ok(k);
         }
-        let m = edge_subdivide::end_at(&self.curve, t);
+        let m = self.bisection.end_at(t);
         let n = self.subdivided(a, m, depth - 1, k)?;
         let next = self.one(n)?;
         self.subdivided(m, b, depth - 1, next)
@@ -107,14 +105,14 @@ impl Counter<'_> {
 
     // A span of the walk: what bisection puts inside it, then its end, unless that is range.hi, which stands once at the list's end.
     fn span(&self, left: End, right: End, k: usize) -> Result<usize, Refusal>
-        requires { (left ≡ end_at (curve_of self.now.curve) left.t) × (right ≡ end_at (curve_of self.now.curve) right.t) }
-        ensures { result ≡ counted (asks_far (curve_of self.now.curve)) self.now.room k
-            (subdividing (within_budget (curve_of self.now.curve) self.now.limits.options) self.now.limits.options.depth left.t right.t ++ map adds (unless_hi self.now.range right.t)) }
+        requires { (left ≡ end_at (curve_of self.now.bisection.curve) left.t) × (right ≡ end_at (curve_of self.now.bisection.curve) right.t) }
+        ensures { result ≡ counted (asks_far (curve_of self.now.bisection.curve)) self.now.room k
+            (subdividing (within_budget (curve_of self.now.bisection.curve) self.now.bisection.limits.options) self.now.bisection.limits.options.depth left.t right.t ++ map adds (unless_hi self.now.range right.t)) }
     {
         if self.is_far(left.t) || self.is_far(right.t) {
             return Err(Refusal::TooFar);
         }
-        let n = self.subdivided(left, right, self.limits.options.depth, k)?;
+        let n = self.subdivided(left, right, self.bisection.limits.options.depth, k)?;
         if right.t != self.range.hi {
             return self.one(n);
         }
@@ -133,16 +131,18 @@ fn count_walk(
     requires { (breaks.now ≡ kept_breaks (drawn_curve drawing.now) range.lo range.hi r.sag) × (0 < r.depth) }
     ensures { result ≡ counted (asks_far (drawn_curve drawing.now)) room 0 (bisecting (sampler (drawn_curve drawing.now) range r) range) }
 {
+    let curve = PreparedCurve::new(drawing.tables, drawing.edge.curve);
     let counter = Counter {
-        curve: PreparedCurve::new(drawing.tables, drawing.edge.curve),
+        bisection: Bisection::new(curve, r),
         range,
-        limits: edge_subdivide::limits_of(r),
         room,
     };
     let mut k = counter.one(0)?;
-    let mut left = edge_subdivide::end_at(&counter.curve, range.lo);
+    let mut left = counter.bisection.end_at(range.lo);
     for i in 0..=breaks.len() {
-        let right = edge_subdivide::end_at(&counter.curve, edge_sample::stop_at(range, breaks, i));
+        let right = counter
+            .bisection
+            .end_at(edge_sample::stop_at(range, breaks, i));
         k = counter.span(left, right, k)?;
         left = right;
     }

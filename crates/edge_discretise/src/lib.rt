@@ -9,6 +9,7 @@ ghost use Rattle.curve_asks.specs.Asks.{asks_far};
 ghost use Rattle.edge_params.specs.Work.{asking, within};
 ghost use Rattle.edge_sample.specs.Own.Answered.{sampled_in};
 ghost use Rattle.edge_record.specs.Own.Stored.{counted_of, after};
+ghost use Rattle.edge_record.specs.Own.Records.{records_of};
 ghost use Rattle.edge_record.specs.Chain.{width, shortest, most, samples};
 ghost use Rattle.draw_spec.specs.Edge.{thinned_if, thinned_merged, listed, over_range, discretised};
 ghost use Rattle.draw_spec.specs.Draw.{room_of};
@@ -38,8 +39,8 @@ fn thin_sampled(
     chain: &mut [f64],
 ) -> Result<usize, Refusal>
     requires { length chain.old / width ≤ most }
-    ensures { (result ≡ counted_of (thinned_if (is_sampled (tree (lent tables.now) row)) r (samples (length chain.old / width) chain.old)))
-        × (chain.new ≡ after chain.old (thinned_if (is_sampled (tree (lent tables.now) row)) r (samples (length chain.old / width) chain.old))) }
+    ensures { (result ≡ counted_of (thinned_if (is_sampled (tree (lent tables.now) row)) r (records_of chain.old)))
+        × (chain.new ≡ after chain.old (thinned_if (is_sampled (tree (lent tables.now) row)) r (records_of chain.old))) }
 {
     if curve::is_sampled(tables, row) {
         // A chain has no more than MOST records, so that a higher floor says nothing more.
@@ -57,7 +58,7 @@ fn finish(
     chain: &mut [f64],
 ) -> Result<usize, Refusal>
     requires { (2 ≤ length chain.old / width) × (length chain.old / width ≤ most) }
-    ensures { ChainLeads (thinned_merged (lent tables.now) edge r (samples (length chain.old / width) chain.old)) result chain.new }
+    ensures { ChainLeads (thinned_merged (lent tables.now) edge r (records_of chain.old)) result chain.new }
 {
     let m = thin_sampled(tables, edge.curve, r, chain)?;
     let floor = edge_merge::merge_floor(edge.tolerance, r.sag);
@@ -81,14 +82,12 @@ fn draw_sampled(
 {
     let wide = edge_record::WIDTH * scratch.len();
     let records = &mut chain[..wide];
-    let sampled = sample_params(drawing, range, r, scratch, records);
-    let known = sampled.known;
-    let listed = sampled.listed;
-    let Some(n) = listed else {
+    let Some(sampled) = sample_params(drawing, range, r, scratch, records) else {
         return Err(Refusal::NoRoom);
     };
+    let n = sampled.count;
     let params = &scratch[..n];
-    edge_place::place(drawing.tables, drawing.edge, params, known, chain);
+    edge_place::place(drawing.tables, drawing.edge, params, sampled.known, chain);
     let used = &mut scratch[..n];
     base_lists::clear_from(used, 0);
     let placed = &mut chain[..edge_record::WIDTH * n];

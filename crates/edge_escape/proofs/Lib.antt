@@ -1,4 +1,3 @@
 pub mod Near
-pub mod Records
 pub mod Search
 pub mod Sweep

@@ -21,7 +21,7 @@ use Rattle.edge_record.specs.declared.Sample.{Sample}
 use Rattle.edge_record.specs.Own.Stored.{record_point}
 use Rattle.edge_record.specs.Chain.{width, sample_at, samples_from, samples}
 use Rattle.draw_spec.specs.Repair.{escape_limit, escapes, reaches}
-use Rattle.edge_escape.specs.Own.Records.{records_of}
+use Rattle.edge_record.specs.Own.Records.{records_of}
 
 -- some point of a chain passes a test
 abbrev some_of : (Vec3 → Bool) → List Sample → Bool

@@ -1,2 +1,1 @@
 pub mod Best
-pub mod Records

@@ -8,7 +8,7 @@ ghost use Rattle.brep.specs.Rows.{lent};
 ghost use Rattle.brep.specs.Tree.{tree};
 ghost use Rattle.draw_spec.specs.Repair.{escape_limit, escapes, reaches, sweep_at, nearest};
 ghost use Rattle.edge_escape.specs.Own.Best.{measured, nearer_of};
-ghost use Rattle.edge_escape.specs.Own.Records.{records_of};
+ghost use Rattle.edge_record.specs.Own.Records.{records_of};
 
 use arith_root_limit::Limit;
 use brep::{Edge, LentTables};

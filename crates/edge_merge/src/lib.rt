@@ -4,6 +4,7 @@ ghost use Rattle.std.specs.Prelude.{◌≡◌, true, cond, ◌&&◌, ◌-◌, �
 ghost use Rattle.std.specs.Float.Ieee.{lt, le};
 ghost use Rattle.math.specs.Math.{distance};
 ghost use Rattle.edge_record.specs.Own.Stored.{ChainStored};
+ghost use Rattle.edge_record.specs.Own.Records.{records_of};
 ghost use Rattle.edge_record.specs.Chain.{width, samples};
 ghost use Rattle.edge_merge.specs.Merge.{merge_floor, merged};
 
@@ -16,6 +17,7 @@ const MERGE_TOLERANCES: f64 = 4.0;
 const MERGE_SAG: f64 = 0.5;
 
 // The tighter of the two bounds.
+#[tactic(auto, unfolding(crate::specs::Merge::merge_floor))]
 pub fn merge_floor(tolerance: f64, sag: f64) -> f64
     ensures { result ≡ merge_floor tolerance sag }
 {
@@ -26,6 +28,7 @@ pub fn merge_floor(tolerance: f64, sag: f64) -> f64
 }
 
 // Whether two points are further apart than the floor. Its cuts spare most roots.
+#[tactic(auto, unfolding(math::specs::Math::v_length))]
 fn is_apart(p: Vec3, q: Vec3, floor: Limit) -> bool
     ensures { result ≡ lt floor (distance p q) }
 {
@@ -46,9 +49,10 @@ fn before_end(k: usize, last: Vec3, end: Vec3, floor: f64) -> usize
     k
 }
 
-// Merges a chain, the whole records of the slice, in place. What is kept is moved to the slice's start; answers how many there are.
+// Merges a chain, the whole records of the slice, in place. What is kept is moved to the slice's start; answers how many there are. Stays:
+// these are counted beside the slice, which keeps no length of its own as a Vec does with `retain`; memory is fixed.
 pub fn merge(chain: &mut [f64], floor: f64) -> usize
-    ensures { ChainStored chain.old chain.new result (merged floor (samples (length chain.old / width) chain.old)) }
+    ensures { ChainStored chain.old chain.new result (merged floor (records_of chain.old)) }
 {
     let n = chain.len() / edge_record::WIDTH;
     if n <= 2 {

@@ -24,7 +24,8 @@ use Rattle.edge_record.specs.Own.Stored.{record_point}
 use Rattle.edge_record.proofs.Laws.{flat_one, push, samples_from-length, rest_cleared}
 use Rattle.edge_closed_form.proofs.Located.{located_length}
 use Rattle.draw_spec.specs.Edge.{edge_curve, edge_start, edge_end, located, near_squared, degenerate_ends, is_reversed, oriented, moved_to, last_pinned, pinned, chord_of, placed}
-use Rattle.edge_place.specs.Own.Place.{records_of, chord_between}
+use Rattle.edge_record.specs.Own.Records.{records_of}
+use Rattle.edge_place.specs.Own.Place.{chord_between}
 use Rattle.edge_place.proofs.Records.{stored, pass, put_at, read_at, own_samples, filled_by, records_all, first_records}
 
 -- the curve of a row that was prepared

@@ -10,7 +10,7 @@ use lib.Ieee.{Float}
 use Rattle.std.proofs.lemmas.List.{drop_all}
 use Rattle.edge_record.specs.declared.Sample.{Sample}
 use Rattle.edge_record.specs.Chain.{width, row, flat, sample_at, samples}
-use Rattle.edge_place.specs.Own.Place.{records_of}
+use Rattle.edge_record.specs.Own.Records.{records_of}
 use Rattle.edge_record.proofs.Laws.{flat_append, length_flat, lead, reads, samples_own, samples_from-at, samples_from-length}
 
 -- a run of floats stored over another of its length

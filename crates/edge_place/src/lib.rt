@@ -9,7 +9,8 @@ ghost use Rattle.brep.specs.Tree.{tree};
 ghost use Rattle.edge_record.specs.Chain.{width, shortest, row, flat, sample_at, samples};
 ghost use Rattle.edge_record.specs.Own.Stored.{HasRecord};
 ghost use Rattle.draw_spec.specs.Edge.{edge_curve, edge_start, edge_end, located, is_reversed, oriented, moved_to, pinned, chord_of, placed};
-ghost use Rattle.edge_place.specs.Own.Place.{of_points, records_of, chord_between};
+ghost use Rattle.edge_record.specs.Own.Records.{records_of};
+ghost use Rattle.edge_place.specs.Own.Place.{of_points, chord_between};
 
 use brep::{Edge, LentTables};
 use curve_prepared::PreparedCurve;

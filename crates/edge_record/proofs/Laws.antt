@@ -3,7 +3,7 @@ use mathlib.Core.Path.{◌≡◌, refl, sym, ap, ◌∙◌}
 use mathlib.Core.List.{List, [], ◌∷◌, ◌++◌, append_assoc}
 use Prim.Native.Nat.{ℕ, zero, suc, ◌+◌, ◌*◌, ◌<◌, ◌≤◌}
 use native.Mathlib.Nat.{zero-add, add-zero, add-suc, suc-add}
-use native.Mathlib.Numerals.{add-one}
+use native.Mathlib.Numerals.{add-one, add-two, add-three}
 use native.Mathlib.Omega.{arith}
 use lib.ListN.{length, get_or, take, drop, set, length-append}
 use lib.Seq.{get_or_at, get_or-append-add, set_comm, set-set, set-get_or, sets, sets-eq, length-sets, get_or-set_other, take_at}
@@ -108,16 +108,9 @@ own_run : (c d : List Float) (j m : ℕ) → d ≡ c → sets d j (run c j m) �
 own_run c d j zero q = q
 own_run c d j (suc m) q = own_run c (set d j (get_or c j nan)) (suc j) m (ap (λ (r : List Float). set r j (get_or c j nan)) q ∙ set-get_or c j nan)
 
--- the code's indexes, as the stores of a run have them
-pub add_two : (n : ℕ) → n + 2 ≡ suc (suc n)
-add_two n = omega arith
-
-pub add_three : (n : ℕ) → n + 3 ≡ suc (suc (suc n))
-add_three n = omega arith
-
 pub row_own : (c : List Float) (i : ℕ) → sets c (width * i) (row (sample_at c i)) ≡ c
 unfolding sample_at
-row_own c i = rw (add-one, add_two, add_three) (own_run c c (width * i) width refl)
+row_own c i = rw (add-one, add-two, add-three) (own_run c c (width * i) width refl)
 
 pub samples_own : (c : List Float) (i n : ℕ) → sets c (width * i) (flat (samples_from c i n)) ≡ c
 unfolding flat samples_from

@@ -1,3 +1,4 @@
 pub mod Laws
 pub mod Compact
 pub mod Shorter
+pub mod Leading

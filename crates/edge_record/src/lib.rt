@@ -1,5 +1,5 @@
 #![tactic(auto)]
-// A chain's records in a lent buffer: a point and its parameter, four floats, x y z t. A record is reached by its index, as a slice's
+// A chain's records in a lent buffer: a point and its parameter, four floats, x y z t. Stays: a record is reached by its index, as a slice's
 // element is, and each contract has the one fact that it is there: a struct of buffer and index would be made anew at each access.
 ghost use Rattle.std.specs.Prelude.{◌≡◌, ◌*◌};
 ghost use Rattle.std.proofs.lemmas.List.Edits.{sets};

@@ -11,19 +11,23 @@ ghost use Rattle.edge_params.specs.Work.{within};
 ghost use Rattle.edge_record.specs.Chain.{width, shortest, flat, samples};
 ghost use Rattle.draw_spec.specs.Edge.{discretised};
 ghost use Rattle.edge_drawing.specs.Range.{with_range};
-ghost use Rattle.draw_spec.specs.Repair.{by, reference, runaway, serves, arc_or_chord, short_range, has_short_arc, short_arc_tried, by_short_arc, by_complement, stays, repaired};
+ghost use Rattle.draw_spec.specs.Repair.{by, reference, escapes, runaway, serves, arc_or_chord, short_range, has_short_arc, short_arc_tried, by_short_arc, by_complement, stays, repaired};
 ghost use Rattle.draw_spec.specs.Draw.{room_of, in_first};
 ghost use Rattle.edge_place.specs.Own.Place.{of_points, chord_between};
-ghost use Rattle.edge_escape.specs.Own.Records.{records_of};
+ghost use Rattle.edge_record.specs.Own.Records.{records_of};
+ghost use Rattle.edge_repair.specs.Own.Buffers.{room_in};
 ghost use Rattle.edge_repair.specs.Own.Redrawn.{RedrawnChain, InSecond, RedrawnInto, DrawnInto};
 
 use brep::{Edge, LentTables};
+pub use buffers::Buffers;
 use draw_spec::{Drawn, Way};
 use edge_drawing::Drawing;
 use edge_record::WIDTH;
 use math::{Aabb, Interval, Vec3};
 use options::Resolved;
 use refusal::Refusal;
+
+mod buffers;
 
 // The box that the caller gives.
 fn reference(points: &[f64], edge: Edge) -> Aabb
@@ -60,8 +64,8 @@ fn serves(points: &[f64], edge: Edge, r: Resolved, chain: &[f64]) -> bool
     edge_escape::reaches(edge, r, start, chain) && edge_escape::reaches(edge, r, end, chain)
 }
 
-// The arc in the second buffer where it serves, else the chord. The buffer is lent whole, with the arc's count beside it, since the chord is
-// written over the arc.
+// The arc in the second buffer where it serves, else the chord. Stays: the buffer is lent whole, with the arc's count beside it, since the
+// chord is written over the arc.
 fn arc_or_chord(
     points: &[f64],
     edge: Edge,
@@ -105,13 +109,12 @@ fn redraw(
     drawing: &Drawing<'_>,
     range: Interval,
     r: Resolved,
-    first: &mut [f64],
-    second: &mut [f64],
+    buffers: &mut Buffers<'_>,
 ) -> Result<usize, Refusal>
-    requires { (shortest ≤ length first.old) × (shortest ≤ length second.old) × (0 < r.depth) }
-    ensures { RedrawnChain (within (room_of (length first.old) (length second.old)) (discretised (lent drawing.now.tables.now) (with_range drawing.now.edge range) r)) first.old second.old result first.new second.new }
+    requires { 0 < r.depth }
+    ensures { RedrawnChain (within (room_in buffers.old) (discretised (lent drawing.now.tables.now) (with_range drawing.now.edge range) r)) buffers.old result buffers.new }
 {
-    edge_discretise::discretise(&drawing.with_range(range), r, second, first)
+    edge_discretise::discretise(&drawing.with_range(range), r, buffers.second, buffers.first)
 }
 
 // The short arc, whose range is known, drawn and tried; else the chord.
@@ -119,15 +122,14 @@ fn draw_short(
     drawing: &Drawing<'_>,
     short: Interval,
     r: Resolved,
-    first: &mut [f64],
-    second: &mut [f64],
+    buffers: &mut Buffers<'_>,
 ) -> Result<Drawn, Refusal>
-    requires { (shortest ≤ length first.old) × (shortest ≤ length second.old) × (0 < r.depth)
+    requires { (0 < r.depth)
         × (has_short_arc (lent drawing.now.tables.now) drawing.now.edge ≡ true) × (short ≡ short_range (lent drawing.now.tables.now) drawing.now.edge) }
-    ensures { RedrawnInto (short_arc_tried (lent drawing.now.tables.now) drawing.now.edge r) first.old second.old result first.new second.new }
+    ensures { RedrawnInto (short_arc_tried (lent drawing.now.tables.now) drawing.now.edge r) buffers.old result buffers.new }
 {
-    let n = redraw(drawing, short, r, first, second)?;
-    arc_or_chord(drawing.tables.points, drawing.edge, r, second, n)
+    let n = redraw(drawing, short, r, buffers)?;
+    arc_or_chord(drawing.tables.points, drawing.edge, r, buffers.second, n)
 }
 
 // The arc between the parameters at which the vertices sit, drawn and tried; else the chord. The curve's natural range is known, and that
@@ -136,33 +138,31 @@ fn try_short_arc(
     drawing: &Drawing<'_>,
     natural: Interval,
     r: Resolved,
-    first: &mut [f64],
-    second: &mut [f64],
+    buffers: &mut Buffers<'_>,
 ) -> Result<Drawn, Refusal>
-    requires { (shortest ≤ length first.old) × (shortest ≤ length second.old) × (0 < r.depth)
+    requires { (0 < r.depth)
         × (natural ≡ natural_range (tree (lent drawing.now.tables.now) drawing.now.edge.curve)) }
-    ensures { RedrawnInto (short_arc_tried (lent drawing.now.tables.now) drawing.now.edge r) first.old second.old result first.new second.new }
+    ensures { RedrawnInto (short_arc_tried (lent drawing.now.tables.now) drawing.now.edge r) buffers.old result buffers.new }
 {
     let span = natural.span();
     if arith::is_finite(span) && 0.0 < span {
         let short = short_range(drawing.tables, drawing.edge);
         if 0.0 < short.span() {
-            return draw_short(drawing, short, r, first, second);
+            return draw_short(drawing, short, r, buffers);
         }
     }
-    base_lists::clear_from(first, 0);
-    runaway(drawing.tables.points, drawing.edge, second)
+    base_lists::clear_from(buffers.first, 0);
+    runaway(drawing.tables.points, drawing.edge, buffers.second)
 }
 
 // Where the range itself ran away: the curve is swept for the parameters at which the vertices sit, unless that would ask for one that is too far.
 fn by_short_arc(
     drawing: &Drawing<'_>,
     r: Resolved,
-    first: &mut [f64],
-    second: &mut [f64],
+    buffers: &mut Buffers<'_>,
 ) -> Result<Drawn, Refusal>
-    requires { (shortest ≤ length first.old) × (shortest ≤ length second.old) × (0 < r.depth) }
-    ensures { RedrawnInto (by_short_arc (lent drawing.now.tables.now) drawing.now.edge r) first.old second.old result first.new second.new }
+    requires { 0 < r.depth }
+    ensures { RedrawnInto (by_short_arc (lent drawing.now.tables.now) drawing.now.edge r) buffers.old result buffers.new }
 {
     let natural = curve::natural_range(drawing.tables, drawing.edge.curve);
     if edge_asks::sweep_far(
@@ -172,11 +172,21 @@ fn by_short_arc(
         drawing.edge.curve,
         natural,
     ) {
-        base_lists::clear_from(first, 0);
-        base_lists::clear_from(second, 0);
+        base_lists::clear_from(buffers.first, 0);
+        base_lists::clear_from(buffers.second, 0);
         return Err(Refusal::TooFar);
     }
-    try_short_arc(drawing, natural, r, first, second)
+    try_short_arc(drawing, natural, r, buffers)
+}
+
+// Whether the arc of n records in the second buffer leaves the reference box. (A part of a buffer that is lent from a `&mut Buffers` itself
+// leaves no more of that buffer known than its length.)
+fn arc_escapes(drawing: &Drawing<'_>, r: Resolved, buffers: &Buffers<'_>, n: usize) -> bool
+    requires { width * n ≤ length buffers.now.second.now }
+    ensures { result ≡ escapes (reference (of_points drawing.now.tables.now.points.now) drawing.now.edge) r (samples n buffers.now.second.now) }
+{
+    let b = reference(drawing.tables.points, drawing.edge);
+    edge_escape::escapes(b, r, &buffers.second[..WIDTH * n])
 }
 
 // The complementary arc of a curve of period p, from where the range ends back round to where it began, drawn and tried;
@@ -185,23 +195,21 @@ fn by_complement(
     drawing: &Drawing<'_>,
     r: Resolved,
     p: f64,
-    first: &mut [f64],
-    second: &mut [f64],
+    buffers: &mut Buffers<'_>,
 ) -> Result<Drawn, Refusal>
-    requires { (shortest ≤ length first.old) × (shortest ≤ length second.old) × (0 < r.depth) }
-    ensures { RedrawnInto (by_complement (lent drawing.now.tables.now) drawing.now.edge r p) first.old second.old result first.new second.new }
+    requires { 0 < r.depth }
+    ensures { RedrawnInto (by_complement (lent drawing.now.tables.now) drawing.now.edge r p) buffers.old result buffers.new }
 {
     let complement = Interval {
         lo: drawing.edge.range.hi,
         hi: drawing.edge.range.lo + p,
     };
     if !(0.0 < complement.span()) {
-        return by_short_arc(drawing, r, first, second);
+        return by_short_arc(drawing, r, buffers);
     }
-    let n = redraw(drawing, complement, r, first, second)?;
-    let arc = &second[..WIDTH * n];
-    if edge_escape::escapes(reference(drawing.tables.points, drawing.edge), r, arc) {
-        return by_short_arc(drawing, r, first, second);
+    let n = redraw(drawing, complement, r, buffers)?;
+    if arc_escapes(drawing, r, buffers, n) {
+        return by_short_arc(drawing, r, buffers);
     }
     Ok(Drawn {
         way: Way::Complement,
@@ -236,7 +244,7 @@ pub fn stays_between(points: &[f64], edge: Edge, p: Vec3, q: Vec3) -> bool
 }
 
 // Keeps the chain of n records that stands alone in the first buffer, or draws another way into the second and clears
-// the first: the buffer is lent whole, with the chain's count beside it, since all of it is drawn into.
+// the first. Stays: the buffer is lent whole, with the chain's count beside it, since all of it is drawn into.
 pub fn repair_runaway(
     drawing: &Drawing<'_>,
     r: Resolved,
@@ -252,8 +260,9 @@ pub fn repair_runaway(
     if stays(drawing.tables.points, drawing.edge, r, &first[..WIDTH * n]) {
         return Ok(Drawn { way, count: n });
     }
+    let mut buffers = Buffers { first, second };
     match curve::period(drawing.tables, drawing.edge.curve) {
-        Some(p) => by_complement(drawing, r, p, first, second),
-        None => by_short_arc(drawing, r, first, second),
+        Some(p) => by_complement(drawing, r, p, &mut buffers),
+        None => by_short_arc(drawing, r, &mut buffers),
     }
 }

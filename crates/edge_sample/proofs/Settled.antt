@@ -18,13 +18,30 @@ use Rattle.edge_params.specs.Own.Written.{said, ListWritten}
 use Rattle.edge_params.proofs.Written.{fitting_fits, Counted, counted, written_count, written_length, written_list}
 use Rattle.base_lists.specs.Own.ListOf.{list_of}
 use Rattle.edge_sample.specs.Own.Traced.{is_enough}
-use Rattle.edge_sample.specs.Own.Answered.{SampledInto, kept_floats}
+use Rattle.edge_sample.specs.declared.Sampled.{Sampled}
+use Rattle.edge_sample.specs.Own.Answered.{SampledInto, kept_floats, sampled_as, count_of, known_of}
 use Rattle.refusal.specs.Answer.{Answer, each, bind}
 use Rattle.refusal.specs.declared.Refusal.TheVariants.{NoRoom}
 
 refused_list : (s : Answer (List Float)) → Err NoRoom ≡ each length s → list_of s ≡ []
 refused_list (Err n) e = refl
 refused_list (Ok k) e = let z : ◌≡◌ {A = ℕ} 0 1 = cc in absurd (omega arith)
+
+-- what settle answers of a list
+module _ (w : Option ℕ) (known : Bool) {q : Option Sampled} (is : q ≡ sampled_as w known) where
+  pub counts : count_of q ≡ w
+  counts = ap count_of is ∙ go w
+    where
+      go : (w : Option ℕ) → count_of (sampled_as w known) ≡ w
+      go (Some n) = refl
+      go None = refl
+
+  pub unknown : known ≡ false → known_of q ≡ false
+  unknown e = ap known_of is ∙ go w ∙ e
+    where
+      go : (w : Option ℕ) → known_of (sampled_as w known) ≡ known
+      go (Some n) = refl
+      go None = sym e
 
 -- v is the answer of the code that wrote the list l, and w what settle is handed
 module _ {out l after : List Float} (v w : Option ℕ) (e : v ≡ w) (h : ListWritten out l v after) where

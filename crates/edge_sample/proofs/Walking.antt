@@ -70,9 +70,9 @@ module _ (c : CurveTree) (range : Interval) (r : Resolved) where
 
   -- the options that the limits are of are the walk's
   pub span_of : (o : Resolved) → o ≡ r → (a b : Float) {w : Option (Unit {0})} {old new : Recorder}
-      → Records c (subdivided (within_budget c o) r.depth a b ++ unless_hi range b) w old new → Records c (span a b) w old new
+      → Records c (subdivided (within_budget c o) o.depth a b ++ unless_hi range b) w old new → Records c (span a b) w old new
   span_of o e a b {w} {old} {new} h =
-      subst (λ (x : Resolved). Records c (subdivided (within_budget c x) r.depth a b ++ unless_hi range b) w old new) e h
+      subst (λ (x : Resolved). Records c (subdivided (within_budget c x) x.depth a b ++ unless_hi range b) w old new) e h
 
   module _ (breaks : List Float) where
     -- range.lo, and what is put behind it; the breaks are those of the curve d, which the walk's own is

@@ -36,10 +36,6 @@ pub answered_as : (w : Option ℕ) (last : List Float) (n room : ℕ) → n ≡ 
 answered_as w last n room e f s is a =
     subst (λ (x : Answer (List Float)). SampledInto room x w last) is (subst (λ (m : ℕ). SampledInto m (f m) w last) e a)
 
--- an answer handed on
-pub parsed_as_lem : (v w : Option ℕ) → w ≡ v → (room : ℕ) (s : Answer (List Float)) (last : List Float) → SampledInto room s v last → SampledInto room s w last
-parsed_as_lem v w e room s last a = subst (λ (x : Option ℕ). SampledInto room s x last) (sym e) a
-
 -- what refine leaves in the chain
 pub refined_traced : (room : ℕ) (c : CurveTree) (range : Interval) (r : Resolved) (chain : List Float) {left : List Float} → left ≡ over c (bisected (sampler c range r) range) chain
     → {known : Bool} → known ≡ is_enough r.segments (fitting room (bisected (sampler c range r) range)) → traced known left ≡ traced_refined room c range r chain

@@ -1,6 +1,6 @@
 #![tactic(auto)]
 // sample_params of edge.rs, on rows.
-ghost use Rattle.std.specs.Prelude.{◌≡◌, false, ◌++◌, ◌≤◌, length, get_or, take};
+ghost use Rattle.std.specs.Prelude.{◌≡◌, ◌++◌, ◌≤◌, length, get_or, take};
 ghost use Rattle.std.specs.Float.{nan};
 ghost use Rattle.base_lists.specs.Room.{filled};
 ghost use Rattle.curve_prepared.specs.Own.PreparedCurve.{curve_of};
@@ -14,11 +14,11 @@ ghost use Rattle.edge_subdivide.specs.Own.Recorded.{Room};
 ghost use Rattle.edge_subdivide.specs.Own.Recorder.{Records};
 ghost use Rattle.edge_sample.specs.Sample.{sampler};
 ghost use Rattle.edge_sample.specs.Own.Traced.{traced, traced_refined, traced_sampled};
-ghost use Rattle.edge_sample.specs.Own.Answered.{sampled_in, SampledInto, kept_floats, stops};
+ghost use Rattle.edge_sample.specs.Own.Answered.{sampled_in, SampledInto, kept_floats, sampled_as, count_of, known_of, stops};
 
 use curve_prepared::PreparedCurve;
 use edge_drawing::Drawing;
-use edge_subdivide::{End, Limits, Recorder};
+use edge_subdivide::{Bisection, End, Recorder};
 use math::Interval;
 use options::Resolved;
 
@@ -40,18 +40,16 @@ pub fn stop_at(range: Interval, breaks: &[f64], i: usize) -> f64
 
 // A span of the walk: what bisection puts inside it, then its end, unless that is range.hi, which stands once at the list's end.
 fn step(
-    curve: &PreparedCurve<'_>,
+    bisection: &Bisection<'_>,
     range: Interval,
-    r: Resolved,
-    limits: &Limits,
     left: End,
     right: End,
     to: &mut Recorder<'_>,
 ) -> Option<()>
-    requires { (left ≡ end_at (curve_of curve.now) left.t) × (right ≡ end_at (curve_of curve.now) right.t) }
-    ensures { Records (curve_of curve.now) (subdivided (within_budget (curve_of curve.now) limits.now.options) r.depth left.t right.t ++ unless_hi range right.t) result to.old to.new }
+    requires { (left ≡ end_at (curve_of bisection.now.curve) left.t) × (right ≡ end_at (curve_of bisection.now.curve) right.t) }
+    ensures { Records (curve_of bisection.now.curve) (subdivided (within_budget (curve_of bisection.now.curve) bisection.now.limits.options) bisection.now.limits.options.depth left.t right.t ++ unless_hi range right.t) result to.old to.new }
 {
-    edge_subdivide::subdivide(curve, limits, left, right, r.depth, to)?;
+    bisection.subdivide(left, right, bisection.limits.options.depth, to)?;
     if right.t != range.hi {
         return to.push(right);
     }
@@ -70,13 +68,13 @@ fn walk(
     ensures { Records (drawn_curve drawing.now) (bisected (sampler (drawn_curve drawing.now) range r) range) result to.old to.new }
 {
     let curve = PreparedCurve::new(drawing.tables, drawing.edge.curve);
-    let limits = edge_subdivide::limits_of(r);
-    let mut left = edge_subdivide::end_at(&curve, range.lo);
+    let bisection = Bisection::new(curve, r);
+    let mut left = bisection.end_at(range.lo);
     to.push(left)?;
     // By number: only here it is known which way round the breaks are read, and an iterator that goes either way is no plainer.
     for i in 0..=breaks.len() {
-        let right = edge_subdivide::end_at(&curve, stop_at(range, breaks, i));
-        step(&curve, range, r, &limits, left, right, to)?;
+        let right = bisection.end_at(stop_at(range, breaks, i));
+        step(&bisection, range, left, right, to)?;
         left = right;
     }
     to.push(left)
@@ -119,30 +117,22 @@ fn bisect_range(
     walk_breaks(drawing, range, r, to)
 }
 
-// +0.0 behind the list, or everywhere where it was refused.
-fn settle(listed: Option<usize>, out: &mut [f64]) -> Option<usize>
-    requires { kept_floats listed ≤ length out.old }
-    ensures { (result ≡ listed) × (out.new ≡ filled (length out.old) (take (kept_floats listed) out.old)) }
-{
-    base_lists::clear_from(out, listed.unwrap_or(0));
-    listed
-}
-
-// What sampling answers: how many parameters there are, or that they were refused; and whether the chain's records hold the
-// curve's points at them.
+// What sampling answers of a list that has room: how many parameters there are, and whether the chain's records hold the curve's points
+// at them. Stays: a flag, since there are so many parameters either way, and `place` is handed both.
 #[derive(Clone, Copy)]
 pub struct Sampled {
-    pub listed: Option<usize>,
+    pub count: usize,
     pub known: bool,
 }
 
-fn unknown(listed: Option<usize>) -> Sampled
-    ensures { (result.listed ≡ listed) × (result.known ≡ false) }
+// What is answered of a list, and +0.0 behind it, or everywhere where it was refused.
+fn settle(listed: Option<usize>, known: bool, out: &mut [f64]) -> Option<Sampled>
+    requires { kept_floats listed ≤ length out.old }
+    ensures { (result ≡ sampled_as listed known) × (out.new ≡ filled (length out.old) (take (kept_floats listed) out.old)) }
 {
-    Sampled {
-        listed,
-        known: false,
-    }
+    base_lists::clear_from(out, listed.unwrap_or(0));
+    let count = listed?;
+    Some(Sampled { count, known })
 }
 
 // Bisection, then the segment floor: even steps where the list has fewer segments. Bisection's points are left in the chain. Stays: two
@@ -153,10 +143,10 @@ fn refine(
     r: Resolved,
     out: &mut [f64],
     chain: &mut [f64],
-) -> Sampled
+) -> Option<Sampled>
     requires { Room out.old chain.old 0 }
-    ensures { SampledInto (length out.old) (refined_in (length out.old) (sampler (drawn_curve drawing.now) range r) range) result.listed out.new
-        × (traced result.known chain.new ≡ traced_refined (length out.old) (drawn_curve drawing.now) range r chain.old) }
+    ensures { SampledInto (length out.old) (refined_in (length out.old) (sampler (drawn_curve drawing.now) range r) range) (count_of result) out.new
+        × (traced (known_of result) chain.new ≡ traced_refined (length out.old) (drawn_curve drawing.now) range r chain.old) }
 {
     let mut to = Recorder {
         params: out,
@@ -164,22 +154,18 @@ fn refine(
         len: 0,
     };
     let Some(()) = bisect_range(drawing, range, r, &mut to) else {
-        return unknown(settle(None, out));
+        return settle(None, false, out);
     };
     let n = to.len;
     if (n as u64) - 1 < r.segments {
         let even = edge_params::evenly(range, r.segments, out);
-        return unknown(settle(even, out));
+        return settle(even, false, out);
     }
-    let kept = settle(Some(n), out);
-    Sampled {
-        listed: kept,
-        known: true,
-    }
+    settle(Some(n), true, out)
 }
 
-// The parameters of the curve of a row over a range, from the start of out, and +0.0 behind them; refusal 8, and +0.0 everywhere,
-// where a list is longer than out. A closed form gives even steps, but only where it is given the right radius: it is checked
+// The parameters of the curve of a row over a range, from the start of out, and +0.0 behind them; none, and +0.0 everywhere, where
+// a list is longer than out. A closed form gives even steps, but only where it is given the right radius: it is checked
 // against the sag, and where it misses that the curve is bisected. Its points for the check, and those of bisection, are left in
 // the chain, which has a record for each float of out. Stays: two buffers, as for `refine`.
 pub fn sample_params(
@@ -188,10 +174,10 @@ pub fn sample_params(
     r: Resolved,
     out: &mut [f64],
     chain: &mut [f64],
-) -> Sampled
+) -> Option<Sampled>
     requires { Room out.old chain.old 0 }
-    ensures { SampledInto (length out.old) (sampled_in (length out.old) (drawn_curve drawing.now) range r) result.listed out.new
-        × (traced result.known chain.new ≡ traced_sampled (length out.old) (drawn_curve drawing.now) range r chain.old) }
+    ensures { SampledInto (length out.old) (sampled_in (length out.old) (drawn_curve drawing.now) range r) (count_of result) out.new
+        × (traced (known_of result) chain.new ≡ traced_sampled (length out.old) (drawn_curve drawing.now) range r chain.old) }
 {
     let form = edge_range::analytic_segments(drawing.tables, drawing.edge.curve, range, r);
     let Some(n) = form else {
@@ -199,14 +185,10 @@ pub fn sample_params(
     };
     let even = edge_params::evenly(range, n, out);
     let Some(m) = even else {
-        return unknown(settle(even, out));
+        return settle(even, false, out);
     };
     if edge_closed_form::meets(drawing.tables, drawing.edge.curve, &out[..m], r.sag, chain) {
-        let listed = settle(even, out);
-        return Sampled {
-            listed,
-            known: true,
-        };
+        return settle(even, true, out);
     }
     refine(drawing, range, r, out, chain)
 }

@@ -18,26 +18,19 @@ ghost use Rattle.edge_place.specs.Own.Place.{chord_between};
 ghost use Rattle.edge_segment.specs.Own.Segment.{SegmentInto};
 
 use brep::Edge;
+use edge_record::Sample;
 use math::{Interval, Vec3};
 use options::Options;
 
-// Whether a line's middle between a and b, where its points are pa and pb, is within the sag of the middle of these, whatever the extent
-// that the sag is for: the check of a closed form, which only rounding can make a line fail. No root is taken, and `false` says nothing.
-fn meets(
-    origin: Vec3,
-    direction: Vec3,
-    a: f64,
-    b: f64,
-    pa: Vec3,
-    pb: Vec3,
-    options: Options,
-) -> bool
-    requires { (pa ≡ v_add origin (v_scale direction a)) × (pb ≡ v_add origin (v_scale direction b)) }
-    ensures { result ≡ true → (c : CurveTree) → prepared_of c ≡ Line origin direction → (extent : Float) → le (worst_miss c plus_zero (a ∷ b ∷ [])) (sag_for (resolve options) extent) ≡ true }
+// Whether a line's middle between two of its points is within the sag of the middle of these, whatever the extent that the sag is for: the
+// check of a closed form, which only rounding can make a line fail. No root is taken, and `false` says nothing.
+fn meets(origin: Vec3, direction: Vec3, from: Sample, to: Sample, options: Options) -> bool
+    requires { (from.point ≡ v_add origin (v_scale direction from.param)) × (to.point ≡ v_add origin (v_scale direction to.param)) }
+    ensures { result ≡ true → (c : CurveTree) → prepared_of c ≡ Line origin direction → (extent : Float) → le (worst_miss c plus_zero (from.param ∷ to.param ∷ [])) (sag_for (resolve options) extent) ≡ true }
 {
-    let t = 0.5 * (a + b);
+    let t = 0.5 * (from.param + to.param);
     let m = origin.add(direction.scale(t));
-    let s = m.sub(pa.add(pb).scale(0.5)).length_squared();
+    let s = m.sub(from.point.add(to.point).scale(0.5)).length_squared();
     if 0.0 < s {
         // No sag for an extent is below an eighth of the whole model's.
         let least = options.resolve().sag / 8.0;
@@ -47,26 +40,16 @@ fn meets(
     true
 }
 
-// The chord of the vertices, which are at start and end, with the parameters a and b the way round that the line's points there, pa and pb,
-// run.
-fn chord_along(
-    start: Vec3,
-    end: Vec3,
-    edge: Edge,
-    a: f64,
-    b: f64,
-    pa: Vec3,
-    pb: Vec3,
-    chain: &mut [f64],
-)
+// The chord of the vertices, which are at start and end, with the parameters of two of the line's points the way round that these run.
+fn chord_along(start: Vec3, end: Vec3, edge: Edge, from: Sample, to: Sample, chain: &mut [f64])
     requires { shortest ≤ length chain.old }
     ensures { (T : Tables) → start ≡ edge_start T edge → end ≡ edge_end T edge → chain.new ≡ filled (length chain.old)
-        (flat (cond (is_reversed T edge pa pb) (chord_between start end b a) (chord_between start end a b))) }
+        (flat (cond (is_reversed T edge from.point to.point) (chord_between start end to.param from.param) (chord_between start end from.param to.param))) }
 {
-    if edge_place::runs_back(edge, start, end, pa, pb) {
-        edge_place::chord_between(start, end, b, a, chain);
+    if edge_place::runs_back(edge, start, end, from.point, to.point) {
+        edge_place::chord_between(start, end, to.param, from.param, chain);
     } else {
-        edge_place::chord_between(start, end, a, b, chain);
+        edge_place::chord_between(start, end, from.param, to.param, chain);
     }
 }
 
@@ -88,10 +71,16 @@ pub fn draw_segment(
 {
     let a = range.at(0.0);
     let b = range.at(1.0);
-    let pa = origin.add(direction.scale(a));
-    let pb = origin.add(direction.scale(b));
-    if meets(origin, direction, a, b, pa, pb, options) {
-        chord_along(start, end, edge, a, b, pa, pb, chain);
+    let from = Sample {
+        point: origin.add(direction.scale(a)),
+        param: a,
+    };
+    let to = Sample {
+        point: origin.add(direction.scale(b)),
+        param: b,
+    };
+    if meets(origin, direction, from, to, options) {
+        chord_along(start, end, edge, from, to, chain);
         return true;
     }
     false

@@ -46,17 +46,6 @@ pub fn limits_of(options: Resolved) -> Limits
     }
 }
 
-// A curve at t.
-pub fn end_at(curve: &PreparedCurve<'_>, t: f64) -> End
-    ensures { result ≡ end_at (curve_of curve.now) t }
-{
-    End {
-        t,
-        point: curve.point(t),
-        tangent: curve.tangent(t),
-    }
-}
-
 // The cosine of the angle between two tangents; where one is missing, of the angle 0.
 fn turn_cosine(a: Option<Vec3>, b: Option<Vec3>) -> f64
     ensures { acos_of result ≡ tangent_turn a b }
@@ -85,41 +74,73 @@ fn is_within(limits: &Limits, a: End, b: End, pm: Vec3) -> bool
     false
 }
 
-// The middle at which the span from a to b is split; none where it is within budget. The middle's tangent is evaluated only where it is
-// split.
-fn split_of(curve: &PreparedCurve<'_>, limits: &Limits, a: End, b: End) -> Option<End>
-    ensures { result ≡ split_of (curve_of curve.now) limits.now.options a b }
-{
-    let t = 0.5 * (a.t + b.t);
-    let point = curve.point(t);
-    if is_within(limits, a, b, point) {
-        return None;
-    }
-    let tangent = curve.tangent(t);
-    Some(End { t, point, tangent })
+// A curve whose spans are bisected, and what they are held to. (That an end is the curve's stands in the clauses, and not in `End`, which would
+// carry the curve from span to span.)
+#[derive(Drop)]
+pub struct Bisection<'a> {
+    pub curve: PreparedCurve<'a>,
+    pub limits: Limits,
 }
 
-// What bisection puts between a and b, behind what is recorded; none where there is no room for it.
-pub fn subdivide(
-    curve: &PreparedCurve<'_>,
-    limits: &Limits,
-    a: End,
-    b: End,
-    depth: u32,
-    to: &mut Recorder<'_>,
-) -> Option<()>
-    requires { (a ≡ end_at (curve_of curve.now) a.t) × (b ≡ end_at (curve_of curve.now) b.t) }
-    ensures { Records (curve_of curve.now)
-        (subdivided (within_budget (curve_of curve.now) limits.now.options) depth a.t b.t)
-        result to.old to.new }
-{
-    if depth == 0 {
-        return Some(());
+impl<'a> Bisection<'a> {
+    ghost use Rattle.std.specs.Prelude.{◌≡◌};
+    ghost use Rattle.curve_prepared.specs.Own.PreparedCurve.{curve_of};
+    ghost use Rattle.edge_params.specs.Own.Bisected.{subdivided};
+    ghost use Rattle.edge_subdivide.specs.Own.Recorder.{Records};
+    ghost use Rattle.edge_subdivide.specs.Own.Split.{split_of};
+    ghost use Rattle.edge_subdivide.specs.Bisect.{end_at, within_budget};
+
+    // A curve, held to the limits of the options.
+    pub fn new(curve: PreparedCurve<'a>, options: Resolved) -> Bisection<'a>
+        ensures curve { result.curve ≡ curve.entry }
+        ensures options { result.limits.options ≡ options }
+    {
+        Bisection {
+            curve,
+            limits: limits_of(options),
+        }
     }
-    let Some(m) = split_of(curve, limits, a, b) else {
-        return Some(());
-    };
-    subdivide(curve, limits, a, m, depth - 1, to)?;
-    to.push(m)?;
-    subdivide(curve, limits, m, b, depth - 1, to)
+
+    // The curve at t.
+    pub fn end_at(&self, t: f64) -> End
+        ensures { result ≡ end_at (curve_of self.now.curve) t }
+    {
+        End {
+            t,
+            point: self.curve.point(t),
+            tangent: self.curve.tangent(t),
+        }
+    }
+
+    // The middle at which the span from a to b is split; none where it is within budget. The middle's tangent is evaluated only where it is
+    // split.
+    fn split_of(&self, a: End, b: End) -> Option<End>
+        ensures { result ≡ split_of (curve_of self.now.curve) self.now.limits.options a b }
+    {
+        let t = 0.5 * (a.t + b.t);
+        let point = self.curve.point(t);
+        if is_within(&self.limits, a, b, point) {
+            return None;
+        }
+        let tangent = self.curve.tangent(t);
+        Some(End { t, point, tangent })
+    }
+
+    // What bisection puts between a and b, behind what is recorded; none where there is no room for it.
+    pub fn subdivide(&self, a: End, b: End, depth: u32, to: &mut Recorder<'_>) -> Option<()>
+        requires { (a ≡ end_at (curve_of self.now.curve) a.t) × (b ≡ end_at (curve_of self.now.curve) b.t) }
+        ensures { Records (curve_of self.now.curve)
+            (subdivided (within_budget (curve_of self.now.curve) self.now.limits.options) depth a.t b.t)
+            result to.old to.new }
+    {
+        if depth == 0 {
+            return Some(());
+        }
+        let Some(m) = self.split_of(a, b) else {
+            return Some(());
+        };
+        self.subdivide(a, m, depth - 1, to)?;
+        to.push(m)?;
+        self.subdivide(m, b, depth - 1, to)
+    }
 }

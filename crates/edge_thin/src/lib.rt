@@ -4,6 +4,7 @@ ghost use Rattle.std.specs.Prelude.{◌≡◌, true, false, ◌*◌, ◌/◌, �
 ghost use Rattle.std.specs.Float.Ieee.{lt};
 ghost use Rattle.arith.specs.Notation.{plus_zero};
 ghost use Rattle.edge_record.specs.Own.Stored.{counted_of, after, ChainStored};
+ghost use Rattle.edge_record.specs.Own.Records.{records_of};
 ghost use Rattle.edge_record.specs.Chain.{width, most, samples};
 ghost use Rattle.edge_thin_mark.specs.Spans.{marks};
 ghost use Rattle.edge_thin.specs.Thin.{flag_count, evens, with_floor, retained_by, thinned};
@@ -84,8 +85,8 @@ fn thin_by(
 // Thins a chain, the whole records of the slice, in place.
 pub fn thin(chain: &mut [f64], tolerance: f64, angle: f64, floor: usize) -> Result<usize, Refusal>
     requires { length chain.old / width ≤ most }
-    ensures { (result ≡ counted_of (thinned tolerance angle floor (samples (length chain.old / width) chain.old)))
-        × (chain.new ≡ after chain.old (thinned tolerance angle floor (samples (length chain.old / width) chain.old))) }
+    ensures { (result ≡ counted_of (thinned tolerance angle floor (records_of chain.old)))
+        × (chain.new ≡ after chain.old (thinned tolerance angle floor (records_of chain.old))) }
 {
     let n = chain.len() / edge_record::WIDTH;
     if n < 3 || !(tolerance > 0.0) {

@@ -15,7 +15,7 @@ use Rattle.brep.specs.Rows.{Tables, lent}
 use Rattle.brep.specs.Tree.{CurveTree, segments, grown, below, segment_in, row_in, tree}
 use Rattle.brep.proofs.ByKind.{row_kind, row_first, row_count, row_trim, row_composite, row_leaf}
 use Rattle.knots.specs.Knots.{segment_knots, curve_knots}
-use Rattle.knots.specs.declared.Run.{Run}
+use Rattle.brep.specs.declared.Run.{Run}
 use Rattle.knots.specs.Own.Gathered.{run_knots, KnotsOfRun}
 
 pub run_length : (parts : List ℕ) (ranges : List Float) (first n : ℕ) → length (run_knots parts ranges first n) ≡ 2 * n

@@ -88,7 +88,7 @@ fn put_malformed(out: &mut Waiting) {
     out.put_word(b"?\n");
 }
 
-// Stays: replay_chain writes another word.
+// Stays: replay_chain has another byte between the word and the number, and a shared function of two lines would take it.
 fn put_refusal(cause: Refusal, out: &mut Waiting) {
     out.put_word(b"refusal\n");
     out.put_decimal(u64::from(cause.number()), b'\n');

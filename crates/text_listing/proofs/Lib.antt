@@ -3,4 +3,3 @@ pub mod Lines
 pub mod Laws
 pub mod Examples
 pub mod ReadBack
-pub mod Leading

@@ -1,6 +1,7 @@
 #![tactic(auto)]
 // The listing of a chain, a line of x y z t for each sample, and that of a refusal, into a lent buffer.
 ghost use Rattle.std.specs.Prelude.{◌≡◌, ◌+◌, ◌*◌, ◌/◌, ◌<◌, ◌≤◌, length};
+ghost use Rattle.edge_record.specs.Own.Records.{records_of};
 ghost use Rattle.edge_record.specs.Chain.{width, samples};
 ghost use Rattle.text_listing.specs.Listing.{heading_bytes, line_bytes, refusal_bytes, bits_or, row_of, own_of, line_of, listing, refusal, Put};
 ghost use Rattle.text_listing.specs.Own.Writer.{HasRoom, Writes};
@@ -86,7 +87,7 @@ fn own_of(first: u64, last: u64, n: usize, i: usize) -> u64
 // and the last parameter were copied from if they are NaN. Stays: the chain and the bytes are no parallel arrays.
 pub fn write_chain(chain: &[f64], first: u64, last: u64, out: &mut [u8]) -> usize
     requires { heading_bytes + line_bytes * (length chain.now / width) ≤ length out.old }
-    ensures { Put (listing first last (samples (length chain.now / width) chain.now)) out.old result out.new }
+    ensures { Put (listing first last (records_of chain.now)) out.old result out.new }
 {
     let n = chain.len() / edge_record::WIDTH;
     let mut to = Writer::new(out);

@@ -3,6 +3,7 @@ use Rattle.std.proofs.Common.{rules, ◌∙◌}
 use borrow.Author.Tests.{eq-eqb, ne_eqb, lt-ltb, le-ltb}
 use Rattle.brep.specs.Rows.{tables}
 use Rattle.brep.specs.declared.Kind.TheVariants.{Composite, Hyperbola}
+use Rattle.brep.proofs.ByKind.{first_read, count_read}
 use Rattle.brep.proofs.Numbered.{is_numbered, not_numbered}
 use Rattle.curve_parameter.proofs.Under.{under_low}
 use Rattle.curve_asks.proofs.Laws.{far_none, far_some, far_other}
@@ -20,14 +21,14 @@ returns-in_default t c points reals =
     let a = c.args in
     let T = tables points a.curves.now reals a.parts.now a.ranges.now in
     let seven = is_numbered Composite c.kind_at-kind.ensures c.eq.ensures c.if-eq.true in
-    far_none T a.row a.t c.under_trims-r.ensures seven c.int_at-first.ensures c.int_at-count.ensures c.in_default.ensures
+    far_none T a.row a.t c.under_trims-r.ensures seven (first_read c.run_at-run.ensures) (count_read c.run_at-run.ensures) c.in_default.ensures
 
 pub returns-then-base-r : goal.returns-then-base-r
 returns-then-base-r t c points reals =
     let a = c.args in
     let T = tables points a.curves.now reals a.parts.now a.ranges.now in
     let seven = is_numbered Composite c.kind_at-kind.ensures c.eq.ensures c.if-eq.true in
-    let found = far_some T a.row a.t c.under_trims-r.ensures seven c.int_at-first.ensures c.int_at-count.ensures c.in-Some.ensures in
+    let found = far_some T a.row a.t c.under_trims-r.ensures seven (first_read c.run_at-run.ensures) (count_read c.run_at-run.ensures) c.in-Some.ensures in
     c.far_at.ensures points reals ∙ rw (lt-ltb _ _ c.if-base-r.true) at found
 
 pub returns-else-base-r : goal.returns-else-base-r
@@ -35,7 +36,7 @@ returns-else-base-r t c points reals =
     let a = c.args in
     let T = tables points a.curves.now reals a.parts.now a.ranges.now in
     let seven = is_numbered Composite c.kind_at-kind.ensures c.eq.ensures c.if-eq.true in
-    let found = far_some T a.row a.t c.under_trims-r.ensures seven c.int_at-first.ensures c.int_at-count.ensures c.in-Some.ensures in
+    let found = far_some T a.row a.t c.under_trims-r.ensures seven (first_read c.run_at-run.ensures) (count_read c.run_at-run.ensures) c.in-Some.ensures in
     rw (le-ltb _ _ c.if-base-r.false) (rw (le-ltb _ _ c.if-base-r.false) at found)
 
 pub returns-then-eq-2 : goal.returns-then-eq-2

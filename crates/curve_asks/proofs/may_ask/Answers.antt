@@ -2,6 +2,7 @@
 use Rattle.std.proofs.Common.{arith, sym, ◌∙◌}
 use Rattle.brep.specs.Rows.{tables}
 use Rattle.brep.specs.declared.Kind.TheVariants.{Composite, Hyperbola}
+use Rattle.brep.proofs.ByKind.{first_read, count_read}
 use Rattle.brep.proofs.Numbered.{is_kind, is_numbered, not_numbered}
 use Rattle.curve_asks.proofs.Laws.{may_run, may_other}
 use Rattle.curve_asks.proofs.Never.{never_far}
@@ -12,7 +13,7 @@ returns-then-eq c points reals =
     let a = c.args in
     let T = tables points a.curves.now reals a.parts.now a.ranges.now in
     let seven = is_numbered Composite c.kind_at-kind.ensures c.eq.ensures c.if-eq.true in
-    let m = c.run_may_ask.ensures ∙ may_run T a.row c.under_trims-r.ensures seven c.int_at-first.ensures c.int_at-count.ensures in
+    let m = c.run_may_ask.ensures ∙ may_run T a.row c.under_trims-r.ensures seven (first_read c.run_at.ensures) (count_read c.run_at.ensures) in
     (m, λ h. never_far T (λ i. omega (arith, c.type_inv.curves i)) a.row (sym m ∙ h))
 
 pub returns : goal.returns

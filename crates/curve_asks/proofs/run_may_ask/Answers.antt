@@ -8,5 +8,5 @@ pub returns-then-is_wild : goal.returns-then-is_wild
 returns-then-is_wild c =
     let a = c.args in
     let P = is_risky a.curves.now a.parts.now a.ranges.now a.row in
-    let risky : P (a.first + c.loop-i.i) ≡ true = grind (arith, is_kind_below) in
-    rw (some_at P a.first a.count c.loop-i.i (omega arith) risky)
+    let risky : P (a.run.first + c.loop-i.i) ≡ true = grind (arith, is_kind_below) in
+    rw (some_at P a.run.first a.run.count c.loop-i.i (omega arith) risky)

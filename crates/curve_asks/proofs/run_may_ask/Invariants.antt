@@ -8,6 +8,6 @@ use Rattle.curve_asks.proofs.run_may_ask.Given as goal
 
 abbrev pub invariant-loop-i : goal.invariant-loop-i
 invariant-loop-i l = record {
-  risky : list_any (is_risky l.curves l.parts l.ranges l.row) (range_with_len l.first l.i) ≡ false;
-  nested : l.composite ≡ some_refers l.curves l.parts l.row l.first l.i;
+  risky : list_any (is_risky l.curves l.parts l.ranges l.row) (range_with_len l.run.first l.i) ≡ false;
+  nested : l.composite ≡ some_refers l.curves l.parts l.row l.run.first l.i;
 }

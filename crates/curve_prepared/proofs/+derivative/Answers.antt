@@ -5,7 +5,7 @@ use Rattle.math.specs.Math.{v_scale}
 use Rattle.brep.specs.Rows.{lent}
 use Rattle.brep.specs.Tree.{CurveTree}
 use Rattle.brep.proofs.Laws.{at_lower, at_high}
-use Rattle.brep.proofs.ByKind.{at_polyline, at_composite, at_hyperbola}
+use Rattle.brep.proofs.ByKind.{at_polyline, at_composite, at_hyperbola, first_read, count_read}
 use Rattle.brep.proofs.Numbered.{numbered_as}
 use Rattle.curve_parameter.proofs.Under.{under_low, under_same}
 use Rattle.curve_tangent.specs.Derivative.{signed_span, derivative_at, polyline_derivative}
@@ -48,7 +48,7 @@ composite_slope-returns t c =
 
 pub other_derivative-polyline_derivative-requires : goal.other_derivative-polyline_derivative-requires
 other_derivative-polyline_derivative-requires t c =
-    known_closed (lent c.args.tables.now) _ c.under_trims-r.ensures (numbered_as c.in-Some.ensures c.in-Polyline.is) c.requires c.int_at-first.ensures c.int_at-count.ensures
+    known_closed (lent c.args.tables.now) _ c.under_trims-r.ensures (numbered_as c.in-Some.ensures c.in-Polyline.is) c.requires (first_read c.run_at-run.ensures) (count_read c.run_at-run.ensures)
 
 pub other_derivative-composite_slope-requires : goal.other_derivative-composite_slope-requires
 other_derivative-composite_slope-requires t c =
@@ -60,7 +60,7 @@ unfolding derivative_at
 other_derivative-returns-in-Polyline t c =
     let F : CurveTree → _ = λ k. derivative_at k c.args.t in
     c.polyline_derivative.ensures
-    ∙ at_polyline F (lent c.args.tables.now) _ refl (numbered_as c.in-Some.ensures c.in-Polyline.is) c.int_at-first.ensures c.int_at-count.ensures
+    ∙ at_polyline F (lent c.args.tables.now) _ refl (numbered_as c.in-Some.ensures c.in-Polyline.is) (first_read c.run_at-run.ensures) (count_read c.run_at-run.ensures)
     ∙ under_same F (λ b r. refl) _ _ c.under_trims-r.ensures
 
 pub other_derivative-returns-in-Composite : goal.other_derivative-returns-in-Composite
@@ -68,7 +68,7 @@ unfolding derivative_at
 other_derivative-returns-in-Composite t c =
     let F : CurveTree → _ = λ k. derivative_at k c.args.t in
     c.composite_slope.ensures
-    ∙ at_composite F (lent c.args.tables.now) _ refl (numbered_as c.in-Some.ensures c.in-Composite.is) c.int_at-first-in-Composite.ensures c.int_at-count-in-Composite.ensures
+    ∙ at_composite F (lent c.args.tables.now) _ refl (numbered_as c.in-Some.ensures c.in-Composite.is) (first_read c.run_at.ensures) (count_read c.run_at.ensures)
     ∙ under_same F (λ b r. refl) _ _ c.under_trims-r.ensures
 
 pub other_derivative-returns-in-Hyperbola : goal.other_derivative-returns-in-Hyperbola

@@ -8,7 +8,7 @@ use lib.Seq.{sets}
 use Rattle.edge_record.specs.declared.Sample.{Sample}
 use Rattle.edge_record.specs.Chain.{width, flat, sample_at}
 use Rattle.edge_record.proofs.Laws.{samples_from-length}
-use Rattle.edge_place.specs.Own.Place.{records_of}
+use Rattle.edge_record.specs.Own.Records.{records_of}
 use Rattle.edge_place.proofs.Records.{own_samples, exchanged}
 use Rattle.edge_place.proofs.Turned.{turned_none, turned_more, turned_all}
 use Rattle.edge_place.proofs.turn.Goals as goal

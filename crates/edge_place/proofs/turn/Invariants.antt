@@ -6,7 +6,7 @@ use lib.ListN.{length}
 use lib.Seq.{sets}
 use Rattle.edge_record.specs.declared.Sample.{Sample}
 use Rattle.edge_record.specs.Chain.{flat, sample_at}
-use Rattle.edge_place.specs.Own.Place.{records_of}
+use Rattle.edge_record.specs.Own.Records.{records_of}
 use Rattle.edge_place.proofs.Turned.{Turned}
 use Rattle.edge_place.proofs.turn.Given as goal
 

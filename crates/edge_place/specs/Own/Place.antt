@@ -1,4 +1,4 @@
--- What a vertex needs of the tables, a slice's records, and the chord of two points. Definitions only.
+-- What a vertex needs of the tables, and the chord of two points. Definitions only.
 use Rattle.std.specs.Prelude.{List, [], ◌∷◌, ◌/◌, length, Float}
 use Rattle.math.specs.declared.Vec3.{Vec3}
 use Rattle.brep.specs.Rows.{Tables, tables}
@@ -8,10 +8,6 @@ use Rattle.edge_record.specs.Chain.{width, samples}
 -- the points alone
 abbrev pub of_points : List Float → Tables
 of_points points = tables points [] [] [] []
-
--- the samples of a slice that holds records and nothing else
-abbrev pub records_of : List Float → List Sample
-records_of c = samples (length c / width) c
 
 -- the chord from a point to another with two parameters: `chord_of` has an edge's vertices for them
 abbrev pub chord_between : Vec3 → Vec3 → Float → Float → List Sample

@@ -1,9 +1,9 @@
 -- `edge_repair::arc_or_chord` meets its contract: the arc stays in the second buffer, or the chord takes its place. Assumes nothing.
-use Rattle.edge_repair.proofs.Buffers.{kept_second, second_is}
+use Rattle.edge_repair.proofs.Redrawn.{kept_second, second_is}
 use Rattle.edge_repair.proofs.Ways.{arc_kept, arc_chord}
 use Rattle.draw_spec.specs.declared.Way.TheVariants.{ShortArc}
 use Rattle.edge_place.specs.Own.Place.{of_points}
-use Rattle.edge_escape.proofs.Records.{leading}
+use Rattle.edge_record.proofs.Leading.{leading}
 use mathlib.Core.Path.{refl, sym, ◌∙◌}
 use Rattle.edge_repair.proofs.arc_or_chord.Goals as goal
 

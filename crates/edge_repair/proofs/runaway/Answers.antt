@@ -1,5 +1,5 @@
 -- `edge_repair::runaway` meets its contract. Assumes nothing.
-use Rattle.edge_repair.proofs.Buffers.{chord_second}
+use Rattle.edge_repair.proofs.Redrawn.{chord_second}
 use Rattle.edge_place.specs.Own.Place.{of_points}
 use Rattle.edge_repair.proofs.runaway.Goals as goal
 

@@ -1,5 +1,5 @@
 -- `edge_sample::refine` meets its contract: its buffers are the recorder's. Assumes nothing.
-use Rattle.std.specs.Prelude.{Option}
+use Rattle.std.specs.Prelude.{true, false, Option, None, Some}
 use mathlib.Core.Path.{refl, ap, ◌∙◌}
 use native.Mathlib.Omega.{arith}
 use lib.ListN.{length}
@@ -8,8 +8,9 @@ use Rattle.edge_drawing.specs.Own.Drawing.{drawn_curve}
 use Rattle.edge_params.specs.Own.InRoom.{refined_in}
 use Rattle.edge_subdivide.specs.Own.Recorder.{count_if}
 use Rattle.edge_sample.specs.Sample.{sampler}
-use Rattle.edge_sample.proofs.Settled.{settle_room, settled, settled_back, length_back, some, refined_refused, refined_few, refined_enough, refused_short, few_short, enough_kept}
-use Rattle.edge_sample.proofs.Ways.{parsed_as_lem, refined_traced}
+use Rattle.edge_sample.specs.Own.Answered.{known_of}
+use Rattle.edge_sample.proofs.Settled.{counts, unknown, settle_room, settled, settled_back, length_back, some, refined_refused, refined_few, refined_enough, refused_short, few_short, enough_kept}
+use Rattle.edge_sample.proofs.Ways.{refined_traced}
 use Rattle.edge_sample.proofs.refine.Goals as goal
 
 pub returns-in_default : goal.returns-in_default
@@ -22,8 +23,8 @@ returns-in_default c =
     let same = c.bisect_range.ensures.same in
     let h = c.bisect_range.ensures.recorded in
     let e = ap (λ (w : Option (Unit {0})). count_if w c.bisect_range.new.to.len) c.in_default.is in (
-      parsed_as_lem _ _ c.unknown.ensures.0 room (refined_in room s st.args.range) _ (settled_back _ _ e h.listed room (refined_in room s st.args.range) refl (refined_refused s st.args.range _ h.listed e) _ c.settle.ensures.0 c.settle.ensures.1 (grind arith)),
-      refined_traced room curve st.args.range st.args.r st.args.chain.now ((grind arith) ∙ h.records) (c.unknown.ensures.1 ∙ refused_short s st.args.range _ h.listed e),
+      settled_back _ _ e h.listed room (refined_in room s st.args.range) refl (refined_refused s st.args.range _ h.listed e) _ (counts None false c.settle.ensures.0) c.settle.ensures.1 (grind arith),
+      refined_traced room curve st.args.range st.args.r st.args.chain.now ((grind arith) ∙ h.records) (unknown None false c.settle.ensures.0 refl ∙ refused_short s st.args.range _ h.listed e),
     )
 
 pub overflow_sub-n : goal.overflow_sub-n
@@ -46,8 +47,8 @@ returns-then-n-r c =
     let same = c.bisect_range.ensures.same in
     let h = c.bisect_range.ensures.recorded in
     let e = ap (λ (w : Option (Unit {0})). count_if w c.bisect_range.new.to.len) c.in-Some.is in (
-      parsed_as_lem _ _ c.unknown-then-n-r.ensures.0 room (refined_in room s st.args.range) _ (settled _ _ refl c.evenly-even.ensures room (refined_in room s st.args.range) (length_back h.listed (grind arith)) (refined_few s st.args.range _ h.listed _ e c.if-n-r.true) _ _ c.settle-then-n-r.ensures.0 c.settle-then-n-r.ensures.1),
-      refined_traced room curve st.args.range st.args.r st.args.chain.now ((grind arith) ∙ h.records) (c.unknown-then-n-r.ensures.1 ∙ few_short s st.args.range _ h.listed _ e c.if-n-r.true),
+      settled _ _ refl c.evenly-even.ensures room (refined_in room s st.args.range) (length_back h.listed (grind arith)) (refined_few s st.args.range _ h.listed _ e c.if-n-r.true) _ _ (counts c.evenly-even.result false c.settle-then-n-r.ensures.0) c.settle-then-n-r.ensures.1,
+      refined_traced room curve st.args.range st.args.r st.args.chain.now ((grind arith) ∙ h.records) (unknown c.evenly-even.result false c.settle-then-n-r.ensures.0 refl ∙ few_short s st.args.range _ h.listed _ e c.if-n-r.true),
     )
 
 pub returns : goal.returns
@@ -60,6 +61,6 @@ returns c =
     let same = c.bisect_range.ensures.same in
     let h = c.bisect_range.ensures.recorded in
     let e = ap (λ (w : Option (Unit {0})). count_if w c.bisect_range.new.to.len) c.in-Some.is in (
-      settled_back _ _ e h.listed room (refined_in room s st.args.range) refl (refined_enough s st.args.range _ h.listed _ e c.if-n-r.false) _ c.settle-kept.ensures.0 c.settle-kept.ensures.1 (grind arith),
-      refined_traced room curve st.args.range st.args.r st.args.chain.now ((grind arith) ∙ h.records) (enough_kept s st.args.range _ h.listed _ e c.if-n-r.false),
+      settled_back _ _ e h.listed room (refined_in room s st.args.range) refl (refined_enough s st.args.range _ h.listed _ e c.if-n-r.false) _ (counts (Some c.bisect_range.new.to.len) true c.settle-2.ensures.0) c.settle-2.ensures.1 (grind arith),
+      refined_traced room curve st.args.range st.args.r st.args.chain.now ((grind arith) ∙ h.records) (ap known_of c.settle-2.ensures.0 ∙ enough_kept s st.args.range _ h.listed _ e c.if-n-r.false),
     )

@@ -1,4 +1,5 @@
 -- `edge_sample::sample_params` meets its contract. Assumes nothing.
+use Rattle.std.specs.Prelude.{true, false, Some}
 use mathlib.Core.Path.{refl, sym, ap, ◌∙◌}
 use native.Mathlib.Omega.{arith}
 use lib.ListN.{length}
@@ -8,11 +9,11 @@ use Rattle.brep.specs.Tree.{CurveTree}
 use Rattle.edge_drawing.specs.Own.Drawing.{drawn_curve}
 use Rattle.edge_params.specs.Own.InRoom.{refined_in}
 use Rattle.edge_sample.specs.Sample.{sampler}
-use Rattle.edge_sample.specs.Own.Answered.{sampled_in}
+use Rattle.edge_sample.specs.Own.Answered.{sampled_in, count_of, known_of}
 use Rattle.edge_sample.specs.Own.Traced.{traced}
 use Rattle.edge_sample.proofs.Laws.{form_plain}
-use Rattle.edge_sample.proofs.Settled.{settle_room, settled}
-use Rattle.edge_sample.proofs.Ways.{answered_as, parsed_as_lem, no_form, no_form_traced, form_refused, refused_traced, form_meets, meets_traced, form_misses, misses_traced}
+use Rattle.edge_sample.proofs.Settled.{counts, unknown, settle_room, settled}
+use Rattle.edge_sample.proofs.Ways.{answered_as, no_form, no_form_traced, form_refused, refused_traced, form_meets, meets_traced, form_misses, misses_traced}
 use Rattle.edge_sample.proofs.sample_params.Goals as goal
 
 pub returns-in_default : goal.returns-in_default
@@ -21,7 +22,7 @@ returns-in_default c =
     let curve : CurveTree = drawn_curve st.args.drawing.now in
     let is = c.analytic_segments-form.ensures in
     let none = c.in_default.is in (
-      answered_as c.refine.result.listed _ _ _ refl (λ n. refined_in n (sampler curve st.args.range st.args.r) st.args.range) (sampled_in (length st.args.out.now) curve st.args.range st.args.r) (no_form (length st.args.out.now) curve st.args.range st.args.r _ is none) c.refine.ensures.0,
+      answered_as (count_of c.refine.result) _ _ _ refl (λ n. refined_in n (sampler curve st.args.range st.args.r) st.args.range) (sampled_in (length st.args.out.now) curve st.args.range st.args.r) (no_form (length st.args.out.now) curve st.args.range st.args.r _ is none) c.refine.ensures.0,
       c.refine.ensures.1 ∙ no_form_traced (length st.args.out.now) curve st.args.range st.args.r st.args.chain.now _ is none,
     )
 
@@ -33,8 +34,8 @@ returns-in_default-even c =
     let st = c in
     let curve : CurveTree = drawn_curve st.args.drawing.now in
     let e = c.in_default-even.is in (
-      parsed_as_lem _ _ c.unknown.ensures.0 (length st.args.out.now) (sampled_in (length st.args.out.now) curve st.args.range st.args.r) _ (settled _ _ refl c.evenly-even.ensures (length st.args.out.now) (sampled_in (length st.args.out.now) curve st.args.range st.args.r) refl (form_refused (length st.args.out.now) curve st.args.range st.args.r _ c.analytic_segments-form.ensures _ c.in-Some.is refl _ c.evenly-even.ensures e) _ _ c.settle.ensures.0 c.settle.ensures.1),
-      ap (λ k. traced k st.args.chain.now) c.unknown.ensures.1 ∙ refused_traced (length st.args.out.now) curve st.args.range st.args.r _ c.analytic_segments-form.ensures _ c.in-Some.is refl _ c.evenly-even.ensures st.args.chain.now e,
+      settled _ _ refl c.evenly-even.ensures (length st.args.out.now) (sampled_in (length st.args.out.now) curve st.args.range st.args.r) refl (form_refused (length st.args.out.now) curve st.args.range st.args.r _ c.analytic_segments-form.ensures _ c.in-Some.is refl _ c.evenly-even.ensures e) _ _ (counts c.evenly-even.result false c.settle.ensures.0) c.settle.ensures.1,
+      ap (λ k. traced k st.args.chain.now) (unknown c.evenly-even.result false c.settle.ensures.0 refl) ∙ refused_traced (length st.args.out.now) curve st.args.range st.args.r _ c.analytic_segments-form.ensures _ c.in-Some.is refl _ c.evenly-even.ensures st.args.chain.now e,
     )
 
 -- the parameters that the check is lent are in the buffer
@@ -53,8 +54,8 @@ meets-requires c =
       form_plain curve st.args.range st.args.r _ (sym c.analytic_segments-form.ensures ∙ c.in-Some.is),
     )
 
-pub settle-listed-requires : goal.settle-listed-requires
-settle-listed-requires c = settle_room _ _ c.in-Some-even.is c.evenly-even.ensures
+pub settle-requires-then-meets : goal.settle-requires-then-meets
+settle-requires-then-meets c = settle_room _ _ c.in-Some-even.is c.evenly-even.ensures
 
 pub returns-then-meets : goal.returns-then-meets
 returns-then-meets c =
@@ -62,8 +63,8 @@ returns-then-meets c =
     let curve : CurveTree = drawn_curve st.args.drawing.now in
     let m = c.meets.ensures in
     let e = c.in-Some-even.is in (
-      settled _ _ e c.evenly-even.ensures (length st.args.out.now) (sampled_in (length st.args.out.now) curve st.args.range st.args.r) refl (form_meets (length st.args.out.now) curve st.args.range st.args.r _ c.analytic_segments-form.ensures _ c.in-Some.is refl _ c.evenly-even.ensures _ e _ m.0 c.if-meets.true) _ _ c.settle-listed.ensures.0 c.settle-listed.ensures.1,
-      meets_traced (length st.args.out.now) curve st.args.range st.args.r _ c.analytic_segments-form.ensures _ c.in-Some.is refl _ c.evenly-even.ensures _ e _ m.0 st.args.chain.now m.1 c.if-meets.true,
+      settled _ _ e c.evenly-even.ensures (length st.args.out.now) (sampled_in (length st.args.out.now) curve st.args.range st.args.r) refl (form_meets (length st.args.out.now) curve st.args.range st.args.r _ c.analytic_segments-form.ensures _ c.in-Some.is refl _ c.evenly-even.ensures _ e _ m.0 c.if-meets.true) _ _ (counts (Some c.in-Some-even.m) true c.settle-then-meets.ensures.0) c.settle-then-meets.ensures.1,
+      ap (λ k. traced k c.meets.new.chain) (ap known_of c.settle-then-meets.ensures.0) ∙ meets_traced (length st.args.out.now) curve st.args.range st.args.r _ c.analytic_segments-form.ensures _ c.in-Some.is refl _ c.evenly-even.ensures _ e _ m.0 st.args.chain.now m.1 c.if-meets.true,
     )
 
 pub refine-requires-2 : goal.refine-requires-2
@@ -78,6 +79,6 @@ returns c =
     let m = c.meets.ensures in
     let e = c.in-Some-even.is in
     let long = c.evenly-even.auto.out in (
-      answered_as c.refine-2.result.listed _ _ _ long (λ n. refined_in n (sampler curve st.args.range st.args.r) st.args.range) (sampled_in (length st.args.out.now) curve st.args.range st.args.r) (form_misses (length st.args.out.now) curve st.args.range st.args.r _ c.analytic_segments-form.ensures _ c.in-Some.is refl _ c.evenly-even.ensures _ e _ m.0 c.if-meets.false) c.refine-2.ensures.0,
+      answered_as (count_of c.refine-2.result) _ _ _ long (λ n. refined_in n (sampler curve st.args.range st.args.r) st.args.range) (sampled_in (length st.args.out.now) curve st.args.range st.args.r) (form_misses (length st.args.out.now) curve st.args.range st.args.r _ c.analytic_segments-form.ensures _ c.in-Some.is refl _ c.evenly-even.ensures _ e _ m.0 c.if-meets.false) c.refine-2.ensures.0,
       c.refine-2.ensures.1 ∙ misses_traced (length st.args.out.now) curve st.args.range st.args.r _ c.analytic_segments-form.ensures _ c.in-Some.is refl _ c.evenly-even.ensures _ e _ m.0 st.args.chain.now m.1 _ long c.if-meets.false,
     )

@@ -1,5 +1,5 @@
 -- What the code of sample_params answers, and what it leaves in the buffer. Definitions only.
-use Rattle.std.specs.Prelude.{◌≡◌, true, false, List, [], ◌∷◌, ◌++◌, reverse, ℕ, length, Float, Option}
+use Rattle.std.specs.Prelude.{◌≡◌, true, false, Bool, List, [], ◌∷◌, ◌++◌, reverse, ℕ, length, Float, Option, None, Some}
 use Rattle.std.specs.Float.Ieee.{lt}
 use Rattle.std.specs.Option.{unwrap_or}
 use Rattle.base_lists.specs.Room.{filled}
@@ -9,6 +9,7 @@ use Rattle.options.specs.declared.Resolved.{Resolved}
 use Rattle.edge_params.specs.Own.Written.{said}
 use Rattle.edge_params.specs.Own.InRoom.{sample_params_in}
 use Rattle.base_lists.specs.Own.ListOf.{list_of}
+use Rattle.edge_sample.specs.declared.Sampled.{Sampled}
 use Rattle.edge_sample.specs.Sample.{sampler}
 use Rattle.refusal.specs.Answer.{Answer, each}
 
@@ -23,6 +24,21 @@ SampledInto room s w after = (said w ≡ each length s) × (after ≡ filled roo
 -- how many floats of the buffer an answer keeps
 abbrev pub kept_floats : Option ℕ → ℕ
 kept_floats w = unwrap_or w 0
+
+-- what is answered of a list, and of what the chain holds
+abbrev pub sampled_as : Option ℕ → Bool → Option Sampled
+sampled_as None known = None
+sampled_as (Some n) known = Some (record { count = n; known = known })
+
+-- how many parameters were answered
+abbrev pub count_of : Option Sampled → Option ℕ
+count_of None = None
+count_of (Some s) = Some s.count
+
+-- whether the chain holds the records of what was answered: not where nothing was
+abbrev pub known_of : Option Sampled → Bool
+known_of None = false
+known_of (Some s) = s.known
 
 -- where the walk stops: the breaks, the range's own way round, and range.hi
 unfoldable pub stops : Interval → List Float → List Float

@@ -8,24 +8,13 @@ use Rattle.options.specs.Options.{resolve, for_extent}
 use Rattle.edge_segment.proofs.Laws.{not_drawn, drawn, one_segment, its_sag}
 use Rattle.edge_segment.proofs.draw_segment.Goals as goal
 
-pub meets-requires : goal.meets-requires
-meets-requires c =
-    (c.add-pa.ensures ∙ ap (v_add _) c.scale.ensures, c.add-pb.ensures ∙ ap (v_add _) c.scale-2.ensures)
-
-pub chord_along-requires : goal.chord_along-requires
-chord_along-requires c = c.requires.0
-
 pub returns-then-meets : goal.returns-then-meets
 returns-then-meets c = λ (T : Tables) s e l (x : Float).
-    let f = c in
-    let p = c in
-    let st = c in
-    drawn T st.args.edge (for_extent (resolve st.args.options) x) st.args.range st.args.chain.now s e l (one_segment st.args.options x st.requires.1)
-    p.at-a.ensures p.at-b.ensures (p.add-pa.ensures ∙ ap (v_add _) p.scale.ensures) (p.add-pb.ensures ∙ ap (v_add _) p.scale-2.ensures)
-    (rw (sym (its_sag st.args.options x)) (f.meets.ensures f.if-meets.true (edge_curve T st.args.edge) l x))
+    drawn T c.args.edge (for_extent (resolve c.args.options) x) c.args.range c.args.chain.now s e l (one_segment c.args.options x c.requires.1)
+    c.at-a.ensures c.at-b.ensures (c.add.ensures ∙ ap (v_add _) c.scale.ensures) (c.add-2.ensures ∙ ap (v_add _) c.scale-2.ensures)
+    (rw (sym (its_sag c.args.options x)) (c.meets.ensures c.if-meets.true (edge_curve T c.args.edge) l x))
     (c.chord_along.ensures T s e)
 
 pub returns : goal.returns
 returns c = λ (T : Tables) s e l (x : Float).
-    let st = c in
-    not_drawn T st.args.edge (for_extent (resolve st.args.options) x) st.args.range st.args.chain.now refl
+    not_drawn T c.args.edge (for_extent (resolve c.args.options) x) c.args.range c.args.chain.now refl

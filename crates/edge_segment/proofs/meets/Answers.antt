@@ -16,10 +16,10 @@ returns-then-s c = λ h (k : CurveTree) e (x : Float).
     let s = c.length_squared-s.result in
     let sag = sag_for (resolve a.options) x in
     -- the square of the miss
-    let squared : s ≡ miss_square k a.a a.b =
-    line_miss k e a.a a.b
+    let squared : s ≡ miss_square k a.from.param a.to.param =
+    line_miss k e a.from.param a.to.param
     (rw (sym c.requires.1, sym c.requires.0, sym c.scale.ensures, sym c.add-m.ensures, sym c.add.ensures, sym c.scale-2.ensures, sym c.sub.ensures) c.length_squared-s.ensures) in
-    sym (miss_within k a.a a.b s sag (search rules) squared)
+    sym (miss_within k a.from.param a.to.param s sag (search rules) squared)
     ∙ ap (λ (y : Float). le (root_of y) sag) (larger_taken s c.if-s.true)
     ∙ root_within a.options x s (search rules) (rw (sym c.resolve-least.ensures) (search rules)) c.if-s.true (rw (sym c.resolve-least.ensures) h)
 
@@ -29,9 +29,9 @@ returns c = λ h (k : CurveTree) e (x : Float).
     let s = c.length_squared-s.result in
     let sag = sag_for (resolve a.options) x in
     -- the square of the miss
-    let squared : s ≡ miss_square k a.a a.b =
-    line_miss k e a.a a.b
+    let squared : s ≡ miss_square k a.from.param a.to.param =
+    line_miss k e a.from.param a.to.param
     (rw (sym c.requires.1, sym c.requires.0, sym c.scale.ensures, sym c.add-m.ensures, sym c.add.ensures, sym c.scale-2.ensures, sym c.sub.ensures) c.length_squared-s.ensures) in
-    sym (miss_within k a.a a.b s sag (search rules) squared)
+    sym (miss_within k a.from.param a.to.param s sag (search rules) squared)
     ∙ ap (λ (y : Float). le y sag) (larger_left s c.if-s.false)
     ∙ sag_above a.options x

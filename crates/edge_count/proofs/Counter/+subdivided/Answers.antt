@@ -29,7 +29,7 @@ returns-then-not-is_halved t c =
 pub subdivided-requires : goal.subdivided-requires
 subdivided-requires t c =
     let a = c.args in
-    let curve : CurveTree = curve_of a.self.now.curve in
+    let curve : CurveTree = curve_of a.self.now.bisection.curve in
     let x = midpoint a.a.t a.b.t in
     let m = c.end_at-m in
     let own = end_own curve x m.result m.ensures in
@@ -52,7 +52,7 @@ returns-in_err-next t c =
 pub subdivided-requires-2 : goal.subdivided-requires-2
 subdivided-requires-2 t c =
     let a = c.args in
-    let curve : CurveTree = curve_of a.self.now.curve in
+    let curve : CurveTree = curve_of a.self.now.bisection.curve in
     let x = midpoint a.a.t a.b.t in
     let m = c.end_at-m in
     let own = end_own curve x m.result m.ensures in
