@@ -22,7 +22,7 @@ pub fn infinity() -> f64
     f64::INFINITY
 }
 
-// f64::is_finite: neither a NaN nor an infinity.
+// f64::is_finite: neither a NaN nor an infinity; here with what a proof needs of it, as for `nan`.
 #[tactic(auto, using(crate::proofs::Cmp::finite_same))]
 pub fn is_finite(x: f64) -> bool
     ensures { result ≡ finite x }
@@ -30,7 +30,7 @@ pub fn is_finite(x: f64) -> bool
     x.is_finite()
 }
 
-// f64::abs: the sign taken off, of -0.0 and of an infinity too. A NaN stays.
+// f64::abs: the sign taken off, of -0.0 and of an infinity too. A NaN stays. Likewise.
 #[tactic(auto, using(crate::proofs::Cmp::abs_same))]
 pub fn abs(x: f64) -> f64
     ensures { result ≡ abs_of x }
@@ -39,7 +39,7 @@ pub fn abs(x: f64) -> f64
 }
 
 // f64::min: a where the two are equal, as zeros of either sign are; the other where one is NaN.
-// Not the library's, which promises either one of two equal zeros: the results are fixed bit for bit.
+// Stays: the library's promises either one of two equal zeros, and the results are fixed bit for bit.
 #[tactic(auto, using(crate::proofs::Cmp::min_same))]
 pub fn min(a: f64, b: f64) -> f64
     ensures { result ≡ min_of a b }
@@ -47,7 +47,7 @@ pub fn min(a: f64, b: f64) -> f64
     if (a <= b) | b.is_nan() { a } else { b }
 }
 
-// f64::max, with the same choice at equal operands and at a NaN, and for the same reason not the library's.
+// f64::max, with the same choice at equal operands and at a NaN. Stays: as for `min`.
 #[tactic(auto, using(crate::proofs::Cmp::max_same))]
 pub fn max(a: f64, b: f64) -> f64
     ensures { result ≡ max_of a b }
@@ -56,7 +56,7 @@ pub fn max(a: f64, b: f64) -> f64
 }
 
 // f64::clamp, without its panic: only what is strictly below lower or above upper changes, so a
-// NaN passes, and so does -0.0 between 0.0 and 1.0. An end that is NaN is no bound: the library's asks for lower ≤ upper.
+// NaN passes, and so does -0.0 between 0.0 and 1.0. An end that is NaN is no bound. Stays: the library's asks for lower ≤ upper.
 pub fn clamp(x: f64, lower: f64, upper: f64) -> f64
     ensures { result ≡ clamp_of x lower upper }
 {
@@ -70,7 +70,7 @@ pub fn clamp(x: f64, lower: f64, upper: f64) -> f64
 }
 
 // f64::floor: the greatest whole number at most x. A NaN, an infinity and a whole number, -0.0
-// too, stay. 23 instructions, and the library's 42.
+// too, stay. Stays: 23 instructions, and the library's takes 42.
 pub fn floor(x: f64) -> f64
     ensures { result ≡ floor_of x }
 {
@@ -88,8 +88,8 @@ pub fn floor(x: f64) -> f64
     floor_far(x)
 }
 
-// The floor, more slowly, by |x| without its fraction. From 2^52 on every float is whole. With the library's floor in its place a loop
-// over `floor` takes 25 instructions, not 23.
+// The floor, more slowly, by |x| without its fraction. From 2^52 on every float is whole. Stays: with the library's floor in its place a
+// loop over `floor` takes 25 instructions, not 23.
 fn floor_far(x: f64) -> f64
     ensures { result ≡ floor_of x }
 {
@@ -110,7 +110,7 @@ fn floor_far(x: f64) -> f64
 }
 
 // f64::ceil: the least whole number at least x. What is above -1 and below 0 gives -0.0; a NaN,
-// an infinity and a whole number stay. 25 instructions, and the library's 43.
+// an infinity and a whole number stay. Stays: 25 instructions, and the library's takes 43.
 pub fn ceil(x: f64) -> f64
     ensures { result ≡ ceil_of x }
 {
@@ -131,8 +131,8 @@ pub fn left_over(t: f64, k: f64, high: f64, low: f64) -> f64
     t - k * high - k * low
 }
 
-// `x as u64`: cut toward zero; 0 for a NaN and below 0, 2^64 - 1 from 2^64 on. 20 instructions, and the library's
-// saturating_f64_to_u64 22.
+// `x as u64`: cut toward zero; 0 for a NaN and below 0, 2^64 - 1 from 2^64 on. Stays: 20 instructions, and the library's
+// saturating_f64_to_u64 takes 22.
 pub fn to_u64(x: f64) -> u64
     ensures { result ≡ to_unsigned 64 x }
 {

@@ -18,15 +18,16 @@ const DIVISORS: [f64; 16] = [
     16.0, 15.0, 14.0, 13.0, 12.0, 11.0, 10.0, 9.0, 8.0, 7.0, 6.0, 5.0, 4.0, 3.0, 2.0, 1.0,
 ];
 
-// The hyperbolic cosine and sine of one number. One type with arith_trig's SinCos would call a sinh a sine.
+// The hyperbolic cosine and sine of one number. Stays: one type with arith_trig's SinCos would call a sinh a sine wherever one is worked
+// out; a hyperbola's point alone takes it as such (curve_point).
 #[derive(Clone, Copy)]
 pub struct Hyperbolic {
     pub cosh: f64,
     pub sinh: f64,
 }
 
-// e^r of an r at most half of ln 2 from 0: for each divisor d in turn, w becomes 1 + r / d * w, from 1. Stays:
-// in arith_trig's series the term is taken off, and one function of both would ask for a sign.
+// e^r of an r at most half of ln 2 from 0: for each divisor d in turn, w becomes 1 + r / d * w, from 1. Stays: in arith_trig's series the
+// term is taken off; a minus at the call would give the same bits, but by a law of floats for each step, where each clause has its own formula.
 fn series(r: f64, divisors: &[f64]) -> f64
     ensures { result ≡ fold (λ w d. exp_step r d w) one divisors.now }
 {
@@ -34,7 +35,7 @@ fn series(r: f64, divisors: &[f64]) -> f64
 }
 
 // 2^k of a whole k: the exponent's field alone. 0 from -1023 down, the infinity from 1024 up.
-// With n.min(2047) in place of the branch e^t takes 141 instructions, not 139.
+// Stays: with n.min(2047) in place of the branch e^t takes 141 instructions, not 139.
 fn power(k: f64) -> f64
     ensures { result ≡ power_of_two k }
 {

@@ -1,7 +1,7 @@
 #![tactic(auto)]
 // The square root of an f64, rounded to nearest even: an estimate by floats, checked in whole
 // numbers, and a root digit by digit where the check fails.
-// Not f64::sqrt: the scope has the root worked out by the program (docs/SCOPE.md, Forms).
+// Stays: no f64::sqrt, since the scope has the root worked out by the program (docs/SCOPE.md, Forms).
 ghost use Rattle.std.specs.Prelude.{◌≡◌, ◌+◌, ◌-◌, ◌*◌, ◌/◌, ◌%◌, ◌^◌, ◌<◌, ◌≤◌, T, from_bits};
 ghost use Rattle.std.specs.Float.{binary64};
 ghost use Rattle.arith_root.specs.Root.{root_of, near_root};

@@ -16,7 +16,7 @@ const A_LITTLE_LESS: f64 = 0.999999;
 
 // A limit for roots, for many comparisons with it. What is below the low cut has a root within the limit, and what is above the high one
 // has a root above it.
-// A cut that does not serve is a NaN: no comparison holds with it, so that none has to ask first whether there is one, as with an Option.
+// Stays: a cut that does not serve is a NaN, with which no comparison holds, so that none has to ask first whether there is one.
 #[derive(Clone, Copy)]
 pub struct Limit {
     at: f64,
@@ -92,7 +92,7 @@ pub fn is_below(s: f64, t: f64) -> bool
     false
 }
 
-// A cut that serves, or a NaN, with which no comparison holds.
+// A cut that serves, or a NaN, with which no comparison holds. Stays: as in `Limit`; `then_some` would be unwrapped to the same NaN.
 pub fn cut_if(serves: bool, x: f64) -> f64
     ensures { result ≡ cut_if serves x }
 {
@@ -100,7 +100,7 @@ pub fn cut_if(serves: bool, x: f64) -> f64
 }
 
 // The square of a number above zero as a cut, where it serves: what is below it has a root that is not above the number, and what is
-// above it one that is not below.
+// above it one that is not below. Stays: as for `cut_if`.
 pub fn square_if(serves: bool, x: f64) -> f64
     ensures { result ≡ square_if serves x }
 {

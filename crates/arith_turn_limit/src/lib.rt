@@ -9,7 +9,8 @@ ghost use Rattle.arith_turn_limit.specs.Own.Limit.{turn_cut, Serves, turn_by, le
 
 use std::marker::Model;
 
-// The cut for a limit, for many comparisons with one limit: the square of the tangent that half the limit is taken for.
+// The cut for a limit, for many comparisons with one limit: the square of the tangent that half the limit is taken for. Stays: here and below
+// limit and cut go side by side, since what `TurnLimit` promises is proved of each cut by itself, and of any limit.
 pub fn turn_cut(limit: f64) -> f64
     ensures { result ≡ turn_cut limit }
 {
@@ -119,8 +120,8 @@ pub fn is_turn_over(a: f64, cut: f64) -> bool
     cut < (1.0 - a) / (1.0 + a)
 }
 
-// A limit for angles with its cuts, for many comparisons with it. A cut that does not serve is a NaN and no None, for the reason that
-// stands at arith_root_limit's Limit.
+// A limit for angles with its cuts, for many comparisons with it. Stays: a cut that does not serve is a NaN and no None, as in
+// arith_root_limit's Limit.
 #[derive(Clone, Copy)]
 pub struct TurnLimit {
     at: f64,

@@ -3,7 +3,8 @@
 ghost use Rattle.std.specs.Prelude.{◌≡◌, ◌≤◌, length, take};
 ghost use Rattle.base_lists.specs.Room.{filled, padded};
 
-// The value in every element from number `from` on.
+// The value in every element from number `from` on. (`fill` would ask that copying T cannot fail.) Stays: the slice whole, since the clause
+// says what all of it holds afterwards.
 pub fn fill_from<T: Copy>(a: &mut [T], from: usize, value: T)
     requires { from ≤ length a.old }
     ensures { a.new ≡ padded (length a.old) value (take from a.old) }

@@ -15,6 +15,7 @@ use Rattle.brep.specs.declared.Kind.{Kind}
 use Rattle.brep.specs.declared.Kind.TheVariants as kinds
 use Rattle.brep.specs.Kind.{number_of, kind_numbered, kind_at}
 use Rattle.brep.specs.Rows.{Tables, point_of, frame_of, kind_of, curve_of}
+use Rattle.brep.specs.Own.RunAt.{run_at}
 use Rattle.brep.specs.Tree.{Analytic, CurveTree, analytic, line, circle, ellipse, parabola, hyperbola, polyline, trimmed, composite, run, segments, row_in, grown, below, tree}
 use Rattle.brep.proofs.Laws.{at_row}
 pub use Rattle.brep.proofs.Numbered.{Unknown}
@@ -70,7 +71,7 @@ module _ (T : Tables) (row : ℕ) where
   unfolding curve_of kind_of kind_numbered
   row_parabola k = simp k
 
-  pub row_polyline : row_kind T row ≡ 5 → Polyline (row_first T row) (row_count T row) ≡ row_in T row
+  pub row_polyline : row_kind T row ≡ 5 → Polyline (run_at T.curves row) ≡ row_in T row
   unfolding curve_of kind_of kind_numbered
   row_polyline k = simp k
 
@@ -78,7 +79,7 @@ module _ (T : Tables) (row : ℕ) where
   unfolding curve_of kind_of kind_numbered
   row_trim k = simp k
 
-  pub row_composite : row_kind T row ≡ 7 → Composite (row_first T row) (row_count T row) ≡ row_in T row
+  pub row_composite : row_kind T row ≡ 7 → Composite (run_at T.curves row) ≡ row_in T row
   unfolding curve_of kind_of kind_numbered
   row_composite k = simp k
 
@@ -87,7 +88,7 @@ module _ (T : Tables) (row : ℕ) where
   row_hyperbola k = simp k
 
   -- any other number
-  pub row_unknown : Unknown (row_kind T row) → Polyline (row_first T row) 0 ≡ row_in T row
+  pub row_unknown : Unknown (row_kind T row) → Polyline (record { first = row_first T row; count = 0 }) ≡ row_in T row
   unfolding curve_of kind_of kind_numbered
   row_unknown n =
       let k = row_kind T row in
@@ -99,9 +100,9 @@ kind_number (Line origin direction) = 1
 kind_number (Circle frame radius) = 2
 kind_number (Ellipse frame major minor) = 3
 kind_number (Parabola frame focal) = 4
-kind_number (Polyline first count) = 5
+kind_number (Polyline r) = 5
 kind_number (Trimmed base range) = 6
-kind_number (Composite first count) = 7
+kind_number (Composite r) = 7
 kind_number (Hyperbola frame major minor) = 8
 
 module _ (T : Tables) (row : ℕ) where

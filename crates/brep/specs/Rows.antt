@@ -71,11 +71,11 @@ kind_of points (Some kinds.Line) first count p q = Line (point_of points first) 
 kind_of points (Some kinds.Circle) first count p q = Circle (frame_of points first) p
 kind_of points (Some kinds.Ellipse) first count p q = Ellipse (frame_of points first) p q
 kind_of points (Some kinds.Parabola) first count p q = Parabola (frame_of points first) p
-kind_of points (Some kinds.Polyline) first count p q = Polyline first count
+kind_of points (Some kinds.Polyline) first count p q = Polyline (record { first = first; count = count })
 kind_of points (Some kinds.Trimmed) first count p q = Trimmed first (interval p q)
-kind_of points (Some kinds.Composite) first count p q = Composite first count
+kind_of points (Some kinds.Composite) first count p q = Composite (record { first = first; count = count })
 kind_of points (Some kinds.Hyperbola) first count p q = Hyperbola (frame_of points first) p q
-kind_of points None first count p q = Polyline first 0
+kind_of points None first count p q = Polyline (record { first = first; count = 0 })
 
 -- curve row i
 unfoldable pub curve_of : List Float → List ℕ → List Float → ℕ → Curve

@@ -62,9 +62,9 @@ grown T f (Line origin direction) = analytic (line origin direction)
 grown T f (Circle frame radius) = analytic (circle frame radius)
 grown T f (Ellipse frame major minor) = analytic (ellipse frame major minor)
 grown T f (Parabola frame focal) = analytic (parabola frame focal)
-grown T f (Polyline first count) = polyline (run T.points first count)
+grown T f (Polyline r) = polyline (run T.points r.first r.count)
 grown T f (Trimmed base range) = trimmed (f base) range
-grown T f (Composite first count) = composite (segments T f first count)
+grown T f (Composite r) = composite (segments T f r.first r.count)
 grown T f (Hyperbola frame major minor) = analytic (hyperbola frame major minor)
 
 -- the trees of the rows below n; any other row is the empty polyline

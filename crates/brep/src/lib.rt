@@ -1,6 +1,6 @@
 #![tactic(auto)]
 // The rows of the tables: a curve row read as one of the eight kinds, a segment, a point, and the record of an edge.
-// Readers are total: past a table's end a float is NaN and a whole number 0.
+// Stays: readers are total, since evaluators are, over tables of any content: past a table's end a float is NaN and a whole number 0.
 ghost use Rattle.std.specs.Prelude.{◌≡◌, ◌+◌, get_or};
 ghost use Rattle.std.specs.Float.{nan};
 ghost use Rattle.brep.specs.Kind.{kind_numbered, kind_at};
@@ -30,7 +30,8 @@ pub enum Kind {
 }
 
 impl Kind {
-    // The kind of a number. Any other number than 1 to 8 is that of none.
+    // The kind of a number. Any other number than 1 to 8 is that of none. Stays: an Option and no `TryFrom`, whose error would say no more than
+    // that there is none.
     #[tactic(auto, unfolding(crate::specs::Kind::kind_numbered))]
     pub fn of(number: u32) -> Option<Kind>
         ensures { result ≡ kind_numbered number }
@@ -49,8 +50,8 @@ impl Kind {
     }
 }
 
-// A curve row by value. Where the Rust boxes a curve or owns a Vec, there is a row or a run of rows: a trim's base is a
-// curve row, a polyline's points are a run of the points, a composite's segments a run of the segments.
+// A curve row by value. Stays: where the Rust boxes a curve or owns a Vec, there is a row or a run of rows, since there is no heap: a trim's base is
+// a curve row, a polyline's points are a run of the points, a composite's segments a run of the segments.
 #[derive(Clone, Copy, Debug)]
 pub enum Curve {
     Line {
@@ -70,18 +71,12 @@ pub enum Curve {
         frame: Frame,
         focal_dist: f64,
     },
-    Polyline {
-        first: u32,
-        count: u32,
-    },
+    Polyline(Run),
     Trimmed {
         base: u32,
         range: Interval,
     },
-    Composite {
-        first: u32,
-        count: u32,
-    },
+    Composite(Run),
     Hyperbola {
         frame: Frame,
         semi_major: f64,
@@ -89,7 +84,8 @@ pub enum Curve {
     },
 }
 
-// The tables of a drawing, as they are lent: points, curve rows (whole numbers, and floats), segments (whole numbers, and floats).
+// The tables of a drawing: points, curve rows (whole numbers, and floats), segments (whole numbers, and floats). Stays: as C lends them, rows and
+// segments in two lists each.
 #[derive(Clone, Copy, Debug)]
 pub struct LentTables<'a> {
     pub points: &'a [f64],
@@ -114,8 +110,8 @@ pub struct Segment {
     pub same_sense: bool,
 }
 
-// An edge, with the two points that are its box's least and greatest corners. The sense is the number as it was handed
-// in, so that one that is neither 0 nor 1 can be turned away.
+// An edge, with the two points that are its box's least and greatest corners. Stays: the sense is the number as C hands it in, so that one that is
+// neither 0 nor 1 can be turned away.
 #[derive(Clone, Copy, Debug)]
 pub struct Edge {
     pub curve: u32,
@@ -197,7 +193,7 @@ pub fn frame_at(points: &[f64], first: u32) -> Frame
     }
 }
 
-// Segment number i of the run that starts at first. Stays: a sense is a number of the tables, which C lends.
+// Segment number i of the run that starts at first. Stays: a segment lies in two lists, with its sense as a number, since C lends the tables so.
 #[tactic(auto, unfolding(crate::specs::Rows::segment_of))]
 pub fn segment_at(parts: &[u32], ranges: &[f64], first: u32, i: u32) -> Segment
     ensures { result ≡ segment_of parts.now ranges.now (first + i) }
@@ -237,7 +233,7 @@ pub fn run_at(curves: &[u32], row: u32) -> Run
 fn kind_of(points: &[f64], kind: Option<Kind>, run: Run, p: f64, q: f64) -> Curve
     ensures { result ≡ kind_of points.now kind run.first run.count p q }
 {
-    let Run { first, count } = run;
+    let first = run.first;
     match kind {
         Some(Kind::Line) => Curve::Line {
             origin: point_in(points, first, 0),
@@ -256,18 +252,18 @@ fn kind_of(points: &[f64], kind: Option<Kind>, run: Run, p: f64, q: f64) -> Curv
             frame: frame_at(points, first),
             focal_dist: p,
         },
-        Some(Kind::Polyline) => Curve::Polyline { first, count },
+        Some(Kind::Polyline) => Curve::Polyline(run),
         Some(Kind::Trimmed) => Curve::Trimmed {
             base: first,
             range: Interval { lo: p, hi: q },
         },
-        Some(Kind::Composite) => Curve::Composite { first, count },
+        Some(Kind::Composite) => Curve::Composite(run),
         Some(Kind::Hyperbola) => Curve::Hyperbola {
             frame: frame_at(points, first),
             semi_major: p,
             semi_minor: q,
         },
-        None => Curve::Polyline { first, count: 0 },
+        None => Curve::Polyline(Run { first, count: 0 }),
     }
 }
 

@@ -9,6 +9,7 @@ use Rattle.std.proofs.Math.Dec.{T}
 use Rattle.std.proofs.lemmas.Bool.{true≢false, false_from_ne_true, not-false, ltb-false, leb-false, eqb-true, or_parts}
 use Rattle.std.proofs.lemmas.List.Folds.{list_any_at}
 use Rattle.math.specs.declared.Interval.{Interval}
+use Rattle.brep.specs.declared.Run.{Run}
 use Rattle.brep.specs.declared.Kind.{Kind}
 use Rattle.brep.specs.declared.Curve.TheVariants.{Trimmed, Composite}
 use Rattle.brep.specs.declared.Edge.{Edge}
@@ -59,7 +60,7 @@ pub record Checked (t : Tables) (e : Edge) (o : Options) : Type 0 where
   pub segment_inside : (i : ℕ) → i < segment_count t → (segment_in t i).curve < curve_count t
   -- every reference falls
   pub trim_falls : (i base : ℕ) (range : Interval) → i < curve_count t → row_in t i ≡ Trimmed base range → base < i
-  pub segment_falls : (i first count j : ℕ) → i < curve_count t → row_in t i ≡ Composite first count → j < count → (segment_in t (first + j)).curve < i
+  pub segment_falls : (i : ℕ) (own : Run) (j : ℕ) → i < curve_count t → row_in t i ≡ Composite own → j < own.count → (segment_in t (own.first + j)).curve < i
   pub nesting_at_most : (i : ℕ) → i < curve_count t → nesting (tree t i) ≤ 8
   pub curve_inside : e.curve < curve_count t
   pub start_inside : e.start < point_count t
@@ -145,9 +146,9 @@ module _ (t : Tables) where
   unfolding unordered_row not_lower
   trim_falls_lem i base range h k = leb-false i base (ap (not_lower t i) (sym k) ∙ h)
 
-  segment_falls_lem : (i first count j : ℕ) → unordered_row t i ≡ false → row_in t i ≡ Composite first count → j < count → (segment_in t (first + j)).curve < i
+  segment_falls_lem : (i : ℕ) (own : Run) (j : ℕ) → unordered_row t i ≡ false → row_in t i ≡ Composite own → j < own.count → (segment_in t (own.first + j)).curve < i
   unfolding unordered_row not_lower high_segment
-  segment_falls_lem i first count j h k l = leb-false i (segment_in t (first + j)).curve (some_none (high_segment t i first) count j l (ap (not_lower t i) (sym k) ∙ h))
+  segment_falls_lem i own j h k l = leb-false i (segment_in t (own.first + j)).curve (some_none (high_segment t i own.first) own.count j l (ap (not_lower t i) (sym k) ∙ h))
 
   -- ---- cause 5
   nesting_at_most_lem : (i : ℕ) → deep_row t i ≡ false → nesting (tree t i) ≤ 8
@@ -258,7 +259,7 @@ module _ (t : Tables) (e : Edge) (o : Options) where
         run_inside = λ i l. row_inside t i (some_none (malformed_row t) (curve_count t) i l f.0);
         segment_inside = λ i l. segment_inside_lem t i (some_none (malformed_segment t) (segment_count t) i l f.1);
         trim_falls = λ i base range l k. trim_falls_lem t i base range (some_none (unordered_row t) (curve_count t) i l c.3) k;
-        segment_falls = λ i first count j l k m. segment_falls_lem t i first count j (some_none (unordered_row t) (curve_count t) i l c.3) k m;
+        segment_falls = λ i own j l k m. segment_falls_lem t i own j (some_none (unordered_row t) (curve_count t) i l c.3) k m;
         nesting_at_most = λ i l. nesting_at_most_lem t i (some_none (deep_row t) (curve_count t) i l c.4);
         curve_inside = x.0;
         start_inside = x.1;

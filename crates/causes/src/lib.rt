@@ -61,8 +61,8 @@ pub fn check_tables(tables: &LentTables<'_>) -> Result<(), Refusal>
     causes_nesting::rows_cause(tables)
 }
 
-// The lowest of the causes 2, 3 and 6 that the edge and the options have. No table is gone through. Stays: tables, edge and options are what a
-// caller hands in, each from its own place.
+// The lowest of the causes 2, 3 and 6 that the edge and the options have. No table is gone through. Stays: a struct of tables, edge and options
+// would be made for this call and taken apart in each test, which looks at two of the three.
 #[tactic(auto, unfolding(crate::specs::Causes::edge_verdict, crate::specs::Causes::missing))]
 pub fn check_over(tables: &LentTables<'_>, edge: Edge, options: Options) -> Result<(), Refusal>
     ensures { result ≡ edge_verdict (lent tables.now) edge options }

@@ -17,9 +17,9 @@ not_lower T row (Line origin direction) = false
 not_lower T row (Circle frame radius) = false
 not_lower T row (Ellipse frame major minor) = false
 not_lower T row (Parabola frame focal) = false
-not_lower T row (Polyline first count) = false
+not_lower T row (Polyline r) = false
 not_lower T row (Trimmed base range) = leb row base
-not_lower T row (Composite first count) = some_below count (high_segment T row first)
+not_lower T row (Composite r) = some_below r.count (high_segment T row r.first)
 not_lower T row (Hyperbola frame major minor) = false
 
 -- what curve row number row refers to is not all in lower rows

@@ -11,7 +11,7 @@ use brep::{Kind, LentTables};
 use refusal::Refusal;
 
 // Of the numbers for depths, 0 to 8 are nestings, this stands for every deeper one, and the next for a reference that is not to a
-// lower row. As an ordered enum depths miss the speed of numbers: 4,095 composites over one run take 6.6 million instructions, not 5.9.
+// lower row. Stays: as an ordered enum depths miss the speed of numbers: 4,095 composites over one run take 6.6 million instructions, not 5.9.
 const TOO_DEEP: u8 = 9;
 
 const UNORDERED: u8 = 10;
@@ -64,6 +64,7 @@ impl Depths for Segments<'_> {
         }
     }
 
+    // Stays: by number, since a run from behind its end has no segments: a slice from there would need a clause that no other instance needs.
     fn of_run(&mut self, from: u32, to: u32) -> u8 {
         let mut depth: u8 = 0;
         for i in from..to {
@@ -212,7 +213,8 @@ fn rows_cause_in<D: Depths>(tables: &LentTables<'_>, depths: &mut D) -> Result<(
     lowest
 }
 
-// The lowest of the causes 3, 4 and 5 that a row has. Small tables need little room, which is cleared at each call.
+// The lowest of the causes 3, 4 and 5 that a row has. Stays: arrays, since there is no heap; and two sizes of them, since they are cleared at each
+// call and small tables need little.
 pub fn rows_cause(tables: &LentTables<'_>) -> Result<(), Refusal>
     requires { (length tables.now.curves.now / 3 ≤ most_rows) × (length tables.now.parts.now / 2 ≤ most_segments) }
     ensures { result ≡ rows_cause (lent tables.now) }

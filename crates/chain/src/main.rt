@@ -6,7 +6,7 @@ use std::io;
 use std::io::{Read, Stdin};
 
 // Reads until the buffer is full, the input ends or a read fails; answers how many bytes it put at the buffer's start.
-// `read_exact` would not say how many, and `io::copy` goes through a buffer of its own.
+// Stays: `read_exact` would not say how many, and `io::copy` goes through a buffer of its own.
 fn read_full(mut from: Stdin, text: &mut [u8]) -> usize
     ensures { result ≤ length text.new }
 {

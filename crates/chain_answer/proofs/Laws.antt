@@ -3,7 +3,7 @@ use Rattle.std.specs.Prelude.{Err, Ok}
 use mathlib.Core.Path.{◌≡◌, refl, sym, ap, subst, ◌∙◌}
 use mathlib.Core.Bool.{Bool, true, false, cond}
 use mathlib.Core.List.{List, []}
-use Prim.Native.Nat.{ℕ, ◌+◌, ◌*◌, ◌-◌, ◌/◌, ◌<◌, ◌≤◌}
+use Prim.Native.Nat.{ℕ, ◌+◌, ◌*◌, ◌-◌, ◌<◌, ◌≤◌}
 use native.Mathlib.Omega.{arith}
 use lib.ListN.{length, take, replicate, length-append, length-replicate}
 use lib.Seq.{take_all, length-take-le}
@@ -21,7 +21,6 @@ use Rattle.brep.specs.declared.Edge.{Edge}
 use Rattle.options.specs.declared.Options.{Options}
 use Rattle.edge_record.specs.Chain.{width, flat, samples}
 use Rattle.text_listing.specs.Listing.{float_bytes, line_bytes, refusal_bytes, listing, refusal, Put}
-use Rattle.draw_spec.specs.declared.Way.{Way}
 use Rattle.draw_spec.specs.Repair.{Got}
 use Rattle.draw_spec.specs.Draw.{room_of, program_floats, drawn, answer_of, in_first, first_after, second_after, chain_in, chain_floats, Outcome}
 use Rattle.draw_spec.proofs.Sound.{drawn_fits}
@@ -33,6 +32,7 @@ use Rattle.refusal.specs.Answer.{Answer}
 use Rattle.refusal.specs.declared.Refusal.{Refusal}
 use Rattle.refusal.specs.Refusal.{number_of}
 use Rattle.edge_record.proofs.Leading.{leading as leads}
+use Rattle.edge_record.specs.Own.Records.{records_of}
 use Rattle.edge_record.specs.declared.Sample.{Sample}
 use Rattle.sheet.specs.declared.Sheet.{Sheet}
 
@@ -43,13 +43,28 @@ module _ (lo hi : ℕ) (d : Answer Drawn) (first second : List Float) (r : ℕ) 
   show_refusal n e h = subst (λ (x : Answer Drawn). Put (shown lo hi x (chain_in first second x)) out r out') (sym e) h
 
   -- the chain is the leading part of one of the buffers
-  pub show_chain : (chain : Drawn) (way : Way) (c : List Float) → d ≡ Ok chain → chain.way ≡ way → cond (in_first way) first second ≡ c → chain_floats d ≤ length c
-      → Put (listing lo (last_bits way lo hi) (samples (length (take (width * chain.count) c) / width) (take (width * chain.count) c))) out r out'
-      → Put (shown lo hi d (chain_in first second d)) out r out'
+  one_long : (b : Bool) → chain_floats d ≤ length first → chain_floats d ≤ length second → chain_floats d ≤ length (cond b first second)
+  one_long true f s = f
+  one_long false f s = s
+
+  pub show_chain : (chain : Drawn) (part : List Float) (last : ℕ) → d ≡ Ok chain → (chain_floats d ≤ length first) × (chain_floats d ≤ length second)
+      → part ≡ take (width * chain.count) (cond (in_first chain.way) first second) → last ≡ last_bits chain.way lo hi
+      → Put (listing lo last (records_of part)) out r out' → Put (shown lo hi d (chain_in first second d)) out r out'
   unfolding shown chain_in
-  show_chain chain way c e v b l h =
+  show_chain chain part last e l p b h =
+      let c = cond (in_first chain.way) first second in
       let z = ap chain_floats e in
-      rw (e, v, b) (subst (λ (s : List Sample). Put (listing lo (last_bits way lo hi) s) out r out') (leads chain.count c (omega arith)) h)
+      let k = one_long (in_first chain.way) l.0 l.1 in
+      let records : records_of part ≡ samples chain.count c = rw p (leads chain.count c (omega arith)) in
+      rw e (subst (λ (s : List Sample). Put (listing lo (last_bits chain.way lo hi) s) out r out') records (subst (λ k. Put (listing lo k (records_of part)) out r out') b h))
+
+-- no more than so many of a list's elements
+pub taken_few : (n : ℕ) (l : List Float) → length (take n l) ≤ n
+taken_few n l = go (leb n (length l)) refl
+  where
+    go : (b : Bool) → leb n (length l) ≡ b → length (take n l) ≤ n
+    go true e = let k = length-take-le n l (leb-true n (length l) e) in omega arith
+    go false e = let k = leb-false n (length l) e in rw (take_all n l (omega arith)) (omega arith)
 
 -- ---- the room that a chain needs
 filled_long : (n : ℕ) (l : List Float) → n ≤ length (filled n l)

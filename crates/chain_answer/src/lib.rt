@@ -6,7 +6,7 @@ ghost use Rattle.sheet.specs.Sheet.{FitsTables, leading, written};
 ghost use Rattle.draw_spec.specs.Draw.{room_of, chain_in, program_floats, chain_floats, Outcome};
 ghost use Rattle.text_listing.specs.Listing.{float_bytes, line_bytes, refusal_bytes, Put};
 ghost use Rattle.chain_answer.specs.Own.Shown.{shown};
-ghost use Rattle.chain_answer.specs.Printed.{Prints, program_prints};
+ghost use Rattle.chain_answer.specs.Printed.{last_bits, Prints, program_prints};
 
 use draw_spec::{Drawn, Way};
 use refusal::Refusal;
@@ -24,8 +24,15 @@ pub const FLOATS: usize = edge_record::WIDTH * POINTS;
 // Room for every listing of the program: the floats' bytes, and those of a refusal, which are more than the names'.
 pub const BYTES: usize = text_listing::REFUSAL_BYTES + text_listing::FLOAT_BYTES * FLOATS;
 
+// The bits that a chain's last parameter was copied from if it is NaN, where the edge's range has the bits `lo` and `hi`.
+fn last_bits(way: Way, lo: u64, hi: u64) -> u64
+    ensures { result ≡ last_bits way lo hi }
+{
+    if matches!(way, Way::Runaway) { lo } else { hi }
+}
+
 // The listing of an answer, whose chain lies in the first buffer or in the second. `lo` and `hi` are the bits of the edge's
-// range: a NaN parameter is a copy of one of them. Stays: the match tells data of a way, two buffers and two numbers, and no step to run.
+// range: a NaN parameter is a copy of one of them. Stays: buffers and bits one by one, as `chain_of` and `write_chain` take them.
 fn show(
     drawn: Result<Drawn, Refusal>,
     first: &[f64],
@@ -37,17 +44,14 @@ fn show(
     requires { (chain_floats drawn ≤ length first.now) × (chain_floats drawn ≤ length second.now) × (refusal_bytes + float_bytes * chain_floats drawn ≤ length out.old) }
     ensures { Put (shown lo hi drawn (chain_in first.now second.now drawn)) out.old result out.new }
 {
-    let Drawn { way, count } = match drawn {
-        Ok(chain) => chain,
-        Err(cause) => return text_listing::write_refusal(cause.number(), out),
-    };
-    let n = edge_record::WIDTH * count;
-    match way {
-        Way::AsDrawn => text_listing::write_chain(&first[..n], lo, hi, out),
-        Way::Chord => text_listing::write_chain(&first[..n], lo, hi, out),
-        Way::Complement => text_listing::write_chain(&second[..n], lo, hi, out),
-        Way::ShortArc => text_listing::write_chain(&second[..n], lo, hi, out),
-        Way::Runaway => text_listing::write_chain(&second[..n], lo, lo, out),
+    match drawn {
+        Ok(chain) => text_listing::write_chain(
+            draw_handed::chain_of(drawn, first, second),
+            lo,
+            last_bits(chain.way, lo, hi),
+            out,
+        ),
+        Err(cause) => text_listing::write_refusal(cause.number(), out),
     }
 }
 
@@ -70,8 +74,8 @@ pub fn draw_sheet(
     )
 }
 
-// THE ANSWER to a sheet: the bytes that the program prints, at the start of `out`, and how many they are. Stays: text, buffers and output are
-// what the program lends, once.
+// THE ANSWER to a sheet: the bytes that the program prints, at the start of `out`, and how many they are. Stays: a struct of the four would be
+// made twice, here and in replay_chain; a count and not the part, since `Prints` also says what is behind it.
 pub fn answer(text: &[u8], first: &mut [f64], second: &mut [f64], out: &mut [u8]) -> usize
     requires { refusal_bytes + line_bytes * room_of (length first.old) (length second.old) ≤ length out.old }
     ensures { Prints text.now first.old second.old out.old result first.new second.new out.new }
@@ -87,7 +91,8 @@ pub fn answer(text: &[u8], first: &mut [f64], second: &mut [f64], out: &mut [u8]
 }
 
 // WHAT THE PROGRAM PRINTS for an input, and how many bytes: the answer, in chain buffers of `FLOATS` floats. The first n bytes
-// of `text` are what was read of the input: all of it, or as much as `text` has room for. Stays: the clause speaks of the room behind them.
+// of `text` are what was read of the input: all of it, or as much as `text` has room for. Stays: the n bytes alone would not say whether the
+// input was cut; the clause compares n with the room.
 pub fn print(text: &[u8], n: usize, out: &mut [u8]) -> usize
     requires { (size < length text.now) × (n ≤ length text.now) × (refusal_bytes + float_bytes * program_floats ≤ length out.old) }
     ensures { (result ≤ length out.new)

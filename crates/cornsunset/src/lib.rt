@@ -6,11 +6,23 @@ ghost use Rattle.brep.specs.Rows.{given};
 ghost use Rattle.causes.specs.Causes.{verdict, tables_verdict};
 ghost use Rattle.options.specs.Options.{radians as inRadians, degrees, is_clamped, default_options, draft_options, fine_options};
 ghost use Rattle.edge_walker.specs.Walk.{start_of, stepped};
-ghost use Rattle.ffi_numbers.specs.Numbers.{edge_of, options_of, cause_of, passed, point_after};
+ghost use Rattle.ffi_numbers.specs.Numbers.{edge_of, options_of, cause_of, codes_of, passed, point_after};
 ghost use Rattle.cornsunset.specs.Numbered.{NumberedOutcome, NumberedOver};
 
 use brep::LentTables;
+use draw_spec::Drawn;
 use options::{Angle, Options};
+use refusal::Refusal;
+
+// Hands out an answer's three numbers.
+fn hand_answer(drawn: Result<Drawn, Refusal>, way: &mut u32, count: &mut usize) -> u32
+    ensures { record { refusal = result; way = way.new; count = count.new } ≡ codes_of drawn }
+{
+    let codes = ffi_numbers::codes_of(drawn);
+    *way = codes.way;
+    *count = codes.count;
+    codes.refusal
+}
 
 // Draws an edge: 0, or the refusal's number.
 #[unsafe(no_mangle)]
@@ -52,10 +64,7 @@ pub extern "C" fn cs_flat_draw(
     let edge = ffi_numbers::edge_of(curve, start, end, sense, lo, hi, tolerance, low, high);
     let options = ffi_numbers::options_of(deflection, radians, relative, segments, depth, scale);
     let drawn = draw::draw(&tables, edge, options, first, second);
-    let codes = ffi_numbers::codes_of(drawn);
-    *way = codes.way;
-    *count = codes.count;
-    codes.refusal
+    hand_answer(drawn, way, count)
 }
 
 // Draws over tables that cs_flat_check_tables has accepted, and that have not changed since: for many edges they are checked once.
@@ -103,10 +112,7 @@ pub extern "C" fn cs_flat_draw_over(
         first,
         second,
     );
-    let codes = ffi_numbers::codes_of(drawn);
-    *way = codes.way;
-    *count = codes.count;
-    codes.refusal
+    hand_answer(drawn, way, count)
 }
 
 // The lowest of the causes 1 to 6 that applies, or 0.
@@ -196,6 +202,26 @@ pub extern "C" fn cs_step(
     ffi_numbers::has_passed(step)
 }
 
+// Hands out the six numbers of options, the angle in radians.
+fn hand_options(
+    options: Options,
+    deflection: &mut f64,
+    radians: &mut f64,
+    relative: &mut u32,
+    segments: &mut u64,
+    depth: &mut u32,
+    scale: &mut f64,
+)
+    ensures { options_of deflection.new radians.new relative.new segments.new depth.new scale.new ≡ options }
+{
+    *deflection = options.deflection;
+    *radians = options.angle.to_radians();
+    *relative = options.relative;
+    *segments = options.segments;
+    *depth = options.depth;
+    *scale = options.scale;
+}
+
 // The options that the Rust has by default, the angle in radians.
 #[unsafe(no_mangle)]
 pub extern "C" fn cs_flat_default(
@@ -208,13 +234,15 @@ pub extern "C" fn cs_flat_default(
 )
     ensures { options_of deflection.new radians.new relative.new segments.new depth.new scale.new ≡ default_options }
 {
-    let default = Options::default();
-    *deflection = default.deflection;
-    *radians = default.angle.to_radians();
-    *relative = default.relative;
-    *segments = default.segments;
-    *depth = default.depth;
-    *scale = default.scale;
+    hand_options(
+        Options::default(),
+        deflection,
+        radians,
+        relative,
+        segments,
+        depth,
+        scale,
+    );
 }
 
 // For a quick preview.
@@ -229,13 +257,15 @@ pub extern "C" fn cs_flat_draft(
 )
     ensures { options_of deflection.new radians.new relative.new segments.new depth.new scale.new ≡ draft_options }
 {
-    let draft = Options::draft();
-    *deflection = draft.deflection;
-    *radians = draft.angle.to_radians();
-    *relative = draft.relative;
-    *segments = draft.segments;
-    *depth = draft.depth;
-    *scale = draft.scale;
+    hand_options(
+        Options::draft(),
+        deflection,
+        radians,
+        relative,
+        segments,
+        depth,
+        scale,
+    );
 }
 
 // For close inspection.
@@ -250,13 +280,15 @@ pub extern "C" fn cs_flat_fine(
 )
     ensures { options_of deflection.new radians.new relative.new segments.new depth.new scale.new ≡ fine_options }
 {
-    let fine = Options::fine();
-    *deflection = fine.deflection;
-    *radians = fine.angle.to_radians();
-    *relative = fine.relative;
-    *segments = fine.segments;
-    *depth = fine.depth;
-    *scale = fine.scale;
+    hand_options(
+        Options::fine(),
+        deflection,
+        radians,
+        relative,
+        segments,
+        depth,
+        scale,
+    );
 }
 
 // An angle in degrees as radians.

@@ -1,7 +1,7 @@
 #![tactic(auto)]
 // Ranges, closure, period and sampling on rows, of eval/curve.rs. Each contract is the definition at the row's curve.
-// Of a row's numbers only those that are used are read. A match has an arm for each kind, as the Rust's, and `None` for a number that
-// is none; after `under_trims` the arm of a trim is one whose base is not lower.
+// Of a row's numbers only those that are used are read. Stays: a match has an arm for each kind, as the Rust's, and `None` for a number that is
+// none, also where arms have equal answers: a new kind is then not passed over. After `under_trims` a trim's arm is one whose base is not lower.
 ghost use Rattle.std.specs.Prelude.{◌≡◌, ◌+◌, ◌*◌, get_or};
 ghost use Rattle.std.specs.Float.{nan};
 ghost use Rattle.math.specs.Math.{interval};

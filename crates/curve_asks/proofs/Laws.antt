@@ -1,6 +1,5 @@
 -- What the code's proofs use: a row that is neither a hyperbola nor a composite under its trims, and a run of segments that is asked. Assumes nothing.
 use Rattle.std.specs.Prelude.{Option, Some, None}
-use Rattle.std.specs.Option.{option_eq}
 use Rattle.std.specs.List.{list_any, range_with_len}
 use Rattle.std.proofs.Common.{add-zero, add-one}
 use Rattle.std.proofs.Math.Bool.{or-false, or_assoc}
@@ -18,16 +17,12 @@ use borrow.Author.Tests.{eqb-true, eqb-false, eq-eqb, ne_eqb, ltb-true, ltb-fals
 use Rattle.math.specs.declared.Vec3.{Vec3}
 use Rattle.math.specs.declared.Frame.{Frame}
 use Rattle.math.specs.declared.Interval.{Interval}
-use Rattle.brep.specs.contracts.KindPartialEq.TheImpl.{eq-value}
 use Rattle.brep.specs.declared.Curve.{Curve}
 use Rattle.brep.specs.declared.Curve.TheVariants.{Line, Circle, Ellipse, Parabola, Polyline, Trimmed, Composite, Hyperbola}
-use Rattle.brep.specs.declared.Kind.{Kind}
-use Rattle.brep.specs.Kind.{number_of, kind_at}
 use Rattle.brep.specs.Rows.{Tables, frame_of, segment_of}
 use Rattle.brep.specs.Own.RunOf.{run_of}
 use Rattle.brep.specs.Tree.{CurveTree, analytic, line, circle, ellipse, parabola, hyperbola, polyline, trimmed, segments, row_in, grown, below, tree}
 use Rattle.brep.proofs.Laws.{at_row, at_lower, at_high}
-use Rattle.brep.proofs.Numbered.{is_kind}
 use Rattle.brep.proofs.ByKind.{row_kind, row_first, row_count, row_p, row_q, number, at_composite, at_hyperbola}
 use Rattle.curve_parameter.specs.declared.OnSegment.{OnSegment}
 use Rattle.curve_parameter.specs.Own.Falls.{segment_under}
@@ -36,7 +31,7 @@ use Rattle.curve_parameter.proofs.Laws.{no_segment, on_segment}
 use Rattle.curve_parameter.proofs.Under.{under_stays, under_same, empty_trim}
 use Rattle.curve_nests.proofs.Laws.{some_by_number}
 use Rattle.curve_asks.specs.Asks.{is_far, asks_far, segment_asks_far}
-use Rattle.curve_asks.specs.Own.Numbers.{kind_below, is_risky, run_may_ask}
+use Rattle.curve_asks.specs.Own.Numbers.{is_risky, run_may_ask}
 use Rattle.curve_asks.specs.Own.Risk.{is_hyperbola, some_risky, some_hyperbola, may_ask}
 
 -- F looks through trims, and is v of every curve but hyperbolas and composites
@@ -62,9 +57,9 @@ under_plain {A} {F} {v} p T row {r} {kind} e k seven eight = go (row_in T r) ref
     go (Circle f a) q = here q (p.circles f a)
     go (Ellipse f a b) q = here q (p.ellipses f a b)
     go (Parabola f d) q = here q (p.parabolas f d)
-    go (Polyline first n) q = here q (p.polylines _)
+    go (Polyline s) q = here q (p.polylines _)
     go (Trimmed base range) q = p.polylines [] ∙ empty_trim F p.through T row e refl (number T r q (λ x. omega arith))
-    go (Composite first n) q = absurd (seven (k ∙ number T r q (λ x. omega arith)))
+    go (Composite s) q = absurd (seven (k ∙ number T r q (λ x. omega arith)))
     go (Hyperbola f a b) q = absurd (eight (k ∙ number T r q (λ x. omega arith)))
 
 -- what it is of a row, by the numbers of the row under its trims
@@ -225,15 +220,7 @@ module _ (T : Tables) (row : ℕ) {r : ℕ} (e : r ≡ under T.curves row) where
   pub may_other : (row_kind T r ≡ 7 → ⊥) → eqb (row_kind T r) 8 ≡ may_ask (some_hyperbola T.curves) (tree T row)
   may_other k = rw e (sym (may_by_number T row ∙ rw (ne_eqb (row_kind T (under T.curves row)) 7 (rw e at k))))
 
--- ---- the code's tests and its loop
--- a test of the kind of what a row refers to
-pub is_kind_below : (curves : List ℕ) (row base : ℕ) (k : Kind) → option_eq eq-value.it (kind_below curves row base) (Some k) ≡ ltb base row && eqb (get_or curves (under curves base * 3) 0) (number_of k)
-is_kind_below curves row base k = go (ltb base row)
-  where
-    go : (b : Bool) → option_eq eq-value.it (cond b (kind_at curves (under curves base)) None) (Some k) ≡ b && eqb (get_or curves (under curves base * 3) 0) (number_of k)
-    go true = is_kind _ k
-    go false = refl
-
+-- ---- the code's loop
 module _ (P : ℕ → Bool) where
   -- one more of a range
   more : (a n : ℕ) → list_any P (range_with_len a (suc n)) ≡ list_any P (range_with_len a n) || P (a + n)

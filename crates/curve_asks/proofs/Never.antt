@@ -86,9 +86,9 @@ module _ (T : Tables) where
       go (Circle fr r) e t = refl
       go (Ellipse fr a b) e t = refl
       go (Parabola fr d) e t = refl
-      go (Polyline first n) e t = refl
+      go (Polyline r) e t = refl
       go (Trimmed base range) e t = s base t
-      go (Composite first n) e t = silent_composite f s first n t
+      go (Composite r) e t = silent_composite f s r.first r.count t
       go (Hyperbola fr a b) e t = absurd (none_here (number T row e (λ x. omega arith)))
 
   silent_below : (n : ℕ) → ((i : ℕ) → i < n → row_kind T i ≡ 8 → ⊥) → (i : ℕ) → Silent (below T n i)

@@ -6,14 +6,14 @@ ghost use Rattle.std.specs.Prelude.{◌≡◌, true, false, not, List, ℕ, ◌+
 ghost use Rattle.brep.specs.Rows.{tables, segment_of};
 ghost use Rattle.brep.specs.Tree.{tree};
 ghost use Rattle.curve_asks.specs.Asks.{is_far, asks_far};
-ghost use Rattle.curve_asks.specs.Own.Numbers.{kind_below, run_may_ask};
+ghost use Rattle.curve_asks.specs.Own.Numbers.{run_may_ask};
 ghost use Rattle.curve_asks.specs.Own.Risk.{in_reach, is_calm, never_asks, some_hyperbola, may_ask};
 
 use brep::{Kind, Run};
 use curve_parameter::under_trims;
 use math::Interval;
 
-// Beyond 100 in magnitude. A NaN is not.
+// Beyond 100 in magnitude. A NaN is not. Stays: at a NaN neither this nor `in_reach` holds, so that neither is the other's opposite.
 #[tactic(auto, using(crate::proofs::Farthest::hundred, crate::proofs::Farthest::minus_hundred), unfolding(crate::specs::Asks::is_far))]
 fn is_far(t: f64) -> bool
     ensures { result ≡ is_far t }
@@ -23,7 +23,7 @@ fn is_far(t: f64) -> bool
 
 // Whether the curve of a row, asked for its point at t, asks a hyperbola for a parameter that is too far. A composite asks for one on
 // the segment that t falls on, whose curve lies in a lower row. Stays: the slices one by one, since the contract holds whatever the
-// others hold.
+// others hold; and parts and ranges are two, since C lends the tables so.
 pub fn far_at(curves: &[u32], parts: &[u32], ranges: &[f64], row: u32, t: f64) -> bool
     ensures { (points reals : List Float) → result ≡ asks_far (tree (tables points curves.now reals parts.now ranges.now) row) t }
 {
@@ -64,17 +64,6 @@ fn is_wild(parts: &[u32], ranges: &[f64], first: u32, i: u32) -> bool
     !is_calm(brep::segment_at(parts, ranges, first, i).range)
 }
 
-// The kind, under its trims, of what a row refers to; none for a reference that does not fall.
-fn kind_below(curves: &[u32], row: u32, base: u32) -> Option<Kind>
-    ensures { result ≡ kind_below curves.now row base }
-{
-    if base < row {
-        brep::kind_at(curves, under_trims(curves, base))
-    } else {
-        None
-    }
-}
-
 // Whether some row is a hyperbola's.
 fn some_hyperbola(curves: &[u32]) -> bool
     ensures { result ≡ some_hyperbola curves.now }
@@ -85,15 +74,15 @@ fn some_hyperbola(curves: &[u32]) -> bool
 }
 
 // Whether a composite's run of segments may ask. The rows are gone through only where a composite lies among the segments: what
-// it holds is not looked at.
-#[tactic(auto, using(crate::proofs::Laws::some_more, crate::proofs::Laws::some_at, crate::proofs::Laws::is_kind_below))]
+// it holds is not looked at. Stays: by number, since a segment behind the table's end reads as 0 and NaN (brep), and no slice has one.
+#[tactic(auto, using(crate::proofs::Laws::some_more, crate::proofs::Laws::some_at, curve_nests::proofs::Laws::is_kind_below))]
 fn run_may_ask(curves: &[u32], parts: &[u32], ranges: &[f64], row: u32, run: Run) -> bool
     ensures { result ≡ run_may_ask curves.now parts.now ranges.now row run.first run.count }
 {
     let mut composite = false;
     for i in 0..run.count {
         let base = brep::int_at(parts, (run.first as usize + i as usize) * 2);
-        let kind = kind_below(curves, row, base);
+        let kind = curve_nests::kind_below(curves, row, base);
         if kind == Some(Kind::Hyperbola) && is_wild(parts, ranges, run.first, i) {
             return true;
         }
@@ -102,7 +91,8 @@ fn run_may_ask(curves: &[u32], parts: &[u32], ranges: &[f64], row: u32, run: Run
     composite && some_hyperbola(curves)
 }
 
-// Whether a row's number is below those of trims, composites and hyperbolas: then it asks no hyperbola for anything. `false` says nothing.
+// Whether a row's number is below those of trims, composites and hyperbolas: then it asks no hyperbola for anything. `false` says nothing. Stays:
+// the number is compared, since those three kinds and what is none behind them are one range of numbers.
 pub fn never_asks(curves: &[u32], row: u32) -> bool
     ensures { (result ≡ never_asks curves.now row) × ((points reals : List Float) (parts : List ℕ) (ranges : List Float) → result ≡ true → (t : Float) → asks_far (tree (tables points curves.now reals parts ranges) row) t ≡ false) }
 {

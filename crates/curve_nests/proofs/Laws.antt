@@ -1,19 +1,34 @@
 -- What the numbers of rows say of the curves. Assumes nothing.
+use Rattle.std.specs.Prelude.{Some, None}
+use Rattle.std.specs.Option.{option_eq}
 use Rattle.std.proofs.Common.{add-one}
 use mathlib.Core.Path.{◌≡◌, refl, sym, ◌∙◌}
-use mathlib.Core.Bool.{Bool, true, false, ◌&&◌}
+use mathlib.Core.Bool.{Bool, true, false, cond, ◌&&◌}
+use mathlib.Core.List.{List}
 use Prim.Native.Nat.{ℕ, zero, suc, ◌+◌, ◌*◌}
 use lib.ListN.{get_or}
-use lib.Dec.{ltb}
+use lib.Dec.{eqb, ltb}
 use borrow.Author.Tests.{eqb-true, eqb-false, ltb-true, ltb-false}
+use Rattle.brep.specs.contracts.KindPartialEq.TheImpl.{eq-value}
+use Rattle.brep.specs.declared.Kind.{Kind}
+use Rattle.brep.specs.Kind.{number_of, kind_at}
 use Rattle.brep.specs.Rows.{Tables, segment_of}
 use Rattle.brep.specs.Tree.{segments, below, tree}
 use Rattle.brep.proofs.Laws.{at_lower, at_high}
+use Rattle.brep.proofs.Numbered.{is_kind}
 use Rattle.brep.proofs.ByKind.{row_first, row_count, at_composite}
 use Rattle.curve_parameter.specs.Own.Under.{under}
 use Rattle.curve_parameter.proofs.Under.{under_same, under_none}
 use Rattle.curve_nests.specs.Nests.{is_composite, some_composite, nests}
-use Rattle.curve_nests.specs.Own.Numbers.{composite_row, refers_to_composite, some_refers}
+use Rattle.curve_nests.specs.Own.Numbers.{composite_row, kind_below, refers_to, some_refers}
+
+-- a test of the kind of what a row refers to
+pub is_kind_below : (curves : List ℕ) (row base : ℕ) (k : Kind) → option_eq eq-value.it (kind_below curves row base) (Some k) ≡ refers_to (number_of k) curves row base
+is_kind_below curves row base k = go (ltb base row)
+  where
+    go : (b : Bool) → option_eq eq-value.it (cond b (kind_at curves (under curves base)) None) (Some k) ≡ b && eqb (get_or curves (under curves base * 3) 0) (number_of k)
+    go true = is_kind _ k
+    go false = refl
 
 module _ (T : Tables) (row : ℕ) where
   pub composite_by_number : composite_row T.curves row ≡ is_composite (tree T row)
@@ -25,7 +40,7 @@ module _ (T : Tables) (row : ℕ) where
       go false h = under_none is_composite (λ b r. refl) T false (λ c. refl) (λ ps. refl) row refl refl (eqb-false _ 7 h)
 
 module _ (T : Tables) (row : ℕ) where
-  refers_by_number : (base : ℕ) → refers_to_composite T.curves row base ≡ is_composite (below T row base)
+  refers_by_number : (base : ℕ) → refers_to 7 T.curves row base ≡ is_composite (below T row base)
   unfolding is_composite
   refers_by_number base = go (ltb base row) refl
     where

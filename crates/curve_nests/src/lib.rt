@@ -5,25 +5,29 @@
 ghost use Rattle.std.specs.Prelude.{◌≡◌, List, ℕ, Float};
 ghost use Rattle.brep.specs.Rows.{tables};
 ghost use Rattle.brep.specs.Tree.{tree};
-ghost use Rattle.curve_nests.specs.Own.Numbers.{composite_row, refers_to_composite, some_refers};
+ghost use Rattle.curve_nests.specs.Own.Numbers.{kind_below, refers_to, some_refers};
 ghost use Rattle.curve_nests.specs.Nests.{nests};
 
 use brep::{Kind, Run};
 use curve_parameter::under_trims;
 
-// Whether the curve of a row is a composite, under any trims.
-#[tactic(auto, using(brep::proofs::Numbered::is_kind))]
-fn is_composite(curves: &[u32], row: u32) -> bool
-    ensures { result ≡ composite_row curves.now row }
+// The kind, under its trims, of what a row refers to; none for a reference that does not fall, which is to the empty polyline.
+pub fn kind_below(curves: &[u32], row: u32, base: u32) -> Option<Kind>
+    ensures { result ≡ kind_below curves.now row base }
 {
-    brep::kind_at(curves, under_trims(curves, row)) == Some(Kind::Composite)
+    if base < row {
+        brep::kind_at(curves, under_trims(curves, base))
+    } else {
+        None
+    }
 }
 
-// Whether what a row refers to is one. A reference that does not fall is to the empty polyline.
+// Whether that is a composite.
+#[tactic(auto, using(crate::proofs::Laws::is_kind_below))]
 fn refers_to_composite(curves: &[u32], row: u32, base: u32) -> bool
-    ensures { result ≡ refers_to_composite curves.now row base }
+    ensures { result ≡ refers_to 7 curves.now row base }
 {
-    base < row && is_composite(curves, base)
+    kind_below(curves, row, base) == Some(Kind::Composite)
 }
 
 // Whether some segment of a row's run is one.

@@ -81,6 +81,8 @@ pub fn parameter_of(count: u32, closed: bool, t: f64) -> f64
 }
 
 // The leg of a run of points that a polyline's parameter falls on, where there are two points; whether the polyline closes is at hand.
+// Stays: a prepared curve keeps whether it is closed, and not its points, so that a struct of all three would be made at each point and
+// taken apart here.
 #[tactic(auto, unfolding(crate::specs::Own::Falls::leg_under))]
 pub fn leg_under(points: &[f64], vertices: Run, closed: bool, t: f64) -> Option<OnLeg>
     ensures { result ≡ leg_under points.now vertices.first vertices.count closed t }
@@ -95,7 +97,8 @@ pub fn leg_under(points: &[f64], vertices: Run, closed: bool, t: f64) -> Option<
     })
 }
 
-// A segment's own parameter; a reversed segment is walked from its high end.
+// A segment's own parameter; a reversed segment is walked from its high end. Stays: range and sense, here and in curve_tangent, without the
+// segment's curve, which is not asked for.
 #[tactic(auto, unfolding(crate::specs::Run::own_parameter))]
 pub fn own_parameter(range: Interval, same_sense: bool, local: f64) -> f64
     ensures { result ≡ own_parameter range same_sense local }
@@ -106,7 +109,7 @@ pub fn own_parameter(range: Interval, same_sense: bool, local: f64) -> f64
     range.at(1.0 - local)
 }
 
-// The segment of a run that a composite's parameter falls on, where there is one.
+// The segment of a run that a composite's parameter falls on, where there is one. Stays: two lists, as in `brep::segment_at`.
 #[tactic(auto, unfolding(crate::specs::Own::Falls::segment_under))]
 pub fn segment_under(parts: &[u32], ranges: &[f64], segments: Run, t: f64) -> Option<OnSegment>
     ensures { result ≡ segment_under parts.now ranges.now segments.first segments.count t }

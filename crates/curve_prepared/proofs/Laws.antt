@@ -149,9 +149,9 @@ module _ (T : Tables) (row : ℕ) {r : ℕ} (u : r ≡ under T.curves row) where
       go (rows.Circle f radius) e = at_row line_of T r refl (sym e) ∙ same
       go (rows.Ellipse f a b) e = at_row line_of T r refl (sym e) ∙ same
       go (rows.Parabola f d) e = at_row line_of T r refl (sym e) ∙ same
-      go (rows.Polyline first count) e = at_row line_of T r refl (sym e) ∙ same
+      go (rows.Polyline s) e = at_row line_of T r refl (sym e) ∙ same
       go (rows.Trimmed base range) e = empty_trim line_of (λ b i. refl) T row u refl (number T r e (λ q. omega arith))
-      go (rows.Composite first count) e = at_row line_of T r refl (sym e) ∙ same
+      go (rows.Composite s) e = at_row line_of T r refl (sym e) ∙ same
       go (rows.Hyperbola f a b) e = at_row line_of T r refl (sym e) ∙ same
 
 -- what was told as a line is one

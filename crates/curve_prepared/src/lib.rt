@@ -33,9 +33,9 @@ pub enum Prepared {
         y: Vec3,
         focal_dist: f64,
     },
-    // A polyline, a composite or a hyperbola, whose row is looked up at each point. Whether a polyline is closed is worked out once. (A
-    // hyperbola of its own here would cost every other curve: the function that takes a point apart by these cases is then no longer
-    // read in place where many points are wanted.)
+    // A polyline, a composite or a hyperbola, whose row is looked up at each point. Whether a polyline is closed is worked out once. Stays: with
+    // a hyperbola of its own here circles took 16 % more instructions (docs/DECISIONS.md, 45): the function that takes a point apart by these
+    // cases is then no longer read in place where many points are wanted.
     Other {
         closed: bool,
     },
@@ -50,7 +50,7 @@ pub struct PreparedCurve<'a> {
     ghost own: { prepared ≡ prepared_of (tree (lent tables.now) row) },
 }
 
-// Stays: a parabola is another case, with one number.
+// A circle's or an ellipse's. Stays: a parabola is another case, with one number; what both have is not one struct, as at curve_point::axes_point.
 fn round_of(frame: Frame, major: f64, minor: f64) -> Prepared
     ensures { result ≡ round_of frame major minor }
 {
@@ -83,8 +83,8 @@ fn line_of(points: &[f64], first: u32) -> Prepared
     }
 }
 
-// The curve of a row prepared where it is a line under its trims, without what other kinds would need. What any other is told as says
-// only that it is none.
+// The curve of a row prepared where it is a line under its trims, without what other kinds would need. Stays: any other is told as `Other`, as
+// `prepare` tells most; an Option of two bare vectors would name neither.
 pub fn line_under(points: &[f64], curves: &[u32], row: u32) -> Prepared
     ensures { (reals : List Float) (parts : List ℕ) (ranges : List Float) → result ≡ line_only (prepared_of (tree (tables points.now curves.now reals parts ranges) row)) }
 {
@@ -129,7 +129,8 @@ pub fn prepare(tables: &LentTables<'_>, row: u32) -> Prepared
     }
 }
 
-// The point at t of a curve prepared that needs no tables. Of one that does, none is known here: zero.
+// The point at t of a curve prepared that needs no tables. Stays: zero of one that does, which no caller asks for; where many points are wanted, an
+// Option would be taken apart at each of them.
 #[tactic(auto, unfolding(crate::specs::Own::Prepared::plain_point, arith_trig::specs::Own::SinCos::sin_cos_of))]
 pub fn plain_point(prepared: Prepared, t: f64) -> Vec3
     ensures { result ≡ plain_point prepared t }
@@ -179,7 +180,7 @@ fn hyperbola_slope(points: &[f64], curves: &[u32], reals: &[f64], row: u32, t: f
     curve_tangent::hyperbola_derivative(frame.ref_dir, frame.y_dir(), p, q, t)
 }
 
-// The derivative at t of a polyline, a composite or a hyperbola. Not by `curve_tangent::derivative_at`, which reads a row by value: drawing
+// The derivative at t of a polyline, a composite or a hyperbola. Stays: not by `curve_tangent::derivative_at`, which reads a row by value: drawing
 // a composite of arcs took 10 % more instructions then, and a hyperbola 8 %.
 #[cycle(derivative)]
 fn other_derivative<'a>(tables: &'a LentTables<'a>, row: u32, closed: bool, t: f64) -> Vec3

@@ -2,6 +2,7 @@
 use Rattle.std.proofs.Common.{◌≡◌, ℕ, zero, suc, ◌<◌, ◌≤◌, List, [], ◌∷◌, length, get_or, sym, refl, ap, ◌∙◌, le_of_suc-le-suc, not-suc-le-zero}
 use lib.Ieee.{Float}
 use Rattle.math.specs.Math.{v_zero}
+use Rattle.brep.specs.declared.Run.{Run}
 use Rattle.brep.specs.declared.Segment.{Segment}
 use Rattle.brep.specs.declared.Curve.TheVariants.{Composite}
 use Rattle.brep.specs.Rows.{Tables}
@@ -58,10 +59,10 @@ same_segments T f first (suc n) =
     ap (segment (f (segment_in T first).curve) (segment_in T first).range (segment_in T first).same_sense) (same_segments T f (suc first) n)
 
 -- a run that is a composite row's own is read as that row
-same_row : (T : Tables) (row first n : ℕ) → row_in T row ≡ Composite first n → composite_of T row (records_in T first n) ≡ tree T row
+same_row : (T : Tables) (row : ℕ) (own : Run) → row_in T row ≡ Composite own → composite_of T row (records_in T own.first own.count) ≡ tree T row
 unfolding tree grown
-same_row T row first n e = rw e (ap composite (same_segments T (below T row) first n))
+same_row T row own e = rw e (ap composite (same_segments T (below T row) own.first own.count))
 
 -- THE LAW: the same over flat numbers
 pub same_over_flat : (T : Tables) (row : ℕ) (run : List Segment) → SameOverFlat T row run
-same_over_flat T row run = record { same = λ first n e own. ap (composite_of T row) own ∙ same_row T row first n e }
+same_over_flat T row run = record { same = λ own e is. ap (composite_of T row) is ∙ same_row T row own e }

@@ -1,5 +1,6 @@
 -- The composite of a run of segment records, and that it is the same over flat numbers.
 use Rattle.std.specs.Prelude.{◌≡◌, ℕ, zero, suc, List, [], ◌∷◌}
+use Rattle.brep.specs.declared.Run.{Run}
 use Rattle.brep.specs.declared.Segment.{Segment}
 use Rattle.brep.specs.declared.Curve.TheVariants.{Composite}
 use Rattle.brep.specs.Rows.{Tables}
@@ -21,4 +22,4 @@ records_in T first (suc n) = segment_in T first ∷ records_in T (suc first) n
 
 -- THE SAME OVER FLAT NUMBERS: where row is a composite of the tables, a run of its segments' records is read as the curve of that row
 pub record SameOverFlat (T : Tables) (row : ℕ) (run : List Segment) : Type 0 where
-  pub same : (first n : ℕ) → row_in T row ≡ Composite first n → run ≡ records_in T first n → composite_of T row run ≡ tree T row
+  pub same : (own : Run) → row_in T row ≡ Composite own → run ≡ records_in T own.first own.count → composite_of T row run ≡ tree T row

@@ -10,7 +10,8 @@ use brep::{LentTables, Segment};
 use math::Vec3;
 
 // The point at t of the composite whose segments are run, and which row refers to. Of the row's own segments it is what
-// `curve::point_at` answers.
+// `curve::point_at` answers. Stays: the steps of `curve_parameter::segment_under`, which reads a row's run of the tables; here the records
+// are lent themselves, and as many as a slice may have.
 pub fn point_of_run(tables: &LentTables<'_>, row: u32, run: &[Segment], t: f64) -> Vec3
     ensures { (result ≡ point_at (composite_of (lent tables.now) row run.now) t)
         × SameOverFlat (lent tables.now) row run.now }

@@ -37,7 +37,7 @@ pub fn signed_span(range: Interval, same_sense: bool) -> f64
 }
 
 // An ellipse's derivative, of its frame's two axes; a circle's is that of equal radii. Stays: a hyperbola's has other functions of t and
-// another sign, which is all that there is.
+// another sign; what is common to both is one expression.
 #[tactic(auto, unfolding(crate::specs::Derivative::ellipse_derivative, arith_trig::specs::Own::SinCos::sin_cos_of))]
 pub fn ellipse_derivative(x: Vec3, y: Vec3, semi_major: f64, semi_minor: f64, t: f64) -> Vec3
     ensures { result ≡ ellipse_derivative x y semi_major semi_minor (cos_of t) (sin_of t) }
@@ -65,7 +65,8 @@ pub fn hyperbola_derivative(x: Vec3, y: Vec3, semi_major: f64, semi_minor: f64, 
         .add(y.scale(semi_minor * h.cosh))
 }
 
-// Curve::derivative_at: the derivative at t of the curve of a row.
+// Curve::derivative_at: the derivative at t of the curve of a row. Stays: drawing takes derivatives by `curve_prepared`, which has these steps once
+// more. `row_at` is read in place only while it has one caller in a program; with this one called, ten arcs take 9 % more instructions to draw.
 #[cycle(composite_derivative_derivative_at)]
 pub fn derivative_at(tables: &LentTables<'_>, row: u32, t: f64) -> Vec3
     ensures { result ≡ derivative_at (tree (lent tables.now) row) t }
@@ -88,17 +89,13 @@ pub fn derivative_at(tables: &LentTables<'_>, row: u32, t: f64) -> Vec3
         Curve::Parabola { frame, focal_dist } => {
             parabola_derivative(frame.ref_dir, frame.y_dir(), focal_dist, t)
         }
-        Curve::Polyline { first, count } => {
-            let vertices = Run { first, count };
+        Curve::Polyline(vertices) => {
             let closed = curve_parameter::closes_at(tables.points, vertices);
             polyline_derivative(tables.points, vertices, closed, t)
         }
         // Its base does not fall.
         Curve::Trimmed { base: _, range: _ } => Vec3::ZERO,
-        Curve::Composite { first, count } => {
-            let segments = Run { first, count };
-            composite_derivative(tables, r, segments, t)
-        }
+        Curve::Composite(segments) => composite_derivative(tables, r, segments, t),
         Curve::Hyperbola {
             frame,
             semi_major,

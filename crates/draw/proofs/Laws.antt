@@ -54,7 +54,10 @@ use Rattle.edge_segment.proofs.Sag.{sag_above}
 use Rattle.edge_segment.proofs.Laws.{placed_size, placed_chord}
 use Rattle.edge_place.specs.Own.Place.{of_points, chord_between}
 use Rattle.edge_discretise.specs.Own.Discretised.{asked_discretised, DiscretisedInto}
-use Rattle.edge_repair.specs.Own.Redrawn.{DrawnInto}
+use Rattle.edge_repair.specs.declared.buffers.Buffers.{Buffers}
+use Rattle.edge_repair.specs.Own.Buffers.{room_in, SameBuffers}
+use Rattle.edge_repair.specs.Own.Redrawn.{DrawnInto, DrawnIn}
+use Rattle.edge_repair.proofs.Redrawn.{then}
 use Rattle.edge_repair.proofs.Ways.{repaired_kept}
 use Rattle.draw.specs.Own.Straight.{StraightInto}
 use Rattle.draw_spec.specs.declared.Drawn.{Drawn}
@@ -105,67 +108,61 @@ pub room_answers : (t : Tables) (e : Edge) (r : Resolved) (first second : ℕ) �
     → Answers (room_of first second) (λ (g : Got). Chained ⊥ t e (merge_floor e.tolerance r.sag) (room_of first second) g.chain) (referenced t e r)
 room_answers t e r first second p q = referenced_answers ⊥ t e (λ x. absurd x) (λ x. absurd x) (room_of first second) (room_fine first second p q) r
 
--- ---- drawn_in, after discretise answered w and left f and s
-module _ (t : Tables) (e : Edge) (r : Resolved) (first second : List Float) (p : shortest ≤ length first) (q : shortest ≤ length second) where
+-- ---- drawn_in, after discretise answered w and left new
+module _ (t : Tables) (e : Edge) (r : Resolved) (old : Buffers) where
+  room : Room (room_in old)
+  room = room_fine (length old.first.now) (length old.second.now) old.first_long old.second_long
+
   abbrev chain : Answer (List Sample)
-  chain = within (room_of (length first) (length second)) (asked_discretised true t e r)
+  chain = within (room_in old) (asked_discretised true t e r)
 
   abbrev whole : Answer Got
-  whole = within (room_of (length first) (length second)) (referenced t e r)
+  whole = within (room_in old) (referenced t e r)
 
   abbrev way : Way
   way = first_way (usable_range (edge_curve t e) e.range)
 
-  chain_answers : Answers (room_of (length first) (length second)) (Chained ⊥ t e (merge_floor e.tolerance r.sag) (room_of (length first) (length second))) (asked_discretised true t e r)
-  chain_answers = answers_asking (room_of (length first) (length second)) (asks_far (edge_curve t e)) (probes (usable_range (edge_curve t e) e.range)) (discretised t e r)
-      (discretised_answers ⊥ t e (λ x. absurd x) (λ x. absurd x) (room_of (length first) (length second)) (room_fine (length first) (length second) p q) r)
+  chain_answers : Answers (room_in old) (Chained ⊥ t e (merge_floor e.tolerance r.sag) (room_in old)) (asked_discretised true t e r)
+  chain_answers = answers_asking (room_in old) (asks_far (edge_curve t e)) (probes (usable_range (edge_curve t e) e.range)) (discretised t e r)
+      (discretised_answers ⊥ t e (λ x. absurd x) (λ x. absurd x) (room_in old) room r)
 
   chain_late : (n : Refusal) → chain ≡ Err n → 7 < number_of n
   chain_late n h = late_above (answers_refused n chain_answers h)
 
-  chain_fits : (l : List Sample) → chain ≡ Ok l → width * length l ≤ length first
-  chain_fits l h = room_least (length first) (length second) (length l) (answers_got l chain_answers h).fits
+  chain_fits : (l : List Sample) → chain ≡ Ok l → width * length l ≤ length old.first.now
+  chain_fits l h = room_least (length old.first.now) (length old.second.now) (length l) (answers_got l chain_answers h).fits
 
   whole_late : (n : Refusal) → whole ≡ Err n → 7 < number_of n
-  whole_late n h = late_above (answers_refused n (room_answers t e r (length first) (length second) p q) h)
+  whole_late n h = late_above (answers_refused n (room_answers t e r (length old.first.now) (length old.second.now) old.first_long old.second_long) h)
 
   -- what follows the chain, by what discretise answered
-  whole_by : (c : Answer (List Sample)) → chain ≡ c → whole ≡ bind c (λ l. within (room_of (length first) (length second)) (repaired t e r (by way l)))
+  whole_by : (c : Answer (List Sample)) → chain ≡ c → whole ≡ bind c (λ l. within (room_in old) (repaired t e r (by way l)))
   unfolding referenced
   whole_by c h =
-      ap (within (room_of (length first) (length second))) (asking_then (asks_far (edge_curve t e)) (probes (usable_range (edge_curve t e) e.range)) (discretised t e r) (λ l. repaired t e r (by way l)))
-      ∙ within_then (room_of (length first) (length second)) (asked_discretised true t e r) (λ l. repaired t e r (by way l))
-      ∙ ap (λ (x : Answer (List Sample)). bind x (λ l. within (room_of (length first) (length second)) (repaired t e r (by way l)))) h
+      ap (within (room_in old)) (asking_then (asks_far (edge_curve t e)) (probes (usable_range (edge_curve t e) e.range)) (discretised t e r) (λ l. repaired t e r (by way l)))
+      ∙ within_then (room_in old) (asked_discretised true t e r) (λ l. repaired t e r (by way l))
+      ∙ ap (λ (x : Answer (List Sample)). bind x (λ l. within (room_in old) (repaired t e r (by way l)))) h
 
-  module _ {w : Answer ℕ} {f s : List Float} (d : DiscretisedInto (asked_discretised true t e r) first second w f s) where
+  module _ {w : Answer ℕ} (new : Buffers) (same : SameBuffers old new)
+      (d : DiscretisedInto (asked_discretised true t e r) old.first.now old.second.now w new.first.now new.second.now) where
     -- it refused
-    pub not_drawn : (n : Refusal) → w ≡ Err n → DrawnInto whole first second (Err n) f s
-    not_drawn n is = go chain refl
+    pub not_drawn : (n : Refusal) → w ≡ Err n → DrawnIn whole old (Err n) new
+    not_drawn n is = record { same = same; drawn = go chain refl }
       where
-        go : (c : Answer (List Sample)) → chain ≡ c → DrawnInto whole first second (Err n) f s
+        go : (c : Answer (List Sample)) → chain ≡ c → DrawnInto whole old.first.now old.second.now (Err n) new.first.now new.second.now
         go (Ok l) h = absurd (let a : Err n ≡ counted_of (Ok l) = sym is ∙ d.drawn.answered ∙ ap counted_of h in let z : ◌≡◌ {A = ℕ} 0 1 = cc in omega arith)
         go (Err m) h =
             let a : Err n ≡ counted_of (Err m) = sym is ∙ d.drawn.answered ∙ ap counted_of h in
             let k : m ≡ n = cc in
             let c : chain ≡ Err n = h ∙ ap (λ (x : Refusal). Err x) k in
-            subst (λ (x : Answer Got). DrawnInto x first second (Err n) f s) (sym (whole_by (Err n) c))
-            (subst (λ (x : List Float). DrawnInto (Err n) first second (Err n) x s) (sym (d.drawn.holds ∙ ap (λ (x : Answer (List Sample)). filled (length first) (flat (list_of x))) c ∙ none))
-            (subst (λ (x : List Float). DrawnInto (Err n) first second (Err n) (filled (length first) []) x) (sym d.cleared)
-            (refused_left n first second (chain_late n c))))
-          where
-            none : filled (length first) (flat []) ≡ filled (length first) []
-            none = ap (filled (length first)) flat_none
+            rw (whole_by (Err n) c, d.drawn.holds, c, flat_none, d.cleared) (refused_left n old.first.now old.second.now (chain_late n c))
 
     -- it counted n: the chain that the first buffer holds
     pub record Counts (n : ℕ) : Type 0 where
-      pub is : chain ≡ Ok (samples n f)
-      pub first_long : length f ≡ length first
-      pub second_long : length s ≡ length second
-      pub first_enough : shortest ≤ length f
-      pub second_enough : shortest ≤ length s
-      pub fits : width * n ≤ length f
-      pub alone : f ≡ filled (length f) (flat (samples n f))
-      pub clear : s ≡ filled (length s) []
+      pub is : chain ≡ Ok (samples n new.first.now)
+      pub fits : width * n ≤ length new.first.now
+      pub alone : new.first.now ≡ filled (length new.first.now) (flat (samples n new.first.now))
+      pub clear : new.second.now ≡ filled (length new.second.now) []
 
     pub counts : (n : ℕ) → w ≡ Ok n → Counts n
     counts n is = go chain refl
@@ -175,45 +172,35 @@ module _ (t : Tables) (e : Edge) (r : Resolved) (first second : List Float) (p :
         go (Ok l) h =
             let a : Ok n ≡ counted_of (Ok l) = sym is ∙ d.drawn.answered ∙ ap counted_of h in
             let k : n ≡ length l = cc in
-            let g : f ≡ filled (length first) (flat l) = d.drawn.holds ∙ ap (λ (x : Answer (List Sample)). filled (length first) (flat (list_of x))) h in
-            let m : length (flat l) ≤ length first = omega (arith, length_flat l, chain_fits l h) in
-            let long : length f ≡ length first = ap length g ∙ filled_length (length first) (flat l) m in
-            let short : length s ≡ length second = ap length d.cleared ∙ filled_length (length second) [] (omega arith) in
-            let read : samples n f ≡ l =
-            ap (λ (x : List Float). samples n x) g ∙ ap (λ (x : ℕ). samples x (filled (length first) (flat l))) k
-            ∙ reads l (replicate (length first - length (flat l)) (of_bits binary64 0)) in
+            let m = length old.first.now in
+            let g : new.first.now ≡ filled m (flat l) = d.drawn.holds ∙ ap (λ (x : Answer (List Sample)). filled m (flat (list_of x))) h in
+            let read : samples n new.first.now ≡ l =
+            ap (λ (x : List Float). samples n x) g ∙ ap (λ (x : ℕ). samples x (filled m (flat l))) k
+            ∙ reads l (replicate (m - length (flat l)) (of_bits binary64 0)) in
             record {
               is = h ∙ ap (λ (x : List Sample). Ok x) (sym read);
-              first_long = long;
-              second_long = short;
-              first_enough = omega (arith, long, p);
-              second_enough = omega (arith, short, q);
-              fits = omega (arith, k, long, chain_fits l h);
-              alone = g ∙ ap (λ (x : ℕ). filled x (flat l)) (sym long) ∙ ap (λ (x : List Sample). filled (length f) (flat x)) (sym read);
-              clear = d.cleared ∙ ap (λ (x : ℕ). filled x []) (sym short);
+              fits = omega (arith, k, same.first_room, chain_fits l h);
+              alone = g ∙ ap (λ (x : ℕ). filled x (flat l)) (sym same.first_room) ∙ ap (λ (x : List Sample). filled (length new.first.now) (flat x)) (sym read);
+              clear = d.cleared ∙ ap (λ (x : ℕ). filled x []) (sym same.second_room);
             }
 
     -- and repair_runaway went on from it
-    module _ (n : ℕ) (c : Counts n) where
-      module _ (v : Way) (v_is : v ≡ way) where
-        abbrev mended : Answer Got
-        mended = within (room_of (length f) (length s)) (repaired t e r (by v (samples n f)))
-
-        all_mended : mended ≡ whole
-        all_mended =
-            ap (λ (u : Way). within (room_of (length f) (length s)) (repaired t e r (by u (samples n f)))) v_is
-            ∙ ap (λ (m : ℕ). within (room_of m (length s)) (repaired t e r (by way (samples n f)))) c.first_long
-            ∙ ap (λ (m : ℕ). within (room_of (length first) m) (repaired t e r (by way (samples n f)))) c.second_long ∙ sym (whole_by (Ok (samples n f)) c.is)
-
-        pub drawn_on : {answer : Answer Drawn} {f' s' : List Float} → DrawnInto mended f s answer f' s' → DrawnInto whole first second answer f' s'
-        drawn_on h = record {
-          answered = h.answered ∙ ap draw.answer_of all_mended;
-          first_holds = h.first_holds ∙ ap (first_after f) all_mended ∙ same_first whole f first whole_late c.first_long;
-          second_holds = h.second_holds ∙ ap (second_after s) all_mended ∙ same_second whole s second whole_late c.second_long;
+    pub drawn_on : (n : ℕ) → w ≡ Ok n → (v : Way) → v ≡ way → {answer : Answer Drawn} {end : Buffers}
+        → DrawnIn (within (room_in new) (repaired t e r (by v (samples n new.first.now)))) new answer end → DrawnIn whole old answer end
+    drawn_on n is v v_is h =
+        let q : within (room_in new) (repaired t e r (by v (samples n new.first.now))) ≡ whole =
+        rw (v_is, same.first_room, same.second_room) (sym (whole_by (Ok (samples n new.first.now)) (counts n is).is)) in
+        record {
+          same = then same h.same;
+          drawn = record {
+            answered = h.drawn.answered ∙ ap draw.answer_of q;
+            first_holds = h.drawn.first_holds ∙ ap (first_after new.first.now) q ∙ same_first whole new.first.now old.first.now whole_late same.first_room;
+            second_holds = h.drawn.second_holds ∙ ap (second_after new.second.now) q ∙ same_second whole new.second.now old.second.now whole_late same.second_room;
+          };
         }
 
 -- ---- draw_straight
-module _ (t : Tables) (e : Edge) (r : Resolved) (first second : List Float) (p : shortest ≤ length first) (q : shortest ≤ length second) (range : Interval)
+module _ (t : Tables) (e : Edge) (r : Resolved) (old : Buffers) (range : Interval)
     (u : usable_range (edge_curve t e) e.range ≡ Some range) (near : (x : Float) → asks_far (edge_curve t e) x ≡ false) where
   over_usable : over_range t e r range ≡ discretised t e r
   unfolding discretised
@@ -226,18 +213,18 @@ module _ (t : Tables) (e : Edge) (r : Resolved) (first second : List Float) (p :
       over_usable ∙ sym (asking_clear (asks_far (edge_curve t e)) ts (discretised t e r) (some_far-never (asks_far (edge_curve t e)) near ts))
 
   -- one segment, which stays, is all of the drawing
-  straight_whole : (l : List Sample) → within (room_of (length first) (length second)) (over_range t e r range) ≡ Ok l → stays t e r l ≡ true → whole t e r first second p q ≡ Ok (by AsDrawn l)
+  straight_whole : (l : List Sample) → within (room_in old) (over_range t e r range) ≡ Ok l → stays t e r l ≡ true → whole t e r old ≡ Ok (by AsDrawn l)
   unfolding first_way
   straight_whole l h k =
-      whole_by t e r first second p q (Ok l) (ap (within (room_of (length first) (length second))) (sym over_probed) ∙ h)
-      ∙ repaired_kept t e r (room_of (length first) (length second)) (by (first_way (usable_range (edge_curve t e) e.range)) l) k
+      whole_by t e r old (Ok l) (ap (within (room_in old)) (sym over_probed) ∙ h)
+      ∙ repaired_kept t e r (room_in old) (by (first_way (usable_range (edge_curve t e) e.range)) l) k
       ∙ ap (λ (v : Option Interval). Ok (by (first_way v) l)) u
 
-  straight_drawn : {b : Bool} {f s : List Float} → SegmentInto t e r range first b f → b ≡ true → stays t e r (placed t e (evenly range 1)) ≡ true → s ≡ filled (length second) []
-      → DrawnInto (whole t e r first second p q) first second (drawn_as AsDrawn 2) f s
+  straight_drawn : {b : Bool} {f s : List Float} → SegmentInto t e r range old.first.now b f → b ≡ true → stays t e r (placed t e (evenly range 1)) ≡ true
+      → s ≡ filled (length old.second.now) [] → DrawnInto (whole t e r old) old.first.now old.second.now (drawn_as AsDrawn 2) f s
   unfolding draw.answer_of first_after second_after
   straight_drawn d h k c =
-      rw (straight_whole (placed t e (evenly range 1)) (d.chain h (room_of (length first) (length second)) (room_fine (length first) (length second) p q).least) k)
+      rw (straight_whole (placed t e (evenly range 1)) (d.chain h (room_in old) (room t e r old).least) k)
       (record { answered = ap (drawn_as AsDrawn) (sym (placed_size t e range)); first_holds = d.holds h; second_holds = c })
 
 -- ---- draw: answer and buffers, by the way out
@@ -291,10 +278,16 @@ unfolding local_options for_extent resolve
 depth_above t e o {r} h = let d : r.depth ≡ (local_options t e o).depth = ap (λ (x : Resolved). x.depth) h in omega arith
 
 -- ---- draw_straight, by the way out
-pub not_straight : (D : Answer Got) (first second : List Float) {f s : List Float} → f ≡ first → s ≡ second → StraightInto D first second false f s
-not_straight D first second h k = record { chain = λ z. absurd (false≢true z); kept_first = λ z. h; kept_second = λ z. k }
+pub not_straight : (D : Answer Got) (old new : Buffers) → new.first.ghost_name ≡ old.first.ghost_name → new.second.ghost_name ≡ old.second.ghost_name
+    → new.first.now ≡ old.first.now → new.second.now ≡ old.second.now → StraightInto D old false new
+not_straight D old new f s h k = record {
+  same = record { first = f; second = s; first_room = ap length h; second_room = ap length k };
+  chain = λ z. absurd (false≢true z);
+  kept_first = λ z. h;
+  kept_second = λ z. k;
+}
 
-module _ (t : Tables) (e : Edge) (o : Options) (first second : List Float) (p : shortest ≤ length first) (q : shortest ≤ length second) (range : Interval)
+module _ (t : Tables) (e : Edge) (o : Options) (old new : Buffers) (range : Interval)
     (u : usable_range (edge_curve t e) e.range ≡ Some range) {origin direction : Vec3} (line : prepared_of (edge_curve t e) ≡ Line origin direction)
     {start end : Vec3} (at_start : start ≡ edge_start t e) (at_end : end ≡ edge_end t e) where
   -- a line asks no hyperbola for anything
@@ -308,16 +301,17 @@ module _ (t : Tables) (e : Edge) (o : Options) (first second : List Float) (p : 
       let z = placed_chord t e line range in
       ap (λ (l : List Sample). stays t e r l) (sym z.2) ∙ rw (at_start, at_end) at (k z.0 z.1)
 
-  pub straight : {b : Bool} {f s : List Float} → SegmentInto t e (for_extent (resolve o) (edge_extent t e)) range first b f → b ≡ true
+  pub straight : SameBuffers old new → {b : Bool} → SegmentInto t e (for_extent (resolve o) (edge_extent t e)) range old.first.now b new.first.now → b ≡ true
       → ((r : Resolved) → le plus_zero r.sag ≡ true → (x y : Float) → stays (of_points t.points) e r (chord_between start end x y) ≡ true)
-      → s ≡ filled (length second) [] → StraightInto (in_buffers t e o (length first) (length second)) first second true f s
+      → new.second.now ≡ filled (length old.second.now) [] → StraightInto (in_buffers t e o (length old.first.now) (length old.second.now)) old true new
   unfolding local_options for_extent
-  straight {b} {f} {s} d h k c =
+  straight same {b} d h k c =
       let r = for_extent (resolve o) (edge_extent t e) in
       record {
+        same = same;
         chain = λ z.
-            in_buffers_lem t e o first second (neither_short (length first) (length second) p q) r refl _ f s
-            (straight_drawn t e r first second p q range u line_near d h (own_stays r (k r (sag_above o (edge_extent t e)))) c);
+            in_buffers_lem t e o old.first.now old.second.now (neither_short (length old.first.now) (length old.second.now) old.first_long old.second_long) r refl _ new.first.now new.second.now
+            (straight_drawn t e r old range u line_near d h (own_stays r (k r (sag_above o (edge_extent t e)))) c);
         kept_first = λ z. absurd (false≢true (sym z));
         kept_second = λ z. absurd (false≢true (sym z));
       }
@@ -326,6 +320,4 @@ module _ (t : Tables) (e : Edge) (o : Options) (first second : List Float) (p : 
 pub drawn_from : (t : Tables) (e : Edge) (r : Resolved) {first second f s : List Float} → f ≡ first → s ≡ second → {answer : Answer Drawn} {f' s' : List Float}
     → DrawnInto (within (room_of (length f) (length s)) (referenced t e r)) f s answer f' s'
     → DrawnInto (within (room_of (length first) (length second)) (referenced t e r)) first second answer f' s'
-drawn_from t e r {first} {second} {f} {s} h k {answer} {f'} {s'} d =
-    subst (λ (x : List Float). DrawnInto (within (room_of (length x) (length second)) (referenced t e r)) x second answer f' s') h
-    (subst (λ (y : List Float). DrawnInto (within (room_of (length f) (length y)) (referenced t e r)) f y answer f' s') k d)
+drawn_from t e r h k d = rw (← h, ← k) d

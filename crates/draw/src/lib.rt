@@ -1,22 +1,23 @@
 #![tactic(auto)]
 // Drawing an edge: THE entry point. Whoever calls it, with tables, edge, options and buffers of any content, gets a chain
 // or one of the numbered refusals.
-ghost use Rattle.std.specs.Prelude.{◌≡◌, ◌<◌, ◌≤◌, length, T};
+ghost use Rattle.std.specs.Prelude.{◌≡◌, length, T};
 ghost use Rattle.std.specs.Float.{binary64};
 ghost use Rattle.std.specs.Float.Ieee.{fits};
 ghost use Rattle.brep.specs.Rows.{lent};
 ghost use Rattle.edge_params.specs.Work.{within};
-ghost use Rattle.edge_record.specs.Chain.{shortest};
-ghost use Rattle.draw_spec.specs.Draw.{first_way, local_options, referenced, in_buffers, room_of, Outcome};
+ghost use Rattle.draw_spec.specs.Draw.{first_way, local_options, referenced, in_buffers, Outcome};
 ghost use Rattle.draw_spec.specs.Own.Binary.{AllBinary64};
-ghost use Rattle.edge_repair.specs.Own.Redrawn.{DrawnInto};
+ghost use Rattle.edge_repair.specs.Own.Buffers.{room_in};
+ghost use Rattle.edge_repair.specs.Own.Redrawn.{DrawnInto, DrawnIn};
 ghost use Rattle.draw.specs.Own.Straight.{StraightInto};
 ghost use Rattle.draw.specs.Over.{drawn_bounded, Over};
 
 use brep::{Edge, LentTables};
 use curve_prepared::Prepared;
 use draw_spec::{Drawn, Way};
-use edge_drawing::Drawing;
+use edge_drawing::{Drawing, Plan};
+use edge_repair::Buffers;
 use math::Interval;
 use options::{Options, Resolved};
 use refusal::Refusal;
@@ -64,14 +65,8 @@ fn local_options(drawing: &Drawing<'_>, options: Options) -> Resolved
 
 // Draws a line's edge in one segment, the commonest, at once, where neither its extent nor its box can change the chain, and says whether
 // it did. If not, both buffers are as they were, and it is drawn as any other.
-fn draw_straight(
-    drawing: &Drawing<'_>,
-    options: Options,
-    first: &mut [f64],
-    second: &mut [f64],
-) -> bool
-    requires { (shortest ≤ length first.old) × (shortest ≤ length second.old) }
-    ensures { StraightInto (in_buffers (lent drawing.now.tables.now) drawing.now.edge options (length first.old) (length second.old)) first.old second.old result first.new second.new }
+fn draw_straight(drawing: &Drawing<'_>, options: Options, buffers: &mut Buffers<'_>) -> bool
+    ensures { StraightInto (in_buffers (lent drawing.now.tables.now) drawing.now.edge options (length buffers.old.first.now) (length buffers.old.second.now)) buffers.old result buffers.new }
 {
     if 1 < options.segments {
         return false;
@@ -88,8 +83,17 @@ fn draw_straight(
     let start = brep::point(tables.points, edge.start);
     let end = brep::point(tables.points, edge.end);
     if edge_repair::stays_between(tables.points, edge, start, end) {
-        if edge_segment::draw_segment(start, end, origin, direction, edge, range, options, first) {
-            base_lists::clear_from(second, 0);
+        if edge_segment::draw_segment(
+            start,
+            end,
+            origin,
+            direction,
+            edge,
+            range,
+            options,
+            buffers.first,
+        ) {
+            base_lists::clear_from(buffers.second, 0);
             return true;
         }
     }
@@ -97,21 +101,16 @@ fn draw_straight(
 }
 
 // The closure inside discretise_all: the probes, discretise, then repair_runaway.
-fn drawn_in(
-    drawing: &Drawing<'_>,
-    r: Resolved,
-    first: &mut [f64],
-    second: &mut [f64],
-) -> Result<Drawn, Refusal>
-    requires { (shortest ≤ length first.old) × (shortest ≤ length second.old) × (0 < r.depth) }
-    ensures { DrawnInto (within (room_of (length first.old) (length second.old)) (referenced (lent drawing.now.tables.now) drawing.now.edge r)) first.old second.old result first.new second.new }
+fn drawn_in(plan: &Plan<'_>, buffers: &mut Buffers<'_>) -> Result<Drawn, Refusal>
+    ensures { DrawnIn (within (room_in buffers.old) (referenced (lent plan.now.drawing.now.tables.now) plan.now.drawing.now.edge plan.now.options)) buffers.old result buffers.new }
 {
-    let n = edge_discretise::discretise_usable(drawing, true, r, first, second)?;
-    let way = first_way(drawing.usable);
-    edge_repair::repair_runaway(drawing, r, way, n, first, second)
+    let count = edge_discretise::discretise_usable(plan, true, buffers.first, buffers.second)?;
+    let way = first_way(plan.drawing.usable);
+    edge_repair::repair_runaway(plan, Drawn { way, count }, buffers)
 }
 
-// Draws an edge over tables of any content, of which nothing is looked at but that its curve has no more knots than can be sorted.
+// Draws an edge over tables of any content, of which nothing is looked at but that its curve has no more knots than can be sorted. Stays: options
+// and two buffers of any length are what a caller lends; that either has room, which `Buffers` keeps, is looked at here.
 fn draw_unchecked(
     drawing: &Drawing<'_>,
     options: Options,
@@ -123,14 +122,18 @@ fn draw_unchecked(
     if first.len() < edge_record::SHORTEST || second.len() < edge_record::SHORTEST {
         return Err(Refusal::ShortBuffer);
     }
-    if draw_straight(drawing, options, first, second) {
+    let mut buffers = Buffers { first, second };
+    if draw_straight(drawing, options, &mut buffers) {
         return Ok(Drawn {
             way: Way::AsDrawn,
             count: 2,
         });
     }
-    let r = local_options(drawing, options);
-    drawn_in(drawing, r, first, second)
+    let plan = Plan {
+        drawing,
+        options: local_options(drawing, options),
+    };
+    drawn_in(&plan, &mut buffers)
 }
 
 // Draws an edge over tables of any content, to a depth that is bounded. Evaluation calls itself once for each composite inside a

@@ -24,6 +24,7 @@ use Rattle.base_lists.specs.All.{All, none, more}
 use Rattle.brep.specs.declared.Kind.{Kind}
 use Rattle.brep.specs.declared.Kind.TheVariants as kinds
 use Rattle.brep.specs.declared.Curve.{Curve}
+use Rattle.brep.specs.declared.Run.{Run}
 use Rattle.brep.specs.declared.Curve.TheVariants.{Line, Circle, Ellipse, Parabola, Polyline, Trimmed, Composite, Hyperbola}
 use Rattle.brep.specs.declared.Edge.{Edge}
 use Rattle.brep.specs.Rows.{Tables, segment_of, most_points, kind_of, curve_of}
@@ -150,9 +151,9 @@ data Row : Curve → Type 0 where
   a_circle : {f : Frame} {r : Float} → Row (Circle f r)
   an_ellipse : {f : Frame} {a b : Float} → Row (Ellipse f a b)
   a_parabola : {f : Frame} {d : Float} → Row (Parabola f d)
-  a_polyline : {first n : ℕ} → n ≤ most_points → Row (Polyline first n)
+  a_polyline : {own : Run} → own.count ≤ most_points → Row (Polyline own)
   a_trim : {base : ℕ} {range : Interval} → Reach range → Row (Trimmed base range)
-  a_composite : {first n : ℕ} → n ≤ most_points → Row (Composite first n)
+  a_composite : {own : Run} → own.count ≤ most_points → Row (Composite own)
   a_hyperbola : {f : Frame} {a b : Float} → Row (Hyperbola f a b)
 
 module _ (t : Tables) (e : Edge) (o : Options) (h : Checked t e o) (reals : AllBinary64 t.reals) (ranges : AllBinary64 t.ranges) where
@@ -201,12 +202,12 @@ module _ (t : Tables) (e : Edge) (o : Options) (h : Checked t e o) (reals : AllB
     grown_tame k a_circle g = record { own = turn_reach; every = turn_period; knots = none }
     grown_tame k an_ellipse g = record { own = turn_reach; every = turn_period; knots = none }
     grown_tame k a_parabola g = record { own = parabola_reach; every = no_period; knots = none }
-    grown_tame k (a_polyline {first = first} {n = n} r) g =
-        polyline_tame (run t.points first n) (omega (arith, length_run t.points first n))
+    grown_tame k (a_polyline {own = own} r) g =
+        polyline_tame (run t.points own.first own.count) (omega (arith, length_run t.points own.first own.count))
     grown_tame k (a_trim {base = base} {range = range} r) g =
         let b = g base range refl in record { own = r; every = b.every; knots = b.knots }
-    grown_tame k (a_composite {first = first} {n = n} r) g =
-        record { own = rw (count_segments t f first n) (count_reach n r); every = no_period; knots = knots_fit f first n }
+    grown_tame k (a_composite {own = own} r) g =
+        record { own = rw (count_segments t f own.first own.count) (count_reach own.count r); every = no_period; knots = knots_fit f own.first own.count }
     grown_tame k a_hyperbola g = record { own = parabola_reach; every = no_period; knots = none }
 
   rows_tame : (n i : ℕ) → i < n → i < curve_count t → Tame (tree t i)

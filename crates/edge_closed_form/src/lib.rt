@@ -52,8 +52,8 @@ fn sample_of(prepared: Prepared, t: f64) -> Sample
 }
 
 // The square of the largest miss between parameters that follow each other, of a curve that needs no tables. Each point is
-// evaluated once, and is a record of the chain from then on. Stays: two lists, as in `meets`;
-// that the chain has room is the clause of all that write there.
+// evaluated once, and is a record of the chain from then on. Stays: two lists, and that the curve needs no tables, as in `meets`; that the
+// chain has room is the clause of all that write there.
 fn worst_square(prepared: Prepared, params: &[f64], chain: &mut [f64]) -> f64
     requires { (is_plain prepared ≡ true) × (width * length params.now ≤ length chain.old) }
     ensures { (c : CurveTree) → prepared_of c ≡ prepared → Alike (root_of result) (worst_miss c plus_zero params.now)
@@ -75,7 +75,8 @@ fn worst_square(prepared: Prepared, params: &[f64], chain: &mut [f64]) -> f64
 }
 
 // Whether the chords between the parameters stay within the sag, of a curve that needs no tables. The chain then holds the points at
-// those. Stays: the parameters are only read here, and only the chain is written; `edge_subdivide::Recorder` writes both.
+// those. Stays: a pair of parameters and chain (of `&out[..m]` in edge_sample) lives for one call and its one helper; and a struct round `Prepared`
+// that keeps that it needs no tables would be made of this clause here, for the same helper.
 pub fn meets(tables: &LentTables<'_>, row: u32, params: &[f64], sag: f64, chain: &mut [f64]) -> bool
     requires { (width * length params.now ≤ length chain.old) × (is_plain (prepared_of (tree (lent tables.now) row)) ≡ true) }
     ensures { (result ≡ le (worst_miss (tree (lent tables.now) row) plus_zero params.now) sag)

@@ -90,7 +90,7 @@ module _ (far : Float → Bool) (within : Float → Float → Bool) (depth : ℕ
   abbrev all : Answer ℕ
   all = counted far room k (subdividing within depth a b)
 
-  at_end : depth ≡ 0 → Ok k ≡ all
+  pub at_end : depth ≡ 0 → Ok k ≡ all
   unfolding subdividing counted
   at_end h = rw h
 
@@ -101,14 +101,14 @@ module _ (far : Float → Bool) (within : Float → Float → Bool) (depth : ℕ
     begun : counted far room k (asks a ∷ asks b ∷ asks (midpoint a b) ∷ next) ≡ all
     begun = ap (counted far room k) (opened within depth a b deep)
 
-    at_left : far a ≡ true → Err TooFar ≡ all
+    pub at_left : far a ≡ true → Err TooFar ≡ all
     at_left f = ask_far far room k a (asks b ∷ asks (midpoint a b) ∷ next) f ∙ begun
 
     module _ (fa : far a ≡ false) where
       past_left : counted far room k (asks b ∷ asks (midpoint a b) ∷ next) ≡ all
       past_left = ask_near far room k a (asks b ∷ asks (midpoint a b) ∷ next) fa ∙ begun
 
-      at_right : far b ≡ true → Err TooFar ≡ all
+      pub at_right : far b ≡ true → Err TooFar ≡ all
       at_right f = ask_far far room k b (asks (midpoint a b) ∷ next) f ∙ past_left
 
       module _ (fb : far b ≡ false) where
@@ -163,9 +163,6 @@ budget_of o = within_budget (curve_of o.bisection.curve) o.bisection.limits.opti
 module _ (o : Counter) (depth : ℕ) (a b : End) (fa : far_of o a.t ≡ false) (fb : far_of o b.t ≡ false) (k : ℕ) where
   abbrev span : Answer ℕ
   span = all (far_of o) (budget_of o) depth a.t b.t o.room k
-
-  pub out_end : depth ≡ 0 → Ok k ≡ span
-  out_end h = at_end (far_of o) (budget_of o) depth a.t b.t o.room k h
 
   module _ (deep : depth ≡ 0 → ⊥) {v : Bool} (F : v ≡ far_of o (midpoint a.t b.t)) where
     pub out_far : v ≡ true → Err TooFar ≡ span
@@ -233,16 +230,6 @@ module _ (o : Counter) (a b : Float) (k : ℕ) where
 
   joined : bind inside ended ≡ answer
   joined = sym (counted_append (far_of o) o.room k (subdividing (budget_of o) o.bisection.limits.options.depth a b) (map adds (unless_hi o.range b)))
-
-  -- an end that is too far is asked for first
-  module _ {v : Bool} (F : v ≡ far_of o a) where
-    pub span_left : v ≡ true → Err TooFar ≡ answer
-    span_left e =
-        ap (λ (x : Answer ℕ). bind x ended) (at_left (far_of o) (budget_of o) o.bisection.limits.options.depth a b o.room k (λ z. omega (arith, o.deep)) (sym F ∙ e)) ∙ joined
-
-    pub span_right : v ≡ false → {w : Bool} → w ≡ far_of o b → w ≡ true → Err TooFar ≡ answer
-    span_right e G h =
-        ap (λ (x : Answer ℕ). bind x ended) (at_right (far_of o) (budget_of o) o.bisection.limits.options.depth a b o.room k (λ z. omega (arith, o.deep)) (sym F ∙ e) (sym G ∙ h)) ∙ joined
 
   pub span_refused : {n : Refusal} → Err n ≡ inside → Err n ≡ answer
   span_refused e = stands ended e ∙ joined

@@ -1,36 +1,34 @@
 #![tactic(auto)]
 // Sampling without its lists: how many parameters bisection would form, or refusal 8 or 11, whichever comes first. It asks for what
 // sample_params asks for, in its order. Only curves that may lead to a hyperbola's parameter that is too far are gone through so.
-ghost use Rattle.std.specs.Prelude.{◌≡◌, Bool, false, not, List, [], ◌∷◌, ◌++◌, map, ◌<◌, Float};
-ghost use Rattle.brep.specs.Rows.{tables, lent};
+ghost use Rattle.std.specs.Prelude.{◌≡◌, Bool, false, not, List, [], ◌∷◌, ◌++◌, map, Float};
+ghost use Rattle.brep.specs.Rows.{tables};
 ghost use Rattle.brep.specs.Tree.{tree};
-ghost use Rattle.options.specs.declared.Resolved.{Resolved};
 ghost use Rattle.curve_asks.specs.Asks.{asks_far};
 ghost use Rattle.curve_prepared.specs.Own.PreparedCurve.{curve_of};
-ghost use Rattle.edge_drawing.specs.Own.Drawing.{drawn_curve};
+ghost use Rattle.edge_drawing.specs.Own.Drawing.{sampled_curve};
 ghost use Rattle.knots_thin.specs.Thin.{kept_breaks, deviation_asks, thinning_asks};
 ghost use Rattle.edge_params.specs.Work.{some_far};
 ghost use Rattle.edge_params.specs.Params.{adds, subdividing, unless_hi, bisecting};
 ghost use Rattle.edge_params.specs.Own.Counted.{counted};
 ghost use Rattle.edge_subdivide.specs.Bisect.{end_at, within_budget};
-ghost use Rattle.edge_sample.specs.Sample.{sampler};
+ghost use Rattle.edge_sample.specs.Own.Sampling.{sampler_of};
 ghost use Rattle.edge_count.specs.Own.Said.{range_counted};
 
-use brep::LentTables;
 use curve_prepared::PreparedCurve;
-use edge_drawing::Drawing;
+use edge_drawing::Sampling;
 use edge_subdivide::{Bisection, End, Recorder};
 use math::Interval;
-use options::Resolved;
 use refusal::Refusal;
 
-// What a count goes by: the curve, with what its spans are held to, the range whose parameters are counted, and the room for parameters.
+// What a count goes by: the curve, with what its spans are held to, the range whose parameters are counted, and the room for parameters. Stays:
+// the walk is that of edge_sample, and so is halving; one walk over what is done at each step would be a second caller of the split, which is
+// then no longer read in place, and bisected curves took 3 to 8 % more instructions (docs/DECISIONS.md, 72).
 #[derive(Drop)]
 struct Counter<'a> {
     pub bisection: Bisection<'a>,
     pub range: Interval,
     pub room: usize,
-    ghost deep: { 0 < bisection.limits.options.depth },
 }
 
 impl Counter<'_> {
@@ -59,8 +57,8 @@ impl Counter<'_> {
         )
     }
 
-    // Whether bisection halves the span from a to b, by the list that it makes of the span with a depth of one: the middle, or nothing. (With a
-    // second caller, what `subdivide` decides this by would not be read in place there any more, and every bisected curve would pay.)
+    // Whether bisection halves the span from a to b, by the list that it makes of the span with a depth of one: the middle, or nothing. (Not by the
+    // split itself, for the reason above.)
     fn is_halved(&self, a: End, b: End) -> bool
         requires { (a ≡ end_at (curve_of self.now.bisection.curve) a.t)
             × (b ≡ end_at (curve_of self.now.bisection.curve) b.t) }
@@ -103,16 +101,29 @@ impl Counter<'_> {
         self.subdivided(m, b, depth - 1, next)
     }
 
+    // What bisection puts inside a span, whose ends it asks for first, if it goes any deep.
+    fn inside(&self, left: End, right: End, k: usize) -> Result<usize, Refusal>
+        requires { (left ≡ end_at (curve_of self.now.bisection.curve) left.t) × (right ≡ end_at (curve_of self.now.bisection.curve) right.t) }
+        ensures { result ≡ counted (asks_far (curve_of self.now.bisection.curve)) self.now.room k
+            (subdividing (within_budget (curve_of self.now.bisection.curve) self.now.bisection.limits.options) self.now.bisection.limits.options.depth left.t right.t) }
+    {
+        let depth = self.bisection.limits.options.depth;
+        if depth == 0 {
+            return Ok(k);
+        }
+        if self.is_far(left.t) || self.is_far(right.t) {
+            return Err(Refusal::TooFar);
+        }
+        self.subdivided(left, right, depth, k)
+    }
+
     // A span of the walk: what bisection puts inside it, then its end, unless that is range.hi, which stands once at the list's end.
     fn span(&self, left: End, right: End, k: usize) -> Result<usize, Refusal>
         requires { (left ≡ end_at (curve_of self.now.bisection.curve) left.t) × (right ≡ end_at (curve_of self.now.bisection.curve) right.t) }
         ensures { result ≡ counted (asks_far (curve_of self.now.bisection.curve)) self.now.room k
             (subdividing (within_budget (curve_of self.now.bisection.curve) self.now.bisection.limits.options) self.now.bisection.limits.options.depth left.t right.t ++ map adds (unless_hi self.now.range right.t)) }
     {
-        if self.is_far(left.t) || self.is_far(right.t) {
-            return Err(Refusal::TooFar);
-        }
-        let n = self.subdivided(left, right, self.bisection.limits.options.depth, k)?;
+        let n = self.inside(left, right, k)?;
         if right.t != self.range.hi {
             return self.one(n);
         }
@@ -121,24 +132,21 @@ impl Counter<'_> {
 }
 
 // range.lo, the spans between the stops, range.hi.
-fn count_walk(
-    drawing: &Drawing<'_>,
-    range: Interval,
-    r: Resolved,
-    breaks: &[f64],
-    room: usize,
-) -> Result<usize, Refusal>
-    requires { (breaks.now ≡ kept_breaks (drawn_curve drawing.now) range.lo range.hi r.sag) × (0 < r.depth) }
-    ensures { result ≡ counted (asks_far (drawn_curve drawing.now)) room 0 (bisecting (sampler (drawn_curve drawing.now) range r) range) }
+fn count_walk(sampling: &Sampling<'_>, breaks: &[f64], room: usize) -> Result<usize, Refusal>
+    requires { breaks.now ≡ kept_breaks (sampled_curve sampling.now) sampling.now.range.lo sampling.now.range.hi sampling.now.options.sag }
+    ensures { result ≡ counted (asks_far (sampled_curve sampling.now)) room 0 (bisecting (sampler_of sampling.now) sampling.now.range) }
 {
+    let drawing = sampling.drawing;
+    let range = sampling.range;
     let curve = PreparedCurve::new(drawing.tables, drawing.edge.curve);
     let counter = Counter {
-        bisection: Bisection::new(curve, r),
+        bisection: Bisection::new(curve, sampling.options),
         range,
         room,
     };
     let mut k = counter.one(0)?;
     let mut left = counter.bisection.end_at(range.lo);
+    // Stays: by number, as in edge_sample.
     for i in 0..=breaks.len() {
         let right = counter
             .bisection
@@ -149,7 +157,7 @@ fn count_walk(
     counter.one(k)
 }
 
-// Whether one of the five parameters at which `deviation` asks for the curve is too far.
+// Whether one of the five parameters at which `deviation` asks for the curve is too far. Stays: the slices one by one, as in edge_asks.
 fn span_far(curves: &[u32], parts: &[u32], ranges: &[f64], row: u32, a: f64, b: f64) -> bool
     ensures { (points reals : List Float) → result ≡ some_far (asks_far (tree (tables points curves.now reals parts.now ranges.now) row)) (deviation_asks a b) }
 {
@@ -160,9 +168,13 @@ fn span_far(curves: &[u32], parts: &[u32], ranges: &[f64], row: u32, a: f64, b: 
 }
 
 // Whether thin_breaks asks for a parameter that is too far.
-fn thin_far(tables: &LentTables<'_>, row: u32, range: Interval, sag: f64, breaks: &[f64]) -> bool
-    ensures { result ≡ some_far (asks_far (tree (lent tables.now) row)) (thinning_asks (tree (lent tables.now) row) breaks.now range.lo range.hi sag) }
+fn thin_far(sampling: &Sampling<'_>, breaks: &[f64]) -> bool
+    ensures { result ≡ some_far (asks_far (sampled_curve sampling.now)) (thinning_asks (sampled_curve sampling.now) breaks.now sampling.now.range.lo sampling.now.range.hi sampling.now.options.sag) }
 {
+    let tables = sampling.drawing.tables;
+    let row = sampling.drawing.edge.curve;
+    let range = sampling.range;
+    let sag = sampling.options.sag;
     if !(0.0 < sag) {
         return false;
     }
@@ -181,42 +193,33 @@ fn thin_far(tables: &LentTables<'_>, row: u32, range: Interval, sag: f64, breaks
 }
 
 // The count of a curve that has knots.
-fn count_breaks(
-    drawing: &Drawing<'_>,
-    range: Interval,
-    r: Resolved,
-    room: usize,
-) -> Result<usize, Refusal>
-    requires { (0 < r.depth) }
-    ensures { result ≡ range_counted room (drawn_curve drawing.now) range r }
+fn count_breaks(sampling: &Sampling<'_>, room: usize) -> Result<usize, Refusal>
+    ensures { result ≡ range_counted room (sampled_curve sampling.now) sampling.now.range sampling.now.options }
 {
-    let (tables, row) = (drawing.tables, drawing.edge.curve);
+    let tables = sampling.drawing.tables;
+    let row = sampling.drawing.edge.curve;
+    let range = sampling.range;
     let mut breaks = [0.0; knots_sort::MOST_KNOTS];
     // Never refused, here and below: the knots fit.
     let n = knots::curve_breaks(tables, row, range, &mut breaks).ok_or(Refusal::NoRoom)?;
-    if thin_far(tables, row, range, r.sag, &breaks[..n]) {
+    if thin_far(sampling, &breaks[..n]) {
         return Err(Refusal::TooFar);
     }
-    let m = knots_thin::kept_breaks(tables, row, range, r.sag, &mut breaks).ok_or(Refusal::NoRoom)?;
-    count_walk(drawing, range, r, &breaks[..m], room)
+    let sag = sampling.options.sag;
+    let m = knots_thin::kept_breaks(tables, row, range, sag, &mut breaks).ok_or(Refusal::NoRoom)?;
+    count_walk(sampling, &breaks[..m], room)
 }
 
 // How many parameters sample_params would form over a range before its segment floor, of a curve that has no closed form; or refusal 8
 // or 11, whichever comes first. Most curves have no knots, and need no room for breaks. Stays: `bisect_range` of edge_sample makes the same test, and
 // one function over what each does then would be this test again, with a closure for either way.
 #[tactic(auto, using(crate::proofs::Laws::range_plain, edge_sample::proofs::Broken::no_breaks))]
-pub fn count_range(
-    drawing: &Drawing<'_>,
-    range: Interval,
-    r: Resolved,
-    room: usize,
-) -> Result<usize, Refusal>
-    requires { (0 < r.depth) }
-    ensures { result ≡ range_counted room (drawn_curve drawing.now) range r }
+pub fn count_range(sampling: &Sampling<'_>, room: usize) -> Result<usize, Refusal>
+    ensures { result ≡ range_counted room (sampled_curve sampling.now) sampling.now.range sampling.now.options }
 {
-    if knots::knot_count(drawing.tables, drawing.edge.curve) == 0 {
+    if knots::knot_count(sampling.drawing.tables, sampling.drawing.edge.curve) == 0 {
         let none = [0.0; 1];
-        return count_walk(drawing, range, r, &none[..0], room);
+        return count_walk(sampling, &none[..0], room);
     }
-    count_breaks(drawing, range, r, room)
+    count_breaks(sampling, room)
 }

@@ -1,12 +1,13 @@
 #![tactic(auto)]
 // The chain of an edge: discretise of edge.rs, on rows.
-ghost use Rattle.std.specs.Prelude.{◌≡◌, [], ◌*◌, ◌/◌, ◌<◌, ◌≤◌, length, Some};
+ghost use Rattle.std.specs.Prelude.{◌≡◌, [], ◌*◌, ◌/◌, ◌≤◌, length, Some};
 ghost use Rattle.base_lists.specs.Room.{filled};
 ghost use Rattle.brep.specs.Rows.{lent};
 ghost use Rattle.brep.specs.Tree.{tree};
 ghost use Rattle.curve.specs.Eval.{is_sampled};
 ghost use Rattle.curve_asks.specs.Asks.{asks_far};
 ghost use Rattle.edge_params.specs.Work.{asking, within};
+ghost use Rattle.edge_drawing.specs.Own.Drawing.{drawn_curve, sampled_curve};
 ghost use Rattle.edge_sample.specs.Own.Answered.{sampled_in};
 ghost use Rattle.edge_record.specs.Own.Stored.{counted_of, after};
 ghost use Rattle.edge_record.specs.Own.Records.{records_of};
@@ -16,11 +17,9 @@ ghost use Rattle.draw_spec.specs.Draw.{room_of};
 ghost use Rattle.edge_asks.specs.Own.Told.{asked_first};
 ghost use Rattle.edge_discretise.specs.Own.Discretised.{ChainLeads, asked_discretised, DiscretisedInto};
 
-use brep::{Edge, LentTables};
-use edge_drawing::Drawing;
+use edge_drawing::{Plan, Sampling};
 use edge_sample::sample_params;
 use math::Interval;
-use options::Resolved;
 use refusal::Refusal;
 
 // How many records there is room for, in buffers of so many floats.
@@ -30,19 +29,16 @@ fn room(first: usize, second: usize) -> usize
     edge_record::MOST.min((first / edge_record::WIDTH).min(second / edge_record::WIDTH))
 }
 
-// Thins a chain, the whole records of the slice, in place, where the curve of the row is a polyline or a trim of one. Stays: that a chain has
-// no more than so many records is a clause; a struct round the slice would be made at each call, with the same proof.
-fn thin_sampled(
-    tables: &LentTables<'_>,
-    row: u32,
-    r: Resolved,
-    chain: &mut [f64],
-) -> Result<usize, Refusal>
+// Thins a chain, the whole records of the slice, in place, where the sampled curve is a polyline or a trim of one. Stays: that a chain has no
+// more than so many records is a clause; a struct round the slice would be made in `draw_sampled` and taken apart at `finish`, which goes on
+// with a part of it.
+fn thin_sampled(sampling: &Sampling<'_>, chain: &mut [f64]) -> Result<usize, Refusal>
     requires { length chain.old / width ≤ most }
-    ensures { (result ≡ counted_of (thinned_if (is_sampled (tree (lent tables.now) row)) r (records_of chain.old)))
-        × (chain.new ≡ after chain.old (thinned_if (is_sampled (tree (lent tables.now) row)) r (records_of chain.old))) }
+    ensures { (result ≡ counted_of (thinned_if (is_sampled (sampled_curve sampling.now)) sampling.now.options (records_of chain.old)))
+        × (chain.new ≡ after chain.old (thinned_if (is_sampled (sampled_curve sampling.now)) sampling.now.options (records_of chain.old))) }
 {
-    if curve::is_sampled(tables, row) {
+    let r = sampling.options;
+    if curve::is_sampled(sampling.drawing.tables, sampling.drawing.edge.curve) {
         // A chain has no more than MOST records, so that a higher floor says nothing more.
         let floor = (r.segments as usize).min(edge_record::MOST) + 1;
         return edge_thin::thin(chain, r.sag * 0.01, r.angle, floor);
@@ -51,16 +47,13 @@ fn thin_sampled(
 }
 
 // Thins and merges a chain, the whole records of the slice. What is kept is moved to the slice's start.
-fn finish(
-    tables: &LentTables<'_>,
-    edge: Edge,
-    r: Resolved,
-    chain: &mut [f64],
-) -> Result<usize, Refusal>
+fn finish(sampling: &Sampling<'_>, chain: &mut [f64]) -> Result<usize, Refusal>
     requires { (2 ≤ length chain.old / width) × (length chain.old / width ≤ most) }
-    ensures { ChainLeads (thinned_merged (lent tables.now) edge r (records_of chain.old)) result chain.new }
+    ensures { ChainLeads (thinned_merged (lent sampling.now.drawing.now.tables.now) sampling.now.drawing.now.edge sampling.now.options (records_of chain.old)) result chain.new }
 {
-    let m = thin_sampled(tables, edge.curve, r, chain)?;
+    let edge = sampling.drawing.edge;
+    let r = sampling.options;
+    let m = thin_sampled(sampling, chain)?;
     let floor = edge_merge::merge_floor(edge.tolerance, r.sag);
     let kept = &mut chain[..edge_record::WIDTH * m];
     Ok(edge_merge::merge(kept, floor))
@@ -69,20 +62,19 @@ fn finish(
 // Samples a usable range, of which it is known that nothing asked for is too far, into scratch, whose length is the room; finishes the chain
 // at the buffer's start, and leaves scratch cleared.
 fn draw_sampled(
-    drawing: &Drawing<'_>,
-    range: Interval,
-    r: Resolved,
+    sampling: &Sampling<'_>,
     chain: &mut [f64],
     scratch: &mut [f64],
 ) -> Result<usize, Refusal>
     requires { (length scratch.old ≤ most) × (width * length scratch.old ≤ length chain.old)
-        × (within (length scratch.old) (listed (tree (lent drawing.now.tables.now) drawing.now.edge.curve) range r) ≡ sampled_in (length scratch.old) (tree (lent drawing.now.tables.now) drawing.now.edge.curve) range r) }
-    ensures { ChainLeads (within (length scratch.old) (over_range (lent drawing.now.tables.now) drawing.now.edge r range)) result chain.new
+        × (within (length scratch.old) (listed (sampled_curve sampling.now) sampling.now.range sampling.now.options) ≡ sampled_in (length scratch.old) (sampled_curve sampling.now) sampling.now.range sampling.now.options) }
+    ensures { ChainLeads (within (length scratch.old) (over_range (lent sampling.now.drawing.now.tables.now) sampling.now.drawing.now.edge sampling.now.options sampling.now.range)) result chain.new
         × (scratch.new ≡ filled (length scratch.old) []) }
 {
+    let drawing = sampling.drawing;
     let wide = edge_record::WIDTH * scratch.len();
     let records = &mut chain[..wide];
-    let Some(sampled) = sample_params(drawing, range, r, scratch, records) else {
+    let Some(sampled) = sample_params(sampling, scratch, records) else {
         return Err(Refusal::NoRoom);
     };
     let n = sampled.count;
@@ -91,49 +83,53 @@ fn draw_sampled(
     let used = &mut scratch[..n];
     base_lists::clear_from(used, 0);
     let placed = &mut chain[..edge_record::WIDTH * n];
-    finish(drawing.tables, drawing.edge, r, placed)
+    finish(sampling, placed)
 }
 
 // The chain over a usable range, which is probed before that or not. Whether something asked for is too far, and comes before the room is full,
 // is told first.
 fn draw_range(
-    drawing: &Drawing<'_>,
+    plan: &Plan<'_>,
     range: Interval,
     probes_first: bool,
-    r: Resolved,
     chain: &mut [f64],
     scratch: &mut [f64],
 ) -> Result<usize, Refusal>
-    requires { (length scratch.old ≤ most) × (width * length scratch.old ≤ length chain.old)
-        × (0 < r.depth) }
-    ensures { ChainLeads (within (length scratch.old) (asking (asks_far (tree (lent drawing.now.tables.now) drawing.now.edge.curve)) (asked_first probes_first (Some range)) (over_range (lent drawing.now.tables.now) drawing.now.edge r range))) result chain.new
+    requires { (length scratch.old ≤ most) × (width * length scratch.old ≤ length chain.old) }
+    ensures { ChainLeads (within (length scratch.old) (asking (asks_far (drawn_curve plan.now.drawing.now)) (asked_first probes_first (Some range)) (over_range (lent plan.now.drawing.now.tables.now) plan.now.drawing.now.edge plan.now.options range))) result chain.new
         × (scratch.new ≡ filled (length scratch.old) []) }
 {
+    let sampling = Sampling {
+        drawing: plan.drawing,
+        range,
+        options: plan.options,
+    };
     let room = scratch.len();
-    let told = edge_asks::tell(drawing, range, probes_first, r, room);
+    let told = edge_asks::tell(&sampling, probes_first, room);
     match told {
         Err(cause) => {
             base_lists::clear_from(scratch, 0);
             Err(cause)
         }
-        Ok(()) => draw_sampled(drawing, range, r, chain, scratch),
+        Ok(()) => draw_sampled(&sampling, chain, scratch),
     }
 }
 
 // The edge's chain over its usable range, which is known, from the start of chain, and +0.0 behind it, or everywhere where
 // it is refused; +0.0 in all of scratch. Before an edge is first drawn its range is probed for its extent: what the probes may not ask for
-// is looked at here, together with the rest.
+// is looked at here, together with the rest. Stays: chain and scratch are the two buffers either way round, so that they are no
+// `edge_repair::Buffers`; a struct of one slice with room for the shortest chain would have to say besides that it still is the same slice.
+// Stays: in a function of their own, before the extent, the probes cost every other edge a second look, and a line 17 instructions.
 pub fn discretise_usable(
-    drawing: &Drawing<'_>,
+    plan: &Plan<'_>,
     probes_first: bool,
-    r: Resolved,
     chain: &mut [f64],
     scratch: &mut [f64],
 ) -> Result<usize, Refusal>
-    requires { (shortest ≤ length chain.old) × (shortest ≤ length scratch.old)
-        × (0 < r.depth) }
-    ensures { DiscretisedInto (asked_discretised probes_first (lent drawing.now.tables.now) drawing.now.edge r) chain.old scratch.old result chain.new scratch.new }
+    requires { (shortest ≤ length chain.old) × (shortest ≤ length scratch.old) }
+    ensures { DiscretisedInto (asked_discretised probes_first (lent plan.now.drawing.now.tables.now) plan.now.drawing.now.edge plan.now.options) chain.old scratch.old result chain.new scratch.new }
 {
+    let drawing = plan.drawing;
     let Some(range) = drawing.usable else {
         edge_place::chord(
             drawing.tables.points,
@@ -147,7 +143,7 @@ pub fn discretise_usable(
     };
     let n = room(chain.len(), scratch.len());
     let part = &mut scratch[..n];
-    let drawn = draw_range(drawing, range, probes_first, r, chain, part);
+    let drawn = draw_range(plan, range, probes_first, chain, part);
     // A refusal keeps no record.
     let kept = drawn.unwrap_or(0);
     base_lists::clear_from(chain, edge_record::WIDTH * kept);
@@ -156,14 +152,9 @@ pub fn discretise_usable(
 }
 
 // The edge's chain from the start of chain, and +0.0 behind it, or everywhere where it is refused; +0.0 in all of scratch.
-pub fn discretise(
-    drawing: &Drawing<'_>,
-    r: Resolved,
-    chain: &mut [f64],
-    scratch: &mut [f64],
-) -> Result<usize, Refusal>
-    requires { (shortest ≤ length chain.old) × (shortest ≤ length scratch.old) × (0 < r.depth) }
-    ensures { DiscretisedInto (discretised (lent drawing.now.tables.now) drawing.now.edge r) chain.old scratch.old result chain.new scratch.new }
+pub fn discretise(plan: &Plan<'_>, chain: &mut [f64], scratch: &mut [f64]) -> Result<usize, Refusal>
+    requires { (shortest ≤ length chain.old) × (shortest ≤ length scratch.old) }
+    ensures { DiscretisedInto (discretised (lent plan.now.drawing.now.tables.now) plan.now.drawing.now.edge plan.now.options) chain.old scratch.old result chain.new scratch.new }
 {
-    discretise_usable(drawing, false, r, chain, scratch)
+    discretise_usable(plan, false, chain, scratch)
 }

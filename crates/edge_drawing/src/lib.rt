@@ -1,6 +1,6 @@
 #![tactic(auto)]
 // An edge to be drawn: what is known of it before it is sampled, worked out once.
-ghost use Rattle.std.specs.Prelude.{◌≡◌, ◌≤◌, length};
+ghost use Rattle.std.specs.Prelude.{◌≡◌, ◌<◌, ◌≤◌, length};
 ghost use Rattle.brep.specs.Rows.{lent};
 ghost use Rattle.brep.specs.Tree.{tree};
 ghost use Rattle.knots_sort.specs.Own.Sortable.{most_knots};
@@ -10,6 +10,7 @@ ghost use Rattle.edge_drawing.specs.Range.{with_range};
 
 use brep::{Edge, LentTables};
 use math::Interval;
+use options::Resolved;
 
 // An edge over its tables, whose curve has no more knots than can be sorted, with its usable range.
 #[derive(Clone, Copy)]
@@ -44,4 +45,20 @@ impl<'a> Drawing<'a> {
         let edge = Edge { range, ..self.edge };
         Drawing::new(self.tables, edge)
     }
+}
+
+// An edge to be drawn, with the options for its size, which go a step deep at least: what drawing it and repair go by.
+#[derive(Clone, Copy)]
+pub struct Plan<'a> {
+    pub drawing: &'a Drawing<'a>,
+    pub options: Resolved,
+    ghost deep: { 0 < options.depth },
+}
+
+// A range of an edge's curve, to be sampled by any options.
+#[derive(Clone, Copy)]
+pub struct Sampling<'a> {
+    pub drawing: &'a Drawing<'a>,
+    pub range: Interval,
+    pub options: Resolved,
 }

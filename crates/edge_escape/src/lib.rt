@@ -35,7 +35,8 @@ pub struct Ends {
 }
 
 // Whether no point of the chain lies further from the box's centre than its diagonal, whose square is given, by the squares. `false` says
-// nothing.
+// nothing. Stays: the Rust's closure holds centre and limit; here the limit's root is mostly spared, and a struct of box and options would be
+// made for each of the three calls.
 fn all_near(reference: Aabb, r: Resolved, square: f64, chain: &[f64]) -> bool
     requires { le (root_of square) (escape_limit reference r) ≡ true }
     ensures { result ≡ true → false ≡ escapes reference r (records_of chain.now) }

@@ -127,7 +127,8 @@ fn extent_box(tables: &LentTables<'_>, row: u32, usable: Option<Interval>, b: Aa
     }
 }
 
-// The longest side of the box of the vertices and the probes, where the usable range is known.
+// The longest side of the box of the vertices and the probes, where the usable range is known. Stays: no `Drawing`, which asks that the
+// curve's knots can be sorted, where this asks nothing of the curve.
 #[tactic(auto, using(math::proofs::Constants::empty_is), unfolding(draw_spec::specs::Edge::edge_extent))]
 pub fn extent_usable(tables: &LentTables<'_>, edge: Edge, usable: Option<Interval>) -> f64
     requires { usable ≡ usable_range (tree (lent tables.now) edge.curve) edge.range }

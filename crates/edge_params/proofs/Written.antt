@@ -1,22 +1,18 @@
 -- A list that is written into a buffer in parts, and refused as one parameter more than the buffer has room for would join it.
 -- Assumes nothing.
 use Rattle.std.specs.Prelude.{Option, ℕ, Some, None, Err, Ok}
-use Rattle.std.proofs.Common.{◌≡◌, ℕ, suc, ◌+◌, ◌<◌, ◌≤◌, Bool, true, false, leb, List, [], ◌∷◌, ◌++◌, length, take, drop, set, sym, refl, ap, ◌∙◌, subst, append_assoc, append-nil, add-zero, add-suc, suc-add, zero-add, arith, length-append, take-append-drop, length-take-le, le-leb, leb-false, leb-true}
+use Rattle.std.proofs.Common.{◌≡◌, ℕ, suc, ◌+◌, ◌<◌, ◌≤◌, Bool, true, false, leb, List, [], ◌∷◌, ◌++◌, length, take, drop, set, sym, refl, ap, ◌∙◌, subst, append_assoc, append-nil, zero-add, arith, length-append, take-append-drop, length-take-le, le-leb, leb-false, leb-true}
 use lib.Seq.{sets, sets-eq, length-sets, set_out, take-append_seam, drop-append_seam}
 use lib.Ieee.{Float}
 use borrow.Author.Tests.{lt-leb}
+use Rattle.base_lists.proofs.Stores.{sets_append}
 use Rattle.edge_params.specs.Own.InRoom.{fitting}
 use Rattle.edge_params.specs.Own.Written.{said, ListWritten, ListAppended}
 use Rattle.refusal.specs.Answer.{Answer, bind, each}
 use Rattle.refusal.specs.declared.Refusal.TheVariants.{NoRoom}
 use Rattle.refusal.specs.declared.Refusal.{Refusal}
 
--- ---- stores in parts
-pub sets_append : (l : List Float) (n : ℕ) (a b : List Float) → sets l n (a ++ b) ≡ sets (sets l n a) (n + length a) b
-sets_append l n [] b = rw add-zero
-sets_append l n (x ∷ a) b = sets_append (set l n x) (suc n) a b ∙ rw (suc-add, add-suc)
-
--- past the end nothing is stored
+-- ---- stores: past the end nothing is stored
 pub sets_out : (l : List Float) (n : ℕ) (a : List Float) → length l ≤ n → sets l n a ≡ l
 sets_out l n [] h = refl
 sets_out l n (x ∷ a) h = rw (set_out l n x h) (sets_out l (suc n) a (omega arith))

@@ -18,7 +18,8 @@ use edge_record::Sample;
 use math::Vec3;
 
 // Whether a chain that follows its parameters from head to tail runs against the edge, whose vertices are at start and end. Where these are
-// too near each other to tell, the sense does.
+// too near each other to tell, the sense does. Stays: here and in edge_segment the vertices have been read where a chain is drawn; a struct
+// of edge and vertices that said so would carry the points too, and be made for each chain to be taken apart here.
 pub fn runs_back(edge: Edge, start: Vec3, end: Vec3, head: Vec3, tail: Vec3) -> bool
     ensures { (T : Tables) → start ≡ edge_start T edge → end ≡ edge_end T edge → result ≡ is_reversed T edge head tail }
 {
@@ -40,8 +41,8 @@ fn swap(chain: &mut [f64], i: usize, j: usize)
     edge_record::put(chain, j, a);
 }
 
-// Turns the records round. By their places, two at a time: `as_chunks_mut` and `chunks_exact_mut` would lend the records themselves, to
-// `reverse` or to exchange, but their contracts say nothing of what the slice ends as.
+// Turns the records round. Stays: by their places, two at a time, since `as_chunks_mut` and `chunks_exact_mut`, which would lend the records
+// themselves, to `reverse` or to exchange, say nothing in their contracts of what the slice ends as.
 fn turn(records: &mut [f64])
     ensures { records.new ≡ sets records.old 0 (flat (reverse (records_of records.old))) }
 {
@@ -101,7 +102,7 @@ fn locate(tables: &LentTables<'_>, row: u32, params: &[f64], chain: &mut [f64])
 
 // Writes a record for each parameter, from the chain's start. Where `known`, the records hold the curve's points and the
 // parameters already, and nothing is evaluated: a chain that runs back is turned round where it stands. Stays: parameters and
-// chain are the caller's two buffers, as for `locate`.
+// chain are the caller's two buffers, as for `locate`; a flag, since the clause is the same either way, and says what the flag must mean.
 pub fn place(tables: &LentTables<'_>, edge: Edge, params: &[f64], known: bool, chain: &mut [f64])
     requires { (2 ≤ length params.now) × (width * length params.now ≤ length chain.old)
         × (known ≡ true → samples (length params.now) chain.old ≡ located (edge_curve (lent tables.now) edge) params.now) }
@@ -119,7 +120,8 @@ pub fn place(tables: &LentTables<'_>, edge: Edge, params: &[f64], known: bool, c
     pin_ends(start, end, records);
 }
 
-// The chord of two points with the parameters a and b, and +0.0 behind it.
+// The chord of two points with the parameters a and b, and +0.0 behind it. Stays: the room for the shortest chain is a clause of one slice, here, in
+// edge_segment and where a slice of `edge_repair::Buffers` is lent on, as at `edge_discretise::discretise_usable`.
 pub fn chord_between(start: Vec3, end: Vec3, a: f64, b: f64, chain: &mut [f64])
     requires { shortest ≤ length chain.old }
     ensures { chain.new ≡ filled (length chain.old) (flat (chord_between start end a b)) }

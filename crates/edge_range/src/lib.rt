@@ -61,7 +61,9 @@ fn usable_of(natural: Interval, repeats: Option<f64>, range: Interval) -> Option
     Some(within_domain(repeats, natural, range))
 }
 
-// usable_range of any curve. Its period is worked out only where it is wanted.
+// usable_range of any curve. Stays: beside `usable_of`, since its period is worked out only where it is wanted, which a closure would do no more
+// plainly. Stays: tables and row are the curve, as at curve_point::point_at; `edge_drawing::Sampling`, which holds range and options too, stands
+// on this crate.
 #[tactic(auto, unfolding(crate::specs::Usable::usable_range))]
 fn usable_any(tables: &LentTables<'_>, row: u32, range: Interval) -> Option<Interval>
     ensures { result ≡ usable_range (tree (lent tables.now) row) range }
@@ -76,7 +78,7 @@ fn usable_any(tables: &LentTables<'_>, row: u32, range: Interval) -> Option<Inte
 
 // usable_range: the edge's own range, where a curve can be drawn over it; else the curve's natural one, where that is short enough. A
 // line, a circle, an ellipse or a parabola is told by its kind alone, as curve::natural_range and curve::period have it; so the commonest
-// rows cost a few compares. (Tables, row and range stay three: a struct of them would be taken apart again in each arm.)
+// rows cost a few compares.
 #[tactic(auto, unfolding(curve::specs::Eval::natural_range, curve::specs::Eval::period, brep::specs::Tree::tree, brep::specs::Tree::grown, brep::specs::Rows::curve_of, brep::specs::Rows::kind_of))]
 pub fn usable_range(tables: &LentTables<'_>, row: u32, range: Interval) -> Option<Interval>
     ensures { result ≡ usable_range (tree (lent tables.now) row) range }

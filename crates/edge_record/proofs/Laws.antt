@@ -9,16 +9,12 @@ use lib.ListN.{length, get_or, take, drop, set, length-append}
 use lib.Seq.{get_or_at, get_or-append-add, set_comm, set-set, set-get_or, sets, sets-eq, length-sets, get_or-set_other, take_at}
 use lib.Ieee.{Float, nan}
 use Rattle.base_lists.specs.Room.{filled}
+use Rattle.base_lists.proofs.Stores.{sets_append}
 use Rattle.edge_record.specs.declared.Sample.{Sample}
 use Rattle.edge_record.specs.Own.Stored.{record_point}
 use Rattle.edge_record.specs.Chain.{width, row, flat, sample_at, samples_from, samples, sample_point}
 
--- ---- stores of a run of floats
-pub sets_append : (l : List Float) (n : ℕ) (a b : List Float) → sets l n (a ++ b) ≡ sets (sets l n a) (n + length a) b
-sets_append l n [] b = rw add-zero
-sets_append l n (x ∷ a) b = sets_append (set l n x) (suc n) a b ∙ rw (suc-add, add-suc)
-
--- what lies behind the run stays
+-- ---- stores of a run of floats: what lies behind the run stays
 get_d-behind : (l : List Float) (n : ℕ) (a : List Float) (j : ℕ) (d : Float) → n + length a ≤ j → get_or (sets l n a) j d ≡ get_or l j d
 get_d-behind l n [] j d h = refl
 get_d-behind l n (x ∷ a) j d h =

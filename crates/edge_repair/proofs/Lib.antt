@@ -1,2 +1,2 @@
-pub mod Buffers
+pub mod Redrawn
 pub mod Ways

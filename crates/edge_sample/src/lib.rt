@@ -4,7 +4,7 @@ ghost use Rattle.std.specs.Prelude.{◌≡◌, ◌++◌, ◌≤◌, length, get_
 ghost use Rattle.std.specs.Float.{nan};
 ghost use Rattle.base_lists.specs.Room.{filled};
 ghost use Rattle.curve_prepared.specs.Own.PreparedCurve.{curve_of};
-ghost use Rattle.edge_drawing.specs.Own.Drawing.{drawn_curve};
+ghost use Rattle.edge_drawing.specs.Own.Drawing.{sampled_curve};
 ghost use Rattle.edge_params.specs.Params.{unless_hi};
 ghost use Rattle.edge_params.specs.Own.Bisected.{subdivided, bisected};
 ghost use Rattle.edge_params.specs.Own.InRoom.{refined_in};
@@ -12,15 +12,14 @@ ghost use Rattle.knots_thin.specs.Thin.{kept_breaks};
 ghost use Rattle.edge_subdivide.specs.Bisect.{end_at, within_budget};
 ghost use Rattle.edge_subdivide.specs.Own.Recorded.{Room};
 ghost use Rattle.edge_subdivide.specs.Own.Recorder.{Records};
-ghost use Rattle.edge_sample.specs.Sample.{sampler};
+ghost use Rattle.edge_sample.specs.Own.Sampling.{sampler_of};
 ghost use Rattle.edge_sample.specs.Own.Traced.{traced, traced_refined, traced_sampled};
 ghost use Rattle.edge_sample.specs.Own.Answered.{sampled_in, SampledInto, kept_floats, sampled_as, count_of, known_of, stops};
 
 use curve_prepared::PreparedCurve;
-use edge_drawing::Drawing;
+use edge_drawing::Sampling;
 use edge_subdivide::{Bisection, End, Recorder};
 use math::Interval;
-use options::Resolved;
 
 // Stop number i of the walk. The breaks are read backwards where the range runs down.
 pub fn stop_at(range: Interval, breaks: &[f64], i: usize) -> f64
@@ -57,21 +56,18 @@ fn step(
 }
 
 // range.lo, the spans between the stops, range.hi.
-fn walk(
-    drawing: &Drawing<'_>,
-    range: Interval,
-    r: Resolved,
-    breaks: &[f64],
-    to: &mut Recorder<'_>,
-) -> Option<()>
-    requires { breaks.now ≡ kept_breaks (drawn_curve drawing.now) range.lo range.hi r.sag }
-    ensures { Records (drawn_curve drawing.now) (bisected (sampler (drawn_curve drawing.now) range r) range) result to.old to.new }
+fn walk(sampling: &Sampling<'_>, breaks: &[f64], to: &mut Recorder<'_>) -> Option<()>
+    requires { breaks.now ≡ kept_breaks (sampled_curve sampling.now) sampling.now.range.lo sampling.now.range.hi sampling.now.options.sag }
+    ensures { Records (sampled_curve sampling.now) (bisected (sampler_of sampling.now) sampling.now.range) result to.old to.new }
 {
+    let drawing = sampling.drawing;
+    let range = sampling.range;
     let curve = PreparedCurve::new(drawing.tables, drawing.edge.curve);
-    let bisection = Bisection::new(curve, r);
+    let bisection = Bisection::new(curve, sampling.options);
     let mut left = bisection.end_at(range.lo);
     to.push(left)?;
-    // By number: only here it is known which way round the breaks are read, and an iterator that goes either way is no plainer.
+    // Stays: by number, since `stop_at` reads the breaks either way round, and answers the range's end behind the last; an iterator of one way is
+    // another type than one of the other.
     for i in 0..=breaks.len() {
         let right = bisection.end_at(stop_at(range, breaks, i));
         step(&bisection, range, left, right, to)?;
@@ -81,44 +77,34 @@ fn walk(
 }
 
 // The walk over the breaks of a curve that has knots.
-fn walk_breaks(
-    drawing: &Drawing<'_>,
-    range: Interval,
-    r: Resolved,
-    to: &mut Recorder<'_>,
-) -> Option<()>
-    ensures { Records (drawn_curve drawing.now) (bisected (sampler (drawn_curve drawing.now) range r) range) result to.old to.new }
+fn walk_breaks(sampling: &Sampling<'_>, to: &mut Recorder<'_>) -> Option<()>
+    ensures { Records (sampled_curve sampling.now) (bisected (sampler_of sampling.now) sampling.now.range) result to.old to.new }
 {
     let mut breaks = [0.0; knots_sort::MOST_KNOTS];
     // Never none: the knots fit.
     let m = knots_thin::kept_breaks(
-        drawing.tables,
-        drawing.edge.curve,
-        range,
-        r.sag,
+        sampling.drawing.tables,
+        sampling.drawing.edge.curve,
+        sampling.range,
+        sampling.options.sag,
         &mut breaks,
     )?;
-    walk(drawing, range, r, &breaks[..m], to)
+    walk(sampling, &breaks[..m], to)
 }
 
 // Bisection between the breaks. Most curves have no knots, and need no room for breaks.
-fn bisect_range(
-    drawing: &Drawing<'_>,
-    range: Interval,
-    r: Resolved,
-    to: &mut Recorder<'_>,
-) -> Option<()>
-    ensures { Records (drawn_curve drawing.now) (bisected (sampler (drawn_curve drawing.now) range r) range) result to.old to.new }
+fn bisect_range(sampling: &Sampling<'_>, to: &mut Recorder<'_>) -> Option<()>
+    ensures { Records (sampled_curve sampling.now) (bisected (sampler_of sampling.now) sampling.now.range) result to.old to.new }
 {
-    if knots::knot_count(drawing.tables, drawing.edge.curve) == 0 {
+    if knots::knot_count(sampling.drawing.tables, sampling.drawing.edge.curve) == 0 {
         let none = [0.0; 1];
-        return walk(drawing, range, r, &none[..0], to);
+        return walk(sampling, &none[..0], to);
     }
-    walk_breaks(drawing, range, r, to)
+    walk_breaks(sampling, to)
 }
 
 // What sampling answers of a list that has room: how many parameters there are, and whether the chain's records hold the curve's points
-// at them.
+// at them. Stays: a flag, since there are so many parameters either way, and `place` is handed both.
 #[derive(Clone, Copy)]
 pub struct Sampled {
     pub count: usize,
@@ -137,28 +123,23 @@ fn settle(listed: Option<usize>, known: bool, out: &mut [f64]) -> Option<Sampled
 
 // Bisection, then the segment floor: even steps where the list has fewer segments. Bisection's points are left in the chain. Stays: two
 // buffers, as the caller lends them; what follows bisection reads and writes the parameters alone.
-fn refine(
-    drawing: &Drawing<'_>,
-    range: Interval,
-    r: Resolved,
-    out: &mut [f64],
-    chain: &mut [f64],
-) -> Option<Sampled>
+fn refine(sampling: &Sampling<'_>, out: &mut [f64], chain: &mut [f64]) -> Option<Sampled>
     requires { Room out.old chain.old 0 }
-    ensures { SampledInto (length out.old) (refined_in (length out.old) (sampler (drawn_curve drawing.now) range r) range) (count_of result) out.new
-        × (traced (known_of result) chain.new ≡ traced_refined (length out.old) (drawn_curve drawing.now) range r chain.old) }
+    ensures { SampledInto (length out.old) (refined_in (length out.old) (sampler_of sampling.now) sampling.now.range) (count_of result) out.new
+        × (traced (known_of result) chain.new ≡ traced_refined (length out.old) (sampled_curve sampling.now) sampling.now.range sampling.now.options chain.old) }
 {
     let mut to = Recorder {
         params: out,
         chain,
         len: 0,
     };
-    let Some(()) = bisect_range(drawing, range, r, &mut to) else {
+    let Some(()) = bisect_range(sampling, &mut to) else {
         return settle(None, false, out);
     };
     let n = to.len;
-    if (n as u64) - 1 < r.segments {
-        let even = edge_params::evenly(range, r.segments, out);
+    let floor = sampling.options.segments;
+    if (n as u64) - 1 < floor {
+        let even = edge_params::evenly(sampling.range, floor, out);
         return settle(even, false, out);
     }
     settle(Some(n), true, out)
@@ -168,27 +149,23 @@ fn refine(
 // a list is longer than out. A closed form gives even steps, but only where it is given the right radius: it is checked
 // against the sag, and where it misses that the curve is bisected. Its points for the check, and those of bisection, are left in
 // the chain, which has a record for each float of out. Stays: two buffers, as for `refine`.
-pub fn sample_params(
-    drawing: &Drawing<'_>,
-    range: Interval,
-    r: Resolved,
-    out: &mut [f64],
-    chain: &mut [f64],
-) -> Option<Sampled>
+pub fn sample_params(sampling: &Sampling<'_>, out: &mut [f64], chain: &mut [f64]) -> Option<Sampled>
     requires { Room out.old chain.old 0 }
-    ensures { SampledInto (length out.old) (sampled_in (length out.old) (drawn_curve drawing.now) range r) (count_of result) out.new
-        × (traced (known_of result) chain.new ≡ traced_sampled (length out.old) (drawn_curve drawing.now) range r chain.old) }
+    ensures { SampledInto (length out.old) (sampled_in (length out.old) (sampled_curve sampling.now) sampling.now.range sampling.now.options) (count_of result) out.new
+        × (traced (known_of result) chain.new ≡ traced_sampled (length out.old) (sampled_curve sampling.now) sampling.now.range sampling.now.options chain.old) }
 {
-    let form = edge_range::analytic_segments(drawing.tables, drawing.edge.curve, range, r);
+    let tables = sampling.drawing.tables;
+    let row = sampling.drawing.edge.curve;
+    let form = edge_range::analytic_segments(tables, row, sampling.range, sampling.options);
     let Some(n) = form else {
-        return refine(drawing, range, r, out, chain);
+        return refine(sampling, out, chain);
     };
-    let even = edge_params::evenly(range, n, out);
+    let even = edge_params::evenly(sampling.range, n, out);
     let Some(m) = even else {
         return settle(even, false, out);
     };
-    if edge_closed_form::meets(drawing.tables, drawing.edge.curve, &out[..m], r.sag, chain) {
+    if edge_closed_form::meets(tables, row, &out[..m], sampling.options.sag, chain) {
         return settle(even, true, out);
     }
-    refine(drawing, range, r, out, chain)
+    refine(sampling, out, chain)
 }

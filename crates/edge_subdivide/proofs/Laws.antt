@@ -10,9 +10,12 @@ use Rattle.arith.specs.Notation.{plus_zero, one}
 use Rattle.arith.specs.Pick.{clamp_of}
 use Rattle.arith_root.specs.Root.{root_of}
 use Rattle.arith_trig.specs.Trig.{acos_of}
-use Rattle.math_chord.specs.Chord.{bisection_offset, bisection_distance}
+use Rattle.math_chord.specs.declared.Chord.{Chord}
+use Rattle.math_chord.specs.Chord.{bisection_distance}
+use Rattle.math_chord.specs.Own.Made.{bisection_chord}
+use Rattle.math_chord.proofs.Made.{offset_from, bisection_from}
 use Rattle.math.specs.declared.Vec3.{Vec3}
-use Rattle.math.specs.Math.{v_sub, v_dot, v_length, v_length_squared, angle_between}
+use Rattle.math.specs.Math.{v_dot, v_length, v_length_squared, angle_between}
 use Rattle.brep.specs.Tree.{CurveTree}
 use Rattle.curve.specs.Eval.{point_at}
 use Rattle.curve_tangent.specs.Derivative.{tangent_at}
@@ -28,10 +31,10 @@ use Rattle.edge_subdivide.specs.Own.Split.{split_of}
 use Rattle.edge_subdivide.specs.Bisect.{end_at, sag_of, tangent_turn, is_within, within_budget}
 
 -- ---- the sag, by its square: what is_within works out and compares
-pub sag_within : (pa pb pm chord offset : Vec3) (len s sag limit : Float) → chord ≡ v_sub pb pa → len ≡ v_length chord
-    → offset ≡ bisection_offset pa chord len pm → s ≡ v_length_squared offset → limit ≡ sag → le (root_of s) limit ≡ le (sag_of pa pb pm) sag
+pub sag_within : (pa pb pm offset : Vec3) (s sag limit : Float) {c : Chord} → c ≡ bisection_chord pa pb → offset ≡ offset_from c pm → s ≡ v_length_squared offset → limit ≡ sag
+    → le (root_of s) limit ≡ le (sag_of pa pb pm) sag
 unfolding sag_of bisection_distance v_length
-sag_within pa pb pm chord offset len s sag limit C L O S E = rw (S, O, L, C, E)
+sag_within pa pb pm offset s sag limit C O S E = rw (S, O, bisection_from pa pb C pm, E)
 
 -- ---- the turn, by the branches that the code takes
 straight : acos_of one ≡ plus_zero

@@ -7,12 +7,13 @@ use native.Mathlib.Omega.{arith}
 use lib.ListN.{length}
 use lib.Seq.{sets, length-sets}
 use lib.Ieee.{Float}
+use Rattle.base_lists.proofs.Stores.{sets_append}
 use Rattle.brep.specs.Tree.{CurveTree}
 use Rattle.edge_params.specs.Own.Written.{ListAppended}
 use Rattle.edge_params.proofs.Written.{sets_out, written_length, behind_none, behind_room, behind_count, behind_full, behind_refused, behind_then}
 use Rattle.edge_record.specs.declared.Sample.{Sample}
 use Rattle.edge_record.specs.Chain.{width, row, flat}
-use Rattle.edge_record.proofs.Laws.{sets_append, flat_append, length_flat}
+use Rattle.edge_record.proofs.Laws.{flat_append, length_flat}
 use Rattle.edge_closed_form.specs.Located.{located}
 use Rattle.edge_closed_form.proofs.Located.{located_length, located_append}
 use Rattle.edge_subdivide.specs.declared.End.{End}

@@ -12,6 +12,7 @@ use arith_root_limit::Limit;
 use arith_turn_limit::TurnLimit;
 use curve_prepared::PreparedCurve;
 use math::Vec3;
+use math_chord::Chord;
 use options::Resolved;
 pub use recorder::Recorder;
 
@@ -35,14 +36,18 @@ pub struct Limits {
     ghost own_turn: { turn ≡ options.angle },
 }
 
-// The limits of the options, worked out once for many spans. Stays: as a conversion it would not show that the cuts take work.
-pub fn limits_of(options: Resolved) -> Limits
-    ensures { result.options ≡ options }
-{
-    Limits {
-        options,
-        sag: Limit::new(options.sag),
-        turn: TurnLimit::new(options.angle),
+impl Limits {
+    ghost use Rattle.std.specs.Prelude.{◌≡◌};
+
+    // The limits of the options, worked out once for many spans.
+    pub fn new(options: Resolved) -> Limits
+        ensures { result.options ≡ options }
+    {
+        Limits {
+            options,
+            sag: Limit::new(options.sag),
+            turn: TurnLimit::new(options.angle),
+        }
     }
 }
 
@@ -65,17 +70,15 @@ fn is_within(limits: &Limits, a: End, b: End, pm: Vec3) -> bool
     if limits.turn.is_over(cosine) {
         return false;
     }
-    let chord = b.point.sub(a.point);
-    let len = chord.length();
-    let offset = math_chord::bisection_offset(a.point, chord, len, pm);
+    let offset = Chord::for_bisection(a.point, b.point).offset(pm);
     if limits.sag.is_root_within(offset.length_squared()) {
         return limits.turn.is_within(cosine);
     }
     false
 }
 
-// A curve whose spans are bisected, and what they are held to. (That an end is the curve's stands in the clauses, and not in `End`, which would
-// carry the curve from span to span.)
+// A curve whose spans are bisected, and what they are held to. Stays: that an end is the curve's stands in the clauses, here, in edge_sample and in
+// edge_count, and not in `End`, which would carry the curve from span to span.
 #[derive(Drop)]
 pub struct Bisection<'a> {
     pub curve: PreparedCurve<'a>,
@@ -97,7 +100,7 @@ impl<'a> Bisection<'a> {
     {
         Bisection {
             curve,
-            limits: limits_of(options),
+            limits: Limits::new(options),
         }
     }
 

@@ -1,11 +1,12 @@
-// Parameters and the curve's records at them, put behind what is there. (In a file of its own: lib.rt has clauses on recorders, and a struct with
-// a ghost field may not stand beside what speaks of it.)
+// Parameters and the curve's records at them, put behind what is there. (In a file of its own: specs/ names the struct, and the clauses of lib.rt
+// cite that.)
 ghost use Rattle.edge_subdivide.specs.Own.Recorded.{Room};
 
 use crate::End;
 use edge_record::Sample;
 
-// Where parameters go, and the curve's records at them: two lent buffers, since memory is fixed, and how many of each there are.
+// Where parameters go, and the curve's records at them. Stays: both are lent buffers, since memory is fixed, and one count beside them says how
+// many of each there are.
 #[derive(Drop)]
 pub struct Recorder<'a> {
     pub params: &'a mut [f64],

@@ -23,8 +23,8 @@ fn count_kept(keep: &[bool]) -> usize
     keep.iter().filter(|kept| **kept).count()
 }
 
-// Sets `want` flags at even steps. Stays: that there are no more flags than a chain has records is a clause; a struct round the slice would be
-// made at each call, with the same proof.
+// Sets `want` flags at even steps. Stays: that there are no more flags than a chain has records is a clause; a struct round the slice would be made
+// once, in `thin_by`, for `restore` and this, and taken apart again for `mark` and `retain`, which ask for no such bound.
 fn mark_evenly(keep: &mut [bool], want: usize)
     requires { (0 < length keep.old) × (want ≤ length keep.old) × (length keep.old ≤ most) }
     ensures { keep.new ≡ marks keep.old (evens (length keep.old) want want) }
@@ -49,7 +49,9 @@ fn restore(keep: &mut [bool], floor: usize)
     }
 }
 
-// The records whose flags are set, moved to the buffer's start; there is a flag for each record. Answers how many there are.
+// The records whose flags are set, moved to the buffer's start; there is a flag for each record. Answers how many there are. Stays: these are counted
+// beside the slice, which keeps no length of its own as a Vec does with `retain`; memory is fixed. Flags beside records, as for
+// `edge_thin_mark::mark`.
 fn retain(chain: &mut [f64], keep: &[bool]) -> usize
     requires { width * length keep.now ≤ length chain.old }
     ensures { ChainStored chain.old chain.new result (retained_by keep.now (samples (length keep.now) chain.old)) }
@@ -66,7 +68,7 @@ fn retain(chain: &mut [f64], keep: &[bool]) -> usize
 }
 
 // Thins the first records, as many as there are flags, none of which is set. What is kept is moved to the buffer's start; a refusal
-// leaves the buffer as it was.
+// leaves the buffer as it was. Stays: flags beside records, as for `edge_thin_mark::mark`.
 fn thin_by(
     chain: &mut [f64],
     bounds: Bounds,

@@ -22,7 +22,9 @@ fn next_kept(keep: &[bool], from: usize) -> usize
     }
 }
 
-// Sets the flags of the points that are kept; there is a flag for each point. After a refusal the flags are of no use.
+// Sets the flags of the points that are kept; there is a flag for each point. After a refusal the flags are of no use. Stays: that there is a record
+// for each flag is a clause, here and twice in edge_thin, since each step writes either the flags or the records and only reads the others: a struct
+// of both would lend both to be written.
 pub fn mark(chain: &[f64], bounds: Bounds, keep: &mut [bool]) -> Result<(), Refusal>
     requires { (1 < length keep.old) × (width * length keep.old ≤ length chain.now) × (keep.old ≡ replicate (length keep.old) false) }
     ensures { each (λ _. keep.new) result ≡ flagged (record_point chain.now) bounds.tolerance bounds.angle (length keep.old) }

@@ -1,22 +1,22 @@
 -- What the walk over the spans asks of a decision. Assumes nothing.
 use Rattle.std.specs.Prelude.{Option, Some, None, Err, Ok}
-use mathlib.Core.Path.{◌≡◌, refl, sym, ap, ◌∙◌}
+use mathlib.Core.Path.{◌≡◌, refl, sym}
 use mathlib.Core.Bool.{Bool, true, false, cond, ◌||◌}
 use mathlib.Core.Logic.{◌⊎◌, inl, inr, ⊎_elim}
 use Prim.Native.Nat.{ℕ, zero, suc, ◌+◌, ◌-◌, ◌<◌, ◌≤◌}
 use native.Mathlib.Omega.{arith}
 use lib.Dec.{leb, eqb}
 use lib.Ieee.{Float, lt}
-use borrow.Author.Tests.{le-leb, lt-leb, leb-false, eqb-false, eq-eqb, ne_eqb}
-use Rattle.arith.specs.Notation.{◌⊕◌, plus_zero}
+use borrow.Author.Tests.{le-leb, leb-false, eqb-false}
+use Rattle.arith.specs.Notation.{plus_zero}
 use Rattle.math.specs.declared.Vec3.{Vec3}
-use Rattle.math.specs.Math.{v_sub, v_length_squared, try_normalized, angle_between}
+use Rattle.math.specs.Math.{v_sub, v_length_squared}
 use Rattle.math_chord.specs.Chord.{span_distance}
 use Rattle.edge_thin_span.specs.declared.Worst.{Worst}
 use Rattle.refusal.specs.Answer.{Answer}
 use Rattle.refusal.specs.declared.Refusal.{Refusal}
 use Rattle.refusal.specs.declared.Refusal.TheVariants.{Endless}
-use Rattle.edge_thin_span.specs.Span.{worse, worst_from, worst_of, directions, first_in, last_in, turn_by, span_turn, decision}
+use Rattle.edge_thin_span.specs.Span.{worse, worst_from, worst_of, directions, span_turn, decision}
 use Rattle.edge_thin_span.proofs.Loops.{worst_is}
 
 -- ---- the worst index is the span's start, or inside

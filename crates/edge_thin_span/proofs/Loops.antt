@@ -14,30 +14,33 @@ use Rattle.math.specs.declared.Vec3.{Vec3}
 use Rattle.math.specs.Math.{v_sub, v_length_squared, v_length, try_normalized}
 use Rattle.edge_record.specs.Chain.{last_of}
 use Rattle.edge_record.proofs.Shorter.{last_snoc}
-use Rattle.math_chord.specs.Chord.{span_offset, span_distance}
+use Rattle.math_chord.specs.declared.Chord.{Chord}
+use Rattle.math_chord.specs.Chord.{span_distance}
+use Rattle.math_chord.specs.Own.Made.{thinning_chord}
+use Rattle.math_chord.proofs.Made.{offset_from, distance_from}
 use Rattle.edge_thin_span.specs.declared.Worst.{Worst}
 use Rattle.edge_thin_span.specs.Span.{worse, worst_from, joined, directions, first_in, last_in}
 
 abbrev pub worst_is : Float → ℕ → Worst
 worst_is d i = record { distance = d; index = i }
 
--- ---- `find_worst`
+-- ---- `worst`
 pub root_none : root_of plus_zero ≡ plus_zero
 unfolding of_bits root_of
 root_none = refl
 
-module _ (points : ℕ → Vec3) (pa axis : Vec3) (b : ℕ) where
+module _ (points : ℕ → Vec3) (pa pb : Vec3) (b : ℕ) where
   -- the points from i on, after those that gave `far` and `at`
   abbrev pub worst_onward : Float → ℕ → ℕ → Worst
-  worst_onward far at i = worst_from points pa axis (b - i) i (worst_is far at)
+  worst_onward far at i = worst_from points pa (v_sub pb pa) (b - i) i (worst_is far at)
 
-  module _ (far : Float) (at i : ℕ) (h : i < b) {len2 d2 : Float} {p v : Vec3} {below : Bool} (el : len2 ≡ v_length_squared axis) (ep : p ≡ points i) (ev : v ≡ span_offset pa axis len2 p) (ed : d2 ≡ v_length_squared v) (et : below ≡ lt far (root_of d2)) where
+  module _ {c : Chord} (ec : c ≡ thinning_chord pa pb) (far : Float) (at i : ℕ) (h : i < b) {d2 : Float} {p v : Vec3} {below : Bool} (ep : p ≡ points i) (ev : v ≡ offset_from c p) (ed : d2 ≡ v_length_squared v) (et : below ≡ lt far (root_of d2)) where
     -- the root of an offset's square is the distance
-    rooted : root_of d2 ≡ span_distance pa axis (v_length_squared axis) (points i)
-    unfolding span_distance v_length
-    rooted = rw (ed, ev, ep, el)
+    rooted : root_of d2 ≡ span_distance pa (v_sub pb pa) (v_length_squared (v_sub pb pa)) (points i)
+    unfolding v_length
+    rooted = rw (ed, ev, ep) (distance_from pa pb ec (points i))
 
-    one_more : worst_onward far at i ≡ worst_from points pa axis (b - (i + 1)) (i + 1) (worse (worst_is far at) (root_of d2) i)
+    one_more : worst_onward far at i ≡ worst_from points pa (v_sub pb pa) (b - (i + 1)) (i + 1) (worse (worst_is far at) (root_of d2) i)
     unfolding worst_from
     one_more = let q : b - i ≡ suc (b - (i + 1)) = omega arith in rw (q, add-one i, rooted)
 

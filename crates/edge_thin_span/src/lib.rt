@@ -8,6 +8,7 @@ ghost use Rattle.edge_record.specs.Own.Stored.{HasRecord, record_point};
 ghost use Rattle.edge_thin_span.specs.Span.{worst_of, directions, first_in, last_in, span_turn, decision};
 
 use math::Vec3;
+use math_chord::Chord;
 use refusal::Refusal;
 
 // A span of a chain, from record a to record b.
@@ -27,7 +28,8 @@ pub struct Bounds {
     pub angle: f64,
 }
 
-// The largest distance of a span's points to its chord, and the index of its point.
+// The largest distance of a span's points to its chord, and the index of its point. Stays: where none is above zero the index is the span's start,
+// as in the Rust, whose worst begins as (0.0, a).
 #[derive(Clone, Copy)]
 struct Worst {
     pub distance: f64,
@@ -44,19 +46,19 @@ fn angle_between(u: Vec3, v: Vec3) -> f64
 
 impl Span<'_> {
     // The first point of those furthest from the chord; a itself where no distance is above zero. Distances are compared by their
-    // squares, and only the largest one's root is taken, save where two squares are too close to tell.
+    // squares, and only the largest one's root is taken, save where two squares are too close to tell. Stays: by number, since a number is the
+    // answer.
     fn worst(&self) -> Worst
         ensures { result ≡ worst_of (record_point self.now.chain.now) self.now.a self.now.b }
     {
         let pa = edge_record::record_point(self.chain, self.a);
         let pb = edge_record::record_point(self.chain, self.b);
-        let axis = pb.sub(pa);
-        let len2 = axis.length_squared();
+        let chord = Chord::for_thinning(pa, pb);
         let mut far2 = 0.0;
         let mut at = self.a;
         for i in self.a + 1..self.b {
             let p = edge_record::record_point(self.chain, i);
-            let d2 = math_chord::span_offset(pa, axis, len2, p).length_squared();
+            let d2 = chord.offset(p).length_squared();
             if arith_root_limit::is_below(far2, d2) {
                 far2 = d2;
                 at = i;
@@ -78,7 +80,8 @@ impl Span<'_> {
             .try_normalized()
     }
 
-    // The first direction of the segments: forwards from the start to the first segment that has one.
+    // The first direction of the segments: forwards from the start to the first segment that has one. Stays: here and below `find_map` over
+    // the numbers was tried: its clause is of a run, and what numbers a range's run has is said by no law that a crate can name.
     fn first_direction(&self) -> Option<Vec3>
         ensures { result ≡ first_in (directions (record_point self.now.chain.now) (self.now.b - self.now.a) self.now.a) }
     {

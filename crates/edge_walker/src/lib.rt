@@ -2,7 +2,7 @@
 // Chain::oriented of edge.rs as a walker: it keeps the caller's chain and a place in it, and steps forwards or backwards.
 // The place lies between two points and counts the points before it. Only whole records are points.
 ghost use Rattle.std.specs.Prelude.{◌≡◌};
-ghost use Rattle.edge_walker.specs.Walk.{start_of, started, stepped, next, moved, Walks};
+ghost use Rattle.edge_walker.specs.Walk.{whole_of, start_of, started, stepped, next, moved, Walks};
 
 use edge_record::Sample;
 
@@ -21,16 +21,19 @@ pub struct Stepped {
     pub at: usize,
 }
 
+// How many whole points a chain has.
+fn whole_of(chain: &[f64]) -> usize
+    ensures { result ≡ whole_of chain.now }
+{
+    chain.chunks_exact(edge_record::WIDTH).len()
+}
+
 // Where a walk begins: before the first point, or behind the last whole one.
 #[tactic(auto, unfolding(crate::specs::Walk::start_of))]
 pub fn start_at(chain: &[f64], forward: bool) -> usize
     ensures { result ≡ start_of chain.now forward }
 {
-    if forward {
-        0
-    } else {
-        chain.len() / edge_record::WIDTH
-    }
+    if forward { 0 } else { whole_of(chain) }
 }
 
 // The step from a place. One with no point left keeps its place. Stays: the place beside the chain, since under C names the caller keeps it.
@@ -38,7 +41,7 @@ pub fn start_at(chain: &[f64], forward: bool) -> usize
 pub fn step_at(chain: &[f64], at: usize, forward: bool) -> Stepped
     ensures { result ≡ stepped chain.now at forward }
 {
-    let whole = chain.len() / edge_record::WIDTH;
+    let whole = whole_of(chain);
     if forward {
         if at < whole {
             return Stepped {

@@ -57,7 +57,7 @@ pub fn options_of(
     }
 }
 
-// A mode by whether it is strict: no value stands for none.
+// A mode by whether it is strict: no value stands for none. Stays: no `From`, since both types are of other crates.
 #[tactic(auto, unfolding(crate::specs::Numbers::mode_of))]
 pub fn mode_of(strict: bool) -> Mode
     ensures { result ≡ mode_of strict }
@@ -69,7 +69,7 @@ pub fn mode_of(strict: bool) -> Mode
     }
 }
 
-// 0, or the number of the cause: the C interface has no `Result`.
+// 0, or the number of the cause. Stays: the C interface has no `Result`.
 #[tactic(auto, unfolding(crate::specs::Numbers::cause_of))]
 pub fn cause_of(verdict: Result<(), Refusal>) -> u32
     ensures { result ≡ cause_of verdict }
@@ -77,8 +77,8 @@ pub fn cause_of(verdict: Result<(), Refusal>) -> u32
     verdict.err().map_or(0, u32::from)
 }
 
-// Stays: the C interface needs a way's number. The five stand here by name: by `as u32` they would hang on the order of another crate's variants,
-// and a `From` of a way would stand in that crate, which has no numbers and no code.
+// A way's number. Stays: the numbers are the C interface's alone; as discriminants, such as `brep::Kind` has, or as a `From` they would stand
+// in draw_spec, among the definitions.
 #[tactic(auto, unfolding(crate::specs::Numbers::number_of))]
 fn number_of(way: Way) -> u32
     ensures { result ≡ number_of way }
@@ -119,7 +119,7 @@ pub fn codes_of(drawn: Result<Drawn, Refusal>) -> Codes
     }
 }
 
-// 1 for a step that passed a point, else 0: the C interface has no `Option`.
+// 1 for a step that passed a point, else 0. Stays: the C interface has no `Option`.
 #[tactic(auto, unfolding(crate::specs::Numbers::passed))]
 pub fn has_passed(step: Option<Sample>) -> u32
     ensures { result ≡ passed step }
@@ -127,8 +127,8 @@ pub fn has_passed(step: Option<Sample>) -> u32
     u32::from(step.is_some())
 }
 
-// The point that a step passed; without one the point is as it was. Stays: a match says so as plainly as `map_or`, which would hand the point through a
-// call and back.
+// The point that a step passed; without one the point is as it was. Stays: a match says so as plainly as `map_or`, which would hand the point
+// through a call and back.
 #[tactic(auto, unfolding(crate::specs::Numbers::point_after))]
 pub fn point_after(
     point: [f64; edge_record::WIDTH],

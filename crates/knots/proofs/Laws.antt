@@ -37,7 +37,7 @@ module _ (t : LentTables) (row : ℕ) (run : Run) (h : KnotsOfRun t.curves.now r
   run_counted = sym (run_length t.parts.now t.ranges.now run.first run.count) ∙ ap length run_is
 
 -- ---- where no composite has more than n segments, no curve has more than 2 n knots
-module _ (T : Tables) (n : ℕ) (short : (i first count : ℕ) → row_in T i ≡ Composite first count → count ≤ n) where
+module _ (T : Tables) (n : ℕ) (short : (i : ℕ) (own : Run) → row_in T i ≡ Composite own → own.count ≤ n) where
   few_grown : (f : ℕ → CurveTree) → ((i : ℕ) → length (curve_knots (f i)) ≤ 2 * n) → (row : ℕ) → length (curve_knots (grown T f (row_in T row))) ≤ 2 * n
   unfolding curve_knots grown
   few_grown f h row = go (eqb (row_kind T row) 6) (eqb (row_kind T row) 7) refl refl
@@ -47,7 +47,7 @@ module _ (T : Tables) (n : ℕ) (short : (i first count : ℕ) → row_in T i �
       go false true e g =
           let r = row_composite T row (eqb-true (row_kind T row) 7 g) in
           let l = run_knots_lem T f (row_first T row) (row_count T row) in
-          rw (← r) (omega (arith, short row _ _ (sym r), ap length l, run_length T.parts T.ranges (row_first T row) (row_count T row)))
+          rw (← r) (omega (arith, short row _ (sym r), ap length l, run_length T.parts T.ranges (row_first T row) (row_count T row)))
       go false false e g =
           row_leaf T row f (λ c. length (curve_knots c) ≤ 2 * n) (λ c. omega arith) (λ ps. omega arith)
           (eqb-false (row_kind T row) 6 e) (eqb-false (row_kind T row) 7 g)

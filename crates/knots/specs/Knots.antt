@@ -1,5 +1,6 @@
 -- knots.rs: a curve's knots, its breaks inside a range, and how far a curve leaves a chord. Definitions only.
 use Rattle.std.specs.Prelude.{List, [], ◌∷◌, ℕ, Float}
+use Rattle.std.specs.List.{fold}
 use Rattle.arith.specs.Notation.{◌⊕◌, ◌⊖◌, ◌⊗◌, ◌⊘◌, count, plus_zero}
 use Rattle.arith.specs.Constants.{four}
 use Rattle.arith.specs.Pick.{max_of}
@@ -33,13 +34,15 @@ inner_parameter a b k = a ⊕ (b ⊖ a) ⊗ (count k ⊘ four)
 abbrev pub inner_at : (Float → Vec3) → Float → Float → ℕ → Vec3
 inner_at at a b k = at (inner_parameter a b k)
 
--- the largest distance of three points to the chord from pa to pb
-unfoldable pub worst_of_three : Vec3 → Vec3 → Vec3 → Vec3 → Vec3 → Float
-worst_of_three pa pb p1 p2 p3 =
+-- the largest distance of some points to the chord from pa to pb
+abbrev pub worst_of : Vec3 → Vec3 → List Vec3 → Float
+worst_of pa pb points =
     let axis = v_sub pb pa in
-    let len2 = v_length_squared axis in
-    let d = span_distance pa axis len2 in
-    max_of (max_of (max_of plus_zero (d p1)) (d p2)) (d p3)
+    fold (λ worst p. max_of worst (span_distance pa axis (v_length_squared axis) p)) plus_zero points
+
+-- that of three points
+unfoldable pub worst_of_three : Vec3 → Vec3 → Vec3 → Vec3 → Vec3 → Float
+worst_of_three pa pb p1 p2 p3 = worst_of pa pb (p1 ∷ p2 ∷ p3 ∷ [])
 
 -- deviation: how far a curve, whose point at a parameter is `at`, leaves the chord from a to b, by three inner points
 unfoldable pub deviation : (Float → Vec3) → Float → Float → Float

@@ -22,7 +22,8 @@ fn store_wholes(out: &mut [f64])
 }
 
 // The breaks of strict mode, where one segment meets the next: each is a break, however close the one after it is. A curve is turned away
-// where its knots, two a segment, do not fit, as in the other mode, though its breaks are fewer.
+// where its knots, two a segment, do not fit, as in the other mode, though its breaks are fewer. Stays: tables, row, range and out, as for
+// `knots::curve_breaks`.
 fn strict_breaks(
     tables: &LentTables<'_>,
     row: u32,
@@ -44,8 +45,8 @@ fn strict_breaks(
     Some(k)
 }
 
-// The breaks of the curve of a row inside a range, from the start of out, and +0.0 after them; none where its knots do not fit. Stays:
-// the mode is an enum by value, as the request for strict mode has it, and has two cases.
+// The breaks of the curve of a row inside a range, from the start of out, and +0.0 after them; none where its knots do not fit. Stays: two cases, two
+// calls; a closure in the mode's place would be chosen by this same match. Tables, row, range and out as for `knots::curve_breaks`.
 #[tactic(auto, unfolding(crate::specs::Breaks::breaks_in))]
 pub fn breaks_in(
     tables: &LentTables<'_>,

@@ -1,6 +1,7 @@
 #![tactic(auto)]
 // The breaks of a curve inside a range: `inside` of knots.rs.
-ghost use Rattle.std.specs.Prelude.{◌≡◌, ◌≤◌, length, take};
+ghost use Rattle.std.specs.Prelude.{◌≡◌, ◌≤◌, cond, length, take};
+ghost use Rattle.std.specs.Float.Ieee.{le};
 ghost use Rattle.std.specs.List.Retain.{IsFiltered};
 ghost use Rattle.base_lists.specs.Room.{filled};
 ghost use Rattle.knots_sort.specs.Own.Sortable.{most_knots};
@@ -64,8 +65,8 @@ fn dedup(a: &mut [f64], epsilon: f64) -> usize
     })
 }
 
-// Keeps those that pass between lo and hi, lo being the smaller, from the start; answers how many. Stays: two numbers, since a range of
-// `math` may run down, and this crate stands beside it.
+// Keeps those that pass between lo and hi, lo being the smaller, from the start; answers how many. Stays: two numbers, here and
+// below, as the Rust's `inside` takes them; this crate does not stand on math.
 #[tactic(auto, unfolding(crate::specs::Breaks::passing_upward))]
 fn passing_upward(knots: &mut [f64], lo: f64, hi: f64) -> usize
     ensures within { result ≤ length knots.old }
@@ -79,18 +80,22 @@ fn passing_upward(knots: &mut [f64], lo: f64, hi: f64) -> usize
     0
 }
 
+// The two ends of a range upward, the smaller first, whichever way it runs.
+fn upward(lo: f64, hi: f64) -> (f64, f64)
+    ensures { result ≡ cond (le lo hi) (lo, hi) (hi, lo) }
+{
+    if lo <= hi { (lo, hi) } else { (hi, lo) }
+}
+
 // Keeps those that pass between lo and hi, whichever way the range runs, from the start; answers how many. They stay in their order, and
-// none is merged with another. Stays: `inside` turns the range round in the same way, which a function over closures would hide.
+// none is merged with another.
 #[tactic(auto, unfolding(crate::specs::Breaks::passing_knots))]
 pub fn passing(knots: &mut [f64], lo: f64, hi: f64) -> usize
     ensures within { result ≤ length knots.old }
     ensures kept { take result knots.new ≡ passing_knots knots.old lo hi }
 {
-    if lo <= hi {
-        passing_upward(knots, lo, hi)
-    } else {
-        passing_upward(knots, hi, lo)
-    }
+    let (lo, hi) = upward(lo, hi);
+    passing_upward(knots, lo, hi)
 }
 
 // The breaks between lo and hi, lo being the smaller; +0.0 after them.
@@ -112,9 +117,6 @@ pub fn inside(knots: &mut [f64], lo: f64, hi: f64) -> usize
     requires { length knots.old ≤ most_knots }
     ensures { (result ≡ length (inside_of knots.old lo hi)) × (knots.new ≡ filled (length knots.old) (inside_of knots.old lo hi)) }
 {
-    if lo <= hi {
-        ascending(knots, lo, hi)
-    } else {
-        ascending(knots, hi, lo)
-    }
+    let (lo, hi) = upward(lo, hi);
+    ascending(knots, lo, hi)
 }

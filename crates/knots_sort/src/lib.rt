@@ -1,14 +1,14 @@
 #![tactic(auto)]
-// A stable sort of floats, by halves: n log n, and linear where the floats stand in order.
-// std's stable sort asks for an allocator, and there is no heap; its other sort may swap equal floats, and the two zeros differ in their bits.
+// A stable sort of floats, by halves: n log n, and linear where the floats stand in order. Stays: std's stable sort asks for an allocator, and
+// there is no heap; its other sort may swap equal floats, and the two zeros differ in their bits.
 ghost use Rattle.std.specs.Prelude.{◌≡◌, ◌/◌, ◌≤◌, length, drop, take};
 ghost use Rattle.base_lists.specs.All.{All};
 ghost use Rattle.knots_sort.specs.Own.Sortable.{most_knots, Number};
 ghost use Rattle.knots_sort.specs.Sort.{sorted};
 ghost use Rattle.knots_sort.specs.Own.Merge.{merged_runs, Halves};
 
-// The most floats that are sorted, and so the most knots of a curve: two a segment. That a slice has no more is a clause of each function
-// that hands one down: a struct round the slice would be made at each call, with the same proof.
+// The most floats that are sorted, and so the most knots of a curve: two a segment. Stays: that a slice has no more is a clause of each function
+// that hands one down, since what is sorted is a part of what was lent: on the way a struct round the slice, or an array, would be taken apart.
 pub const MOST_KNOTS: usize = 8192;
 
 // The list left merged with what stands behind its length in a, into a from its start. Where it is read and written next depends on what
@@ -31,7 +31,8 @@ fn merge(left: &[f64], a: &mut [f64])
     }
 }
 
-// Merges the first m of a, and the others, both in order. Halves that stand in order are not moved.
+// Merges the first m of a, and the others, both in order. Halves that stand in order are not moved. Stays: one slice and a place in it, since what
+// is merged is written over both halves.
 fn join(a: &mut [f64], scratch: &mut [f64], m: usize)
     requires { Halves a.old scratch.old m }
     ensures { a.new ≡ merged_runs (take m a.old) (drop m a.old) }

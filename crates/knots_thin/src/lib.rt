@@ -23,10 +23,10 @@ pub fn deviation(tables: &LentTables<'_>, row: u32, a: f64, b: f64, pa: Vec3) ->
     let p1 = curve::point_at(tables, row, a + width * 0.25);
     let p2 = curve::point_at(tables, row, a + width * 0.5);
     let p3 = curve::point_at(tables, row, a + width * 0.75);
-    knots::worst_of(pa, pb, p1, p2, p3)
+    knots::worst_of(pa, pb, &[p1, p2, p3])
 }
 
-// The break after number i, or the range's end.
+// The break after number i, or the range's end. Stays: a slice and a place in it, since `thin_breaks` writes to the slice that it reads by number.
 pub fn next_of(breaks: &[f64], i: usize, hi: f64) -> f64
     requires { i < length breaks.now }
     ensures { result ≡ next_of hi (drop (i + 1) breaks.now) }
@@ -34,8 +34,9 @@ pub fn next_of(breaks: &[f64], i: usize, hi: f64) -> f64
     breaks.get(i + 1).copied().unwrap_or(hi)
 }
 
-// Keeps the breaks that the curve bends across, from the start of breaks, and +0.0 after them; answers how many. Not by `keep_if` of
-// knots_inside: this test looks at the break after too, and asks that pa is the point of start, which a closure could not say of what it holds.
+// Keeps the breaks that the curve bends across, from the start of breaks, and +0.0 after them; answers how many. Stays: not by `keep_if` of
+// knots_inside, since this test looks at the break after too, and asks that pa is the point of start, which a closure could not say of what it holds.
+// Tables, row and range as for `knots::curve_breaks`.
 fn thin_breaks(
     tables: &LentTables<'_>,
     row: u32,
@@ -67,7 +68,7 @@ fn thin_breaks(
 }
 
 // The breaks of the curve of a row inside a range that it bends across, from the start of out, and +0.0 after them; none where its knots do
-// not fit.
+// not fit. Stays: tables, row, range and out, as for `knots::curve_breaks`.
 pub fn kept_breaks(
     tables: &LentTables<'_>,
     row: u32,

@@ -102,7 +102,8 @@ impl Vec3 {
         self.add(o.sub(self).scale(t))
     }
 
-    // The lesser of each coordinate. Stays: `max` is the same of the other choice, and no plainer with the choice handed in.
+    // The lesser of each coordinate. Stays: `max` is the same of the other choice; each clause names its own function, and one of both would
+    // ask for the clause of a closure at each use.
     #[tactic(auto, unfolding(crate::specs::Math::v_min))]
     fn min(self, o: Vec3) -> Vec3
         ensures { result ≡ v_min self o }

@@ -20,8 +20,12 @@ chord_offset pa axis (Some divisor) p = v_sub p (v_add pa (v_scale axis (foot_of
 chord_offset pa axis None p = v_sub p pa
 
 -- deviation and thin: the chord has a length where len2, its square, is above zero; that is the divisor
+abbrev pub span_divisor : Float → Option Float
+span_divisor len2 = then_some (lt plus_zero len2) len2
+
+-- from such a chord to p
 unfoldable pub span_offset : Vec3 → Vec3 → Float → Vec3 → Vec3
-span_offset pa axis len2 p = chord_offset pa axis (then_some (lt plus_zero len2) len2) p
+span_offset pa axis len2 p = chord_offset pa axis (span_divisor len2) p
 
 -- how far p is from such a chord
 unfoldable pub span_distance : Vec3 → Vec3 → Float → Vec3 → Float
@@ -32,8 +36,12 @@ abbrev pub shortest_chord : Float
 shortest_chord = ten_to_minus300
 
 -- subdivide: the chord has a length where len is above 1e-300; the divisor is len * len
+abbrev pub bisection_divisor : Float → Option Float
+bisection_divisor len = then_some (lt shortest_chord len) (len ⊗ len)
+
+-- from such a chord to p
 unfoldable pub bisection_offset : Vec3 → Vec3 → Float → Vec3 → Vec3
-bisection_offset pa chord len p = chord_offset pa chord (then_some (lt shortest_chord len) (len ⊗ len)) p
+bisection_offset pa chord len p = chord_offset pa chord (bisection_divisor len) p
 
 -- how far p is from such a chord
 unfoldable pub bisection_distance : Vec3 → Vec3 → Float → Vec3 → Float

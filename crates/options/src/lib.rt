@@ -65,14 +65,14 @@ pub struct Options {
     // the largest step of its parameter, 1e-3 at least, and no tangent is looked at, unless these even steps miss the sag: then it is
     // bisected too.
     pub angle: Angle,
-    // 0 or 1. Not a bool: the C interface hands in a number, and the check of options has to see one that is neither.
+    // 0 or 1. Stays: no bool, since the C interface hands in a number, and the check of options has to see one that is neither.
     pub relative: u32,
     // The least number of segments before points are merged; a chord has one. 0 counts as 1. Where halving gives fewer, so many even
     // steps of the parameter are drawn instead, and these are not tested.
     pub segments: u64,
     // How often a span may be halved, held to 1..24.
     pub depth: u32,
-    // The size of the model; not finite, or not above zero, it is none.
+    // The size of the model; not finite, or not above zero, it is none. Stays: no Option, since C hands in a number.
     pub scale: f64,
 }
 
@@ -85,7 +85,8 @@ pub enum Mode {
     Strict,
 }
 
-// The options resolved against the model's scale.
+// The options resolved against the model's scale. Stays: model and relative are 0.0 where there is none, as in the Rust, and are only
+// asked whether they are above zero.
 #[derive(Clone, Copy)]
 pub struct Resolved {
     pub sag: f64,

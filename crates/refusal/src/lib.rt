@@ -34,7 +34,8 @@ pub enum Refusal {
 }
 
 impl Refusal {
-    // The cause's number.
+    // The cause's number. Stays: with the numbers as discriminants, and `self as u32` here, the law that causes compare as their numbers do
+    // (proofs/Laws.antt) did not close.
     pub fn number(self) -> u32
         ensures { result ≡ number_of self }
     {

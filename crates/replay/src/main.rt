@@ -18,7 +18,7 @@
 //
 // Floats are 16 lowercase hex digits of their bits. Every NaN is written as 7ff8000000000000, but for an edge's lo and hi. `?`
 // answers a malformed line.
-ghost use Rattle.std.specs.Prelude.{◌<◌, ◌≤◌, length};
+ghost use Rattle.std.specs.Prelude.{◌≤◌};
 
 use brep::{Edge, Kind, LentTables};
 use math::{Interval, Vec3};
@@ -26,7 +26,6 @@ use options::{Angle, Options, Resolved};
 use refusal::Refusal;
 use replay_text::{Parts, Waiting};
 use sheet::{Sheet, SheetTables};
-use sheet_layout::Column;
 use sheet_layout::Column::{Float, Long, Word};
 
 // A part has at most so many bytes; what is more is left out.
@@ -34,6 +33,9 @@ const SIZE: usize = 81920;
 
 // The longest name of a line of arithmetic.
 const LONGEST: usize = 5;
+
+// The line that parameters stand behind.
+const BEGIN: &[u8] = b"parameters\n";
 
 // What the parts to come ask for.
 #[derive(Clone, Copy)]
@@ -54,32 +56,21 @@ enum Cell {
     // In decimal.
     Whole(u64),
     // A curve's kind by its word.
-    Kind(u32),
+    Kind(Kind),
 }
 
 // Lines read.
 
-// The text behind its first line.
-fn behind_line(text: &[u8]) -> &[u8]
-    requires { 0 < length text.now }
-    ensures { length result.now < length text.now }
+// The floats of a text's first line, which has so many.
+fn floats<const N: usize>(text: &[u8]) -> Option<[f64; N]>
+    requires { N ≤ 9 }
 {
-    match text.iter().position(|b| *b == b'\n') {
-        Some(i) => &text[i + 1..],
-        None => &[],
+    let (numbers, _) = sheet_layout::line(text, &[Float; N])?;
+    let mut list = [0.0; N];
+    for (x, pattern) in list.iter_mut().zip(numbers) {
+        *x = sheet_row::float_of(pattern);
     }
-}
-
-// The floats of a text's first line, as many as there are columns, and zeros behind them.
-fn floats(text: &[u8], columns: &[Column]) -> Option<(f64, f64, f64)>
-    requires { length columns.now ≤ 9 }
-{
-    let (numbers, _) = sheet_layout::line(text, columns)?;
-    Some((
-        sheet_row::float_of(numbers[0]),
-        sheet_row::float_of(numbers[1]),
-        sheet_row::float_of(numbers[2]),
-    ))
+    Some(list)
 }
 
 // Lines written.
@@ -98,18 +89,18 @@ fn put_flag(b: bool, out: &mut Waiting) {
     out.put_word(if b { b"1\n" } else { b"0\n" });
 }
 
-// The word of a kind. A sheet that was read has no other numbers.
-fn word_of(kind: u32) -> &'static [u8] {
-    match Kind::of(kind) {
-        Some(Kind::Line) => b"line",
-        Some(Kind::Circle) => b"circle",
-        Some(Kind::Ellipse) => b"ellipse",
-        Some(Kind::Parabola) => b"parabola",
-        Some(Kind::Polyline) => b"polyline",
-        Some(Kind::Trimmed) => b"trimmed",
-        Some(Kind::Composite) => b"composite",
-        Some(Kind::Hyperbola) => b"hyperbola",
-        None => b"?",
+// A kind's word. Stays: sheet_layout has the same eight in a list, of which an index would ask that a kind's number lie in it, and a match asks
+// nothing.
+fn word_of(kind: Kind) -> &'static [u8] {
+    match kind {
+        Kind::Line => b"line",
+        Kind::Circle => b"circle",
+        Kind::Ellipse => b"ellipse",
+        Kind::Parabola => b"parabola",
+        Kind::Polyline => b"polyline",
+        Kind::Trimmed => b"trimmed",
+        Kind::Composite => b"composite",
+        Kind::Hyperbola => b"hyperbola",
     }
 }
 
@@ -128,17 +119,13 @@ fn put_cell(cell: Cell, end: u8, out: &mut Waiting) {
 
 // A line of numbers.
 fn put_row(cells: &[Cell], out: &mut Waiting) {
-    for (i, cell) in cells.iter().enumerate() {
-        put_cell(*cell, if i + 1 < cells.len() { b' ' } else { b'\n' }, out);
-    }
+    out.put_line(cells, |_, cell, end, out| put_cell(*cell, end, out));
 }
 
 // A line of floats behind its name.
 fn put_floats(name: &[u8], list: &[f64], out: &mut Waiting) {
     out.put_word(name);
-    for (i, x) in list.iter().enumerate() {
-        out.put_float(*x, if i + 1 < list.len() { b' ' } else { b'\n' });
-    }
+    out.put_line(list, |_, x, end, out| out.put_float(*x, end));
 }
 
 fn put_vector(name: &[u8], v: Vec3, out: &mut Waiting) {
@@ -176,32 +163,30 @@ fn value(text: &[u8]) -> Option<f64> {
     let (name, rest) = named(text)?;
     match name {
         b"min" => {
-            let (a, b, _) = floats(rest, &[Float, Float])?;
+            let [a, b] = floats::<2>(rest)?;
             Some(arith::min(a, b))
         }
         b"max" => {
-            let (a, b, _) = floats(rest, &[Float, Float])?;
+            let [a, b] = floats::<2>(rest)?;
             Some(arith::max(a, b))
         }
         b"clamp" => {
-            let (x, lower, upper) = floats(rest, &[Float, Float, Float])?;
+            let [x, lower, upper] = floats::<3>(rest)?;
             Some(arith::clamp(x, lower, upper))
         }
         _ => {
-            let (x, _, _) = floats(rest, &[Float])?;
+            let [x] = floats::<1>(rest)?;
             value_of(name, x)
         }
     }
 }
 
 fn put_arith(text: &[u8], out: &mut Waiting) {
-    let mut rest = text;
-    while !rest.is_empty() {
-        match value(rest) {
+    for line in text.split_inclusive(|b| *b == b'\n') {
+        match value(line) {
             Some(x) => out.put_float(x, b'\n'),
             None => put_malformed(out),
         }
-        rest = behind_line(rest);
     }
 }
 
@@ -246,7 +231,8 @@ fn put_resolved(r: Resolved, out: &mut Waiting) {
 }
 
 // The sag for an extent, and there the step of a radius and the segments of an arc.
-fn put_arc(r: Resolved, extent: f64, radius: f64, total: f64, out: &mut Waiting) {
+fn put_arc(r: Resolved, numbers: [f64; 3], out: &mut Waiting) {
+    let [extent, radius, total] = numbers;
     let own = r.for_extent(extent);
     put_row(
         &[
@@ -260,8 +246,8 @@ fn put_arc(r: Resolved, extent: f64, radius: f64, total: f64, out: &mut Waiting)
 
 // The angle of a line `degrees ANGLE`.
 fn angle_of(text: &[u8]) -> Option<Angle> {
-    let (_, rest) = text_format::word(text, b"degrees ", ())?;
-    let (x, _, _) = floats(rest, &[Float])?;
+    let rest = text.strip_prefix(b"degrees ")?;
+    let [x] = floats::<1>(rest)?;
     Some(Angle::degrees(x))
 }
 
@@ -275,15 +261,13 @@ fn put_degrees(text: &[u8], out: &mut Waiting) {
     }
 }
 
-// The answers to the lines behind the options.
-fn put_arcs(r: Resolved, lines: &[u8], out: &mut Waiting) {
-    let mut rest = lines;
-    while !rest.is_empty() {
-        match floats(rest, &[Float, Float, Float]) {
-            Some((extent, radius, total)) => put_arc(r, extent, radius, total, out),
-            None => put_degrees(rest, out),
+// The answers to the lines behind the text's first, which has the options.
+fn put_arcs(r: Resolved, text: &[u8], out: &mut Waiting) {
+    for line in text.split_inclusive(|b| *b == b'\n').skip(1) {
+        match floats::<3>(line) {
+            Some(numbers) => put_arc(r, numbers, out),
+            None => put_degrees(line, out),
         }
-        rest = behind_line(rest);
     }
 }
 
@@ -295,7 +279,7 @@ fn put_options(text: &[u8], out: &mut Waiting) {
         Some(options) => {
             let r = options.resolve();
             put_resolved(r, out);
-            put_arcs(r, behind_line(text), out);
+            put_arcs(r, text, out);
         }
         None => put_malformed(out),
     }
@@ -305,28 +289,26 @@ fn put_options(text: &[u8], out: &mut Waiting) {
 
 fn put_points(points: &[f64], out: &mut Waiting) {
     out.put_word(b"x y z\n");
-    for i in 0..points.len() / 3 {
-        put_row(
-            &[
-                Cell::Float(points[3 * i]),
-                Cell::Float(points[3 * i + 1]),
-                Cell::Float(points[3 * i + 2]),
-            ],
-            out,
-        );
+    for point in points.chunks_exact(3) {
+        put_floats(b"", point, out);
     }
 }
 
+// A sheet that was read has no number but a kind's for a kind.
 fn put_curves(curves: &[u32], reals: &[f64], out: &mut Waiting) {
     out.put_word(b"\nkind first count p q\n");
-    for i in 0..curves.len() / 3 {
+    let reals = reals.as_chunks::<2>().0;
+    for ([kind, first, count], [p, q]) in curves.as_chunks::<3>().0.iter().zip(reals) {
+        let Some(kind) = Kind::of(*kind) else {
+            return put_malformed(out);
+        };
         put_row(
             &[
-                Cell::Kind(curves[3 * i]),
-                Cell::Whole(u64::from(curves[3 * i + 1])),
-                Cell::Whole(u64::from(curves[3 * i + 2])),
-                Cell::Float(brep::float_at(reals, 2 * i)),
-                Cell::Float(brep::float_at(reals, 2 * i + 1)),
+                Cell::Kind(kind),
+                Cell::Whole(u64::from(*first)),
+                Cell::Whole(u64::from(*count)),
+                Cell::Float(*p),
+                Cell::Float(*q),
             ],
             out,
         );
@@ -335,13 +317,14 @@ fn put_curves(curves: &[u32], reals: &[f64], out: &mut Waiting) {
 
 fn put_segments(parts: &[u32], ranges: &[f64], out: &mut Waiting) {
     out.put_word(b"\ncurve lo hi sense\n");
-    for i in 0..parts.len() / 2 {
+    let ranges = ranges.as_chunks::<2>().0;
+    for ([curve, sense], [lo, hi]) in parts.as_chunks::<2>().0.iter().zip(ranges) {
         put_row(
             &[
-                Cell::Whole(u64::from(parts[2 * i])),
-                Cell::Float(brep::float_at(ranges, 2 * i)),
-                Cell::Float(brep::float_at(ranges, 2 * i + 1)),
-                Cell::Whole(u64::from(parts[2 * i + 1])),
+                Cell::Whole(u64::from(*curve)),
+                Cell::Float(*lo),
+                Cell::Float(*hi),
+                Cell::Whole(u64::from(*sense)),
             ],
             out,
         );
@@ -394,15 +377,15 @@ fn put_again(tables: &LentTables<'_>, sheet: &Sheet, out: &mut Waiting) {
 
 // How many parameters there are, then each; nothing where they did not fit.
 fn put_found(name: &[u8], found: Option<usize>, list: &[f64], out: &mut Waiting) {
-    let Some(n) = found else {
+    let Some(kept) = found.and_then(|n| list.get(..n)) else {
         return;
     };
-    if list.len() < n {
-        return;
-    }
     out.put_word(name);
-    out.put_decimal(n as u64, if 0 < n { b' ' } else { b'\n' });
-    put_floats(b"", &list[..n], out);
+    out.put_decimal(
+        kept.len() as u64,
+        if kept.is_empty() { b'\n' } else { b' ' },
+    );
+    put_floats(b"", kept, out);
 }
 
 // The usable range, the breaks within it, and those that are kept. No sheet has segments for more than 3,448.
@@ -466,13 +449,11 @@ fn put_at(tables: &LentTables<'_>, row: u32, pattern: u64, out: &mut Waiting) {
 
 // The answers to lines, a parameter each.
 fn put_parameters(tables: &LentTables<'_>, row: u32, lines: &[u8], out: &mut Waiting) {
-    let mut rest = lines;
-    while !rest.is_empty() {
-        match text_format::hex_then(rest, b'\n') {
+    for line in lines.split_inclusive(|b| *b == b'\n') {
+        match text_format::hex_then(line, b'\n') {
             Some((pattern, _)) => put_at(tables, row, pattern, out),
             None => put_malformed(out),
         }
-        rest = behind_line(rest);
     }
 }
 
@@ -502,12 +483,10 @@ fn put_sheet(text: &[u8], lines: &[u8], out: &mut Waiting) {
 
 // The answer to a sheet and the parameters behind the line that begins them.
 fn put_parted(text: &[u8], out: &mut Waiting) {
-    for place in 0..text.len() {
-        if let Some((_, lines)) = text_format::word(&text[place..], b"parameters\n", ()) {
-            return put_sheet(&text[..place], lines, out);
-        }
+    match text.windows(BEGIN.len()).position(|w| w == BEGIN) {
+        Some(i) => put_sheet(&text[..i], &text[i + BEGIN.len()..], out),
+        None => put_malformed(out),
     }
-    put_malformed(out);
 }
 
 // The batch.
@@ -529,7 +508,7 @@ fn asked(text: &[u8]) -> Option<Request> {
     None
 }
 
-// Before anything is asked for, every part is malformed.
+// Before anything is asked for, every part is malformed. Stays: a part's kind is what the input says, and each has an answer of its own.
 fn answer(kind: Option<Request>, text: &[u8], out: &mut Waiting) {
     match kind {
         Some(Request::Arith) => put_arith(text, out),

@@ -45,7 +45,7 @@ struct Settings {
 
 // The settings with the sizes that a part sets, if it is a line that does.
 fn with_sizes(text: &[u8], settings: Settings) -> Option<Settings> {
-    let (_, rest) = text_format::word(text, b"buffers ", ())?;
+    let rest = text.strip_prefix(b"buffers ")?;
     let ([first, second, ..], rest) = sheet_layout::line(rest, &[Word, Word])?;
     let most = FLOATS as u64;
     if !rest.is_empty() || most < first || most < second {
@@ -54,7 +54,7 @@ fn with_sizes(text: &[u8], settings: Settings) -> Option<Settings> {
     Some(Settings {
         first: first as usize,
         second: second as usize,
-        both: settings.both,
+        ..settings
     })
 }
 
@@ -97,10 +97,10 @@ fn put_floats(buffer: &[f64], start: u64, end: u64, out: &mut Waiting) {
     if buffer.is_empty() {
         out.put_byte(b'\n');
     }
-    for (i, x) in buffer.iter().enumerate() {
-        let behind = if i + 1 < buffer.len() { b' ' } else { b'\n' };
-        put_float_or(*x, nan_at(i, start, end), behind, out);
-    }
+    out.put_line(
+        buffer,
+        |i, x, behind, out| put_float_or(*x, nan_at(i, start, end), behind, out),
+    );
 }
 
 fn put_refusal(cause: Refusal, out: &mut Waiting) {
@@ -108,7 +108,8 @@ fn put_refusal(cause: Refusal, out: &mut Waiting) {
     out.put_decimal(u64::from(cause.number()), b'\n');
 }
 
-// Stays: a way's words are no step to run.
+// A way's words. Stays: bytes for `Waiting`, which cannot fail; a `Display` may answer an error, and would stand in draw_spec, which has no
+// code.
 fn put_way(way: Way, out: &mut Waiting) {
     match way {
         Way::AsDrawn => out.put_word(b"as drawn"),
@@ -149,7 +150,7 @@ fn put_both(text: &[u8], first: &mut [f64], second: &mut [f64], out: &mut Waitin
     }
 }
 
-// Writes the answer to a sheet, drawn in these buffers.
+// Writes the answer to a sheet, drawn in these buffers. Stays: which answer is asked for is a line of the input, and the answers share no text.
 fn write_answer(
     to: Stdout,
     text: &[u8],

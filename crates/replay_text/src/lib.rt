@@ -1,11 +1,11 @@
 #![tactic(auto)]
-// Text for a program to write, which waits in a buffer until that is full. And the parts of a program's input. Both buffer in
+// Text for a program to write, which waits in a buffer until that is full. And the parts of a program's input. Stays: both buffer in
 // fixed memory, since the library's `BufWriter` and `BufReader` allocate.
-ghost use Rattle.std.specs.Prelude.{◌≡◌, [], ◌∷◌, ◌++◌, ◌≤◌, length};
+ghost use Rattle.std.specs.Prelude.{◌≡◌, List, ℕ, [], ◌∷◌, ◌++◌, ◌≤◌, length};
 ghost use Rattle.std.specs.Float.{binary64};
 ghost use Rattle.std.specs.Float.Ieee.{to_bits};
 ghost use Rattle.text_format.specs.Format.{decimal, hex16};
-ghost use Rattle.replay_text.specs.Own.Waiting.{put_one, puts};
+ghost use Rattle.replay_text.specs.Own.Waiting.{put_one, puts, line_from, PutsEach};
 
 use std::io::{Print, Read, Stdin, Stdout};
 use std::marker::Model;
@@ -102,6 +102,16 @@ impl Waiting {
         ensures { self.new ≡ puts (decimal v ++ end ∷ []) self.old }
     {
         self.put_word(text_digits::decimal(v, end, &mut [0; DECIMAL]));
+    }
+
+    // A line of what is in a list, each put with its index and the byte behind it: a space, or a newline behind the last.
+    pub fn put_line<T, F: Fn(usize, &T, u8, &mut Waiting)>(&mut self, list: &[T], put: F)
+        requires { F.IsAlwaysCallable put }
+        ensures { (text : ℕ → T → ℕ → List ℕ) → PutsEach F.post put text → self.new ≡ puts (line_from text 0 list.now) self.old }
+    {
+        for (i, x) in list.iter().enumerate() {
+            put(i, x, text_format::end_of(list, i), self);
+        }
     }
 }
 

@@ -31,7 +31,7 @@ pub const PARTS: usize = 2 * sheet_layout::SHEET_SEGMENTS;
 pub const RANGES: usize = 2 * sheet_layout::SHEET_SEGMENTS;
 
 // A sheet: how many rows its tables hold, its edge, its options, and the edge's lo and hi by their own 64 bits, since
-// the floats keep no NaN's bits.
+// the floats keep no NaN's bits. Stays: the counts are the sheet's, as its edge is; the tables are the room that it is read into.
 #[derive(Clone, Copy)]
 pub struct Sheet {
     pub points: usize,
@@ -53,7 +53,8 @@ pub struct SheetTables {
     pub ranges: [f64; RANGES],
 }
 
-// The edge of its numbers. Stays: no `From`, since both types are of other crates.
+// The edge of its numbers. Stays: no `From`, since both types are of other crates, and sheet_row, which could hold it, knows neither brep nor
+// options.
 fn edge_from(raw: RawEdge) -> Edge
     ensures { result ≡ edge_from raw }
 {
@@ -87,7 +88,7 @@ pub fn options_from(raw: RawOptions) -> Options
 }
 
 impl SheetTables {
-    // No rows.
+    // No rows. Stays: no `Default` beside it, which would be a second name for it.
     #[inline]
     pub fn new() -> SheetTables
         ensures { written result ≡ stored no_tables }
@@ -101,7 +102,8 @@ impl SheetTables {
         }
     }
 
-    // Zeros in all tables.
+    // Zeros in all tables. Stays: in place, since by `*self = SheetTables::new()`, which was tried, a second set of tables, 118 kB, is made on the
+    // stack first.
     fn clear(&mut self)
         ensures { written self.new ≡ stored no_tables }
     {

@@ -34,14 +34,6 @@ pub shape_law : (shape : List Column) → Lawful (line (shape_of shape))
 shape_law shape = line_law (shape_of shape) (shape_good shape)
 
 -- ---- the byte behind a cell
-pub end_byte_more : {A : Type 0} (l : List A) (i : ℕ) (d : A) → i < length l → 32 ≡ end_byte (drop i l)
-unfolding end_byte
-end_byte_more l i d h = sym (at_drop_more end_byte l i d h)
-
-pub end_byte_last : {A : Type 0} (l : List A) (i : ℕ) → length l ≤ i → 10 ≡ end_byte (drop i l)
-unfolding end_byte
-end_byte_last l i h = sym (at_drop_all end_byte l i h)
-
 end_byte_map : {A B : Type 0} (f : A → B) (l : List A) → end_byte (map f l) ≡ end_byte l
 unfolding end_byte
 end_byte_map f [] = refl

@@ -1,13 +1,13 @@
 #![tactic(auto)]
 // The leaves of the sheet's reader: a kind's word, a cell, and a line. The layout itself is specs/Layout.antt.
-ghost use Rattle.std.specs.Prelude.{◌≡◌, ◌+◌, ◌<◌, ◌≤◌, length, drop};
+ghost use Rattle.std.specs.Prelude.{◌≡◌, ◌≤◌, length};
 ghost use Rattle.text_format.specs.Format.{one_of};
-ghost use Rattle.text_format.specs.Table.{end_byte, cell, line};
+ghost use Rattle.text_format.specs.Table.{cell, line};
 ghost use Rattle.text_format.specs.Own.Answers.{as_read};
 ghost use Rattle.sheet_layout.specs.Layout.{kinds};
 ghost use Rattle.sheet_layout.specs.Own.Columns.{field_of, shape_of, parsed_row};
 
-use text_format::{byte, decimal, hex_then, one_of};
+use text_format::{byte, decimal, end_of, hex_then, one_of};
 
 // The most bytes that a sheet may have.
 pub const SIZE: usize = 65536;
@@ -30,7 +30,7 @@ pub enum Column {
     Kind,
 }
 
-// A kind's word, for its number: the C interface's tables hold kinds by number.
+// A kind's word, for its number. Stays: the tables hold kinds by number, since C lends them so.
 #[tactic(auto, unfolding(crate::specs::Layout::kinds, text_format::specs::Bytes::bytes))]
 fn kind(s: &[u8]) -> Option<(u64, &[u8])>
     ensures { as_read result ≡ (one_of kinds).read s.now }
@@ -64,16 +64,8 @@ fn cell(s: &[u8], column: Column, end: u8) -> Option<(u64, &[u8])>
     }
 }
 
-// The byte behind the value of column i.
-#[tactic(auto, using(crate::proofs::Columns::end_byte_more, crate::proofs::Columns::end_byte_last))]
-fn end_of(shape: &[Column], i: usize) -> u8
-    requires { i < length shape.now }
-    ensures { result ≡ end_byte (drop (i + 1) shape.now) }
-{
-    if i + 1 < shape.len() { b' ' } else { b'\n' }
-}
-
-// A line of at most nine columns: its numbers, zeros behind them, and the rest of the text. Fixed memory: nine places, not a Vec.
+// A line of at most nine columns: its numbers, zeros behind them, and the rest of the text. Stays: nine places and not a Vec, since memory is
+// fixed; no count beside them, since the columns say how many are the line's.
 pub fn line<'a>(s: &'a [u8], shape: &[Column]) -> Option<([u64; 9], &'a [u8])>
     requires { length shape.now ≤ 9 }
     ensures { as_read result ≡ parsed_row ((line (shape_of shape.now)).read s.now) }

@@ -13,7 +13,7 @@ ghost use Rattle.sheet_row.specs.Rows.{is_float, chosen, floats_of, wholes_of, r
 use sheet_layout::Column;
 use std::num::f64_from_bits_with_nan;
 
-// The edge of a sheet; lo, hi and tolerance by their 64 bits.
+// The edge of a sheet; lo, hi and tolerance by their 64 bits. Stays: beside `brep::Edge`, whose floats keep no NaN's bits.
 #[derive(Clone, Copy)]
 pub struct RawEdge {
     pub curve: u32,
@@ -27,7 +27,7 @@ pub struct RawEdge {
     pub high: u32,
 }
 
-// The options of a sheet; deflection, angle and scale by their 64 bits.
+// The options of a sheet; deflection, angle and scale by their 64 bits. Stays: beside `options::Options`, as above.
 #[derive(Clone, Copy)]
 pub struct RawOptions {
     pub deflection: u64,
@@ -98,7 +98,8 @@ impl Element for u32 {
     }
 }
 
-// A row's elements into their table, from `at` on; answers the next place. Stays: a lent table and a place, since memory is fixed.
+// A row's elements into their table, from `at` on; answers the next place. Stays: what is left of the table, as a slice, would lose the rows
+// written, of which the clause speaks.
 fn put<T: Element>(shape: &[Column], row: &[u64], out: &mut [T], at: usize) -> usize
     requires room { at + length (chosen T.holds (shape_of shape.now) row.now) ≤ length out.old }
     requires fit { All T.fits (chosen T.holds (shape_of shape.now) row.now) }

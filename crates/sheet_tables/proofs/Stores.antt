@@ -6,7 +6,7 @@ use native.Mathlib.Omega.{arith}
 use lib.ListN.{length, take, drop, length-append}
 use lib.Seq.{sets, sets-eq, length-sets, take_at}
 use Rattle.base_lists.specs.Room.{padded}
-use Rattle.text_format.proofs.Buffer.{sets_append}
+use Rattle.base_lists.proofs.Stores.{sets_append}
 use Rattle.sheet_tables.specs.Flattened.{flattened}
 
 module _ {A E : Type 0} (row : A → List E) where
@@ -37,7 +37,7 @@ module _ {A E : Type 0} (row : A → List E) where
           let front : k ≡ 0 + length (flattened row rows) = omega arith in
           record {
             place = let l = ap length s ∙ length-append (flattened row rows) (row a) in omega arith;
-            is = f ∙ ap (λ o. sets o k (row a)) p.is ∙ ap (λ i. sets (sets before 0 (flattened row rows)) i (row a)) front ∙ sets_append before 0 (flattened row rows) (row a) ∙ ap (sets before 0) (sym s);
+            is = f ∙ ap (λ o. sets o k (row a)) p.is ∙ ap (λ i. sets (sets before 0 (flattened row rows)) i (row a)) front ∙ sym (sets_append before 0 (flattened row rows) (row a)) ∙ ap (sets before 0) (sym s);
           }
 
       -- the value behind them

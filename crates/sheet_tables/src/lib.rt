@@ -54,7 +54,8 @@ impl<'a> SheetText<'a> {
     }
 }
 
-// Where a table's rows go: whole numbers into one list, floats into another. Fixed memory: lent lists and places, not Vecs.
+// Where a table's rows go: whole numbers into one list, floats into another. Stays: lent lists, in which the rows' places are counted, and no
+// Vecs, since memory is fixed.
 #[derive(Drop)]
 struct Lists<'a> {
     wholes: &'a mut [u32],
@@ -76,8 +77,8 @@ impl Lists<'_> {
         base_lists::fill_from(self.floats, f, 0.0);
     }
 
-    // The rows of a table, up to the empty line behind them: how many, and what is left of the text. Stays: rows are counted as they are
-    // read, with two places besides.
+    // The rows of a table, up to the empty line behind them: how many, and what is left of the text. Stays: the lines are no list
+    // to go over; the places w and f are handed from line to line by `put`.
     fn put_rows<'b>(
         &mut self,
         text: SheetText<'b>,
@@ -141,7 +142,7 @@ pub fn points<'a>(text: SheetText<'a>, floats: &mut [f64]) -> Option<(usize, She
     lists.put_table(text, b"x y z\n", &[Float, Float, Float])
 }
 
-// The curves' block: kind first count, and p q. Stays: whole numbers and floats in two lists, as the tables have them.
+// The curves' block: kind first count, and p q. Stays: whole numbers and floats in two lists, as C lends them.
 pub fn curves<'a>(
     text: SheetText<'a>,
     wholes: &mut [u32],

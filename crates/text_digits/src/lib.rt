@@ -1,5 +1,5 @@
 #![tactic(auto)]
-// Numbers as text: sixteen hex digits, or a plain decimal, and the byte behind them. Not by the library's `Display`: what writes
+// Numbers as text: sixteen hex digits, or a plain decimal, and the byte behind them. Stays: not by the library's `Display`, since what writes
 // one may answer an error, and these cannot fail.
 ghost use Rattle.std.specs.Prelude.{◌≡◌, [], ◌∷◌, ◌++◌, ◌^◌, ◌<◌, ◌≤◌, length};
 ghost use Rattle.text_format.specs.Format.{digits, decimal, hex16};
@@ -10,8 +10,8 @@ pub const HEX: usize = 17;
 // The most digits of a plain decimal and the byte behind them.
 pub const DECIMAL: usize = 21;
 
-// The digits of v, one in each place. Stays: the invariant says which places are left by their number, and an iterator turned round would
-// have to be asked for it.
+// The digits of v, one in each place. Stays: by index, since `iter_mut().rev()` was tried, and under it the loop's invariant has no name for what
+// was written.
 fn put_digits<const BASE: u64>(v: u64, out: &mut [u8])
     requires base { (1 < BASE) × (BASE ≤ 16) }
     requires few { v < BASE ^ length out.old }

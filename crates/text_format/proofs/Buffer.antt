@@ -1,16 +1,12 @@
 -- A list is written into a buffer piece by piece: what is written, then what is left to be written, is the whole. Assumes nothing.
 use mathlib.Core.Path.{◌≡◌, refl, sym, ap, ◌∙◌}
 use mathlib.Core.List.{List, [], ◌∷◌, ◌++◌}
-use Prim.Native.Nat.{ℕ, suc, ◌+◌, ◌<◌, ◌≤◌}
+use Prim.Native.Nat.{ℕ, ◌+◌, ◌<◌, ◌≤◌}
 use native.Mathlib.Omega.{arith}
 use native.Mathlib.Numerals.{add-one}
 use lib.ListN.{length, set, length-set, length-append}
 use lib.Seq.{sets, length-sets}
-
-pub sets_append : {E : Type 0} (o : List E) (i : ℕ) (xs ys : List E) → sets (sets o i xs) (i + length xs) ys ≡ sets o i (xs ++ ys)
-sets_append o i [] ys = ap (λ k. sets o k ys) (omega arith)
-sets_append o i (x ∷ xs) ys =
-    ap (λ k. sets (sets (set o i x) (suc i) xs) k ys) (omega arith) ∙ sets_append (set o i x) (suc i) xs ys
+use Rattle.base_lists.proofs.Stores.{sets_append}
 
 -- `out` is `before` with a part of `whole` written from `at` on; the others, `rest`, go to k
 pub record Part {E : Type 0} (before out : List E) (at k : ℕ) (whole rest : List E) : Type 0 where
@@ -71,6 +67,6 @@ module _ {E : Type 0} (before : List E) (at : ℕ) (whole : List E) where
           room = omega arith;
           place = omega arith;
           is =
-              ap (λ o. sets o j more) f ∙ ap (λ i. sets (sets out k xs) i more) g ∙ sets_append out k xs more
+              ap (λ o. sets o j more) f ∙ ap (λ i. sets (sets out k xs) i more) g ∙ sym (sets_append out k xs more)
               ∙ ap (sets out k) (sym e) ∙ w.is;
         }

@@ -1,11 +1,12 @@
 #![tactic(auto)]
 // Formats of texts (definitions in specs/, laws in proofs/), and readers of digits, words and numbers. Each reads the front of a
 // text and is its definition there: the value and the rest of the text, or None.
-ghost use Rattle.std.specs.Prelude.{◌≡◌, [], ◌∷◌, ◌+◌, ◌*◌, ◌<◌, ◌≤◌, ◌⊎◌, map, MatchOption};
+ghost use Rattle.std.specs.Prelude.{◌≡◌, [], ◌∷◌, ◌+◌, ◌*◌, ◌<◌, ◌≤◌, ◌⊎◌, length, drop, map, MatchOption};
 ghost use Rattle.text_format.specs.Format.{digit_of, char_of, hex16, expect, read_word, read_plain, read_decimal, ◌ending◌};
+ghost use Rattle.text_format.specs.Table.{end_byte};
 ghost use Rattle.text_format.specs.Own.Answers.{as_read};
 
-// The character of a digit, as a byte; `char::from_digit` would answer an Option of a char.
+// The character of a digit, as a byte. Stays: `char::from_digit` would answer an Option of a char.
 #[tactic(auto, unfolding(crate::specs::Format::char_of))]
 pub fn char_of(d: u8) -> u8
     requires { d < 16 }
@@ -14,7 +15,7 @@ pub fn char_of(d: u8) -> u8
     if d < 10 { b'0' + d } else { b'a' - 10 + d }
 }
 
-// The digit of a character, if it is one of the base. Not `char::to_digit`, which takes capitals too.
+// The digit of a character, if it is one of the base. Stays: `char::to_digit` takes capitals too.
 #[tactic(auto, unfolding(crate::specs::Format::digit_of))]
 fn digit_of(b: u8, base: u8) -> Option<u8>
     requires { base ≤ 16 }
@@ -54,6 +55,16 @@ pub fn byte<T: Copy>(s: &[u8], c: u8, value: T) -> Option<(T, &[u8])>
     ensures { as_read result ≡ expect (c ∷ []) value s.now }
 {
     word(s, &[c], value)
+}
+
+// The byte behind number i of what stands on a line: a space where another follows, else a newline. Stays: by its number, which says whether it
+// is the last.
+#[tactic(auto, using(crate::proofs::Ends::end_byte_more, crate::proofs::Ends::end_byte_last))]
+pub fn end_of<T>(list: &[T], i: usize) -> u8
+    requires { i < length list.now }
+    ensures { result ≡ end_byte (drop (i + 1) list.now) }
+{
+    if i + 1 < list.len() { b' ' } else { b'\n' }
 }
 
 // One of the words, for its number, from 1 on.
@@ -102,7 +113,7 @@ fn digits_to(s: &[u8], end: u8, most: u64, v: u64) -> Option<(u64, &[u8])>
     None
 }
 
-// A plain decimal of at most `most`, then the byte `end`. Not `parse`, which takes a sign and leading zeros.
+// A plain decimal of at most `most`, then the byte `end`. Stays: `parse` takes a sign and leading zeros.
 #[tactic(auto, unfolding(crate::specs::Format::read_plain, crate::specs::Format::when))]
 pub fn decimal(s: &[u8], end: u8, most: u64) -> Option<(u64, &[u8])>
     ensures { as_read result ≡ read_plain most end s.now }

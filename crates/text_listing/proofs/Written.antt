@@ -4,7 +4,7 @@ use Rattle.std.proofs.lemmas.List.{drop-drop}
 use Rattle.std.proofs.lemmas.List.Edits.{sets-eq}
 use Rattle.std.proofs.Math.Seq.{sets}
 use borrow.Rule.Slice.PartMut.{put_mid}
-use Rattle.text_format.proofs.Buffer.{sets_append}
+use Rattle.base_lists.proofs.Stores.{sets_append}
 use Rattle.text_listing.specs.declared.Writer.{Writer}
 use Rattle.text_listing.specs.Listing.{Put}
 use Rattle.text_listing.specs.Own.Writer.{Writes}

@@ -32,7 +32,7 @@ fn bits_or(own: u64, x: f64) -> u64
     }
 }
 
-// A lent buffer, and how many of its bytes were written.
+// A lent buffer, and how many of its bytes were written. Stays: lent, since memory is fixed, so that the count is kept beside it.
 #[derive(Drop)]
 struct Writer<'a> {
     out: &'a mut [u8],
@@ -84,7 +84,8 @@ fn own_of(first: u64, last: u64, n: usize, i: usize) -> u64
 }
 
 // The listing of a chain, at the buffer's start; answers how many bytes it has. `first` and `last` are the bits that the first
-// and the last parameter were copied from if they are NaN. Stays: the chain and the bytes are no parallel arrays.
+// and the last parameter were copied from if they are NaN. Stays: a count is answered and not the part, since `Put` also says that the
+// buffer is as before behind the text; and the loop takes records by number, as the head of edge_record says, which `own_of` asks for.
 pub fn write_chain(chain: &[f64], first: u64, last: u64, out: &mut [u8]) -> usize
     requires { heading_bytes + line_bytes * (length chain.now / width) ≤ length out.old }
     ensures { Put (listing first last (records_of chain.now)) out.old result out.new }
@@ -98,8 +99,8 @@ pub fn write_chain(chain: &[f64], first: u64, last: u64, out: &mut [u8]) -> usiz
     to.at
 }
 
-// The listing of a refusal, at the buffer's start; answers how many bytes it has. Of any number, so that it asks no more of a caller than
-// the layout does.
+// The listing of a refusal, at the buffer's start; answers how many bytes it has, as `write_chain`. Stays: a number, since the
+// layout is of any, and this crate stands on no `refusal`.
 pub fn write_refusal(cause: u32, out: &mut [u8]) -> usize
     requires { refusal_bytes ≤ length out.old }
     ensures { Put (refusal cause) out.old result out.new }

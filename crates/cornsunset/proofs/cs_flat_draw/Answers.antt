@@ -3,4 +3,4 @@ use Rattle.cornsunset.proofs.Laws.{by_outcome}
 use Rattle.cornsunset.proofs.cs_flat_draw.Goals as goal
 
 pub returns : goal.returns
-returns c = by_outcome _ _ _ _ _ _ _ _ _ _ _ c.edge_of-edge.ensures c.options_of-options.ensures c.codes_of-codes.ensures c.draw-drawn.ensures
+returns c = by_outcome _ _ _ _ _ _ _ _ _ _ _ c.edge_of-edge.ensures c.options_of-options.ensures c.hand_answer.ensures c.draw-drawn.ensures

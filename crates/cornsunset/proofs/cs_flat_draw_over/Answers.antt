@@ -3,4 +3,4 @@ use Rattle.cornsunset.proofs.Laws.{by_over}
 use Rattle.cornsunset.proofs.cs_flat_draw_over.Goals as goal
 
 pub returns : goal.returns
-returns c = by_over _ _ _ _ _ _ _ _ _ _ _ c.edge_of.ensures c.options_of.ensures c.codes_of-codes.ensures c.draw_over-drawn.ensures
+returns c = by_over _ _ _ _ _ _ _ _ _ _ _ c.edge_of.ensures c.options_of.ensures c.hand_answer.ensures c.draw_over-drawn.ensures

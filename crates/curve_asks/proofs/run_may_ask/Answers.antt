@@ -1,7 +1,8 @@
 -- `curve_asks::run_may_ask` meets its contract. Assumes nothing.
 use Rattle.std.proofs.Common.{◌≡◌, true, ◌+◌, arith}
 use Rattle.curve_asks.specs.Own.Numbers.{is_risky}
-use Rattle.curve_asks.proofs.Laws.{is_kind_below, some_at}
+use Rattle.curve_nests.proofs.Laws.{is_kind_below}
+use Rattle.curve_asks.proofs.Laws.{some_at}
 use Rattle.curve_asks.proofs.run_may_ask.Goals as goal
 
 pub returns-then-is_wild : goal.returns-then-is_wild

@@ -1,5 +1,5 @@
 -- `draw::draw_unchecked` meets its contract. Assumes nothing.
-use mathlib.Core.Path.{ap}
+use mathlib.Core.Path.{ap, ◌∙◌}
 use native.Mathlib.Omega.{arith}
 use lib.ListN.{length}
 use Rattle.brep.specs.Rows.{lent}
@@ -18,18 +18,19 @@ returns-then-first-lt-SHORTEST c =
     ])
 
 pub returns-then-draw_straight : goal.returns-then-draw_straight
-returns-then-draw_straight c = c.draw_straight.ensures.chain c.if-draw_straight.true
+returns-then-draw_straight c =
+    let told = c.draw_straight.ensures in
+    let d = told.chain c.if-draw_straight.true in
+    -- the buffers are those that were lent
+    let first = told.same.first in
+    let second = told.same.second in
+    record { answered = d.answered; first_holds = (grind arith) ∙ d.first_holds; second_holds = (grind arith) ∙ d.second_holds }
 
-pub drawn_in-requires : goal.drawn_in-requires
-drawn_in-requires c =
+pub invariant_of-plan : goal.invariant_of-plan
+invariant_of-plan c =
     let a = c.args in
     let d = a.drawing.now in
-    let told = c.draw_straight.ensures in
-    let left = c.if-draw_straight.false in (
-      omega (arith, ap length (told.kept_first left), c.if-first-lt-SHORTEST.false),
-      omega (arith, ap length (told.kept_second left), c.if-second-lt-SHORTEST.false),
-      depth_above (lent d.tables.now) d.edge a.options c.local_options-r.ensures,
-    )
+    record { deep = depth_above (lent d.tables.now) d.edge a.options c.local_options.ensures }
 
 pub returns : goal.returns
 returns c =
@@ -38,6 +39,10 @@ returns c =
     let T = lent d.tables.now in
     let told = c.draw_straight.ensures in
     let left = c.if-draw_straight.false in
-    in_buffers_lem T d.edge a.options a.first.now a.second.now
+    let all = in_buffers_lem T d.edge a.options a.first.now a.second.now
     (neither_short (length a.first.now) (length a.second.now) c.if-first-lt-SHORTEST.false c.if-second-lt-SHORTEST.false)
-    _ c.local_options-r.ensures _ _ _ (drawn_from T d.edge _ (told.kept_first left) (told.kept_second left) c.drawn_in.ensures)
+    _ c.local_options.ensures _ _ _ (drawn_from T d.edge _ (told.kept_first left) (told.kept_second left) c.drawn_in.ensures.drawn) in
+    -- the buffers are those that were lent
+    let first = c.drawn_in.ensures.same.first ∙ told.same.first in
+    let second = c.drawn_in.ensures.same.second ∙ told.same.second in
+    record { answered = all.answered; first_holds = (grind arith) ∙ all.first_holds; second_holds = (grind arith) ∙ all.second_holds }

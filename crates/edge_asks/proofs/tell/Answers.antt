@@ -5,7 +5,7 @@ use lib.Ieee.{Float}
 use Rattle.math.specs.declared.Interval.{Interval}
 use Rattle.options.specs.declared.Resolved.{Resolved}
 use Rattle.brep.specs.Tree.{CurveTree}
-use Rattle.edge_drawing.specs.Own.Drawing.{drawn_curve}
+use Rattle.edge_drawing.specs.Own.Drawing.{sampled_curve}
 use Rattle.curve_asks.specs.Asks.{asks_far}
 use Rattle.edge_params.specs.Work.{some_far, asking, within}
 use Rattle.edge_range.specs.Usable.{analytic_segments}
@@ -19,7 +19,7 @@ use Rattle.edge_asks.specs.Own.Told.{asked_first}
 use Rattle.edge_asks.proofs.Near.{may_open, near_clear}
 use Rattle.edge_asks.proofs.Telling.{told_near, told_far, clear_told}
 use Rattle.edge_asks.proofs.tell.Goals as goal
-use Rattle.edge_asks.proofs.tell.Goals.{then-r-lt2-via-then-r-lt2, then-r-lt2-via-else-r-lt2+then-not-floor_far}
+use Rattle.edge_asks.proofs.tell.Goals.{then-segments-lt2-via-then-segments-lt2, then-segments-lt2-via-else-segments-lt2+then-not-floor_far}
 
 -- the way out where the curve asks for nothing that is too far
 never : (room : ℕ) (k : CurveTree) (range : Interval) (r : Resolved) (first : Bool) → ((t : Float) → asks_far k t ≡ false)
@@ -28,47 +28,46 @@ never room k range r first h = told_near room k range r _ (some_far-never (asks_
 
 pub returns-then-never_asks : goal.returns-then-never_asks
 returns-then-never_asks c =
-    let a = c.args in
-    let k = drawn_curve a.drawing.now in
-    never a.room k a.range a.r a.probes_first (c.never_asks.ensures.1 a.drawing.now.tables.now.points.now a.drawing.now.tables.now.reals.now a.drawing.now.tables.now.parts.now a.drawing.now.tables.now.ranges.now c.if-never_asks.true)
+    let g = c.args.sampling.now in
+    let k = sampled_curve g in
+    never c.args.room k g.range g.options c.args.probes_first (c.never_asks.ensures.1 g.drawing.now.tables.now.points.now g.drawing.now.tables.now.reals.now g.drawing.now.tables.now.parts.now g.drawing.now.tables.now.ranges.now c.if-never_asks.true)
 
 pub returns-then-not-may_ask : goal.returns-then-not-may_ask
 returns-then-not-may_ask c =
-    let a = c.args in
-    let k = drawn_curve a.drawing.now in
-    never a.room k a.range a.r a.probes_first ((c.may_ask.ensures a.drawing.now.tables.now.points.now a.drawing.now.tables.now.reals.now).1 c.if-not-may_ask.true)
+    let g = c.args.sampling.now in
+    let k = sampled_curve g in
+    never c.args.room k g.range g.options c.args.probes_first ((c.may_ask.ensures g.drawing.now.tables.now.points.now g.drawing.now.tables.now.reals.now).1 c.if-not-may_ask.true)
 
 pub returns-then-probes_far : goal.returns-then-probes_far
 returns-then-probes_far c =
-    let a = c.args in
-    let k = drawn_curve a.drawing.now in
-    told_far a.room k a.range a.r _ (sym (c.probes_far.ensures a.drawing.now.tables.now.points.now a.drawing.now.tables.now.reals.now) ∙ c.if-probes_far.true)
+    let g = c.args.sampling.now in
+    let k = sampled_curve g in
+    told_far c.args.room k g.range g.options _ (sym (c.probes_far.ensures g.drawing.now.tables.now.points.now g.drawing.now.tables.now.reals.now) ∙ c.if-probes_far.true)
 
 -- in the following, `near`: none of the probes is too far, and `formless`: a curve that may ask has no closed form
-pub returns-then-r-lt2 : goal.returns-then-r-lt2
-returns-then-r-lt2 c =
-    let a = c.args in
-    let k = drawn_curve a.drawing.now in
-    let near : some_far (asks_far k) (asked_first a.probes_first (Some a.range)) ≡ false = sym (c.probes_far.ensures a.drawing.now.tables.now.points.now a.drawing.now.tables.now.reals.now) ∙ c.if-probes_far.false in
-    let formless : analytic_segments k a.range a.r ≡ None = may_open _ k (sym (c.may_ask.ensures a.drawing.now.tables.now.points.now a.drawing.now.tables.now.reals.now).0 ∙ c.if-not-may_ask.false) a.range a.r in
-    let is = sym (c.is_near_hyperbola.ensures a.drawing.now.tables.now.points.now a.drawing.now.tables.now.reals.now a.drawing.now.tables.now.parts.now a.drawing.now.tables.now.ranges.now) ∙ c.if-is_near_hyperbola.true in
-    told_near a.room k a.range a.r _ near
-    (clear_told a.room k a.range a.r formless (near_clear k a.range a.r (search rules) (search rules) is) c.requires.0
+pub returns-then-segments-lt2 : goal.returns-then-segments-lt2
+returns-then-segments-lt2 c =
+    let g = c.args.sampling.now in
+    let k = sampled_curve g in
+    let near : some_far (asks_far k) (asked_first c.args.probes_first (Some g.range)) ≡ false = sym (c.probes_far.ensures g.drawing.now.tables.now.points.now g.drawing.now.tables.now.reals.now) ∙ c.if-probes_far.false in
+    let formless : analytic_segments k g.range g.options ≡ None = may_open _ k (sym (c.may_ask.ensures g.drawing.now.tables.now.points.now g.drawing.now.tables.now.reals.now).0 ∙ c.if-not-may_ask.false) g.range g.options in
+    let is = sym (c.is_near_hyperbola.ensures.near g.drawing.now.tables.now.points.now g.drawing.now.tables.now.reals.now g.drawing.now.tables.now.parts.now g.drawing.now.tables.now.ranges.now) ∙ c.if-is_near_hyperbola.true in
+    told_near c.args.room k g.range g.options _ near
+    (clear_told c.args.room k g.range g.options formless (near_clear k g.range g.options c.is_near_hyperbola.ensures.ends.0 c.is_near_hyperbola.ensures.ends.1 is) c.requires
     (λ few.
-    elim c.then-r-lt2.branch [
-      | then-r-lt2-via-then-r-lt2 w ↦ absurd (omega (arith, w.if-r-lt2.true, bisected_long (sampler k a.range a.r) a.range))
-      | then-r-lt2-via-else-r-lt2+then-not-floor_far w ↦ sym (w.floor_far.ensures a.drawing.now.tables.now.points.now a.drawing.now.tables.now.reals.now) ∙ w.if-not-floor_far.true
+    elim c.then-segments-lt2.branch [
+      | then-segments-lt2-via-then-segments-lt2 w ↦ absurd (omega (arith, w.if-segments-lt2.true, bisected_long (sampler k g.range g.options) g.range))
+      | then-segments-lt2-via-else-segments-lt2+then-not-floor_far w ↦ sym (w.floor_far.ensures g.drawing.now.tables.now.points.now g.drawing.now.tables.now.reals.now) ∙ w.if-not-floor_far.true
     ]))
 
 pub tell_by_count-requires : goal.tell_by_count-requires
 tell_by_count-requires c =
-    let a = c.args in
-    let k = drawn_curve a.drawing.now in
-    let p = c.requires in
-    (p.0, may_open _ k (sym (c.may_ask.ensures a.drawing.now.tables.now.points.now a.drawing.now.tables.now.reals.now).0 ∙ c.if-not-may_ask.false) a.range a.r)
+    let g = c.args.sampling.now in
+    let k = sampled_curve g in
+    (c.requires, may_open _ k (sym (c.may_ask.ensures g.drawing.now.tables.now.points.now g.drawing.now.tables.now.reals.now).0 ∙ c.if-not-may_ask.false) g.range g.options)
 
 pub returns : goal.returns
 returns c =
-    let a = c.args in
-    let k = drawn_curve a.drawing.now in
-    told_near a.room k a.range a.r _ (sym (c.probes_far.ensures a.drawing.now.tables.now.points.now a.drawing.now.tables.now.reals.now) ∙ c.if-probes_far.false) c.tell_by_count.ensures
+    let g = c.args.sampling.now in
+    let k = sampled_curve g in
+    told_near c.args.room k g.range g.options _ (sym (c.probes_far.ensures g.drawing.now.tables.now.points.now g.drawing.now.tables.now.reals.now) ∙ c.if-probes_far.false) c.tell_by_count.ensures

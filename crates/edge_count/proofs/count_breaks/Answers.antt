@@ -6,7 +6,7 @@ use native.Mathlib.Omega.{arith}
 use lib.ListN.{length}
 use lib.Seq.{length-take-le}
 use Rattle.brep.specs.Tree.{CurveTree}
-use Rattle.edge_drawing.specs.Own.Drawing.{drawn_curve}
+use Rattle.edge_drawing.specs.Own.Drawing.{sampled_curve}
 use Rattle.knots_sort.specs.Own.Sortable.{most_knots}
 use Rattle.knots.specs.Knots.{curve_knots, curve_breaks}
 use Rattle.knots.proofs.Answers.{exceeded}
@@ -17,75 +17,75 @@ use Rattle.edge_count.proofs.count_breaks.Goals as goal
 
 pub returns-in_err-n : goal.returns-in_err-n
 returns-in_err-n c =
-    let a = c.args in
-    let curve : CurveTree = drawn_curve a.drawing.now in
-    absurd (omega (arith, a.drawing.now.sortable, exceeded curve most_knots (curve_breaks curve a.range.lo a.range.hi) (sym c.curve_breaks.ensures.0 ∙ c.in_err-n.ensures.ok_part)))
+    let s = c.args.sampling.now in
+    let curve : CurveTree = sampled_curve s in
+    absurd (omega (arith, s.drawing.now.sortable, exceeded curve most_knots (curve_breaks curve s.range.lo s.range.hi) (sym c.curve_breaks.ensures.0 ∙ c.in_err-n.ensures.ok_part)))
 
 -- the breaks stand at the array's start
 pub slice_bounds-breaks-end : goal.slice_bounds-breaks-end
 slice_bounds-breaks-end c =
-    let a = c.args in
-    let curve : CurveTree = drawn_curve a.drawing.now in
+    let s = c.args.sampling.now in
+    let curve : CurveTree = sampled_curve s in
     let found = c.curve_breaks in
-    let s = some_found _ curve a.range.lo a.range.hi found.result _ found.ensures.0 found.ensures.1 found.auto.out c.in_ok-n.n c.in_ok-n.ensures.ok_part in
-    part_room s
+    let f = some_found _ curve s.range.lo s.range.hi found.result _ found.ensures.0 found.ensures.1 found.auto.out c.in_ok-n.n c.in_ok-n.ensures.ok_part in
+    part_room f
 
 pub slice_bounds-thin_far-end : goal.slice_bounds-thin_far-end
 slice_bounds-thin_far-end c =
-    let a = c.args in
-    let curve : CurveTree = drawn_curve a.drawing.now in
+    let s = c.args.sampling.now in
+    let curve : CurveTree = sampled_curve s in
     let found = c.curve_breaks in
-    let s = some_found _ curve a.range.lo a.range.hi found.result _ found.ensures.0 found.ensures.1 found.auto.out c.in_ok-n.n c.in_ok-n.ensures.ok_part in
-    sym (length-take-le _ _ (part_room s))
+    let f = some_found _ curve s.range.lo s.range.hi found.result _ found.ensures.0 found.ensures.1 found.auto.out c.in_ok-n.n c.in_ok-n.ensures.ok_part in
+    sym (length-take-le _ _ (part_room f))
 
 pub returns-then-thin_far : goal.returns-then-thin_far
 returns-then-thin_far c =
-    let a = c.args in
-    let curve : CurveTree = drawn_curve a.drawing.now in
+    let s = c.args.sampling.now in
+    let curve : CurveTree = sampled_curve s in
     let found = c.curve_breaks in
-    let s = some_found _ curve a.range.lo a.range.hi found.result _ found.ensures.0 found.ensures.1 found.auto.out c.in_ok-n.n c.in_ok-n.ensures.ok_part in
-    range_far a.room curve a.range a.r (part s) c.thin_far.ensures c.if-thin_far.true
+    let f = some_found _ curve s.range.lo s.range.hi found.result _ found.ensures.0 found.ensures.1 found.auto.out c.in_ok-n.n c.in_ok-n.ensures.ok_part in
+    range_far c.args.room curve s.range s.options (part f) c.thin_far.ensures c.if-thin_far.true
 
 -- the knots fit what curve_breaks left of the array
 pub returns-in_err-m : goal.returns-in_err-m
 returns-in_err-m c =
-    let a = c.args in
-    let curve : CurveTree = drawn_curve a.drawing.now in
+    let s = c.args.sampling.now in
+    let curve : CurveTree = sampled_curve s in
     let k = c.kept_breaks in
-    let fits : length (curve_knots curve) ≤ length c.curve_breaks.new.out = omega (arith, a.drawing.now.sortable, c.curve_breaks.auto.out) in
-    absurd (not_many curve a.range.lo a.range.hi a.r.sag _ k.result fits k.ensures.0 c.in_err-m.ensures.ok_part)
+    let fits : length (curve_knots curve) ≤ length c.curve_breaks.new.out = omega (arith, s.drawing.now.sortable, c.curve_breaks.auto.out) in
+    absurd (not_many curve s.range.lo s.range.hi s.options.sag _ k.result fits k.ensures.0 c.in_err-m.ensures.ok_part)
 
 -- those that are kept stand at its start
 pub slice_bounds-breaks-end-2 : goal.slice_bounds-breaks-end-2
 slice_bounds-breaks-end-2 c =
-    let a = c.args in
-    let curve : CurveTree = drawn_curve a.drawing.now in
+    let s = c.args.sampling.now in
+    let curve : CurveTree = sampled_curve s in
     let k = c.kept_breaks in
-    let fits : length (curve_knots curve) ≤ length c.curve_breaks.new.out = omega (arith, a.drawing.now.sortable, c.curve_breaks.auto.out) in
+    let fits : length (curve_knots curve) ≤ length c.curve_breaks.new.out = omega (arith, s.drawing.now.sortable, c.curve_breaks.auto.out) in
     let same : length k.new.out ≡ length c.curve_breaks.new.out = omega (arith, k.auto.out, c.curve_breaks.auto.out) in
-    kept_room curve a.range.lo a.range.hi a.r.sag _ k.result fits k.ensures.0 _ _ refl k.ensures.1 _ c.in_ok-m.ensures.ok_part same
+    kept_room curve s.range.lo s.range.hi s.options.sag _ k.result fits k.ensures.0 _ _ refl k.ensures.1 _ c.in_ok-m.ensures.ok_part same
 
 pub slice_bounds-count_walk-end : goal.slice_bounds-count_walk-end
 slice_bounds-count_walk-end c =
-    let a = c.args in
-    let curve : CurveTree = drawn_curve a.drawing.now in
+    let s = c.args.sampling.now in
+    let curve : CurveTree = sampled_curve s in
     let k = c.kept_breaks in
-    let fits : length (curve_knots curve) ≤ length c.curve_breaks.new.out = omega (arith, a.drawing.now.sortable, c.curve_breaks.auto.out) in
+    let fits : length (curve_knots curve) ≤ length c.curve_breaks.new.out = omega (arith, s.drawing.now.sortable, c.curve_breaks.auto.out) in
     let same : length k.new.out ≡ length c.curve_breaks.new.out = omega (arith, k.auto.out, c.curve_breaks.auto.out) in
-    sym (length-take-le _ _ (kept_room curve a.range.lo a.range.hi a.r.sag _ k.result fits k.ensures.0 _ _ refl k.ensures.1 _ c.in_ok-m.ensures.ok_part same))
+    sym (length-take-le _ _ (kept_room curve s.range.lo s.range.hi s.options.sag _ k.result fits k.ensures.0 _ _ refl k.ensures.1 _ c.in_ok-m.ensures.ok_part same))
 
 pub count_walk-requires : goal.count_walk-requires
 count_walk-requires c =
-    let a = c.args in
-    let curve : CurveTree = drawn_curve a.drawing.now in
+    let s = c.args.sampling.now in
+    let curve : CurveTree = sampled_curve s in
     let k = c.kept_breaks in
-    let fits : length (curve_knots curve) ≤ length c.curve_breaks.new.out = omega (arith, a.drawing.now.sortable, c.curve_breaks.auto.out) in
-    (kept_list curve a.range.lo a.range.hi a.r.sag _ k.result fits k.ensures.0 _ _ refl k.ensures.1 _ c.in_ok-m.ensures.ok_part, c.requires)
+    let fits : length (curve_knots curve) ≤ length c.curve_breaks.new.out = omega (arith, s.drawing.now.sortable, c.curve_breaks.auto.out) in
+    kept_list curve s.range.lo s.range.hi s.options.sag _ k.result fits k.ensures.0 _ _ refl k.ensures.1 _ c.in_ok-m.ensures.ok_part
 
 pub returns : goal.returns
 returns c =
-    let a = c.args in
-    let curve : CurveTree = drawn_curve a.drawing.now in
+    let s = c.args.sampling.now in
+    let curve : CurveTree = sampled_curve s in
     let found = c.curve_breaks in
-    let s = some_found _ curve a.range.lo a.range.hi found.result _ found.ensures.0 found.ensures.1 found.auto.out c.in_ok-n.n c.in_ok-n.ensures.ok_part in
-    c.count_walk.ensures ∙ range_near a.room curve a.range a.r (part s) c.thin_far.ensures c.if-thin_far.false
+    let f = some_found _ curve s.range.lo s.range.hi found.result _ found.ensures.0 found.ensures.1 found.auto.out c.in_ok-n.n c.in_ok-n.ensures.ok_part in
+    c.count_walk.ensures ∙ range_near c.args.room curve s.range s.options (part f) c.thin_far.ensures c.if-thin_far.false

@@ -1,9 +1,9 @@
 -- `edge_count::thin_far` meets its contract: nothing before break number i is too far, so what is too far is in the rest. Assumes nothing.
 use mathlib.Core.Path.{◌∙◌}
-use Rattle.brep.specs.Rows.{lent}
-use Rattle.brep.specs.Tree.{CurveTree, tree}
+use Rattle.brep.specs.Tree.{CurveTree}
 use Rattle.curve.specs.Eval.{point_at}
 use Rattle.curve_asks.specs.Asks.{asks_far}
+use Rattle.edge_drawing.specs.Own.Drawing.{sampled_curve}
 use Rattle.knots.specs.Knots.{deviation}
 use Rattle.edge_count.proofs.Thinning.{span_found, span_kept, span_skipped, none_found, sag_some, sag_none}
 use Rattle.edge_count.proofs.thin_far.Goals as goal
@@ -11,32 +11,32 @@ use Rattle.edge_count.proofs.thin_far.Goals.{then-sag-deviation, else-sag-deviat
 
 pub returns-then-not-sag : goal.returns-then-not-sag
 returns-then-not-sag c =
-    let a = c.args in
-    let curve : CurveTree = tree (lent a.tables.now) a.row in
-    sag_none (asks_far curve) curve a.breaks.now a.range.lo a.range.hi a.sag c.if-not-sag.true
+    let s = c.args.sampling.now in
+    let curve : CurveTree = sampled_curve s in
+    sag_none (asks_far curve) curve c.args.breaks.now s.range.lo s.range.hi s.options.sag c.if-not-sag.true
 
 pub returns-then-span_far : goal.returns-then-span_far
 returns-then-span_far c =
-    let a = c.args in
-    let curve : CurveTree = tree (lent a.tables.now) a.row in
-    span_found (asks_far curve) (deviation (point_at curve)) a.sag a.range.hi a.range.lo c.loop-i.start a.breaks.now c.loop-i.i c.loop-i.invariant c.loop-i-test.true _ c.next_of-next.ensures (c.span_far.ensures a.tables.now.points.now a.tables.now.reals.now) c.if-span_far.true
-    ∙ sag_some (asks_far curve) curve a.breaks.now a.range.lo a.range.hi a.sag c.if-not-sag.false
+    let s = c.args.sampling.now in
+    let curve : CurveTree = sampled_curve s in
+    span_found (asks_far curve) (deviation (point_at curve)) s.options.sag s.range.hi s.range.lo c.loop-i.start c.args.breaks.now c.loop-i.i c.loop-i.invariant c.loop-i-test.true _ c.next_of-next.ensures (c.span_far.ensures s.drawing.now.tables.now.points.now s.drawing.now.tables.now.reals.now) c.if-span_far.true
+    ∙ sag_some (asks_far curve) curve c.args.breaks.now s.range.lo s.range.hi s.options.sag c.if-not-sag.false
 
 pub loop-i-preserved : goal.loop-i-preserved
 loop-i-preserved c =
-    let a = c.args in
+    let s = c.args.sampling.now in
     let l = c.loop-i in
-    let curve : CurveTree = tree (lent a.tables.now) a.row in
-    let far = c.span_far.ensures a.tables.now.points.now a.tables.now.reals.now in
+    let curve : CurveTree = sampled_curve s in
+    let far = c.span_far.ensures s.drawing.now.tables.now.points.now s.drawing.now.tables.now.reals.now in
     elim c.if-sag-deviation.branch [
       | then-sag-deviation w ↦ rw w.start-is
-          (span_kept (asks_far curve) (deviation (point_at curve)) a.sag a.range.hi a.range.lo l.start a.breaks.now l.i l.invariant c.loop-i-test.true _ c.next_of-next.ensures far c.if-span_far.false c.deviation.ensures w.if-sag-deviation.true)
+          (span_kept (asks_far curve) (deviation (point_at curve)) s.options.sag s.range.hi s.range.lo l.start c.args.breaks.now l.i l.invariant c.loop-i-test.true _ c.next_of-next.ensures far c.if-span_far.false c.deviation.ensures w.if-sag-deviation.true)
       | else-sag-deviation w ↦ rw w.start-is
-          (span_skipped (asks_far curve) (deviation (point_at curve)) a.sag a.range.hi a.range.lo l.start a.breaks.now l.i l.invariant c.loop-i-test.true _ c.next_of-next.ensures far c.if-span_far.false c.deviation.ensures w.if-sag-deviation.false)
+          (span_skipped (asks_far curve) (deviation (point_at curve)) s.options.sag s.range.hi s.range.lo l.start c.args.breaks.now l.i l.invariant c.loop-i-test.true _ c.next_of-next.ensures far c.if-span_far.false c.deviation.ensures w.if-sag-deviation.false)
     ]
 
 pub returns : goal.returns
 returns c =
-    let a = c.args in
-    let curve : CurveTree = tree (lent a.tables.now) a.row in
-    none_found (asks_far curve) (deviation (point_at curve)) a.sag a.range.hi a.range.lo c.loop-i.start a.breaks.now c.loop-i.i c.loop-i.invariant c.loop-i-test.false ∙ sag_some (asks_far curve) curve a.breaks.now a.range.lo a.range.hi a.sag c.if-not-sag.false
+    let s = c.args.sampling.now in
+    let curve : CurveTree = sampled_curve s in
+    none_found (asks_far curve) (deviation (point_at curve)) s.options.sag s.range.hi s.range.lo c.loop-i.start c.args.breaks.now c.loop-i.i c.loop-i.invariant c.loop-i-test.false ∙ sag_some (asks_far curve) curve c.args.breaks.now s.range.lo s.range.hi s.options.sag c.if-not-sag.false

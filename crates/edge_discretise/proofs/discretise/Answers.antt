@@ -5,5 +5,5 @@ use Rattle.edge_discretise.proofs.discretise.Goals as goal
 
 pub returns : goal.returns
 returns c =
-    let a = c.args in
-    unprobed (lent a.drawing.now.tables.now) a.drawing.now.edge a.r c.discretise_usable.ensures
+    let p = c.args.plan.now in
+    unprobed (lent p.drawing.now.tables.now) p.drawing.now.edge p.options c.discretise_usable.ensures

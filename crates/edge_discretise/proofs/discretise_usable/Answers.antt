@@ -10,7 +10,8 @@ use Rattle.edge_discretise.proofs.discretise_usable.Goals as goal
 pub returns-in_default : goal.returns-in_default
 returns-in_default c =
     let a = c.args in
-    let z = into_chord (room_of (length a.chain.now) (length a.scratch.now)) (lent a.drawing.now.tables.now) a.drawing.now.edge a.probes_first a.r (length a.chain.now) _ a.drawing.now.own c.in_default.is refl c.chord.ensures in
+    let p = a.plan.now in
+    let z = into_chord (room_of (length a.chain.now) (length a.scratch.now)) (lent p.drawing.now.tables.now) p.drawing.now.edge a.probes_first p.options (length a.chain.now) _ p.drawing.now.own c.in_default.is refl c.chord.ensures in
     record { drawn = z; cleared = c.clear_from.ensures }
 
 -- in the following, `l`: the part of scratch that is lent
@@ -26,10 +27,8 @@ slice_bounds-part-end-2 c =
 
 pub draw_range-drawn-requires : goal.draw_range-drawn-requires
 draw_range-drawn-requires c =
-    let a = c.args in
     let l : Lent (length c.args.chain.now) c.room-n.result c.args.scratch.now = lent_part _ _ _ c.room-n.ensures in
-    let p = c.requires in
-    (omega (arith, l.few, l.size), omega (arith, l.fits, l.size), p.2)
+    (omega (arith, l.few, l.size), omega (arith, l.fits, l.size))
 
 pub clear_from-requires-3 : goal.clear_from-requires-3
 clear_from-requires-3 c =
@@ -45,12 +44,13 @@ clear_from-requires-2 c = omega (arith, kept_count c.draw_range-drawn.ensures.0 
 pub returns : goal.returns
 returns c =
     let a = c.args in
+    let p = a.plan.now in
     let n = c.room-n in
     let l : Lent (length c.args.chain.now) c.room-n.result c.args.scratch.now = lent_part _ _ _ c.room-n.ensures in
     let d = c.draw_range-drawn in
     record {
       drawn =
-          into_range (room_of (length a.chain.now) (length a.scratch.now)) (lent a.drawing.now.tables.now) a.drawing.now.edge a.probes_first a.r (length a.chain.now) _ a.drawing.now.own _ _ c.in-Some.is
+          into_range (room_of (length a.chain.now) (length a.scratch.now)) (lent p.drawing.now.tables.now) p.drawing.now.edge a.probes_first p.options (length a.chain.now) _ p.drawing.now.own _ _ c.in-Some.is
           (l.size ∙ n.ensures) (cleared_rest d.ensures.0 c.unwrap_or-kept.ensures d.auto.chain c.clear_from-2.ensures);
       cleared = cleared_whole n.result d.new.scratch a.scratch.now l.inside d.ensures.1 c.clear_from-3.ensures;
     }

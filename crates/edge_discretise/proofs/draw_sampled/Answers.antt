@@ -23,106 +23,106 @@ sample_params-requires c = records_room c.args.scratch.now c.args.chain.now c.re
 
 pub returns-in_default : goal.returns-in_default
 returns-in_default c =
-    let a = c.args in
-    let T = lent a.drawing.now.tables.now in
-    let sampling = sampled_in (length a.scratch.now) (edge_curve T a.drawing.now.edge) a.range a.r in
+    let g = c.args.sampling.now in
+    let T = lent g.drawing.now.tables.now in
+    let sampling = sampled_in (length c.args.scratch.now) (edge_curve T g.drawing.now.edge) g.range g.options in
     let p = c.sample_params.ensures.0 in
     let e = ap count_of c.in_default.is in
-    (leads_over T a.drawing.now.edge a.r a.range (length a.scratch.now) c.requires.2 (leads_none sampling _ _ _ p.0 e), none_listed _ sampling _ p.0 e p.1)
+    (leads_over T g.drawing.now.edge g.options g.range (length c.args.scratch.now) c.requires.2 (leads_none sampling _ _ _ p.0 e), none_listed _ sampling _ p.0 e p.1)
 
 -- in the following, `s`: scratch after sampling, which did not refuse
 pub slice_bounds-params-end : goal.slice_bounds-params-end
 slice_bounds-params-end c =
-    let a = c.args in
-    let T = lent a.drawing.now.tables.now in
+    let g = c.args.sampling.now in
+    let T = lent g.drawing.now.tables.now in
     let t = c.sample_params in
-    let s = sampling_some (length a.scratch.now) (edge_curve T a.drawing.now.edge) a.range a.r (count_of t.result) c.in-Some.sampled.count _ t.ensures.0 (ap count_of c.in-Some.is) in
+    let s = sampling_some (length c.args.scratch.now) (edge_curve T g.drawing.now.edge) g.range g.options (count_of t.result) c.in-Some.sampled.count _ t.ensures.0 (ap count_of c.in-Some.is) in
     part_room s
 
 pub slice_bounds-params-end-2 : goal.slice_bounds-params-end-2
 slice_bounds-params-end-2 c =
-    let a = c.args in
-    let T = lent a.drawing.now.tables.now in
+    let g = c.args.sampling.now in
+    let T = lent g.drawing.now.tables.now in
     let t = c.sample_params in
-    let s = sampling_some (length a.scratch.now) (edge_curve T a.drawing.now.edge) a.range a.r (count_of t.result) c.in-Some.sampled.count _ t.ensures.0 (ap count_of c.in-Some.is) in
+    let s = sampling_some (length c.args.scratch.now) (edge_curve T g.drawing.now.edge) g.range g.options (count_of t.result) c.in-Some.sampled.count _ t.ensures.0 (ap count_of c.in-Some.is) in
     sym (part_length s)
 
 pub place-requires : goal.place-requires
 place-requires c =
-    let a = c.args in
-    let T = lent a.drawing.now.tables.now in
+    let g = c.args.sampling.now in
+    let T = lent g.drawing.now.tables.now in
     let t = c.sample_params in
-    let s = sampling_some (length a.scratch.now) (edge_curve T a.drawing.now.edge) a.range a.r (count_of t.result) c.in-Some.sampled.count _ t.ensures.0 (ap count_of c.in-Some.is) in
-    let wide = width * length a.scratch.now in (
+    let s = sampling_some (length c.args.scratch.now) (edge_curve T g.drawing.now.edge) g.range g.options (count_of t.result) c.in-Some.sampled.count _ t.ensures.0 (ap count_of c.in-Some.is) in
+    let wide = width * length c.args.scratch.now in (
       omega (arith, s.two, part_length s),
-      omega (arith, s.fits, part_length s, c.requires.1, whole_length wide t.new.chain a.chain.now t.auto.chain),
-      held T a.drawing.now.edge a.r a.range s _ _ (drop wide a.chain.now) (omega (arith, records_length a.scratch.now a.chain.now c.requires.1)) (ap (λ (q : Option Sampled). traced (known_of q) t.new.chain) (sym c.in-Some.is) ∙ t.ensures.1),
+      omega (arith, s.fits, part_length s, c.requires.1, whole_length wide t.new.chain c.args.chain.now t.auto.chain),
+      held T g.drawing.now.edge g.options g.range s _ _ (drop wide c.args.chain.now) (omega (arith, records_length c.args.scratch.now c.args.chain.now c.requires.1)) (ap (λ (q : Option Sampled). traced (known_of q) t.new.chain) (sym c.in-Some.is) ∙ t.ensures.1),
     )
 
 pub slice_bounds-used-end : goal.slice_bounds-used-end
 slice_bounds-used-end c =
-    let a = c.args in
-    let T = lent a.drawing.now.tables.now in
+    let g = c.args.sampling.now in
+    let T = lent g.drawing.now.tables.now in
     let t = c.sample_params in
-    let s = sampling_some (length a.scratch.now) (edge_curve T a.drawing.now.edge) a.range a.r (count_of t.result) c.in-Some.sampled.count _ t.ensures.0 (ap count_of c.in-Some.is) in
+    let s = sampling_some (length c.args.scratch.now) (edge_curve T g.drawing.now.edge) g.range g.options (count_of t.result) c.in-Some.sampled.count _ t.ensures.0 (ap count_of c.in-Some.is) in
     part_room s
 
 pub slice_bounds-used-end-2 : goal.slice_bounds-used-end-2
 slice_bounds-used-end-2 c =
-    let a = c.args in
-    let T = lent a.drawing.now.tables.now in
+    let g = c.args.sampling.now in
+    let T = lent g.drawing.now.tables.now in
     let t = c.sample_params in
-    let s = sampling_some (length a.scratch.now) (edge_curve T a.drawing.now.edge) a.range a.r (count_of t.result) c.in-Some.sampled.count _ t.ensures.0 (ap count_of c.in-Some.is) in
+    let s = sampling_some (length c.args.scratch.now) (edge_curve T g.drawing.now.edge) g.range g.options (count_of t.result) c.in-Some.sampled.count _ t.ensures.0 (ap count_of c.in-Some.is) in
     sym (part_length s)
 
 pub clear_from-requires : goal.clear_from-requires
 clear_from-requires c =
-    let a = c.args in
-    let T = lent a.drawing.now.tables.now in
+    let g = c.args.sampling.now in
+    let T = lent g.drawing.now.tables.now in
     let t = c.sample_params in
-    let s = sampling_some (length a.scratch.now) (edge_curve T a.drawing.now.edge) a.range a.r (count_of t.result) c.in-Some.sampled.count _ t.ensures.0 (ap count_of c.in-Some.is) in
+    let s = sampling_some (length c.args.scratch.now) (edge_curve T g.drawing.now.edge) g.range g.options (count_of t.result) c.in-Some.sampled.count _ t.ensures.0 (ap count_of c.in-Some.is) in
     omega (arith, part_length s)
 
 pub slice_bounds-placed-end : goal.slice_bounds-placed-end
 slice_bounds-placed-end c =
-    let a = c.args in
-    let T = lent a.drawing.now.tables.now in
+    let g = c.args.sampling.now in
+    let T = lent g.drawing.now.tables.now in
     let t = c.sample_params in
-    let s = sampling_some (length a.scratch.now) (edge_curve T a.drawing.now.edge) a.range a.r (count_of t.result) c.in-Some.sampled.count _ t.ensures.0 (ap count_of c.in-Some.is) in
-    let wide = width * length a.scratch.now in
-    let long = whole_length wide t.new.chain a.chain.now t.auto.chain in
-    placed_room T a.drawing.now.edge a.r a.range s (t.new.chain ++ drop wide a.chain.now) _ (omega (arith, s.fits, c.requires.1, long)) c.place.ensures
+    let s = sampling_some (length c.args.scratch.now) (edge_curve T g.drawing.now.edge) g.range g.options (count_of t.result) c.in-Some.sampled.count _ t.ensures.0 (ap count_of c.in-Some.is) in
+    let wide = width * length c.args.scratch.now in
+    let long = whole_length wide t.new.chain c.args.chain.now t.auto.chain in
+    placed_room T g.drawing.now.edge g.options g.range s (t.new.chain ++ drop wide c.args.chain.now) _ (omega (arith, s.fits, c.requires.1, long)) c.place.ensures
 
 pub slice_bounds-placed-end-2 : goal.slice_bounds-placed-end-2
 slice_bounds-placed-end-2 c =
-    let a = c.args in
-    let T = lent a.drawing.now.tables.now in
+    let g = c.args.sampling.now in
+    let T = lent g.drawing.now.tables.now in
     let t = c.sample_params in
-    let s = sampling_some (length a.scratch.now) (edge_curve T a.drawing.now.edge) a.range a.r (count_of t.result) c.in-Some.sampled.count _ t.ensures.0 (ap count_of c.in-Some.is) in
-    let wide = width * length a.scratch.now in
-    let long = whole_length wide t.new.chain a.chain.now t.auto.chain in
-    sym (length-take-le (width * c.in-Some.sampled.count) c.place.new.chain (placed_room T a.drawing.now.edge a.r a.range s (t.new.chain ++ drop wide a.chain.now) _ (omega (arith, s.fits, c.requires.1, long)) c.place.ensures))
+    let s = sampling_some (length c.args.scratch.now) (edge_curve T g.drawing.now.edge) g.range g.options (count_of t.result) c.in-Some.sampled.count _ t.ensures.0 (ap count_of c.in-Some.is) in
+    let wide = width * length c.args.scratch.now in
+    let long = whole_length wide t.new.chain c.args.chain.now t.auto.chain in
+    sym (length-take-le (width * c.in-Some.sampled.count) c.place.new.chain (placed_room T g.drawing.now.edge g.options g.range s (t.new.chain ++ drop wide c.args.chain.now) _ (omega (arith, s.fits, c.requires.1, long)) c.place.ensures))
 
 pub finish-requires : goal.finish-requires
 finish-requires c =
-    let a = c.args in
-    let T = lent a.drawing.now.tables.now in
+    let g = c.args.sampling.now in
+    let T = lent g.drawing.now.tables.now in
     let t = c.sample_params in
-    let s = sampling_some (length a.scratch.now) (edge_curve T a.drawing.now.edge) a.range a.r (count_of t.result) c.in-Some.sampled.count _ t.ensures.0 (ap count_of c.in-Some.is) in
-    let wide = width * length a.scratch.now in
-    let long = whole_length wide t.new.chain a.chain.now t.auto.chain in
-    let r = placed_room T a.drawing.now.edge a.r a.range s (t.new.chain ++ drop wide a.chain.now) _ (omega (arith, s.fits, c.requires.1, long)) c.place.ensures in
+    let s = sampling_some (length c.args.scratch.now) (edge_curve T g.drawing.now.edge) g.range g.options (count_of t.result) c.in-Some.sampled.count _ t.ensures.0 (ap count_of c.in-Some.is) in
+    let wide = width * length c.args.scratch.now in
+    let long = whole_length wide t.new.chain c.args.chain.now t.auto.chain in
+    let r = placed_room T g.drawing.now.edge g.options g.range s (t.new.chain ++ drop wide c.args.chain.now) _ (omega (arith, s.fits, c.requires.1, long)) c.place.ensures in
     let l = length-take-le (width * c.in-Some.sampled.count) c.place.new.chain r in
     (omega (arith, s.two, l), omega (arith, s.fits, c.requires.0, l))
 
 pub returns : goal.returns
 returns c =
-    let a = c.args in
-    let T = lent a.drawing.now.tables.now in
+    let g = c.args.sampling.now in
+    let T = lent g.drawing.now.tables.now in
     let t = c.sample_params in
-    let s = sampling_some (length a.scratch.now) (edge_curve T a.drawing.now.edge) a.range a.r (count_of t.result) c.in-Some.sampled.count _ t.ensures.0 (ap count_of c.in-Some.is) in
-    let wide = width * length a.scratch.now in
-    let long = whole_length wide t.new.chain a.chain.now t.auto.chain in (
-      leads_some T a.drawing.now.edge a.r a.range s (t.new.chain ++ drop wide a.chain.now) _ (omega (arith, s.fits, c.requires.1, long)) c.place.ensures c.requires.2 _ _ _ c.finish.ensures,
+    let s = sampling_some (length c.args.scratch.now) (edge_curve T g.drawing.now.edge) g.range g.options (count_of t.result) c.in-Some.sampled.count _ t.ensures.0 (ap count_of c.in-Some.is) in
+    let wide = width * length c.args.scratch.now in
+    let long = whole_length wide t.new.chain c.args.chain.now t.auto.chain in (
+      leads_some T g.drawing.now.edge g.options g.range s (t.new.chain ++ drop wide c.args.chain.now) _ (omega (arith, s.fits, c.requires.1, long)) c.place.ensures c.requires.2 _ _ _ c.finish.ensures,
       cleared_used s c.clear_from.ensures,
     )

@@ -15,7 +15,7 @@ returns-then-at-out c =
 pub loop-i-preserved : goal.loop-i-preserved
 loop-i-preserved c =
     let l = c.loop-i in
-    steps_push c.args.range c.args.n l.i l.invariant c.at.result (rw (c.at.ensures, c.nearest_u64_to_f64.ensures, c.nearest_u64_to_f64-total.ensures)) (omega arith)
+    steps_push c.args.range c.args.n l.i l.invariant c.at.result (rw (c.at.ensures, c.float_of.ensures, c.nearest_u64_to_f64-total.ensures)) (omega arith)
 
 pub returns : goal.returns
 returns c =
@@ -24,5 +24,5 @@ returns c =
       | else-loop-i-test w ↦ absurd (omega arith)
       | then-loop-i-test+else-at-out+else-i-n w ↦ rw w.out-is (
           steps_last c.args.range c.args.n l.i l.invariant w.at.result
-          (rw (w.at.ensures, w.nearest_u64_to_f64.ensures, c.nearest_u64_to_f64-total.ensures)) (omega arith) (omega arith))
+          (rw (w.at.ensures, w.float_of.ensures, c.nearest_u64_to_f64-total.ensures)) (omega arith) (omega arith))
     ]

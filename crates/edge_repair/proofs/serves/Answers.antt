@@ -5,20 +5,20 @@ use Rattle.edge_repair.proofs.serves.Goals as goal
 
 pub returns-then-escapes : goal.returns-then-escapes
 returns-then-escapes c =
-    let a = c.args in
-    let T = of_points a.points.now in
-    arc_outside T a.edge a.r _ c.reference.ensures c.escapes.ensures c.if-escapes.true
+    let plan = c.args.plan.now in
+    let T = of_points plan.drawing.now.tables.now.points.now in
+    arc_outside T plan.drawing.now.edge plan.options _ c.reference.ensures c.escapes.ensures c.if-escapes.true
 
 pub returns-then-reaches : goal.returns-then-reaches
 returns-then-reaches c =
     let f = c in
-    let a = f.args in
-    arc_end (of_points a.points.now) a.edge a.r _ f.reference.ensures f.escapes.ensures c.point-start.ensures
+    let plan = f.args.plan.now in
+    arc_end (of_points plan.drawing.now.tables.now.points.now) plan.drawing.now.edge plan.options _ f.reference.ensures f.escapes.ensures c.point-start.ensures
     c.reaches.ensures f.if-escapes.false c.if-reaches.true c.point-end.ensures c.reaches-then-reaches.ensures
 
 pub returns-else-reaches : goal.returns-else-reaches
 returns-else-reaches c =
     let f = c in
-    let a = f.args in
-    arc_start (of_points a.points.now) a.edge a.r _ f.reference.ensures f.escapes.ensures c.point-start.ensures
+    let plan = f.args.plan.now in
+    arc_start (of_points plan.drawing.now.tables.now.points.now) plan.drawing.now.edge plan.options _ f.reference.ensures f.escapes.ensures c.point-start.ensures
     c.reaches.ensures f.if-escapes.false c.if-reaches.false

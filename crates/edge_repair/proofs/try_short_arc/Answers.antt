@@ -1,5 +1,5 @@
 -- `edge_repair::try_short_arc` meets its contract, by the tests of the two spans. Assumes nothing.
-use Rattle.edge_repair.proofs.Buffers.{redrawn_second}
+use Rattle.edge_repair.proofs.Redrawn.{redrawn_second}
 use Rattle.edge_repair.proofs.Ways.{short_endless, short_flat, short_by, short_chord}
 use Rattle.brep.specs.Rows.{lent}
 use mathlib.Core.Bool.{true, false}
@@ -9,23 +9,24 @@ use Rattle.edge_repair.proofs.try_short_arc.Goals.{then-is_finite+then-span+else
 
 pub draw_short-requires : goal.draw_short-requires
 draw_short-requires c =
-    let a = c.args in
-    let T = lent a.drawing.now.tables.now in
-    let e = a.drawing.now.edge in
+    let plan = c.args.plan.now in
+    let T = lent plan.drawing.now.tables.now in
+    let e = plan.drawing.now.edge in
     let p = c.requires in
     let short = c.short_range-short.ensures in
-    (p.0, p.1, p.2, short_by T e p.3 c.span-span.ensures c.is_finite.ensures true short c.span.ensures c.if-is_finite.true c.if-span.true c.if-span-2.true, short)
+    (short_by T e p c.span-span.ensures c.is_finite.ensures true short c.span.ensures c.if-is_finite.true c.if-span.true c.if-span-2.true, short)
 
 pub returns : goal.returns
 returns c =
     let a = c.args in
-    let T = lent a.drawing.now.tables.now in
-    let e = a.drawing.now.edge in
-    let n = c.requires.3 in
+    let plan = a.plan.now in
+    let T = lent plan.drawing.now.tables.now in
+    let e = plan.drawing.now.edge in
+    let n = c.requires in
     let w = c.span-span.ensures in
     let f = c.is_finite.ensures in
-    redrawn_second c.runaway.ensures _ a.first.now a.second.now _ refl c.clear_from.ensures
-    (short_chord T e a.r _
+    redrawn_second c.runaway.ensures _ a.buffers.now _ (record { first = refl; second = refl; first_room = c.clear_from.auto.a; second_room = c.runaway.auto.second }) refl refl c.clear_from.ensures
+    (short_chord T e plan.options _
     (elim c.if-is_finite.branch [
       | then-is_finite+then-span+else-span-2 v ↦ short_by T e n w f false v.short_range-short.ensures v.span.ensures v.if-is_finite.true v.if-span.true v.if-span-2.false
       | else-is_finite j ↦ elim j.else-is_finite.branch [

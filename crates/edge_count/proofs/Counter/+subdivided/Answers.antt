@@ -7,13 +7,11 @@ use Rattle.brep.specs.Tree.{CurveTree}
 use Rattle.curve_prepared.specs.Own.PreparedCurve.{curve_of}
 use Rattle.edge_params.specs.Params.{midpoint}
 use Rattle.edge_subdivide.proofs.Laws.{end_own}
-use Rattle.edge_count.proofs.Counting.{end_near, out_end, out_far, out_within, first_refused, middle_refused, both_counted}
+use Rattle.edge_count.proofs.Counting.{at_end, end_near, out_far, out_within, first_refused, middle_refused, both_counted}
 use Rattle.edge_count.proofs.Counter.+subdivided.Goals as goal
 
 pub returns-then-depth-eq0 : goal.returns-then-depth-eq0
-returns-then-depth-eq0 t c =
-    let a = c.args in
-    out_end a.self.now a.depth a.a a.b c.requires.2 c.requires.3 a.k c.if-depth-eq0.true
+returns-then-depth-eq0 t c = at_end _ _ _ _ _ _ _ c.if-depth-eq0.true
 
 pub returns-then-is_far : goal.returns-then-is_far
 returns-then-is_far t c =

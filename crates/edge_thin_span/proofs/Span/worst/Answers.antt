@@ -8,20 +8,20 @@ use Rattle.edge_thin_span.proofs.Span.worst.Goals.{else-is_below, then-is_below}
 
 pub loop-i-init : goal.loop-i-init
 unfolding worst_of
-loop-i-init c = rw (root_none, c.sub-axis.ensures, c.record_point-pb.ensures, c.record_point-pa.ensures)
+loop-i-init c = rw root_none
 
 pub loop-i-preserved : goal.loop-i-preserved
 loop-i-preserved c =
     let s = c.args.self.now in
     let l = c.loop-i in
-    let len = c.length_squared-len2.ensures in
+    let e = rw (c.record_point-pa.ensures, c.record_point-pb.ensures) at c.for_thinning-chord.ensures in
     let p = c.record_point-p.ensures in
-    let v = c.span_offset.ensures in
+    let v = c.offset.ensures in
     let d = c.length_squared-d2.ensures in
     let t = c.is_below.ensures in
     elim c.if-is_below.branch [
-      | then-is_below w ↦ rw (w.far2-is, w.at-is) (worst_new (record_point s.chain.now) _ _ s.b _ l.at l.i (omega arith) len p v d t w.if-is_below.true ∙ l.invariant)
-      | else-is_below w ↦ rw (w.far2-is, w.at-is) (worst_old (record_point s.chain.now) _ _ s.b _ l.at l.i (omega arith) len p v d t w.if-is_below.false ∙ l.invariant)
+      | then-is_below w ↦ rw (w.far2-is, w.at-is) (worst_new (record_point s.chain.now) _ _ s.b e _ l.at l.i (omega arith) p v d t w.if-is_below.true ∙ l.invariant)
+      | else-is_below w ↦ rw (w.far2-is, w.at-is) (worst_old (record_point s.chain.now) _ _ s.b e _ l.at l.i (omega arith) p v d t w.if-is_below.false ∙ l.invariant)
     ]
 
 pub returns : goal.returns

@@ -9,4 +9,4 @@ use Rattle.edge_thin_span.proofs.Span.worst.Given as goal
 abbrev pub invariant-loop-i : goal.invariant-loop-i
 invariant-loop-i l =
     let points = record_point l.self.chain.now in
-    worst_onward points l.pa l.axis l.self.b (root_of l.far2) l.at l.i ≡ worst_of points l.self.a l.self.b
+    worst_onward points (points l.self.a) (points l.self.b) l.self.b (root_of l.far2) l.at l.i ≡ worst_of points l.self.a l.self.b

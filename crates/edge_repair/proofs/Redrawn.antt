@@ -29,11 +29,22 @@ use Rattle.draw_spec.specs.Draw.{room_of, answer_of, in_first, first_after, seco
 use Rattle.draw_spec.proofs.Answers.{late_above, answers_refused}
 use Rattle.draw_spec.proofs.Discretised.{Room, discretised_answers}
 use Rattle.edge_discretise.specs.Own.Discretised.{DiscretisedInto}
-use Rattle.edge_repair.specs.Own.Redrawn.{RedrawnChain, RedrawnInto, DrawnInto, InSecond}
+use Rattle.edge_repair.specs.declared.buffers.Buffers.{Buffers}
+use Rattle.edge_repair.specs.Own.Buffers.{room_in, SameBuffers}
+use Rattle.edge_repair.specs.Own.Redrawn.{RedrawnChain, RedrawnInto, DrawnInto, DrawnIn, InSecond}
 use Rattle.draw_spec.specs.declared.Drawn.{Drawn}
 use Rattle.refusal.specs.Answer.{Answer, bind}
 use Rattle.refusal.specs.declared.Refusal.{Refusal}
 use Rattle.refusal.specs.Refusal.{number_of}
+
+-- ---- the same two buffers
+pub then : {a b c : Buffers} → SameBuffers a b → SameBuffers b c → SameBuffers a c
+then s t = record {
+  first = t.first ∙ s.first;
+  second = t.second ∙ s.second;
+  first_room = t.first_room ∙ s.first_room;
+  second_room = t.second_room ∙ s.second_room;
+}
 
 -- ---- `discretise` into the second buffer
 room_swap : (a b : ℕ) → room_of a b ≡ room_of b a
@@ -48,18 +59,21 @@ discretised_late : (T : Tables) (e : Edge) (r : Resolved) (a b : ℕ) (n : Refus
 discretised_late T e r a b n h k q =
     late_above (answers_refused n (discretised_answers ⊥ T e (λ x. absurd x) (λ x. absurd x) (room_of a b) (enough a b h k) r) q)
 
-pub redrawn_chain : (T U : Tables) (e d : Edge) (r : Resolved) {first second : List Float} {w : Answer ℕ} {first' second' : List Float} → shortest ≤ length first → shortest ≤ length second → U ≡ T → e ≡ d
-    → DiscretisedInto (discretised U e r) second first w second' first'
-    → RedrawnChain (within (room_of (length first) (length second)) (discretised T d r)) first second w first' second'
-redrawn_chain T U e d r {first} {second} h k t s p =
+pub redrawn_chain : (T U : Tables) (e d : Edge) (r : Resolved) (old : Buffers) {w : Answer ℕ} (new : Buffers) → SameBuffers old new → U ≡ T → e ≡ d
+    → DiscretisedInto (discretised U e r) old.second.now old.first.now w new.second.now new.first.now
+    → RedrawnChain (within (room_in old) (discretised T d r)) old w new
+redrawn_chain T U e d r old new same t s p =
+    let first = old.first.now in
+    let second = old.second.now in
     let q : within (room_of (length second) (length first)) (discretised U e r) ≡ within (room_of (length first) (length second)) (discretised T d r) =
     rw (t, s, room_swap (length second) (length first)) in
     let a = p.drawn.answered ∙ ap counted q in
     record {
+      same = same;
       answered = a;
       first_holds = p.cleared;
       second_holds = p.drawn.holds ∙ ap (λ (X : Answer (List Sample)). filled (length second) (flat (list_of X))) q;
-      late = λ n t. go n (within (room_of (length first) (length second)) (discretised T d r)) (discretised_late T d r (length first) (length second) n h k) (sym t ∙ a);
+      late = λ n t. go n (within (room_of (length first) (length second)) (discretised T d r)) (discretised_late T d r (length first) (length second) n old.first_long old.second_long) (sym t ∙ a);
     }
   where
     go : (n : Refusal) (X : Answer (List Sample)) → (X ≡ Err n → 7 < number_of n) → Err n ≡ counted X → 7 < number_of n
@@ -81,25 +95,25 @@ pub record DrawnChain (X : Answer (List Sample)) (n : ℕ) (c : List Float) : Ty
   pub size : n ≡ length chain
   pub floats : c ≡ filled (length c) (flat chain)
 
-module _ {X : Answer (List Sample)} {first second : List Float} {w : Answer ℕ} {first' second' : List Float} (d : RedrawnChain X first second w first' second') where
-  pub drawn_chain : (n : ℕ) → w ≡ Ok n → length second' ≡ length second → DrawnChain X n second'
-  drawn_chain n t e = go X (sym t ∙ d.answered) d.second_holds
+module _ {X : Answer (List Sample)} {old : Buffers} {w : Answer ℕ} {new : Buffers} (d : RedrawnChain X old w new) where
+  pub drawn_chain : (n : ℕ) → w ≡ Ok n → DrawnChain X n new.second.now
+  drawn_chain n t = go X (sym t ∙ d.answered) d.second_holds
     where
-      go : (Y : Answer (List Sample)) → Ok n ≡ counted Y → second' ≡ filled (length second) (flat (list_of Y)) → DrawnChain Y n second'
+      go : (Y : Answer (List Sample)) → Ok n ≡ counted Y → new.second.now ≡ filled (length old.second.now) (flat (list_of Y)) → DrawnChain Y n new.second.now
       go (Err m) a b = absurd (let z : ◌≡◌ {A = ℕ} 0 1 = cc in omega arith)
-      go (Ok l) a b = record { chain = l; is = refl; size = cc; floats = b ∙ ap (λ (k : ℕ). filled k (flat l)) (sym e) }
+      go (Ok l) a b = record { chain = l; is = refl; size = cc; floats = b ∙ ap (λ (k : ℕ). filled k (flat l)) (sym d.same.second_room) }
 
   -- a refusal is carried on
   pub redrawn_refused : (D : Work Got) (f : List Sample → Answer Got) (n : Refusal) → w ≡ Err n
-      → within (room_of (length first) (length second)) D ≡ bind X f → RedrawnInto D first second (Err n) first' second'
+      → within (room_in old) D ≡ bind X f → RedrawnInto D old (Err n) new
   unfolding answer_of first_after second_after flat
   redrawn_refused D f n t q = go X (sym t ∙ d.answered) d.second_holds q
     where
-      go : (Y : Answer (List Sample)) → Err n ≡ counted Y → second' ≡ filled (length second) (flat (list_of Y)) → within (room_of (length first) (length second)) D ≡ bind Y f → RedrawnInto D first second (Err n) first' second'
+      go : (Y : Answer (List Sample)) → Err n ≡ counted Y → new.second.now ≡ filled (length old.second.now) (flat (list_of Y)) → within (room_in old) D ≡ bind Y f → RedrawnInto D old (Err n) new
       go (Err m) a b q =
           let z : n ≡ m = cc in
           let l = above (number_of m) (rw z at (d.late n t)) in
-          record { drawn = rw q (record { answered = ap (λ (x : Refusal). Err x) z; first_holds = rw l d.first_holds; second_holds = rw l b }); late = λ k u. let v : n ≡ k = cc in rw v at (d.late n t) }
+          record { same = d.same; drawn = rw q (record { answered = ap (λ (x : Refusal). Err x) z; first_holds = rw l d.first_holds; second_holds = rw l b }); late = λ k u. let v : n ≡ k = cc in rw v at (d.late n t) }
       go (Ok l) a b q = absurd (let z : ◌≡◌ {A = ℕ} 0 1 = cc in omega arith)
 
 module _ {X : Answer (List Sample)} {n : ℕ} {c : List Float} (d : DrawnChain X n c) where
@@ -137,42 +151,51 @@ module _ {g : Got} {n : ℕ} {w : Answer Drawn} {second' : List Float} (i : InSe
   }
 
   -- with the first buffer cleared it is a repair's answer
-  pub redrawn_second : (D : Work Got) (first second first' : List Float) → n ≡ length second → first' ≡ filled (length first) []
-      → Ok g ≡ within (room_of (length first) (length second)) D → RedrawnInto D first second w first' second'
+  pub redrawn_second : (D : Work Got) (old new : Buffers) → SameBuffers old new → second' ≡ new.second.now → n ≡ length old.second.now
+      → new.first.now ≡ filled (length old.first.now) [] → Ok g ≡ within (room_in old) D → RedrawnInto D old w new
   unfolding answer_of first_after second_after
-  redrawn_second D first second first' m p q = record {
-    drawn = rw (← q) (record { answered = i.answered; first_holds = rw i.there p; second_holds = rw i.there (i.holds ∙ ap (λ (k : ℕ). filled k (flat g.chain)) m) });
+  redrawn_second D old new same s m p q = record {
+    same = same;
+    drawn = rw (← q) (record { answered = i.answered; first_holds = rw i.there p; second_holds = rw i.there (sym s ∙ i.holds ∙ ap (λ (k : ℕ). filled k (flat g.chain)) m) });
     late = λ k t. absurd (let a = i.answered in let z : ◌≡◌ {A = ℕ} 0 1 = cc in omega arith);
   }
 
 -- ---- a refusal that is answered at once, with both buffers cleared
-pub redrawn_cleared : (D : Work Got) (first second : List Float) (n : Refusal) {first' second' : List Float} → 7 < number_of n → first' ≡ filled (length first) [] → second' ≡ filled (length second) []
-    → Err n ≡ within (room_of (length first) (length second)) D → RedrawnInto D first second (Err n) first' second'
+pub redrawn_cleared : (D : Work Got) (old new : Buffers) → SameBuffers old new → (n : Refusal) → 7 < number_of n → new.first.now ≡ filled (length old.first.now) []
+    → new.second.now ≡ filled (length old.second.now) [] → Err n ≡ within (room_in old) D → RedrawnInto D old (Err n) new
 unfolding answer_of first_after second_after
-redrawn_cleared D first second n h p s q =
+redrawn_cleared D old new same n h p s q =
     let l = above (number_of n) h in
-    record { drawn = rw (← q) (record { answered = refl; first_holds = rw l p; second_holds = rw l s }); late = λ k u. let v : n ≡ k = cc in rw v at h }
+    record { same = same; drawn = rw (← q) (record { answered = refl; first_holds = rw l p; second_holds = rw l s }); late = λ k u. let v : n ≡ k = cc in rw v at h }
 
 -- ---- another name for the answer, and buffers that were as long
-module _ {D : Work Got} {first second : List Float} {w : Answer Drawn} {first' second' : List Float} (d : RedrawnInto D first second w first' second') where
-  pub redrawn_is : (E : Work Got) → within (room_of (length first) (length second)) D ≡ within (room_of (length first) (length second)) E → RedrawnInto E first second w first' second'
-  redrawn_is E q = record { drawn = rw (← q) d.drawn; late = d.late }
+module _ {D : Work Got} {old : Buffers} {w : Answer Drawn} {new : Buffers} (d : RedrawnInto D old w new) where
+  pub redrawn_is : (E : Work Got) → within (room_in old) D ≡ within (room_in old) E → RedrawnInto E old w new
+  redrawn_is E q = record { same = d.same; drawn = rw (← q) d.drawn; late = d.late }
 
-  pub redrawn_from : (a b : List Float) → length first ≡ length a → length second ≡ length b → RedrawnInto D a b w first' second'
+  pub redrawn_as : (E : Answer Got) → within (room_in old) D ≡ E → DrawnIn E old w new
+  redrawn_as E q = record { same = d.same; drawn = rw (← q) d.drawn }
+
+  pub redrawn_from : (before : Buffers) → SameBuffers before old → RedrawnInto D before w new
   unfolding answer_of first_after second_after
-  redrawn_from a b e f =
-      let q : room_of (length first) (length second) ≡ room_of (length a) (length b) = rw (e, f) in
-      record { drawn = rw (← q) (go (within (room_of (length first) (length second)) D) d.drawn); late = d.late }
+  redrawn_from before s =
+      let e = s.first_room in
+      let f = s.second_room in
+      let q : room_in old ≡ room_in before = rw (e, f) in
+      record { same = then s d.same; drawn = rw (← q) (go (within (room_in old) D) d.drawn); late = d.late }
     where
-      go : (X : Answer Got) → DrawnInto X first second w first' second' → DrawnInto X a b w first' second'
+      go : (X : Answer Got) → DrawnInto X old.first.now old.second.now w new.first.now new.second.now → DrawnInto X before.first.now before.second.now w new.first.now new.second.now
       go (Err n) x =
           let l = above (number_of n) (d.late n x.answered) in
-          record { answered = x.answered; first_holds = rw (l, ← e) (rw l at x.first_holds); second_holds = rw (l, ← f) (rw l at x.second_holds) }
-      go (Ok g) x = record { answered = x.answered; first_holds = rw (← e) x.first_holds; second_holds = rw (← f) x.second_holds }
+          record { answered = x.answered; first_holds = rw (l, ← s.first_room) (rw l at x.first_holds); second_holds = rw (l, ← s.second_room) (rw l at x.second_holds) }
+      go (Ok g) x = record { answered = x.answered; first_holds = rw (← s.first_room) x.first_holds; second_holds = rw (← s.second_room) x.second_holds }
 
 -- ---- a chain that stays in the first
-pub kept_after_lem : (D : Answer Got) (way : Way) (n : ℕ) (first second : List Float) → D ≡ Ok (by way (samples n first)) → in_first way ≡ true
-    → first ≡ filled (length first) (flat (samples n first)) → second ≡ filled (length second) []
-    → DrawnInto D first second (drawn_as way n) first second
+pub kept_first : (D : Answer Got) (way : Way) (n : ℕ) (b : Buffers) → D ≡ Ok (by way (samples n b.first.now)) → in_first way ≡ true
+    → b.first.now ≡ filled (length b.first.now) (flat (samples n b.first.now)) → b.second.now ≡ filled (length b.second.now) []
+    → DrawnIn D b (drawn_as way n) b
 unfolding answer_of first_after second_after
-kept_after_lem D way n first second q w p s = rw q (record { answered = ap (drawn_as way) (sym (samples_from-length first 0 n)); first_holds = rw w p; second_holds = rw w s })
+kept_first D way n b q w p s = record {
+  same = record { first = refl; second = refl; first_room = refl; second_room = refl };
+  drawn = rw q (record { answered = ap (drawn_as way) (sym (samples_from-length b.first.now 0 n)); first_holds = rw w p; second_holds = rw w s });
+}

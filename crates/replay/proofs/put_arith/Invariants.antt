@@ -1,6 +1,0 @@
--- `replay::put_arith` meets its contract: what is left of the lines gets shorter. Assumes nothing.
-use Rattle.std.proofs.Common.{length}
-use Rattle.replay.proofs.put_arith.Given as goal
-
-abbrev pub decreases-loop-rest : goal.decreases-loop-rest
-decreases-loop-rest l = length l.rest
