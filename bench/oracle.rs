@@ -7,5 +7,16 @@ pub mod draw;
 pub mod tables;
 
 pub use draw::Drawn;
-pub use road::edge::{Way, discretise_all};
+pub use road::edge::Way;
 pub use tables::{Edge, Options, OwnedTables};
+
+use road::brep::Solid;
+use road::edge::Chain;
+use road::math::Aabb;
+use road::mode::Mode;
+use road::options::Resolved;
+
+/// The road of the published Rust.
+pub fn discretise_all(solid: &Solid, options: &Resolved, reference: &Aabb, room: usize) -> Result<Vec<Chain>, u32> {
+    road::edge::discretise_all(solid, options, reference, room, Mode::Reference)
+}

@@ -1,13 +1,14 @@
-//! Draws through the Rust crate, where the tables are accepted also over them, and by the oracle, and compares the answer and
-//! every float of both buffers bit for bit.
+//! Draws through the Rust crate, where the tables are accepted also over them, and by the oracle, in both modes, and compares
+//! the answer and every float of both buffers bit for bit.
 //!
-//!   compare SEED N          N generated sheets, each in buffers of several lengths, then with slices that no sheet can hold
-//!   compare sheets SEED N   prints the sheets, for the C program
+//!   compare SEED N          N generated sheets and N that are made for strict mode, each in buffers of several lengths, then
+//!                           with slices that no sheet can hold
+//!   compare sheets SEED N   prints these sheets as a batch that has each of them in both modes, for the C program
 use cornsunset as cs;
 use oracle::causes::cause;
 use oracle::random::Random;
 use oracle::sheet::{write, Sheet, LENT};
-use oracle::{draw, generate, Drawn, Edge, Options, Tables};
+use oracle::{draw_in, generate, strict, Drawn, Edge, Mode, Options, Tables};
 use std::collections::BTreeMap;
 
 /// Floats in the shortest buffer that gives the most room.
@@ -20,22 +21,36 @@ fn main() {
     let words: Vec<String> = std::env::args().skip(1).collect();
     let number = |i: usize| words[i].parse::<u64>().expect("a number");
     if words[0] == "sheets" {
-        let sheets: Vec<String> = (0..number(2)).map(|i| write(&generate::contents(number(1), i))).collect();
-        print!("{}", sheets.join("====\n"));
+        print!("{}", batch(number(1), number(2)));
         return;
     }
-    let mut seen = Seen::default();
-    for index in 0..number(1) {
-        let mut sheet = generate::contents(number(0), index);
-        let mut random = Random::new(number(0) ^ 0x5bd1_e995, index);
-        in_many_buffers(&mut seen, &sheet, &mut random);
-        with_many_segments(&mut seen, &sheet, &mut random);
-        for _ in 0..2 {
-            mangle(&mut random, &mut sheet);
-            compare(&mut seen, &sheet, (any_length(&mut random), any_length(&mut random)));
-        }
+    for mode in [Mode::Reference, Mode::Strict] {
+        run(mode, number(0), number(1));
     }
-    println!("{} sheets, {} draws alike, longest chain {} points", number(1), seen.draws, seen.longest);
+}
+
+/// The sheets of a seed: the generated ones, and those made for strict mode.
+fn sheets(seed: u64, n: u64) -> impl Iterator<Item = Sheet> {
+    let generated = (0..n).map(move |index| generate::contents(seed, index));
+    generated.chain((0..n).map(move |index| strict::contents(seed, index)))
+}
+
+/// All of them before any setting, then in strict mode, and some again behind the setting that ends it.
+fn batch(seed: u64, n: u64) -> String {
+    let all: Vec<String> = sheets(seed, n).map(|sheet| write(&sheet)).collect();
+    let [strict, reference] = ["mode strict\n", "mode reference\n"].map(String::from);
+    let some = all.iter().rev().step_by(10).cloned();
+    let parts = all.iter().cloned().chain([strict]).chain(all.iter().cloned()).chain([reference]).chain(some);
+    parts.collect::<Vec<String>>().join("====\n")
+}
+
+/// Compares all sheets in a mode, and says what was met.
+fn run(mode: Mode, seed: u64, n: u64) {
+    let mut seen = Seen::of(mode);
+    for (sheet, index) in sheets(seed, n).zip(0..) {
+        compare_sheet(&mut seen, sheet, &mut Random::new(seed ^ 0x5bd1_e995, index));
+    }
+    println!("mode {mode:?}: {} sheets, {} draws alike, longest chain {} points", 2 * n, seen.draws, seen.longest);
     println!("  over checked tables: {}, of these in buffers that grow: {}", seen.over, seen.grown);
     for (answer, times) in &seen.answers {
         println!("  {answer}: {times}");
@@ -43,15 +58,30 @@ fn main() {
     println!("  a NaN of lo or hi with its payload in a chain: {}", seen.payloads);
 }
 
-/// What a run met.
-#[derive(Default)]
+fn compare_sheet(seen: &mut Seen, mut sheet: Sheet, random: &mut Random) {
+    in_many_buffers(seen, &sheet, random);
+    with_many_segments(seen, &sheet, random);
+    for _ in 0..2 {
+        mangle(random, &mut sheet);
+        compare(seen, &sheet, (any_length(random), any_length(random)));
+    }
+}
+
+/// What a run met, and in which mode.
 struct Seen {
+    mode: Mode,
     draws: u64,
     over: u64,
     grown: u64,
     longest: usize,
     payloads: u64,
     answers: BTreeMap<String, u64>,
+}
+
+impl Seen {
+    fn of(mode: Mode) -> Seen {
+        Seen { mode, draws: 0, over: 0, grown: 0, longest: 0, payloads: 0, answers: BTreeMap::new() }
+    }
 }
 
 /// In the program's buffers, in some of other lengths, in some that the chain just fills or just does not, and in the largest.
@@ -129,12 +159,13 @@ fn set_any<T>(random: &mut Random, slice: &mut [T], value: T) {
 fn compare(seen: &mut Seen, sheet: &Sheet, (m, n): (usize, usize)) -> usize {
     let (tables, edge, options) = (sheet.tables.lent(), &sheet.edge, &sheet.options);
     let (mut first, mut second) = (vec![MARK; m], vec![MARK; n]);
-    let expected = draw(&tables, edge, options, &mut first, &mut second);
+    let expected = draw_in(&tables, edge, options, seen.mode, &mut first, &mut second);
     let (mut our_first, mut our_second) = (vec![MARK; m], vec![MARK; n]);
     let (our_tables, our_edge, our_options) = (ours(&tables), our_edge(edge), our_options(options));
     let buffers = [our_first.as_ptr(), our_second.as_ptr()];
-    let got = cs::draw(&our_tables, &our_edge, &our_options, &mut our_first, &mut our_second);
-    let answer = got.as_ref().map(|chain| (chain.way(), chain.len())).map_err(|refusal| *refusal);
+    let mode = our_mode(seen.mode);
+    let got = cs::draw_in_mode(&our_tables, &our_edge, &our_options, mode, &mut our_first, &mut our_second);
+    let answer = told(&got);
     let floats = match (got, expected) {
         (Err(refusal), Drawn::Refused(number)) => {
             assert_eq!(refusal.number(), number, "{refusal}, buffers {m} {n}:\n{sheet:?}");
@@ -157,41 +188,66 @@ fn compare(seen: &mut Seen, sheet: &Sheet, (m, n): (usize, usize)) -> usize {
     let checked = cs::check(&our_tables, &our_edge, &our_options).err().map(cs::Refusal::number);
     assert_eq!(checked, cause(&tables, edge, options, 8, 8), "check:\n{sheet:?}");
     seen.draws += 1;
+    compare_without_mode(seen, sheet, answer, (&first, &second));
     compare_over(seen, sheet, answer, (&first, &second));
     floats
 }
 
-/// Checks the tables and, if they are accepted, draws over them, for this answer and these buffers.
-fn compare_over(
-    seen: &mut Seen,
+/// An answer: the way and the count of points, or the refusal.
+type Answer = Result<(cs::Way, usize), cs::Refusal>;
+
+fn told(got: &Result<cs::Chain, cs::Refusal>) -> Answer {
+    got.as_ref().map(|chain| (chain.way(), chain.len())).map_err(|refusal| *refusal)
+}
+
+/// That a drawing has this answer, and leaves these floats of both buffers.
+fn must_be(
+    what: &str,
     sheet: &Sheet,
-    answer: Result<(cs::Way, usize), cs::Refusal>,
+    answer: Answer,
     buffers: (&[f64], &[f64]),
+    drawing: impl for<'b> FnOnce(&'b mut [f64], &'b mut [f64]) -> Result<cs::Chain<'b>, cs::Refusal>,
 ) {
+    let (m, n) = (buffers.0.len(), buffers.1.len());
+    let (mut first, mut second) = (vec![MARK; m], vec![MARK; n]);
+    assert_eq!(told(&drawing(&mut first, &mut second)), answer, "{what}, buffers {m} {n}:\n{sheet:?}");
+    assert!(same(&first, buffers.0) && same(&second, buffers.1), "other floats, {what}, buffers {m} {n}:\n{sheet:?}");
+}
+
+/// In the reference's mode, draws without naming it, for this answer and these buffers.
+fn compare_without_mode(seen: &Seen, sheet: &Sheet, answer: Answer, buffers: (&[f64], &[f64])) {
+    let (tables, edge, options) = (sheet.tables.lent(), our_edge(&sheet.edge), our_options(&sheet.options));
+    if seen.mode == Mode::Reference {
+        must_be("without a mode", sheet, answer, buffers, |first, second| {
+            cs::draw(&ours(&tables), &edge, &options, first, second)
+        });
+    }
+}
+
+/// Checks the tables and, if they are accepted, draws over them, for this answer and these buffers.
+fn compare_over(seen: &mut Seen, sheet: &Sheet, answer: Answer, buffers: (&[f64], &[f64])) {
     let tables = sheet.tables.lent();
     let checked = cs::check_tables(&ours(&tables));
     assert_eq!(checked.err().map(cs::Refusal::number), tables_cause(&tables), "tables:\n{sheet:?}");
     let Ok(checked) = checked else { return };
-    let (m, n) = (buffers.0.len(), buffers.1.len());
-    let (mut first, mut second) = (vec![MARK; m], vec![MARK; n]);
-    let got = cs::draw_over(&checked, &our_edge(&sheet.edge), &our_options(&sheet.options), &mut first, &mut second);
-    assert_eq!(got.map(|chain| (chain.way(), chain.len())), answer, "over, buffers {m} {n}:\n{sheet:?}");
-    assert!(same(&first, buffers.0) && same(&second, buffers.1), "other floats over, buffers {m} {n}:\n{sheet:?}");
+    let (edge, options, mode) = (our_edge(&sheet.edge), our_options(&sheet.options), our_mode(seen.mode));
+    must_be("over", sheet, answer, buffers, |first, second| {
+        cs::draw_over_in_mode(&checked, &edge, &options, mode, first, second)
+    });
+    if mode == cs::Mode::Reference {
+        must_be("over without a mode", sheet, answer, buffers, |first, second| {
+            cs::draw_over(&checked, &edge, &options, first, second)
+        });
+    }
     seen.over += 1;
-    if m.min(n) >= MOST {
+    if buffers.0.len().min(buffers.1.len()) >= MOST {
         compare_grown(seen, sheet, &checked, answer, buffers);
     }
 }
 
 /// Draws into buffers that grow, for this answer in the largest buffers.
-fn compare_grown(
-    seen: &mut Seen,
-    sheet: &Sheet,
-    checked: &cs::Checked,
-    answer: Result<(cs::Way, usize), cs::Refusal>,
-    buffers: (&[f64], &[f64]),
-) {
-    let grown = checked.draw(&our_edge(&sheet.edge), &our_options(&sheet.options));
+fn compare_grown(seen: &mut Seen, sheet: &Sheet, checked: &cs::Checked, answer: Answer, buffers: (&[f64], &[f64])) {
+    let grown = checked.draw_in_mode(&our_edge(&sheet.edge), &our_options(&sheet.options), our_mode(seen.mode));
     let got = grown.as_ref().map(|chain| (chain.way(), chain.len())).map_err(|refusal| *refusal);
     assert_eq!(got, answer, "grown:\n{sheet:?}");
     if let Ok(chain) = grown {
@@ -232,4 +288,11 @@ fn our_edge(e: &Edge) -> cs::Edge {
 fn our_options(o: &Options) -> cs::Options {
     let Options { deflection, angle, relative, segments, depth, scale } = *o;
     cs::Options { deflection, angle: cs::Angle::radians(angle), relative, segments, depth, scale }
+}
+
+fn our_mode(mode: Mode) -> cs::Mode {
+    match mode {
+        Mode::Reference => cs::Mode::Reference,
+        Mode::Strict => cs::Mode::Strict,
+    }
 }

@@ -8,9 +8,9 @@ LINE = ("line", 0, 2, 0.0, 0.0)
 MOST_BYTES = 65_536
 
 
-def sheet(points, rows, segments, edge, options):
-    """The text of a sheet. edge: start end lo hi tolerance low high, on the last row and with sense 1; options: deflection,
-    angle, segments, depth, the deflection a length."""
+def sheet(points, rows, segments, edge, options, sense=1):
+    """The text of a sheet. edge: start end lo hi tolerance low high, on the last row; options: deflection, angle, segments, depth,
+    the deflection a length."""
     start, end, lo, hi, tolerance, low, high = edge
     deflection, angle, least, depth = options
     blocks = [
@@ -19,7 +19,7 @@ def sheet(points, rows, segments, edge, options):
         ("curve lo hi sense", [f"{curve} {hexes(a, b)} {sense}" for curve, a, b, sense in segments]),
         (
             "curve start end sense lo hi tolerance low high",
-            [f"{len(rows) - 1} {start} {end} 1 {hexes(lo, hi, tolerance)} {low} {high}"],
+            [f"{len(rows) - 1} {start} {end} {sense} {hexes(lo, hi, tolerance)} {low} {high}"],
         ),
         (
             "deflection angle relative segments depth scale",

@@ -6,7 +6,8 @@ the oracle, and its answers to the same sheets are compared with the oracle's. W
 
 usage: oracle/mutants.py SEED N [NUMBER..] | stored [NUMBER..]
 
-    oracle/mutants.py SEED N    N generated sheets, each asked for its chain and for both buffers; names some that tell
+    oracle/mutants.py SEED N    N generated sheets and N of strict mode's in that mode, each asked for its chain and for both buffers;
+                                names some that tell
     oracle/mutants.py stored    the batch that crates/replay_chain is replayed with; the exit status is 1 where one of MUTANTS
                                 goes unnoticed, or one of UNTOLD does not
 """
@@ -25,8 +26,9 @@ import command
 TARGET = HERE / "target"
 STORED = HERE.parent / "crates/replay_chain"
 SEPARATOR = b"====\n"
-# What generated sheets are asked for, with the floats of the buffers where all of them are told.
-ASKED = [b"ask chain\n", b"ask both\n" + SEPARATOR + b"buffers 96 80\n"]
+# What generated sheets are asked for, with the floats of the buffers; and what makes them, with the settings before all.
+ASKED = [[b"ask chain\n", b"buffers 8192 8192\n"], [b"ask both\n", b"buffers 96 80\n"]]
+MADE = {"": (["gen"], []), "strict ": (["gen", "--strict"], [b"mode strict\n"])}
 SHOWN = 6
 
 # file (src/.. for the oracle's own, else the road's), old text (it occurs once), new text
@@ -181,8 +183,8 @@ MUTANTS = [
     ("edge.rs", "options.for_extent(edge_extent(solid, e))", "if options.relative > 0.0 { options.for_extent(edge_extent(solid, e)) } else { options.clone() }"),
     ("edge.rs", "for i in 0..=PROBES {", "for i in 0..PROBES {"),
     # 11 wherever a larger room gives it, and 8 wherever evaluation without a limit does
-    ("src/draw.rs", "    asks::drawing(|| discretise_all(solid, options, reference, room))", "    let most = asks::drawing(|| discretise_all(solid, options, reference, 16_384));\n    if most.as_ref().is_err_and(|n| *n == 11) { return most; }\n    asks::drawing(|| discretise_all(solid, options, reference, room))"),
-    ("src/draw.rs", "    asks::drawing(|| discretise_all(solid, options, reference, room))", "    let all = discretise_all(solid, options, reference, room);\n    if all.as_ref().is_err_and(|n| *n == 8) { return all; }\n    asks::drawing(|| discretise_all(solid, options, reference, room))"),
+    ("src/draw.rs", "    asks::drawing(|| discretise_all(solid, options, reference, room, mode))", "    let most = asks::drawing(|| discretise_all(solid, options, reference, 16_384, mode));\n    if most.as_ref().is_err_and(|n| *n == 11) { return most; }\n    asks::drawing(|| discretise_all(solid, options, reference, room, mode))"),
+    ("src/draw.rs", "    asks::drawing(|| discretise_all(solid, options, reference, room, mode))", "    let all = discretise_all(solid, options, reference, room, mode);\n    if all.as_ref().is_err_and(|n| *n == 8) { return all; }\n    asks::drawing(|| discretise_all(solid, options, reference, room, mode))"),
     # the segment floor's list grows while its points are asked for
     ("edge.rs", "        let n = options.min_edge_segments;\n        if n >= room {", "        let n = options.min_edge_segments;\n        for i in 0..=n.min(room) { curve.point_at(range.at(i as f64 / n as f64)); }\n        if n >= room {"),
     # a parameter is asked for before the one to its left has joined, and joins after what is to its right has been asked for
@@ -199,6 +201,83 @@ MUTANTS = [
     ("steps.rs", "(t * ONE_OVER_LN_2 + 0.5).floor()", "(t * ONE_OVER_LN_2).floor()"),
     ("steps.rs", "(1..=16).rev()", "(1..=12).rev()"),
     ("steps.rs", "(t - k * LN_2_HIGH) - k * LN_2_LOW", "t - k * (LN_2_HIGH + LN_2_LOW)"),
+    # strict mode: which edges are chords
+    ("edge.rs", "if mode == Mode::Strict && has_no_domain(", "if has_no_domain("),
+    ("edge.rs", "if mode == Mode::Strict && has_no_domain(", "if false && has_no_domain("),
+    ("edge.rs", "(curve, Curve::Parabola { .. } | Curve::Hyperbola { .. })", "(curve, Curve::Parabola { .. })"),
+    ("edge.rs", "(curve, Curve::Parabola { .. } | Curve::Hyperbola { .. })", "(curve, Curve::Hyperbola { .. })"),
+    ("edge.rs", "(curve, Curve::Parabola { .. } | Curve::Hyperbola { .. })", "(curve, Curve::Parabola { .. } | Curve::Hyperbola { .. } | Curve::Line { .. })"),
+    ("edge.rs", "(curve, Curve::Parabola { .. } | Curve::Hyperbola { .. })", "(curve, Curve::Parabola { .. } | Curve::Hyperbola { .. } | Curve::Composite { .. })"),
+    ("edge.rs", "(curve, Curve::Parabola { .. } | Curve::Hyperbola { .. })", "(curve, Curve::Parabola { .. } | Curve::Hyperbola { .. } | Curve::Circle { .. })"),
+    ("edge.rs", "(curve, Curve::Parabola { .. } | Curve::Hyperbola { .. })", "(curve, Curve::Parabola { .. } | Curve::Hyperbola { .. } | Curve::Polyline { .. })"),
+    ("edge.rs", "    matches!(curve, Curve::Parabola { .. } | Curve::Hyperbola { .. })", "    if let Curve::Trimmed { base, .. } = curve { return has_no_domain(base, range); }\n    matches!(curve, Curve::Parabola { .. } | Curve::Hyperbola { .. })"),
+    ("edge.rs", "    matches!(curve, Curve::Parabola { .. } | Curve::Hyperbola { .. })", "    if let Curve::Composite { segments } = curve { return segments.len() == 1 && has_no_domain(&segments[0].curve, range); }\n    matches!(curve, Curve::Parabola { .. } | Curve::Hyperbola { .. })"),
+    ("edge.rs", "&& says_nothing(range)", "&& !(range.lo.is_finite() && range.hi.is_finite())"),
+    ("edge.rs", "&& says_nothing(range)", "&& says_nothing(range) && range.lo != range.hi"),
+    ("edge.rs", "&& says_nothing(range)", "&& says_nothing(range) && !(range.lo > range.hi)"),
+    ("edge.rs", "&& says_nothing(range)", "&& (says_nothing(range) || range.lo >= 1e6 || range.hi <= -1e6)"),
+    ("edge.rs", "&& says_nothing(range)", "&& (says_nothing(range) || range.span() < 1e-300)"),
+    # what is asked, refused or repaired before, or after
+    ("edge.rs", "if mode == Mode::Strict && has_no_domain(", "edge_extent(solid, e);\n            if mode == Mode::Strict && has_no_domain("),
+    ("edge.rs", "return Ok(strict_chord(solid, e));", "return repair_runaway(solid, e, strict_chord(solid, e), reference, options, room, mode);"),
+    ("edge.rs", "return Ok(strict_chord(solid, e));", "if options.min_edge_segments >= room { return Err(8); }\n                return Ok(strict_chord(solid, e));"),
+    ("edge.rs", "repair_runaway(solid, e, chain, reference, &local, room, mode)", "if mode == Mode::Strict && matches!(solid.curves[0], Curve::Parabola { .. }) { Ok(chain) } else { repair_runaway(solid, e, chain, reference, &local, room, mode) }"),
+    ("edge.rs", "repair_runaway(solid, e, chain, reference, &local, room, mode)", "if mode == Mode::Strict && chain.way == Way::ChordForWantOfARange { Ok(chain) } else { repair_runaway(solid, e, chain, reference, &local, room, mode) }"),
+    # what the chord holds
+    ("edge.rs", "params: vec![range.lo, range.hi]", "params: vec![range.lo, range.lo]"),
+    ("edge.rs", "params: vec![range.lo, range.hi]", "params: vec![range.hi, range.lo]"),
+    ("edge.rs", "params: vec![range.lo, range.hi]", "params: vec![min(range.lo, range.hi), max(range.lo, range.hi)]"),
+    ("edge.rs", "params: vec![range.lo, range.hi]", "params: if edge.same_sense { vec![range.lo, range.hi] } else { vec![range.hi, range.lo] }"),
+    ("edge.rs", "params: vec![range.lo, range.hi]", "params: [range.lo, range.hi].map(|t| if t.is_nan() { f64::NAN } else { t }).to_vec()"),
+    ("edge.rs", "params: vec![range.lo, range.hi]", "params: [range.lo, range.hi].map(|t| if t == 0.0 { 0.0 } else { t }).to_vec()"),
+    ("edge.rs", "params: vec![range.lo, range.hi]", "params: if says_nothing(range) { vec![-1e6, 1e6] } else { vec![range.lo, range.hi] }"),
+    ("edge.rs", "let (ends, range) = ([edge.start, edge.end], edge.range);", "let ends = if edge.same_sense { [edge.start, edge.end] } else { [edge.end, edge.start] };\n    let range = edge.range;"),
+    ("edge.rs", "way: Way::ChordForWantOfARange\n", "way: Way::AsDrawn\n"),
+    ("edge.rs", "way: Way::ChordForWantOfARange\n", "way: Way::RunawayChord\n"),
+    # where composites break
+    ("edge.rs", "curve_breaks(curve, range.lo, range.hi, mode)", "curve_breaks(curve, range.lo, range.hi, Mode::Reference)"),
+    ("edge.rs", "curve_breaks(curve, range.lo, range.hi, mode)", "curve_breaks(curve, range.lo, range.hi, Mode::Strict)"),
+    ("edge.rs", "discretise(solid, e, &local, room, mode)?", "discretise(solid, e, &local, room, Mode::Reference)?"),
+    ("edge.rs", "mode,\n            )?;\n            // It has to reach", "Mode::Reference,\n            )?;\n            // It has to reach"),
+    ("edge.rs", "        options.sag,\n        &|t|", "        if mode == Mode::Strict { 0.0 } else { options.sag },\n        &|t|"),
+    ("knots.rs", "return passing(joints, lo, hi).0;", "return inside(joints, lo, hi);"),
+    ("knots.rs", "return passing(joints, lo, hi).0;", "return joints.into_iter().filter(|k| *k > lo.min(hi) && *k < lo.max(hi)).collect();"),
+    ("knots.rs", "return passing(joints, lo, hi).0;", "return if hi < lo { vec![] } else { passing(joints, lo, hi).0 };"),
+    ("knots.rs", "return passing(joints, lo, hi).0;", "return passing(joints, lo.max(0.0), hi.min(count as f64)).0;"),
+    ("knots.rs", "return passing(joints, lo, hi).0;", "return inside([joints, curve_knots(curve)].concat(), lo, hi);"),
+    ("knots.rs", "return passing(joints, lo, hi).0;", "let usual = inside(curve_knots(curve), lo, hi);\n        return passing(joints, lo, hi).0.into_iter().filter(|k| usual.contains(k)).collect();"),
+    ("knots.rs", "(1..count)", "(0..count)"),
+    ("knots.rs", "(1..count)", "(1..=count)"),
+    ("knots.rs", "(1..count)", "(2..count)"),
+    ("knots.rs", "(1..count)", "(1..count.max(1) - 1)"),
+    ("knots.rs", "Curve::Trimmed { base, .. } => segments_under(base)", "Curve::Trimmed { .. } => None"),
+    ("knots.rs", "Curve::Trimmed { base, .. } => segments_under(base)", "Curve::Trimmed { base, .. } if !matches!(**base, Curve::Trimmed { .. }) => segments_under(base)"),
+    ("knots.rs", "Some(segments.len()),", "Some(segments.len()),\n        Curve::Polyline { points } => Some(points.len().max(1) - 1),"),
+    ("knots.rs", "Some(segments.len()),", "Some(segments.iter().map(|s| segments_under(&s.curve).unwrap_or(1).max(1)).sum()),"),
+    ("knots.rs", "Some(segments.len()),", "Some(if segments.len() == 1 { segments_under(&segments[0].curve).unwrap_or(1) } else { segments.len() }),"),
+    # the joints of composites inside segments too
+    ("knots.rs", "        return passing(joints, lo, hi).0;", """        let (mut joints, mut under) = (joints, curve);
+        while let Curve::Trimmed { base, .. } = under {
+            under = &**base;
+        }
+        if let Curve::Composite { segments } = under {
+            for (i, s) in segments.iter().enumerate() {
+                let n = segments_under(&s.curve).unwrap_or(0);
+                let inner = (1..n).map(|k| (k as f64 - s.range.lo) / s.range.span()).filter(|t| *t > 0.0 && *t < 1.0);
+                joints.extend(inner.map(|t| i as f64 + if s.same_sense { t } else { 1.0 - t }));
+            }
+        }
+        joints.sort_by(f64::total_cmp);
+        return passing(joints, lo, hi).0;"""),
+    # the batch's words
+    ("src/batch.rs", '["mode", "reference"] => Some(Self { mode: Mode::Reference, ..self })', '["mode", "reference"] => Some(self)'),
+    ("src/batch.rs", '["mode", "strict"]', '["mode", "strict", ..]'),
+    ("src/batch.rs", '["mode", "reference"]', '["mode"] | ["mode", "reference"]'),
+    ("src/batch.rs", "sheet::answer(sheet, self.lengths, self.mode)", "sheet::answer(sheet, self.lengths, Mode::Reference)"),
+    ("src/batch.rs", "sheet::whole_answer(sheet, self.lengths, self.mode)", "sheet::whole_answer(sheet, self.lengths, Mode::Reference)"),
+    ("src/batch.rs", '["ask", "chain"] => Some(Self { ask: Ask::Chain, ..self })', '["ask", "chain"] => Some(Self { ask: Ask::Chain, mode: Mode::Reference, ..self })'),
+    ("src/batch.rs", '["ask", "both"] => Some(Self { ask: Ask::Both, ..self })', '["ask", "both"] => Some(Self { ask: Ask::Both, mode: Mode::Reference, ..self })'),
+    ("src/batch.rs", "Some(Self { lengths: (floats(first)?, floats(second)?), ..self })", "Some(Self { lengths: (floats(first)?, floats(second)?), mode: Mode::Reference, ..self })"),
 ]
 # What the stored sheets cannot tell, and why: README.md. Four are beyond any sheet; with the others nothing observable changes.
 UNTOLD = [
@@ -212,6 +291,7 @@ UNTOLD = [
     ("edge.rs", "let deviation = if len > 1e-300", "let deviation = if len > 1e-200"),
     ("options.rs", "if r > self.sag {", "if r >= self.sag {"),
     ("eval/curve.rs", "asked(t);\n                frame.ref_dir", "frame.ref_dir"),
+    ("edge.rs", "mode,\n            )?;\n            if !escapes(&alternative)", "Mode::Reference,\n            )?;\n            if !escapes(&alternative)"),
 ]
 
 
@@ -247,11 +327,6 @@ def built(work, mutant, level):
     return work / "main"
 
 
-def asked(sheets):
-    """One batch of the sheets under each of what they are asked for."""
-    return SEPARATOR.join(settings + SEPARATOR + sheets for settings in ASKED)
-
-
 def batch(words):
     """The text that mutants answer, the right answers, and a name for each part of it."""
     if words[0] == "stored":
@@ -260,12 +335,14 @@ def batch(words):
             raise command.Stop("the stored answers are not the oracle's: run oracle/build and oracle/replay-chain first")
         return text, right, [f"part {i}" for i in range(len(right))]
     seed, count = words[:2]
-    sheets = subprocess.run([TARGET / "oracle", "gen", seed, count], capture_output=True, check=True).stdout
-    names = []
-    for settings in ASKED:
-        names += ["setting"] * (settings.count(SEPARATOR) + 1)
-        names += [f"{settings.split()[1].decode()} {i}" for i in range(int(count))]
-    text = asked(sheets)
+    parts, names = [], []
+    for sort, (made, settings) in MADE.items():
+        sheets = subprocess.run([TARGET / "oracle", *made, seed, count], capture_output=True, check=True).stdout
+        for asked in ASKED:
+            parts += [*settings, *asked, sheets]
+            names += ["setting"] * len(settings + asked)
+            names += [f"{sort}{asked[0].split()[1].decode()} {i}" for i in range(int(count))]
+    text = SEPARATOR.join(parts)
     return text, answers(TARGET / "oracle", text), names
 
 

@@ -39,8 +39,8 @@ class Random:
 
 
 def hexes(*floats):
-    """Floats by their bits, one space between."""
-    return " ".join(f"{struct.unpack('>Q', struct.pack('>d', x))[0]:016x}" for x in floats)
+    """Floats by their bits, one space between; a NaN may be given as its 16 digits."""
+    return " ".join(x if isinstance(x, str) else f"{struct.unpack('>Q', struct.pack('>d', x))[0]:016x}" for x in floats)
 
 
 def floats(words):

@@ -5,7 +5,7 @@ import math
 
 from curves import FARTHEST, TAU, length, off_chord, steps
 from sheets import ROUND
-from slips import NEAR, at_vertices, in_radians, lost_range, none_near, num, range_slips, with_bits
+from slips import NEAR, at_vertices, in_radians, in_strict_mode, lost_range, none_near, num, range_slips, with_bits
 
 # The points that each of the program's two buffers has room for.
 ROOM = 2048
@@ -145,7 +145,7 @@ def no_room(drawing):
             return arc_too_long(drawing, radius, step, segments)
     if drawing.range and kind == "parabola" and drawing.curves.lost(edge["lo"], edge["hi"]):
         lo, hi = map(num, drawing.range)
-        return edge, "lo", f"the range is lost, and the parabola is drawn from {lo} to {hi}"
+        return edge, "lo", f"the range is lost, and the parabola is drawn from {lo} to {hi}{in_strict_mode(drawing)}"
     told = f"a sag of {num(drawing.sag)} and an angle of {in_degrees(drawing.angle)} ask for more than {ROOM} points"
     return options, "deflection", f"{told}, here or where a chain that leaves its box is repaired; coarser ones, or less depth"
 
@@ -184,7 +184,7 @@ def too_far(drawing):
         return in_segments(drawing)
     lost = drawing.curves.lost(edge["lo"], edge["hi"])
     if lost and row["kind"] == "hyperbola":
-        return edge, "lo", lost_range(drawing)
+        return edge, "lo", lost_range(drawing) + in_strict_mode(drawing)
     beyond = [t for t in (*range_, *(steps(range_, 8) if range_ else ())) if abs(t) > FARTHEST]
     if not beyond:
         own = " to ".join(map(num, drawing.curves.natural(drawing.index)))

@@ -240,6 +240,14 @@ def lost_range(drawing):
     return told
 
 
+def in_strict_mode(drawing):
+    """What else could be had where the range of a parabola or a hyperbola is lost; nothing of a trim of one, which has a range of its
+    own."""
+    if drawing.row["kind"] not in ("parabola", "hyperbola"):
+        return ""
+    return "; in strict mode, which a caller of the library can ask for, the straight line between the vertices is drawn"
+
+
 def at_vertices(drawing):
     """Where on the edge's hyperbola its vertices lie, to be said behind what is wrong with its range; nothing where they lie on none."""
     origin, axis, ref_dir = drawing.curves.run(drawing.base)

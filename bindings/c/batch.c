@@ -1,5 +1,6 @@
 /* Reads sheets parted by lines ====, draws each in buffers of FIRST and SECOND doubles, and prints the answers as the oracle
- * does. It takes the sheets' layout for granted, and stops where a buffer holds what it should not. */
+ * does. A part that is the line `mode strict` or `mode reference` sets the mode for the sheets behind it, and its answer is empty.
+ * It takes the sheets' layout for granted, and stops where a buffer holds what it should not. */
 #include "cornsunset.h"
 #include <inttypes.h>
 #include <stdio.h>
@@ -14,6 +15,7 @@ static uint32_t curves[3 * CS_MOST_CURVES], parts[2 * CS_MOST_SEGMENTS];
 static cs_tables tables = {points, 0, curves, 0, reals, 0, parts, 0, ranges, 0};
 static cs_edge edge;
 static cs_options options;
+static cs_mode mode;
 
 static void demand(bool holds, const char *what) {
     if (!holds) {
@@ -99,6 +101,13 @@ static void read_sheet(void) {
     set_options();
 }
 
+/* Whether the line that was read is a mode, which is then set. */
+static bool is_mode(void) {
+    const bool to_strict = strcmp(line, "mode strict\n") == 0, to_reference = strcmp(line, "mode reference\n") == 0;
+    if (to_strict || to_reference) mode = to_strict ? CS_STRICT : CS_REFERENCE;
+    return to_strict || to_reference;
+}
+
 static bool all(const double *from, const double *to, uint64_t bits) {
     while (from < to && bits_of(*from) == bits) from++;
     return from == to;
@@ -110,7 +119,9 @@ static void answer(double *first, size_t m, double *second, size_t n) {
     for (size_t i = 0; i < n; i++) second[i] = of_bits(mark);
     uint32_t way = 99;
     size_t count = 99;
-    const uint32_t refusal = cs_draw(&tables, &edge, &options, first, m, second, n, &way, &count);
+    const uint32_t refusal = mode == CS_REFERENCE
+                                 ? cs_draw(&tables, &edge, &options, first, m, second, n, &way, &count)
+                                 : cs_draw_in_mode(&tables, &edge, &options, mode, first, m, second, n, &way, &count);
     const uint32_t checked = cs_check(&tables, &edge, &options);
     demand(checked == (refusal <= 6 ? refusal : 0), "check and draw differ");
     if (refusal != CS_DRAWN) {
@@ -138,8 +149,10 @@ int main(int argc, char **argv) {
     double *first = malloc((m + 1) * sizeof *first), *second = malloc((n + 1) * sizeof *second);
     demand(first && second, "no memory");
     while (next_line()) {
-        read_sheet();
-        answer(first, m, second, n);
+        if (!is_mode()) {
+            read_sheet();
+            answer(first, m, second, n);
+        }
         if (next_line()) fputs(line, stdout);
     }
     free(first);

@@ -97,14 +97,15 @@ typedef struct {
                      * tolerances of each other, as on a full circle: else the chain runs from start to end by itself */
     double lo, hi;  /* range of the curve's parameter, lo below hi. One that does not rise, or is NaN or infinite, counts as
                      * lost: then the curve's whole range is drawn, a full turn on a circle; on a line the chord; and a parabola
-                     * from -1e6 to 1e6, which mostly ends in CS_NO_ROOM. A hyperbola has the same range, which always ends in
-                     * CS_TOO_FAR */
+                     * from -1e6 to 1e6, which ends in CS_NO_ROOM or, where the room is enough, mostly in CS_RUNAWAY. A hyperbola
+                     * has the same range, which always ends in CS_TOO_FAR. In strict mode (CS_STRICT) these two get the chord */
     double tolerance; /* how exact the file says the edge is, a length; 0 where it says nothing. Neighbours in the chain within
                        * four tolerances, and within half the sag, become one point; 0 or less merges none. A short arc has to
                        * come within ten tolerances, or the sag, of both vertices. At most 1e9 in magnitude, not clamped */
     uint32_t low, high; /* points that are the least and the greatest corner of the part's box. A chain is repaired that has a
                          * point further from the box's centre than its diagonal and sixteen sags together; but one on a
-                         * hyperbola that is no trim is refused with CS_TOO_FAR */
+                         * hyperbola that is no trim is refused with CS_TOO_FAR. The chord that strict mode gives a parabola or
+                         * a hyperbola is not repaired */
 } cs_edge;
 
 typedef struct {
@@ -126,6 +127,30 @@ typedef struct {
     double scale;      /* size of the part, a length, as its box's diagonal; not finite or not above 0: none, and deflection is
                         * a length */
 } cs_options;
+
+/* ---- the mode, which stands beside the options: what cs_draw_in_mode and cs_draw_over_in_mode draw in. A bool has no third value,
+ * so that none is refused.
+ *
+ * CS_REFERENCE is what cs_draw and cs_draw_over draw in: the chain is that of the Rust from which this was rewritten, bit for bit.
+ *
+ * In CS_STRICT two things differ, and nothing else does:
+ * - A parabola or a hyperbola whose range is lost (lo or hi not finite, or hi - lo at or under zero) has no real domain. Where it is
+ *   the edge's own row, and not under a trim, which has a range of its own, the chain is the chord of the edge's vertices: CS_CHORD,
+ *   in the first buffer, with the parameters lo and hi, their bits and all, in this order whatever the sense. Repair does not touch
+ *   it, wherever the vertices lie, and it is refused neither with CS_NO_ROOM nor with CS_TOO_FAR.
+ * - A composite of n segments, or a trim of one, breaks where its segments meet: at each of the whole numbers 1 to n - 1 that lies
+ *   inside the range by more than 1e-9 of its width, and none is merged with another. In CS_REFERENCE the breaks are the lo and hi
+ *   of its segments, taken for parameters of the composite. In both modes a break is dropped where three places between those beside
+ *   it show no bend, and composites inside segments add none. With other breaks a chain may have other points and another way, or
+ *   be refused where it was not, and the other way round.
+ * No refusal is new, and 1 to 7 are the same in both modes. */
+
+typedef bool cs_mode;
+
+enum {
+    CS_REFERENCE = 0,
+    CS_STRICT = 1
+};
 
 /* ---- chains */
 
@@ -159,7 +184,8 @@ enum {
 enum {
     CS_NO_CHAIN = 0,   /* refused */
     CS_AS_DRAWN = 1,   /* as first drawn; in the first buffer */
-    CS_CHORD = 2,      /* the chord of the vertices, since the edge has no usable range; in the first buffer */
+    CS_CHORD = 2,      /* the chord of the vertices, since the edge has no usable range, as on a line where it is lost, and in strict
+                        * mode on a parabola or a hyperbola; in the first buffer */
     CS_COMPLEMENT = 3, /* the complementary arc of a periodic curve; in the second buffer */
     CS_SHORT_ARC = 4,  /* the arc between the parameters nearest to the vertices; in the second buffer */
     CS_RUNAWAY = 5     /* the chord of the vertices, since nothing on the curve stays near the box; in the second buffer */
@@ -187,8 +213,9 @@ static inline const char *cs_sentence(uint32_t refusal) {
     }
 }
 
-/* ---- the library's own functions, over plain numbers: cs_draw, cs_draw_over, cs_check and cs_check_tables below hand them the
- * fields of the structs in order. Hand these here no NULL, not even with a length of 0; those below put a pointer for it */
+/* ---- the library's own functions, over plain numbers: cs_draw, cs_draw_over, both in a mode, cs_check and cs_check_tables below
+ * hand them the fields of the structs in order. Hand these here no NULL, not even with a length of 0; those below put a pointer
+ * for it */
 
 /* Draws an edge into the two chain buffers: 0, or the number of the refusal that applies, the lowest from 1 to 7, else 8, 9 or 11
  * as drawing meets it. *way is the way in which the chain was got (0 for a refusal) and *count how many points it has (0).
@@ -201,7 +228,15 @@ uint32_t cs_flat_draw(
     double deflection, double radians, uint32_t relative, uint64_t segments, uint32_t depth, double scale,
     double *first, size_t first_len, double *second, size_t second_len, uint32_t *way, size_t *count);
 
-/* The lowest of the refusals 1 to 6 that applies, or 0. */
+/* The same in a mode: with CS_REFERENCE as cs_flat_draw. */
+uint32_t cs_flat_draw_in_mode(
+    const double *points, size_t points_len, const uint32_t *curves, size_t curves_len, const double *reals, size_t reals_len,
+    const uint32_t *parts, size_t parts_len, const double *ranges, size_t ranges_len,
+    uint32_t curve, uint32_t start, uint32_t end, uint32_t sense, double lo, double hi, double tolerance, uint32_t low, uint32_t high,
+    double deflection, double radians, uint32_t relative, uint64_t segments, uint32_t depth, double scale, cs_mode mode,
+    double *first, size_t first_len, double *second, size_t second_len, uint32_t *way, size_t *count);
+
+/* The lowest of the refusals 1 to 6 that applies, or 0. The mode changes none of them. */
 uint32_t cs_flat_check(
     const double *points, size_t points_len, const uint32_t *curves, size_t curves_len, const double *reals, size_t reals_len,
     const uint32_t *parts, size_t parts_len, const double *ranges, size_t ranges_len,
@@ -223,6 +258,14 @@ uint32_t cs_flat_draw_over(
     const uint32_t *parts, size_t parts_len, const double *ranges, size_t ranges_len,
     uint32_t curve, uint32_t start, uint32_t end, uint32_t sense, double lo, double hi, double tolerance, uint32_t low, uint32_t high,
     double deflection, double radians, uint32_t relative, uint64_t segments, uint32_t depth, double scale,
+    double *first, size_t first_len, double *second, size_t second_len, uint32_t *way, size_t *count);
+
+/* The same in a mode: with CS_REFERENCE as cs_flat_draw_over, and over such tables with the answer of cs_flat_draw_in_mode. */
+uint32_t cs_flat_draw_over_in_mode(
+    const double *points, size_t points_len, const uint32_t *curves, size_t curves_len, const double *reals, size_t reals_len,
+    const uint32_t *parts, size_t parts_len, const double *ranges, size_t ranges_len,
+    uint32_t curve, uint32_t start, uint32_t end, uint32_t sense, double lo, double hi, double tolerance, uint32_t low, uint32_t high,
+    double deflection, double radians, uint32_t relative, uint64_t segments, uint32_t depth, double scale, cs_mode mode,
     double *first, size_t first_len, double *second, size_t second_len, uint32_t *way, size_t *count);
 
 /* The options of a preset, the angle in radians: 0.0004 of the scale and 8 degrees; 0.01 and 35, for a quick preview; 0.0001
@@ -268,6 +311,14 @@ static inline uint32_t cs_draw(const cs_tables *t, const cs_edge *e, const cs_op
                         CS_BUFFER(second, second_len, &none), way, count);
 }
 
+/* Checks everything and draws in a mode: as cs_flat_draw_in_mode. */
+static inline uint32_t cs_draw_in_mode(const cs_tables *t, const cs_edge *e, const cs_options *o, cs_mode mode, double *first,
+                                       size_t first_len, double *second, size_t second_len, uint32_t *way, size_t *count) {
+    double none = 0;
+    return cs_flat_draw_in_mode(CS_TABLES(t), CS_EDGE(e), CS_OPTIONS(o), mode, CS_BUFFER(first, first_len, &none),
+                                CS_BUFFER(second, second_len, &none), way, count);
+}
+
 /* Checks tables, edge and options: as cs_flat_check. */
 static inline uint32_t cs_check(const cs_tables *t, const cs_edge *e, const cs_options *o) {
     return cs_flat_check(CS_TABLES(t), CS_EDGE(e), CS_OPTIONS(o));
@@ -283,6 +334,15 @@ static inline uint32_t cs_draw_over(const cs_tables *t, const cs_edge *e, const 
     double none = 0;
     return cs_flat_draw_over(CS_TABLES(t), CS_EDGE(e), CS_OPTIONS(o), CS_BUFFER(first, first_len, &none),
                         CS_BUFFER(second, second_len, &none), way, count);
+}
+
+/* The same in a mode: as cs_flat_draw_over_in_mode. */
+static inline uint32_t cs_draw_over_in_mode(const cs_tables *t, const cs_edge *e, const cs_options *o, cs_mode mode,
+                                            double *first, size_t first_len, double *second, size_t second_len, uint32_t *way,
+                                            size_t *count) {
+    double none = 0;
+    return cs_flat_draw_over_in_mode(CS_TABLES(t), CS_EDGE(e), CS_OPTIONS(o), mode, CS_BUFFER(first, first_len, &none),
+                                     CS_BUFFER(second, second_len, &none), way, count);
 }
 
 #undef CS_DOUBLES

@@ -1,5 +1,5 @@
 /* What no sheet can hold: tables above their size, slices that are not whole rows or are NULL, short buffers; and tables that
- * are checked once or never accepted, NaN parameters, walks, presets and angles. */
+ * are checked once or never accepted, NaN parameters, modes, walks, presets and angles. */
 #include "cornsunset.h"
 #include <math.h>
 #include <stdio.h>
@@ -36,15 +36,20 @@ static bool all(const double *floats, size_t n, double value) {
     return i == n;
 }
 
-/* The refusal. The buffers' floats are as it should leave them, and those behind the lent ones as they were. */
-static uint32_t draw(cs_tables t, cs_edge e, cs_options o, size_t m, size_t n) {
-    for (size_t i = 0; i < LENGTH; i++) first[i] = second[i] = -7;
-    const uint32_t refusal = cs_draw(&t, &e, &o, first, m, second, n, &way, &count);
+/* The buffers' floats are as this refusal should leave them, and those behind the lent ones as they were. */
+static void expect_left(uint32_t refusal, size_t m, size_t n) {
     if (refusal != 0) {
         const double left = refusal <= 7 ? -7.0 : 0.0;
         EXPECT(all(first, m, left) && all(second, n, left) && way == CS_NO_CHAIN && count == 0);
     }
     EXPECT(all(first + m, LENGTH - m, -7) && all(second + n, LENGTH - n, -7));
+}
+
+/* The refusal, and that the buffers are left as they should be. */
+static uint32_t draw(cs_tables t, cs_edge e, cs_options o, size_t m, size_t n) {
+    for (size_t i = 0; i < LENGTH; i++) first[i] = second[i] = -7;
+    const uint32_t refusal = cs_draw(&t, &e, &o, first, m, second, n, &way, &count);
+    expect_left(refusal, m, n);
     return refusal;
 }
 
@@ -57,6 +62,36 @@ static uint32_t draw_over(cs_tables t, cs_edge e, cs_options o, size_t m, size_t
     const uint32_t refusal = cs_draw_over(&t, &e, &o, third, m, fourth, n, &its_way, &its_count);
     EXPECT(refusal == draw(t, e, o, m, n) && its_way == way && its_count == count);
     EXPECT(memcmp(first, third, sizeof first) == 0 && memcmp(second, fourth, sizeof second) == 0);
+    return refusal;
+}
+
+/* The same in a mode; over the tables all is as by cs_draw_in_mode, and in the reference's mode as by cs_draw. */
+static uint32_t draw_in_mode(cs_tables t, cs_edge e, cs_options o, cs_mode mode, size_t m, size_t n) {
+    EXPECT(cs_check_tables(&t) == CS_DRAWN);
+    for (size_t i = 0; i < LENGTH; i++) third[i] = fourth[i] = -7;
+    uint32_t its_way = 99;
+    size_t its_count = 99;
+    const uint32_t over = cs_draw_over_in_mode(&t, &e, &o, mode, third, m, fourth, n, &its_way, &its_count);
+    if (mode == CS_REFERENCE) {
+        EXPECT(over == draw(t, e, o, m, n) && its_way == way && its_count == count);
+        EXPECT(memcmp(first, third, sizeof first) == 0 && memcmp(second, fourth, sizeof second) == 0);
+    }
+    for (size_t i = 0; i < LENGTH; i++) first[i] = second[i] = -7;
+    const uint32_t refusal = cs_draw_in_mode(&t, &e, &o, mode, first, m, second, n, &way, &count);
+    EXPECT(refusal == over && its_way == way && its_count == count);
+    EXPECT(memcmp(first, third, sizeof first) == 0 && memcmp(second, fourth, sizeof second) == 0);
+    expect_left(refusal, m, n);
+    return refusal;
+}
+
+/* What both modes make of an edge, where it is the same. */
+static uint32_t draw_alike(cs_tables t, cs_edge e, cs_options o, size_t m, size_t n) {
+    static double reference[2][LENGTH];
+    const uint32_t refusal = draw_in_mode(t, e, o, CS_REFERENCE, m, n), its_way = way;
+    const size_t its_count = count;
+    memcpy(reference[0], first, sizeof first), memcpy(reference[1], second, sizeof second);
+    EXPECT(draw_in_mode(t, e, o, CS_STRICT, m, n) == refusal && way == its_way && count == its_count);
+    EXPECT(memcmp(reference[0], first, sizeof first) == 0 && memcmp(reference[1], second, sizeof second) == 0);
     return refusal;
 }
 
@@ -101,18 +136,33 @@ static void nulls(void) {
     t = LINE, t.points = NULL, t.points_len = 0, EXPECT(refusal_of(t) == CS_ILL_FORMED);
     EXPECT(cs_draw(&LINE, &EDGE, &OPTIONS, NULL, 0, NULL, 0, &way, &count) == CS_SHORT_BUFFER && way == CS_NO_CHAIN);
     EXPECT(cs_draw_over(&LINE, &EDGE, &OPTIONS, first, 400, NULL, 0, &way, &count) == CS_SHORT_BUFFER && count == 0);
+    t = LINE, t.parts = NULL, t.ranges = NULL, EXPECT(draw_alike(t, EDGE, OPTIONS, 400, 401) == CS_DRAWN && count == 5);
+    EXPECT(draw_alike(none, EDGE, OPTIONS, 400, 401) == CS_MISSING);
+    EXPECT(cs_draw_in_mode(&LINE, &EDGE, &OPTIONS, CS_STRICT, NULL, 0, NULL, 0, &way, &count) == CS_SHORT_BUFFER && way == CS_NO_CHAIN);
+    EXPECT(cs_draw_over_in_mode(&LINE, &EDGE, &OPTIONS, CS_STRICT, first, 400, NULL, 0, &way, &count) == CS_SHORT_BUFFER && count == 0);
     double p[CS_WIDTH];
     size_t at = cs_start(NULL, 0, false);
     EXPECT(at == 0 && cs_step(NULL, 0, true, &at, p) == 0 && cs_step(NULL, 0, false, &at, p) == 0);
 }
 
-/* The answer over tables that were never accepted: one of the numbers, and nothing behind the lent floats is touched. */
-static uint32_t draw_over_any(cs_tables t, cs_edge e) {
+/* The answer over tables that were never accepted, in a mode: one of the numbers, and nothing behind the lent floats is touched. */
+static uint32_t draw_over_any_in_mode(cs_tables t, cs_edge e, cs_mode mode) {
     for (size_t i = 0; i < LENGTH; i++) first[i] = second[i] = -7;
-    const uint32_t refusal = cs_draw_over(&t, &e, &OPTIONS, first, 400, second, 401, &way, &count);
+    const uint32_t refusal = mode == CS_REFERENCE
+                                 ? cs_draw_over(&t, &e, &OPTIONS, first, 400, second, 401, &way, &count)
+                                 : cs_draw_over_in_mode(&t, &e, &OPTIONS, mode, first, 400, second, 401, &way, &count);
     EXPECT(refusal == CS_DRAWN ? way >= CS_AS_DRAWN && way <= CS_RUNAWAY && count >= 2 && CS_WIDTH * count <= 400
                                : refusal <= CS_TOO_FAR && refusal != 10 && way == CS_NO_CHAIN && count == 0);
     EXPECT(all(first + 400, LENGTH - 400, -7) && all(second + 401, LENGTH - 401, -7));
+    return refusal;
+}
+
+static bool is_early(uint32_t refusal) { return refusal != CS_DRAWN && refusal < CS_NO_ROOM; }
+
+/* In both modes, which refuse alike what they refuse before they draw. */
+static uint32_t draw_over_any(cs_tables t, cs_edge e) {
+    const uint32_t strict = draw_over_any_in_mode(t, e, CS_STRICT), refusal = draw_over_any_in_mode(t, e, CS_REFERENCE);
+    EXPECT(strict == refusal || !(is_early(strict) || is_early(refusal)));
     return refusal;
 }
 
@@ -208,6 +258,117 @@ static void hyperbolas(void) {
     EXPECT(cs_check(&t, &e, &OPTIONS) == CS_DRAWN);
 }
 
+/* A frame, two vertices, and a point near the first: a parabola of focal distance 2, a hyperbola, trims of the two, a line. */
+static const double PLANE[] = {0, 0, 0, 0, 0, 1, 1, 0, 0, 8, -8, 0, 18, 12, 0, 9, -7, 0};
+static const uint32_t ROWS[] = {CS_KIND_PARABOLA, 0, 3, CS_KIND_HYPERBOLA, 0, 3, CS_KIND_TRIMMED, 0, 1,
+                                CS_KIND_TRIMMED,  1, 1, CS_KIND_LINE,      0, 2};
+static const double SIZES[] = {2, 0, 4, 3, -2, 3, -1.5, 2, 0, 0};
+static const cs_tables CONICS = {.points = PLANE, .points_len = 18, .curves = ROWS, .curves_len = 15, .reals = SIZES, .reals_len = 10};
+static const cs_options FINE = {.deflection = 0.01, .angle = {0.14}, .segments = 1, .depth = 12};
+
+/* That the chain is the chord in the first buffer, with lo and hi by their bits, and nothing else is there. */
+static bool is_chord(const cs_edge *e, size_t m, size_t n) {
+    double chord[2 * CS_WIDTH];
+    memcpy(chord, PLANE + 3 * e->start, 24), memcpy(chord + CS_T, &e->lo, 8);
+    memcpy(chord + CS_WIDTH, PLANE + 3 * e->end, 24), memcpy(chord + CS_WIDTH + CS_T, &e->hi, 8);
+    return way == CS_CHORD && count == 2 && memcmp(first, chord, sizeof chord) == 0 &&
+           all(first + 2 * CS_WIDTH, m - 2 * CS_WIDTH, 0) && all(second, n, 0);
+}
+
+/* A range that is NaN, infinite, empty or reversed: in strict mode the chord of the vertices on a parabola and on a hyperbola, in any
+ * room and any box; in the reference's 8 and 11. Trims of the two have a range of their own. */
+static void lost_ranges(void) {
+    const uint64_t bits[2] = {0x7ff80000deadbeef, 0xfff40123456789ab};
+    double lost[][2] = {{0, 0}, {0, 1.5}, {0, 0}, {-INFINITY, 1.5}, {0, INFINITY}, {1, 1}, {-0.0, 0}, {1.5, 0}};
+    memcpy(lost[0], bits, 16), memcpy(lost[1], bits, 8), memcpy(lost[2] + 1, bits + 1, 8);
+    for (size_t i = 0; i < sizeof lost / sizeof lost[0]; i++) {
+        for (uint32_t sense = 0; sense <= 1; sense++) {
+            cs_edge e = {.start = 3, .end = 4, .sense = sense, .lo = lost[i][0], .hi = lost[i][1], .low = 3, .high = 4};
+            e.curve = 0, EXPECT(draw_in_mode(CONICS, e, FINE, CS_STRICT, 400, 401) == CS_DRAWN && is_chord(&e, 400, 401));
+            EXPECT(draw_in_mode(CONICS, e, FINE, CS_REFERENCE, 400, 401) == CS_NO_ROOM);
+            e.curve = 1, EXPECT(draw_in_mode(CONICS, e, FINE, CS_STRICT, 8, 9) == CS_DRAWN && is_chord(&e, 8, 9));
+            EXPECT(draw_in_mode(CONICS, e, FINE, CS_REFERENCE, 400, 401) == CS_TOO_FAR);
+            e.start = 4, e.end = 3, EXPECT(draw_in_mode(CONICS, e, FINE, CS_STRICT, 8, 9) == CS_DRAWN && is_chord(&e, 8, 9));
+            e.curve = 2, EXPECT(draw_alike(CONICS, e, FINE, 4000, 4000) == CS_DRAWN && way == CS_AS_DRAWN && count > 4);
+            e.curve = 3, EXPECT(draw_alike(CONICS, e, FINE, 4000, 4000) == CS_DRAWN && way == CS_AS_DRAWN && count > 4);
+            e.low = 0, e.high = 2; /* both vertices lie outside */
+            e.curve = 0, EXPECT(draw_in_mode(CONICS, e, FINE, CS_STRICT, 40, 41) == CS_DRAWN && is_chord(&e, 40, 41));
+            e.low = 3, e.high = 5; /* and one of them */
+            e.curve = 1, EXPECT(draw_in_mode(CONICS, e, FINE, CS_STRICT, 40, 41) == CS_DRAWN && is_chord(&e, 40, 41));
+            e.curve = 4, EXPECT(draw_alike(CONICS, e, FINE, 40, 41) == CS_DRAWN && way == CS_RUNAWAY && count == 2);
+        }
+    }
+}
+
+/* Good ranges, and refusals from 1 to 7, are the same in both modes. */
+static void kept_ranges(void) {
+    const cs_edge parabola = {.start = 3, .end = 4, .sense = 1, .lo = -2, .hi = 3, .low = 3, .high = 4};
+    cs_edge e = parabola;
+    EXPECT(draw_alike(CONICS, e, FINE, 4000, 4000) == CS_DRAWN && way == CS_AS_DRAWN && count > 4);
+    e.low = 0, e.high = 2, EXPECT(draw_alike(CONICS, e, FINE, 4000, 4000) == CS_DRAWN && way == CS_RUNAWAY);
+    e.curve = 1, e.lo = -1.5, e.hi = 2, EXPECT(draw_alike(CONICS, e, FINE, 4000, 4000) == CS_TOO_FAR);
+    e = parabola, e.curve = 1, e.hi = 101, EXPECT(draw_alike(CONICS, e, FINE, 4000, 4000) == CS_TOO_FAR);
+    e = parabola, EXPECT(draw_alike(CONICS, e, FINE, 8, 4000) == CS_NO_ROOM);
+    e.lo = NAN, EXPECT(draw_alike(CONICS, e, FINE, 7, 80) == CS_SHORT_BUFFER);
+    e.sense = 2, EXPECT(draw_alike(CONICS, e, FINE, 80, 80) == CS_ILL_FORMED);
+    e.tolerance = NAN, EXPECT(draw_alike(CONICS, e, FINE, 80, 80) == CS_UNBOUNDED);
+    e = parabola, e.lo = NAN, e.end = 6, EXPECT(draw_alike(CONICS, e, FINE, 80, 80) == CS_MISSING);
+    EXPECT(draw_alike(LINE, EDGE, OPTIONS, 400, 401) == CS_DRAWN && count == 5);
+}
+
+static bool has_parameters(const double *t, size_t n) {
+    size_t i = 0;
+    while (i < n && i < count && first[CS_WIDTH * i + CS_T] == t[i]) i++;
+    return way == CS_AS_DRAWN && count == n && i == n;
+}
+
+/* A corner of two lines, each over its own 0.25..1.25, and a trim of it: strict mode breaks it where the two meet, at 1. */
+static void joints(void) {
+    const double corner[] = {-1, 0, 0, 4, 0, 0, 4, -1, 0, 0, 4, 0, 0, 0, 0, 4, 4, 0, 2, 0, 0}, zeros[] = {0, 0, 0, 0, 0, 0, 0.5, 2};
+    const uint32_t rows[] = {CS_KIND_LINE, 0, 2, CS_KIND_LINE, 2, 2, CS_KIND_COMPOSITE, 0, 2, CS_KIND_TRIMMED, 2, 1};
+    const uint32_t segments[] = {0, 1, 1, 1};
+    const double own[] = {0.25, 1.25, 0.25, 1.25};
+    const cs_tables t = {corner, 21, rows, 12, zeros, 8, segments, 4, own, 4};
+    const cs_options coarse = {.deflection = 0.5, .angle = {3.5}, .segments = 1, .depth = 1};
+    const double whole[] = {0, 1, 2}, trimmed[] = {0.5, 1, 2}, reference[] = {0, 0.25, 0.75, 1.25, 2};
+    cs_edge e = {.curve = 2, .start = 4, .end = 5, .sense = 1, .hi = 2, .low = 4, .high = 5};
+    EXPECT(draw_in_mode(t, e, coarse, CS_REFERENCE, 400, 401) == CS_DRAWN && has_parameters(reference, 5));
+    EXPECT(draw_in_mode(t, e, coarse, CS_STRICT, 400, 401) == CS_DRAWN && has_parameters(whole, 3));
+    EXPECT(first[CS_WIDTH + CS_X] == 4 && first[CS_WIDTH + CS_Y] == 0);
+    EXPECT(draw_in_mode(t, e, coarse, CS_STRICT, 3 * CS_WIDTH - 1, 401) == CS_NO_ROOM);
+    e.lo = NAN, EXPECT(draw_in_mode(t, e, coarse, CS_STRICT, 400, 401) == CS_DRAWN && has_parameters(whole, 3));
+    e.lo = 1, EXPECT(draw_in_mode(t, e, coarse, CS_STRICT, 400, 401) == CS_DRAWN && has_parameters(whole + 1, 2));
+    e.curve = 3, e.start = 6, e.lo = 0.5;
+    EXPECT(draw_in_mode(t, e, coarse, CS_STRICT, 400, 401) == CS_DRAWN && has_parameters(trimmed, 3));
+}
+
+/* Nine points to and fro, (4 i, 0 or 4, 0), as eight segments, the n-th over n - 1..n of its line, under a trim to -0.5..1e9. The
+ * reference merges joints beside so wide a range; strict mode breaks at each, but for 7, since the three places that are looked at
+ * between 6 and 1e9 all lie at the end. */
+static void wide_range(void) {
+    enum { N = 8 };
+    double positions[3 * (3 * N + 1)] = {0}, sizes[2 * (N + 2)] = {0}, own[2 * N];
+    uint32_t rows[3 * (N + 2)], segments[2 * N];
+    for (uint32_t i = 0; i <= N; i++) positions[3 * i] = 4 * i, positions[3 * i + 1] = i % 2 == 0 ? 0 : 4;
+    for (uint32_t i = 0; i < N; i++) {
+        const double rise = i % 2 == 0 ? 4 : -4;
+        double *origin = positions + 3 * (N + 1 + 2 * i), *direction = origin + 3;
+        /* At i lies the i-th point, at i + 1 the next. */
+        direction[0] = 4, direction[1] = rise, origin[0] = 0, origin[1] = positions[3 * i + 1] - i * rise;
+        rows[3 * i] = CS_KIND_LINE, rows[3 * i + 1] = N + 1 + 2 * i, rows[3 * i + 2] = 2;
+        segments[2 * i] = i, segments[2 * i + 1] = 1, own[2 * i] = i, own[2 * i + 1] = i + 1;
+    }
+    rows[3 * N] = CS_KIND_COMPOSITE, rows[3 * N + 1] = 0, rows[3 * N + 2] = N;
+    rows[3 * N + 3] = CS_KIND_TRIMMED, rows[3 * N + 4] = N, rows[3 * N + 5] = 1;
+    sizes[2 * N + 2] = -0.5, sizes[2 * N + 3] = 1e9;
+    const cs_tables t = {positions, 3 * (3 * N + 1), rows, 3 * (N + 2), sizes, 2 * (N + 2), segments, 2 * N, own, 2 * N};
+    const cs_options coarse = {.deflection = 0.5, .angle = {3.5}, .segments = 1, .depth = 1};
+    const cs_edge e = {.curve = N + 1, .start = 0, .end = N, .sense = 1, .lo = -0.5, .hi = 1e9, .low = 0, .high = N};
+    const double joints[] = {-0.5, 1, 2, 3, 4, 5, 6, 1e9};
+    EXPECT(draw_in_mode(t, e, coarse, CS_STRICT, 400, 401) == CS_DRAWN && has_parameters(joints, 8));
+    EXPECT(draw_in_mode(t, e, coarse, CS_REFERENCE, 400, 401) == CS_DRAWN && !has_parameters(joints, 8));
+}
+
 static void walks(void) {
     const double chain[] = {0, 1, 2, 3, 4, 5, 6, 7, 8, 9};
     double p[4] = {-1, -1, -1, -1};
@@ -236,7 +397,7 @@ static void angles(void) {
     EXPECT(cs_is_clamped(9.9e-5) && !cs_is_clamped(1e-4) && !cs_is_clamped(3.141592653589793) && cs_is_clamped(-1));
 }
 
-/* The scope's numbers of kinds and refusals, those of the ways, and both forms of the version. */
+/* The scope's numbers of kinds and refusals, those of the ways and modes, and both forms of the version. */
 static void numbers(void) {
     const uint32_t kinds[] = {CS_KIND_LINE,     CS_KIND_CIRCLE,  CS_KIND_ELLIPSE,  CS_KIND_PARABOLA,
                               CS_KIND_POLYLINE, CS_KIND_TRIMMED, CS_KIND_COMPOSITE, CS_KIND_HYPERBOLA};
@@ -247,6 +408,7 @@ static void numbers(void) {
     for (uint32_t n = 0; n <= 5; n++) EXPECT(ways[n] == n);
     for (uint32_t n = 1; n <= 8; n++) EXPECT(kinds[n - 1] == n);
     EXPECT(CS_TOO_FAR == 11);
+    EXPECT(CS_REFERENCE == false && CS_STRICT == true && sizeof(cs_mode) == sizeof(bool));
     char version[16];
     snprintf(version, sizeof version, "%d.%d.%d", CS_VERSION_NUMBER / 10000, CS_VERSION_NUMBER / 100 % 100, CS_VERSION_NUMBER % 100);
     EXPECT(strcmp(version, CS_VERSION) == 0);
@@ -261,6 +423,10 @@ int main(void) {
     unaccepted();
     nans();
     hyperbolas();
+    lost_ranges();
+    kept_ranges();
+    joints();
+    wide_range();
     walks();
     angles();
     for (uint32_t n = 1; n <= 11; n++) EXPECT((strcmp(cs_sentence(n), cs_sentence(99)) != 0) == (n != 10));

@@ -1,6 +1,7 @@
 //! A batch: sheets, and settings for the sheets behind them, parted by separators.
 
 use crate::sheet;
+use road::mode::Mode;
 
 /// What parts a batch, and its answers. No sheet holds an equals sign.
 pub const SEPARATOR: &[u8] = b"====\n";
@@ -15,17 +16,18 @@ enum Ask {
     Both,
 }
 
-/// How sheets are answered: the floats of both chain buffers, and what is told.
+/// How sheets are answered: the floats of both chain buffers, what is told, and the mode.
 #[derive(Debug, Clone, Copy, PartialEq, Eq)]
 pub struct Settings {
     lengths: (usize, usize),
     ask: Ask,
+    mode: Mode,
 }
 
 impl Settings {
     /// Those before the first setting of a batch.
     pub fn of(lengths: (usize, usize)) -> Self {
-        Self { lengths, ask: Ask::Chain }
+        Self { lengths, ask: Ask::Chain, mode: Mode::Reference }
     }
 
     /// Those behind a part that is a setting, one line alone.
@@ -34,6 +36,8 @@ impl Settings {
         match line.split(' ').collect::<Vec<_>>()[..] {
             ["ask", "chain"] => Some(Self { ask: Ask::Chain, ..self }),
             ["ask", "both"] => Some(Self { ask: Ask::Both, ..self }),
+            ["mode", "reference"] => Some(Self { mode: Mode::Reference, ..self }),
+            ["mode", "strict"] => Some(Self { mode: Mode::Strict, ..self }),
             ["buffers", first, second] => {
                 Some(Self { lengths: (floats(first)?, floats(second)?), ..self })
             }
@@ -43,8 +47,8 @@ impl Settings {
 
     fn answer(self, sheet: &[u8]) -> String {
         match self.ask {
-            Ask::Chain => sheet::answer(sheet, self.lengths),
-            Ask::Both => sheet::whole_answer(sheet, self.lengths),
+            Ask::Chain => sheet::answer(sheet, self.lengths, self.mode),
+            Ask::Both => sheet::whole_answer(sheet, self.lengths, self.mode),
         }
     }
 }

@@ -216,7 +216,7 @@ fn redrawn(random: &mut Random) -> Sheet {
 }
 
 /// The box of some points of the curve between two parameters.
-fn arc_box(curve: &Curve, from: f64, to: f64) -> [Point; 2] {
+pub fn arc_box(curve: &Curve, from: f64, to: f64) -> [Point; 2] {
     let mut bounds = Aabb::EMPTY;
     for i in 0..=8 {
         let p = within_rules(curve.point_at(from + (to - from) * (i as f64 * 0.125)));
@@ -225,7 +225,8 @@ fn arc_box(curve: &Curve, from: f64, to: f64) -> [Point; 2] {
     [bounds.min.to_array(), bounds.max.to_array()]
 }
 
-fn edge_on(
+/// An edge over a shape's range, between vertices and in a box.
+pub fn edge_on(
     mut tables: OwnedTables,
     shape: Shape,
     [start, end]: [Point; 2],
@@ -247,6 +248,7 @@ fn edge_on(
     Sheet { tables, edge, options }
 }
 
-fn within_rules(p: Vec3) -> Point {
+/// A point that cause 2 lets pass.
+pub fn within_rules(p: Vec3) -> Point {
     p.to_array().map(|x| if x.is_nan() { 0.0 } else { x.clamp(-1e9, 1e9) })
 }

@@ -1,12 +1,14 @@
 //! Demand 3's five clauses, and what the buffers hold, checked on drawn edges.
 
-use crate::draw::{Drawn, WIDTH, draw, in_first, resolved, room, solid};
+use crate::draw::{Drawn, WIDTH, draw_in, in_first, resolved, room, solid};
 use crate::generate;
 use crate::random::Random;
 use crate::sheet::{LENT, Sheet, write};
+use crate::strict;
 use road::brep::Curve;
 use road::edge::edge_extent;
 use road::math::Vec3;
+use road::mode::Mode;
 use road::steps::{max, min};
 use std::fmt::Write;
 
@@ -35,38 +37,43 @@ struct Found {
     report: String,
 }
 
-/// Draws `count` generated sheets, each in the program's buffers and in others, and reports.
+/// Draws `count` generated sheets and as many of strict mode's own, each in both modes, in the program's buffers and in others, and
+/// reports.
 pub fn report(seed: u64, count: u64) -> String {
     let mut found = Found::default();
     let mut accepted = 0;
     for index in 0..count {
-        let sheet = generate::contents(seed, index);
-        let before = found.chains;
-        check_sheet(&mut found, &sheet, &mut Random::new(seed ^ 0x5bd1e995, index));
-        accepted += u64::from(found.chains > before);
+        for sheet in [generate::contents(seed, index), strict::contents(seed, index)] {
+            let before = found.chains;
+            for mode in [Mode::Reference, Mode::Strict] {
+                let random = &mut Random::new(seed ^ 0x5bd1e995, index);
+                check_sheet(&mut found, &sheet, mode, random);
+            }
+            accepted += u64::from(found.chains > before);
+        }
     }
     let Found { draws, chains, longest, not_finite, violations, report } = found;
     format!(
-        "{report}seed {seed}: {count} sheets, {accepted} accepted in some buffers, {draws} draws, \
-         {chains} chains, longest {longest} points, {not_finite} with a float not finite that is no copy of lo or hi, \
+        "{report}seed {seed}: {count} sheets and {count} of strict mode's, each in both modes, {accepted} accepted in some buffers, \
+         {draws} draws, {chains} chains, longest {longest} points, {not_finite} with a float not finite that is no copy of lo or hi, \
          {violations} violations\n"
     )
 }
 
 /// Draws in the program's buffers, in some of other lengths, and in some that the chain just fills.
-fn check_sheet(found: &mut Found, sheet: &Sheet, random: &mut Random) {
-    let known = check_draw(found, sheet, (LENT, LENT), None);
+fn check_sheet(found: &mut Found, sheet: &Sheet, mode: Mode, random: &mut Random) {
+    let known = check_draw(found, sheet, mode, (LENT, LENT), None);
     let any = (any_length(random), any_length(random));
-    check_draw(found, sheet, any, Some(&known));
+    check_draw(found, sheet, mode, any, Some(&known));
     match known.drawn {
         Drawn::Chain(..) => {
             let exact = (known.chain.len(), known.chain.len() + random.below(WIDTH));
-            check_draw(found, sheet, exact, Some(&known));
-            check_draw(found, sheet, (exact.1, exact.0 - 1), Some(&known));
+            check_draw(found, sheet, mode, exact, Some(&known));
+            check_draw(found, sheet, mode, (exact.1, exact.0 - 1), Some(&known));
         }
         // With the most room, for some: what was refused for room may take long to draw.
         Drawn::Refused(_) if random.percent(25) => {
-            check_draw(found, sheet, (MOST + random.below(3), MOST), Some(&known));
+            check_draw(found, sheet, mode, (MOST + random.below(3), MOST), Some(&known));
         }
         Drawn::Refused(_) => {}
     }
@@ -85,12 +92,14 @@ fn any_length(random: &mut Random) -> usize {
 fn check_draw(
     found: &mut Found,
     sheet: &Sheet,
+    mode: Mode,
     (m, n): (usize, usize),
     known: Option<&Known>,
 ) -> Known {
     let (mut first, mut second) = (vec![UNTOUCHED; m], vec![UNTOUCHED; n]);
     let tables = sheet.tables.lent();
-    let drawn = draw(&tables, &sheet.edge, &sheet.options, &mut first, &mut second);
+    let (edge, options) = (&sheet.edge, &sheet.options);
+    let drawn = draw_in(&tables, edge, options, mode, &mut first, &mut second);
     found.draws += 1;
     let (mut wrong, chain) = match drawn {
         Drawn::Refused(number) => (broken_refusal(number, &first, &second), vec![]),
@@ -111,7 +120,8 @@ fn check_draw(
     note_chain(found, sheet, &new.chain);
     for what in wrong {
         found.violations += 1;
-        writeln!(found.report, "{what}, buffers {m} {n}:\n{}", write(sheet)).unwrap();
+        writeln!(found.report, "{what}, mode {mode:?}, buffers {m} {n}:\n{}", write(sheet))
+            .unwrap();
     }
     new
 }

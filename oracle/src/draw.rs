@@ -6,6 +6,7 @@ use road::asks;
 use road::brep::{CurveId, Edge as RoadEdge, Solid, VertexId};
 use road::edge::{Chain, Way, discretise_all};
 use road::math::{Aabb, Interval, Vec3};
+use road::mode::Mode;
 use road::options::{Options as RoadOptions, Resolved};
 
 /// Floats of a point in a chain buffer: x y z t.
@@ -19,14 +20,26 @@ pub enum Drawn {
     Chain(Way, usize),
 }
 
-/// Draws an edge into one of two lent buffers.
-///
-/// Causes 1 to 7 leave both as they were, 8, 9 and 11 leave them all +0.0. A chain starts its buffer, the
-/// first if kept as first drawn and the second if repair replaced it; every other float is +0.0.
+/// Draws an edge into one of two lent buffers, as the published Rust does.
 pub fn draw(
     tables: &Tables,
     edge: &Edge,
     options: &Options,
+    first: &mut [f64],
+    second: &mut [f64],
+) -> Drawn {
+    draw_in(tables, edge, options, Mode::Reference, first, second)
+}
+
+/// Draws an edge into one of two lent buffers, in a mode.
+///
+/// Causes 1 to 7 leave both as they were, 8, 9 and 11 leave them all +0.0. A chain starts its buffer, the
+/// first if kept as first drawn and the second if repair replaced it; every other float is +0.0.
+pub fn draw_in(
+    tables: &Tables,
+    edge: &Edge,
+    options: &Options,
+    mode: Mode,
     first: &mut [f64],
     second: &mut [f64],
 ) -> Drawn {
@@ -36,7 +49,7 @@ pub fn draw(
     let room = room(first.len(), second.len());
     first.fill(0.0);
     second.fill(0.0);
-    match draw_chain(tables, edge, options, room) {
+    match draw_chain(tables, edge, options, mode, room) {
         Err(number) => Drawn::Refused(number),
         Ok(chain) => {
             let buffer = if in_first(chain.way) { first } else { second };
@@ -65,10 +78,11 @@ pub fn draw_chain(
     tables: &Tables,
     edge: &Edge,
     options: &Options,
+    mode: Mode,
     room: usize,
 ) -> Result<Chain, u32> {
     let solid = solid(tables, edge);
-    let chains = road(&solid, &resolved(options), &reference(tables, edge), room)?;
+    let chains = road(&solid, &resolved(options), mode, &reference(tables, edge), room)?;
     let chain = chains.into_iter().next().expect("the solid has one edge");
     Ok(with_made_nans(chain))
 }
@@ -77,10 +91,11 @@ pub fn draw_chain(
 pub fn road(
     solid: &Solid,
     options: &Resolved,
+    mode: Mode,
     reference: &Aabb,
     room: usize,
 ) -> Result<Vec<Chain>, u32> {
-    asks::drawing(|| discretise_all(solid, options, reference, room))
+    asks::drawing(|| discretise_all(solid, options, reference, room, mode))
 }
 
 /// A solid with the edge's two vertices, its curve and itself.

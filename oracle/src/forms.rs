@@ -6,6 +6,7 @@ use crate::sheet::Sheet;
 use crate::tables::{COMPOSITE, HYPERBOLA, TRIMMED, Tables};
 use road::edge::discretise_all;
 use road::marks;
+use road::mode::Mode;
 
 const PLAIN: u32 = 1;
 const TRIM: u32 = 2;
@@ -130,6 +131,6 @@ fn refusal_in(sheet: &Sheet, floats: usize) -> u32 {
 fn too_long_without_11(sheet: &Sheet) -> bool {
     let (tables, edge) = (sheet.tables.lent(), &sheet.edge);
     let options = resolved(&sheet.options);
-    let reference = reference(&tables, edge);
-    discretise_all(&solid(&tables, edge), &options, &reference, room(8, 8)).is_err_and(|n| n == 8)
+    let (solid, reference) = (solid(&tables, edge), reference(&tables, edge));
+    discretise_all(&solid, &options, &reference, room(8, 8), Mode::Reference).is_err_and(|n| n == 8)
 }

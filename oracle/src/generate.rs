@@ -26,15 +26,20 @@ pub fn contents(seed: u64, index: u64) -> Sheet {
 /// Every so many-th sheet may have hyperbolas; the others have none, and are what they were before there were any.
 const EVERY: u64 = 6;
 
-fn drafted(random: &mut Random, index: u64) -> Sheet {
+pub fn drafted(random: &mut Random, index: u64) -> Sheet {
     let hyperbolas = index % EVERY == 4;
-    let mut sheet = match random.below(100) {
+    let sheet = match random.below(100) {
         0..=39 if hyperbolas => beyond::sheet(random),
         _ if hyperbolas => sound(Draft::with_hyperbolas(random)),
         0..=1 => redrawn(random),
         2..=14 => exact::sheet(random),
         _ => sound(Draft::new(random)),
     };
+    damaged(random, sheet)
+}
+
+/// Some with values at boundaries, some with a rule of causes 2 to 6 broken.
+pub fn damaged(random: &mut Random, mut sheet: Sheet) -> Sheet {
     damage::tweak(random, &mut sheet);
     damage::contents(random, &mut sheet);
     sheet
@@ -247,7 +252,7 @@ fn range(random: &mut Random, shape: Shape) -> (f64, f64) {
 }
 
 /// An infinity, or a NaN with any sign and payload, quiet or not.
-fn unbounded(random: &mut Random) -> f64 {
+pub fn unbounded(random: &mut Random) -> f64 {
     match random.below(5) {
         0 => f64::INFINITY,
         1 => f64::NEG_INFINITY,

@@ -8,6 +8,7 @@ use road::brep::{Curve, Edge};
 use road::edge::{edge_extent, sample_params, usable_range};
 use road::knots::{curve_breaks, thin_breaks};
 use road::math::{Interval, Vec3};
+use road::mode::Mode;
 use road::options::{Options, Resolved};
 use std::fmt::Write;
 
@@ -55,10 +56,11 @@ fn beyond() -> String {
 
 /// The breaks inside a range, those that thinning keeps, and the parameters sampled.
 fn samples(curve: &Curve, range: Interval, options: &Resolved) -> String {
-    let breaks = curve_breaks(curve, range.lo, range.hi);
+    let breaks = curve_breaks(curve, range.lo, range.hi, Mode::Reference);
     let kept = thin_breaks(&breaks, range.lo, range.hi, options.sag, &|t| curve.point_at(t));
     let asked = beyond();
-    let sampled = match sample_params(curve, range, options, room(LENT, LENT)) {
+    let room = room(LENT, LENT);
+    let sampled = match sample_params(curve, range, options, room, Mode::Reference) {
         Ok(params) => list(&params),
         Err(number) => format!("refusal {number}"),
     };

@@ -15,15 +15,19 @@ pub mod forms;
 pub mod gen_arith;
 pub mod generate;
 pub mod inspect;
+#[cfg(marked)]
+pub mod modes;
 pub mod random;
 pub mod shapes;
 pub mod sheet;
+pub mod strict;
 pub mod tables;
 #[cfg(test)]
 mod tests;
 pub mod timing;
 
-pub use draw::{Drawn, draw, draw_chain};
+pub use draw::{Drawn, draw, draw_chain, draw_in};
 pub use road::edge::Way;
+pub use road::mode::Mode;
 pub use sheet::Sheet;
 pub use tables::{Edge, Options, OwnedTables, Tables};

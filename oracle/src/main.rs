@@ -1,12 +1,13 @@
 //! The commands of the oracle. README.md says what each reads and prints.
 
 use oracle::batch::{SEPARATOR, Settings, answers, split};
-use oracle::{arith, check, gen_arith, generate, inspect, sheet, timing};
+use oracle::{Mode, arith, check, gen_arith, generate, inspect, sheet, strict, timing};
 use std::io::{BufWriter, Read, Result, Write};
 use std::process::ExitCode;
 
-const USAGE: &str = "usage: oracle chain [FIRST SECOND] | batch [FIRST SECOND] | gen SEED N [START]
-              | coverage SEED N | check SEED N | time FILE
+const USAGE: &str =
+    "usage: oracle chain [FIRST SECOND] | batch [FIRST SECOND] | gen [--strict] SEED N [START]
+              | coverage [--strict] SEED N | check SEED N | time FILE
               | arith | genarith SEED | eval | resolve";
 
 fn main() -> ExitCode {
@@ -31,13 +32,20 @@ fn run(words: &[&str], out: &mut impl Write) -> Option<Result<()>> {
     match words {
         ["chain", lengths @ ..] => Some(chain(out, buffers(lengths)?)),
         ["batch", lengths @ ..] => Some(batch(out, buffers(lengths)?)),
-        ["gen", seed, count] => Some(sheets(out, number(seed)?, number(count)?, 0)),
-        ["gen", seed, count, start] => {
-            Some(sheets(out, number(seed)?, number(count)?, number(start)?))
+        ["gen", "--strict", seed, count, start @ ..] => {
+            Some(sheets(out, strict::bytes, number(seed)?, number(count)?, first(start)?))
+        }
+        ["gen", seed, count, start @ ..] => {
+            Some(sheets(out, generate::bytes, number(seed)?, number(count)?, first(start)?))
         }
         #[cfg(marked)]
-        ["marks"] => Some(marks(out)),
-        ["coverage", seed, count] => Some(coverage(out, number(seed)?, number(count)?)),
+        ["marks"] => Some(marks(out, oracle::coverage::met)),
+        #[cfg(marked)]
+        ["marks", "--strict"] => Some(marks(out, oracle::modes::met)),
+        ["coverage", "--strict", seed, count] => {
+            Some(coverage(out, true, number(seed)?, number(count)?))
+        }
+        ["coverage", seed, count] => Some(coverage(out, false, number(seed)?, number(count)?)),
         ["check", seed, count] => {
             Some(write!(out, "{}", check::report(number(seed)?, number(count)?)))
         }
@@ -54,6 +62,15 @@ fn run(words: &[&str], out: &mut impl Write) -> Option<Result<()>> {
 
 fn number(word: &str) -> Option<u64> {
     word.parse().ok()
+}
+
+/// The number of the first sheet.
+fn first(words: &[&str]) -> Option<u64> {
+    match words {
+        [] => Some(0),
+        [start] => number(start),
+        _ => None,
+    }
 }
 
 /// The floats in the two chain buffers: as given, or as the program lends them.
@@ -83,7 +100,7 @@ fn joined(out: &mut impl Write, parts: impl Iterator<Item = Vec<u8>>) -> Result<
 }
 
 fn chain(out: &mut impl Write, lengths: (usize, usize)) -> Result<()> {
-    write!(out, "{}", sheet::answer(&input()?, lengths))
+    write!(out, "{}", sheet::answer(&input()?, lengths, Mode::Reference))
 }
 
 fn batch(out: &mut impl Write, lengths: (usize, usize)) -> Result<()> {
@@ -91,28 +108,40 @@ fn batch(out: &mut impl Write, lengths: (usize, usize)) -> Result<()> {
     joined(out, answers(&bytes, Settings::of(lengths)).map(String::into_bytes))
 }
 
-fn sheets(out: &mut impl Write, seed: u64, count: u64, start: u64) -> Result<()> {
-    joined(out, (start..start + count).map(|index| generate::bytes(seed, index)))
+/// Sheets that one of the generators makes.
+fn sheets(
+    out: &mut impl Write,
+    made: fn(u64, u64) -> Vec<u8>,
+    seed: u64,
+    count: u64,
+    start: u64,
+) -> Result<()> {
+    joined(out, (start..start + count).map(|index| made(seed, index)))
 }
 
 #[cfg(marked)]
-fn coverage(out: &mut impl Write, seed: u64, count: u64) -> Result<()> {
-    write!(out, "{}", oracle::coverage::table(seed, count))
+fn coverage(out: &mut impl Write, strict: bool, seed: u64, count: u64) -> Result<()> {
+    let table = if strict { oracle::modes::table } else { oracle::coverage::table };
+    write!(out, "{}", table(seed, count))
 }
 
 /// For each sheet of a batch, what it meets.
 #[cfg(marked)]
-fn marks(out: &mut impl Write) -> Result<()> {
+fn marks(out: &mut impl Write, met: fn(&[u8]) -> String) -> Result<()> {
     let bytes = input()?;
-    joined(out, split(&bytes).map(|one| oracle::coverage::met(one).into_bytes()))
+    joined(out, split(&bytes).map(|one| met(one).into_bytes()))
 }
 
 /// The build beside this one has the marks.
 #[cfg(not(marked))]
-fn coverage(out: &mut impl Write, seed: u64, count: u64) -> Result<()> {
+fn coverage(out: &mut impl Write, strict: bool, seed: u64, count: u64) -> Result<()> {
     let marked = std::env::current_exe()?.with_file_name("oracle-marked");
-    let words = ["coverage".to_string(), seed.to_string(), count.to_string()];
-    out.write_all(&std::process::Command::new(marked).args(words).output()?.stdout)
+    let mut asked = std::process::Command::new(marked);
+    asked
+        .arg("coverage")
+        .args(strict.then_some("--strict"))
+        .args([seed, count].map(|n| n.to_string()));
+    out.write_all(&asked.output()?.stdout)
 }
 
 fn times(out: &mut impl Write, file: &str) -> Result<()> {

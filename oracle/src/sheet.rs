@@ -1,8 +1,9 @@
 //! The sheet: its strict reader (cause 10), its writer, and the listing of an answer.
 
-use crate::draw::{Drawn, WIDTH, draw, in_first};
+use crate::draw::{Drawn, WIDTH, draw_in, in_first};
 use crate::tables::{Edge, KIND_WORDS, Options, OwnedTables, Row, Segment};
 use road::edge::Way;
+use road::mode::Mode;
 use std::fmt::Write;
 
 const MOST_BYTES: usize = 65_536;
@@ -176,13 +177,13 @@ pub fn hex(floats: &[f64]) -> String {
     digits.join(" ")
 }
 
-/// What the program `chain` prints for a sheet, had it two buffers of these many floats.
-pub fn answer(bytes: &[u8], (first, second): (usize, usize)) -> String {
+/// What the program `chain` prints for a sheet, had it two buffers of these many floats and drew it in this mode.
+pub fn answer(bytes: &[u8], (first, second): (usize, usize), mode: Mode) -> String {
     let Some(sheet) = read(bytes) else {
         return refusal(10);
     };
     let (mut first, mut second) = (vec![0.0; first], vec![0.0; second]);
-    let drawn = draw(&sheet.tables.lent(), &sheet.edge, &sheet.options, &mut first, &mut second);
+    let drawn = drawn(&sheet, mode, &mut first, &mut second);
     match drawn {
         Drawn::Refused(number) => refusal(number),
         Drawn::Chain(way, count) => {
@@ -192,17 +193,21 @@ pub fn answer(bytes: &[u8], (first, second): (usize, usize)) -> String {
     }
 }
 
+fn drawn(sheet: &Sheet, mode: Mode, first: &mut [f64], second: &mut [f64]) -> Drawn {
+    draw_in(&sheet.tables.lent(), &sheet.edge, &sheet.options, mode, first, second)
+}
+
 /// What both buffers hold before a drawing that is told whole, so that a float left as it was shows.
 const BEFORE: f64 = f64::from_bits(0x4055555555555555);
 
-/// The whole answer of `draw` to a sheet, in two buffers of these many floats: the refusal, or the way and the number of
+/// The whole answer of `draw_in` to a sheet, in two buffers of these many floats: the refusal, or the way and the number of
 /// points, then every float of both. A text that is no sheet has the refusal alone.
-pub fn whole_answer(bytes: &[u8], (first, second): (usize, usize)) -> String {
+pub fn whole_answer(bytes: &[u8], (first, second): (usize, usize), mode: Mode) -> String {
     let Some(sheet) = read(bytes) else {
         return "refusal 10\n".to_string();
     };
     let (mut first, mut second) = (vec![BEFORE; first], vec![BEFORE; second]);
-    let drawn = draw(&sheet.tables.lent(), &sheet.edge, &sheet.options, &mut first, &mut second);
+    let drawn = drawn(&sheet, mode, &mut first, &mut second);
     let told = match drawn {
         Drawn::Refused(number) => format!("refusal {number}"),
         Drawn::Chain(way, count) => format!("way {} points {count}", way_words(way)),

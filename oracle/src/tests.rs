@@ -1,13 +1,20 @@
 //! What no sheet can hold: tables above their size, slices that are not whole rows, other buffers. And the settings of a batch,
-//! the fixed steps beside Rust's own functions, and where evaluation refuses.
+//! the fixed steps beside Rust's own functions, where evaluation refuses, and what strict mode changes.
 
 use crate::batch::{Settings, answers};
 use crate::causes::cause;
-use crate::draw::{Drawn, draw, draw_chain, reference, resolved, solid};
+use crate::draw::{Drawn, draw, draw_chain, draw_in, reference, resolved, solid};
 use crate::generate::contents;
-use crate::tables::{Edge, HYPERBOLA, LINE, Options, OwnedTables, POLYLINE, Row};
+use crate::sheet::{Sheet, write};
+use crate::strict;
+use crate::tables::{
+    COMPOSITE, Edge, HYPERBOLA, LINE, Options, OwnedTables, PARABOLA, POLYLINE, Row, Segment,
+    TRIMMED,
+};
 use road::asks::farthest;
 use road::edge::{Way, discretise_all};
+use road::knots::curve_breaks;
+use road::mode::Mode;
 use road::steps::{cosh, exp, sinh};
 
 /// The scope's line: origin 0, direction (2, 0, 0), vertices x 0 and 10.
@@ -143,6 +150,160 @@ fn a_hyperbola_asked_beyond_100_gives_11_and_clears_both_buffers() {
     }
 }
 
+/// A parabola or hyperbola without a range, in a box that neither vertex lies near.
+fn lost(kind: u32, lo: f64, hi: f64) -> Sheet {
+    let (mut tables, edge) = hyperbola(lo, hi);
+    tables.curves[0] = kind;
+    tables.reals = vec![2.0, if kind == PARABOLA { 0.0 } else { 1.0 }];
+    let (low, high) = (tables.push_point([50.0; 3]), tables.push_point([51.0; 3]));
+    let options = Options { segments: u64::MAX, ..OPTIONS };
+    Sheet { tables, edge: Edge { low, high, sense: 0, ..edge }, options }
+}
+
+fn drawn_in(sheet: &Sheet, mode: Mode, buffers: &mut [Vec<f64>; 2]) -> Drawn {
+    let [first, second] = buffers;
+    draw_in(&sheet.tables.lent(), &sheet.edge, &sheet.options, mode, first, second)
+}
+
+#[test]
+fn a_lost_open_conic_is_the_chord_of_its_vertices_in_strict_mode() {
+    let payload = f64::from_bits(0xfff4dead0000beef);
+    for kind in [PARABOLA, HYPERBOLA] {
+        for (lo, hi) in [(payload, 1.0), (f64::NEG_INFINITY, payload), (3.0, 3.0), (2.0, -0.0)] {
+            let sheet = lost(kind, lo, hi);
+            let mut buffers = [vec![7.0; 9], vec![7.0; 8]];
+            let number = if kind == PARABOLA { 8 } else { 11 };
+            assert_eq!(drawn_in(&sheet, Mode::Reference, &mut buffers), Drawn::Refused(number));
+            buffers[0].fill(7.0);
+            let chord = Drawn::Chain(Way::ChordForWantOfARange, 2);
+            assert_eq!(drawn_in(&sheet, Mode::Strict, &mut buffers), chord);
+            let bits = |floats: &[f64]| floats.iter().map(|x| x.to_bits()).collect::<Vec<_>>();
+            assert_eq!(bits(&buffers[0]), bits(&[2.0, 0.0, 0.0, lo, 3.0, 1.0, 0.0, hi, 0.0]));
+            assert_eq!(bits(&buffers[1]), [0; 8]);
+        }
+    }
+}
+
+#[test]
+fn causes_1_to_7_come_before_a_strict_chord() {
+    let spoil: [(u32, fn(&mut Sheet)); 6] = [
+        (1, |s| s.tables.points.resize(3 * 65_537, 0.0)),
+        (2, |s| s.edge.hi = 1e10),
+        (3, |s| s.tables.curves[2] = 2),
+        (4, |s| {
+            s.tables.push_row(Row { kind: TRIMMED, first: 1, count: 1, p: 0.0, q: 1.0 });
+        }),
+        (5, |s| {
+            (0..9).for_each(|first| {
+                s.tables.push_row(Row { kind: TRIMMED, first, count: 1, p: 0.0, q: 1.0 });
+            })
+        }),
+        (6, |s| s.edge.high = 7),
+    ];
+    for (number, spoil) in spoil {
+        let mut sheet = lost(HYPERBOLA, f64::NAN, 0.0);
+        spoil(&mut sheet);
+        let mut buffers = [vec![7.0; 8], vec![7.0; 8]];
+        assert_eq!(drawn_in(&sheet, Mode::Strict, &mut buffers), Drawn::Refused(number));
+        assert!(buffers.concat().iter().all(|x| *x == 7.0));
+    }
+    let mut buffers = [vec![7.0; 8], vec![7.0; 7]];
+    let sheet = lost(PARABOLA, f64::NAN, 0.0);
+    assert_eq!(drawn_in(&sheet, Mode::Strict, &mut buffers), Drawn::Refused(7));
+}
+
+/// So many segments of the line, each over a range of its own behind `from`.
+fn composite(count: u32, from: f64) -> OwnedTables {
+    let mut tables = line();
+    for k in 0..count as usize {
+        let lo = from + k as f64;
+        tables.push_segment(Segment { curve: 0, lo, hi: lo + 1.0, sense: 1 });
+    }
+    tables.push_row(Row { kind: COMPOSITE, first: 0, count, p: 0.0, q: 0.0 });
+    tables.push_row(Row { kind: TRIMMED, first: 1, count: 1, p: -1e9, q: 1e9 });
+    tables
+}
+
+#[test]
+fn a_composite_breaks_at_its_joints_in_strict_mode() {
+    let all = [1.0, 2.0, 3.0, 4.0, 5.0, 6.0, 7.0, 8.0, 9.0];
+    for row in [1, 2] {
+        let usual = composite(10, 0.0).lent().curve(row);
+        let away = composite(10, 20.0).lent().curve(row);
+        let breaks =
+            |lo, hi, mode| (curve_breaks(&usual, lo, hi, mode), curve_breaks(&away, lo, hi, mode));
+        let strict = |lo, hi| {
+            let (one, other) = breaks(lo, hi, Mode::Strict);
+            assert_eq!(one, other);
+            one
+        };
+        assert_eq!(strict(0.0, 10.0), all);
+        assert_eq!(strict(10.0, 0.0), all);
+        assert_eq!(strict(1.0, 4.0), all[1..3]);
+        assert_eq!(strict(2.0 - 4e-9, 5.0), all[1..4]);
+        assert_eq!(strict(2.0 - 2e-9, 5.0), all[2..4]);
+        // none is merged, and those within a billionth of the width of an end are none
+        assert_eq!(strict(-1e9, 1e9), all);
+        assert_eq!(strict(0.0, 1e9), all[1..]);
+        assert_eq!(strict(3.0, 3.0), []);
+        assert_eq!(strict(f64::NAN, 3.0), []);
+        let (one, other) = breaks(-1e9, 1e9, Mode::Reference);
+        assert_eq!(one, [0.0, 3.0, 6.0, 9.0]);
+        assert_eq!(other, [20.0, 23.0, 26.0, 29.0]);
+        assert_eq!(breaks(0.0, 10.0, Mode::Reference), (all.to_vec(), vec![]));
+    }
+    for count in [0, 1] {
+        let few = composite(count, 0.0).lent().curve(2);
+        assert_eq!(curve_breaks(&few, -5.0, 5.0, Mode::Strict), []);
+    }
+    let mut tables = line();
+    tables.push_row(Row { kind: POLYLINE, first: 0, count: 3, p: 0.0, q: 0.0 });
+    for row in [0, 1] {
+        assert_eq!(curve_breaks(&tables.lent().curve(row), -5.0, 5.0, Mode::Strict), []);
+    }
+}
+
+/// The kind of a row, and of what lies under its trims.
+fn kinds(tables: &OwnedTables, row: u32) -> (u32, u32) {
+    let Row { kind, first, .. } = tables.lent().row(row as usize);
+    let trims = kind == TRIMMED && first < row;
+    (kind, if trims { kinds(tables, first).1 } else { kind })
+}
+
+/// Strict mode gives what the published road gives, but for lost ranges on rows of parabolas and hyperbolas, where it gives a chord, and
+/// for composites and trims of them.
+#[test]
+fn strict_mode_changes_nothing_else() {
+    let mut met = [0; 3];
+    let sheets = (0..1000).flat_map(|i| [contents(12, i), strict::contents(12, i)]);
+    for sheet in sheets {
+        let mut both = [[vec![7.0; 2000], vec![7.0; 2000]], [vec![7.0; 2000], vec![7.0; 2000]]];
+        let [usual, strict] = &mut both;
+        let answers =
+            (drawn_in(&sheet, Mode::Reference, usual), drawn_in(&sheet, Mode::Strict, strict));
+        let Edge { curve, lo, hi, .. } = sheet.edge;
+        let bits = |floats: &[Vec<f64>; 2]| {
+            floats.concat().iter().map(|x| x.to_bits()).collect::<Vec<_>>()
+        };
+        let same = answers.0 == answers.1 && bits(usual) == bits(strict);
+        let refused = matches!(answers.1, Drawn::Refused(1..=7));
+        let (kind, under) = kinds(&sheet.tables, if refused { 0 } else { curve });
+        let lost = !lo.is_finite() || !hi.is_finite() || hi - lo <= 0.0;
+        match (kind, under) {
+            (PARABOLA | HYPERBOLA, _) if lost && !refused => {
+                assert_eq!(answers.1, Drawn::Chain(Way::ChordForWantOfARange, 2));
+                met[0] += 1;
+            }
+            (_, COMPOSITE) => met[1] += !same as usize,
+            _ => {
+                assert!(same, "{sheet:?}");
+                met[2] += !refused as usize;
+            }
+        }
+    }
+    assert!(met.into_iter().all(|n| n > 100), "{met:?}");
+}
+
 #[test]
 fn evaluation_outside_a_drawing_never_refuses() {
     let (tables, edge) = hyperbola(0.0, 200.0);
@@ -168,6 +329,7 @@ fn eleven_is_what_the_road_alone_asks_beyond() {
     let mut met = [0; 3];
     for index in 0..6000 {
         let sheet = contents(11, index);
+        let mode = [Mode::Reference, Mode::Strict][index as usize / 4 % 2];
         let (tables, room) = (sheet.tables.lent(), [2, 5, 40, 2048][index as usize % 4]);
         if cause(&tables, &sheet.edge, &sheet.options, 8, 8).is_some() {
             continue;
@@ -175,9 +337,9 @@ fn eleven_is_what_the_road_alone_asks_beyond() {
         let solid = solid(&tables, &sheet.edge);
         let box_of = reference(&tables, &sheet.edge);
         farthest();
-        let alone = discretise_all(&solid, &resolved(&sheet.options), &box_of, room);
+        let alone = discretise_all(&solid, &resolved(&sheet.options), &box_of, room, mode);
         let beyond = farthest();
-        match draw_chain(&tables, &sheet.edge, &sheet.options, room) {
+        match draw_chain(&tables, &sheet.edge, &sheet.options, mode, room) {
             Err(11) => {
                 assert!(beyond.is_some(), "{index}");
                 met[0] += 1;
@@ -259,6 +421,27 @@ fn a_setting_holds_for_the_sheets_behind_it() {
 }
 
 #[test]
+fn a_mode_holds_for_the_sheets_behind_it() {
+    let sheet = write(&lost(HYPERBOLA, f64::NAN, 0.0));
+    let parts = [
+        "mode strict\n",
+        &sheet,
+        "ask both\n",
+        &sheet,
+        "buffers 9 8\n",
+        "ask chain\n",
+        &sheet,
+        "mode reference\n",
+        &sheet,
+    ];
+    let texts = batch(&parts.join("====\n"));
+    let answers: Vec<&str> = texts.split("====\n").collect();
+    let way = "way chord for want of a range points 2\n";
+    assert!(answers[1].starts_with("x y z t\n") && answers[3].starts_with(way));
+    assert_eq!((answers[6], answers[8]), (answers[1], "refusal\n11\n"));
+}
+
+#[test]
 fn what_is_no_setting_is_a_text_that_is_no_sheet() {
     for text in [
         "ask",
@@ -276,6 +459,14 @@ fn what_is_no_setting_is_a_text_that_is_no_sheet() {
         "buffers 8 65537\n",
         "buffers 8 -1\n",
         "buffers 8 8\n\n",
+        "mode\n",
+        "mode strict",
+        "mode  strict\n",
+        "mode strict \n",
+        "mode strict\n\n",
+        "mode Strict\n",
+        "mode default\n",
+        "mode strict reference\n",
     ] {
         assert_eq!(batch(text), "refusal\n10\n", "{text}");
     }

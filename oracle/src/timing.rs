@@ -2,6 +2,7 @@
 
 use crate::draw::{Drawn, draw, reference, resolved, road, room, solid};
 use crate::sheet::{LENT, Sheet, read};
+use road::mode::Mode;
 use std::hint::black_box;
 use std::time::{Duration, Instant};
 
@@ -36,7 +37,7 @@ fn road_ns(sheet: &Sheet) -> f64 {
     let reference = reference(&tables, &sheet.edge);
     let resolved = resolved(&sheet.options);
     let room = room(LENT, LENT);
-    nanoseconds(|| road(black_box(&solid), &resolved, &reference, room))
+    nanoseconds(|| road(black_box(&solid), &resolved, Mode::Reference, &reference, room))
 }
 
 /// The least mean of many short runs: another program's turn on the machine spoils few of them.

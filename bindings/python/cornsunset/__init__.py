@@ -20,6 +20,7 @@ Who has such tables already lends them as arrays or lists to Tables, and these t
 `draw_over`. Who keeps buffers lends them too.
 
     Angle, Options          an angle is no bare number; how finely to draw, with presets
+    Mode                    what draws takes one beside the options: REFERENCE, the default, or STRICT, as in mode=Mode.STRICT
     Part                    builds tables: points, curves of every Kind, edges; .check() makes it a Checked
     Tables, Kind, Edge      what Part builds
     check, check_tables     raise a Refusal, or answer nothing and a Checked
@@ -34,8 +35,8 @@ belongs is a TypeError.
 Everything may be called from any thread. Where memory is the caller's, other threads wait meanwhile; Checked.draw lets them
 run. A thread that draws should have 256 KB of stack or more; Python gives megabytes unless told otherwise.
 
-What a later version may add: members of Kind and Way, classes of Refusal and PartError, fields of Options that mean nothing new
-where they are not given, floats to a Point and with them to WIDTH.
+What a later version may add: members of Kind, Mode and Way, classes of Refusal and PartError, fields of Options that mean
+nothing new where they are not given, floats to a Point and with them to WIDTH.
 """
 from ._answer import (
     Endless,
@@ -54,7 +55,7 @@ from ._answer import (
 from ._chain import Chain, Point, Walk
 from ._frame import NoDirection, NoSize, Parallel, PartError
 from ._library import MOST_POINTS, VERSION, WIDTH
-from ._options import Angle, Options
+from ._options import Angle, Mode, Options
 from ._part import Part, PointNumber, PointRun, Row, Segment
 from ._tables import Checked, Edge, Kind, Tables, check, check_tables, draw, draw_over
 
@@ -72,6 +73,7 @@ __all__ = [
     "IllFormed",
     "Kind",
     "Missing",
+    "Mode",
     "NoDirection",
     "NoRoom",
     "NoSize",

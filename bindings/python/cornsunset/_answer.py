@@ -108,7 +108,8 @@ class Way(enum.IntEnum):
 
     #: As it was first drawn.
     AS_DRAWN = 1
-    #: The chord of the vertices, since the edge has no usable range.
+    #: The chord of the vertices, since the edge has no usable range, as on a line where it is lost, and in Mode.STRICT on a parabola
+    #: or a hyperbola.
     CHORD = 2
     #: The complementary arc of a periodic curve.
     COMPLEMENT = 3

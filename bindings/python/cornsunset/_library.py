@@ -18,6 +18,7 @@ PLACES = (FOLDER / "libcornsunset.so", FOLDER / "../../../target/python/libcorns
 TABLES = [c_void_p, c_size_t] * 5
 EDGE = [c_uint32] * 4 + [c_double] * 3 + [c_uint32] * 2
 OPTIONS = [c_double, c_double, c_uint32, c_uint64, c_uint32, c_double]
+MODE = [c_bool]
 BUFFERS = [c_void_p, c_size_t] * 2
 ANSWER = [POINTER(c_uint32), POINTER(c_size_t)]
 PRESET = [POINTER(kind) for kind in OPTIONS]
@@ -27,6 +28,8 @@ WALK = [c_void_p, c_size_t, c_bool]
 FUNCTIONS = {
     "cs_flat_draw": (c_uint32, TABLES + EDGE + OPTIONS + BUFFERS + ANSWER),
     "cs_flat_draw_over": (c_uint32, TABLES + EDGE + OPTIONS + BUFFERS + ANSWER),
+    "cs_flat_draw_in_mode": (c_uint32, TABLES + EDGE + OPTIONS + MODE + BUFFERS + ANSWER),
+    "cs_flat_draw_over_in_mode": (c_uint32, TABLES + EDGE + OPTIONS + MODE + BUFFERS + ANSWER),
     "cs_flat_check": (c_uint32, TABLES + EDGE + OPTIONS),
     "cs_flat_check_tables": (c_uint32, TABLES),
     "cs_flat_default": (None, PRESET),

@@ -1,4 +1,5 @@
-"""Angles, and how finely to draw."""
+"""Angles, how finely to draw, and in which mode."""
+import enum
 import math
 from ctypes import byref, c_double, c_uint32, c_uint64
 from dataclasses import dataclass
@@ -168,3 +169,35 @@ class Options:
 
     def _arguments(self):
         return self.deflection, self.angle.to_radians(), self.relative, self.segments, self.depth, self.scale
+
+
+class Mode(enum.IntEnum):
+    """What a lost range means, and where a composite breaks. It stands beside the options, and is none of them; what is not told a
+    mode draws in the reference's. Its number is the same in C and Rust. There may be more of them later.
+
+    >>> from math import nan
+    >>> from cornsunset import Part
+    >>> # A dish of focal distance 250 and 800 across, of which the range was lost.
+    >>> part = Part((0, -400, 0), (160, 400, 0))
+    >>> dish = part.parabola((0, 0, 0), (0, 0, 1), (1, 0, 0), 250)
+    >>> profile = part.edge(dish, part.point((160, -400, 0)), part.point((160, 400, 0)), nan, nan)
+    >>> chain = part.check().draw(profile, Options(scale=816), mode=Mode.STRICT)
+    >>> chain.way.name, chain.length()
+    ('CHORD', 800.0)
+
+    REFERENCE: the chain is that of the Rust from which the library was rewritten, bit for bit.
+
+    STRICT: two things differ, and nothing else does. A parabola or a hyperbola whose range is lost (not finite, or not rising) has
+    no real domain. Where it is the edge's own row, and not under a trim, which has a range of its own, the chain is the chord of
+    the edge's vertices: Way.CHORD, in the first buffer, with the parameters lo and hi, their bits and all, whatever the sense.
+    Repair does not touch it, and it is refused neither with 8 nor with 11. And a composite of n segments, or a trim of one, breaks
+    where its segments meet: at each of the whole numbers 1 to n - 1 that lies inside the range by more than 1e-9 of its width, and
+    none is merged with another. In REFERENCE the breaks are the lo and hi of its segments, taken for parameters of the composite.
+    In both a break is dropped where three places between those beside it show no bend, and composites inside segments add none. No
+    refusal is new, and 1 to 7 are the same in both.
+    """
+
+    #: The default: the chain is that of the Rust from which the library was rewritten, bit for bit.
+    REFERENCE = 0
+    #: The chord for the lost range of a parabola or a hyperbola, and a composite breaks where its segments meet.
+    STRICT = 1

@@ -174,13 +174,16 @@ class Part:
         return self._framed(Kind.ELLIPSE, origin, axis, ref_dir, _semi_axes(semi_axes), Angle)
 
     def parabola(self, origin, axis, ref_dir, focal: float) -> Row:
-        """Adds a parabola, open along ref_dir. At a parameter u lies origin + focal u u along ref_dir + 2 focal u beside it."""
+        """Adds a parabola, open along ref_dir. At a parameter u lies origin + focal u u along ref_dir + 2 focal u beside it. An
+        edge on it whose range is lost is drawn from -1e6 to 1e6, which ends in NoRoom or mostly in Way.RUNAWAY; in Mode.STRICT it
+        is the chord of its vertices."""
         return self._framed(Kind.PARABOLA, origin, axis, ref_dir, (sized(real(focal, "focal")), 0.0), float)
 
     def hyperbola(self, origin, axis, ref_dir, semi_axes) -> Row:
         """Adds the branch of a hyperbola that opens along ref_dir. At a parameter u lies origin + first cosh u along ref_dir +
         second sinh u beside it. A range is within -100 to 100: an edge that would ask for another parameter is refused with TooFar,
-        and so is one that is no trim and whose range is lost, or which leaves the box.
+        and so is one that is no trim and whose range is lost, or which leaves the box. In Mode.STRICT the lost range gives the
+        chord of the vertices.
 
         >>> import math
         >>> # A cone of half angle 45 degrees, cut 3 from its axis: 3 cosh u high, 3 sinh u to the side.

@@ -7,7 +7,7 @@ from ._answer import NoRoom, Way, accept
 from ._chain import Chain
 from ._library import MOST_POINTS, WIDTH, library, parallel
 from ._memory import FLOATS, NUMBERS, Memory, lent, of_type, real, whole, written
-from ._options import Options
+from ._options import Mode, Options
 
 
 class Kind(enum.IntEnum):
@@ -125,7 +125,8 @@ class Edge:
 
     A range has to rise. One that does not, or is not finite, counts as lost: then the curve's whole range is drawn, a full turn
     on a circle, and on a line the chord of the vertices; a hyperbola that is no trim is refused with TooFar, and so is one that
-    leaves the box. The chain runs from start to end whichever way the range does.
+    leaves the box. In Mode.STRICT a parabola and a hyperbola that are no trims get the chord for a lost range. The chain runs
+    from start to end whichever way the range does.
 
     curve: its curve row.
     start, end: the points of its vertices.
@@ -167,8 +168,8 @@ def check(tables: Tables, edge: Edge, options: Options) -> None:
     accept(library.cs_flat_check(*_asked(tables, edge, options)))
 
 
-def draw(tables: Tables, edge: Edge, options: Options, first=None, second=None) -> Chain:
-    """Draws an edge and returns its chain, or raises its refusal.
+def draw(tables: Tables, edge: Edge, options: Options, first=None, second=None, *, mode: Mode = Mode.REFERENCE) -> Chain:
+    """Draws an edge and returns its chain, or raises its refusal; in the reference's mode, unless told another.
 
     Without buffers the chain owns its points, and a refusal 8 means that MOST_POINTS points are too few.
 
@@ -189,7 +190,7 @@ def draw(tables: Tables, edge: Edge, options: Options, first=None, second=None) 
     >>> len(draw(tables, edge, options, first, second))
     19
     """
-    return _draw(library.cs_flat_draw, _asked(tables, edge, options), tables, first, second)
+    return _draw(library.cs_flat_draw_in_mode, _asked_in_mode(tables, edge, options, mode), tables, first, second)
 
 
 class Checked:
@@ -212,9 +213,9 @@ class Checked:
         """The tables."""
         return self._tables
 
-    def draw(self, edge: Edge, options: Options) -> Chain:
+    def draw(self, edge: Edge, options: Options, *, mode: Mode = Mode.REFERENCE) -> Chain:
         """Draws an edge, as draw_over does without buffers. Threads draw side by side."""
-        return draw_over(self, edge, options)
+        return draw_over(self, edge, options, mode=mode)
 
     def __reduce__(self):
         # Checked anew: whoever stored it may have changed it.
@@ -232,19 +233,26 @@ def check_tables(tables: Tables) -> Checked:
     return checked
 
 
-def draw_over(checked: Checked, edge: Edge, options: Options, first=None, second=None) -> Chain:
+def draw_over(
+    checked: Checked, edge: Edge, options: Options, first=None, second=None, *, mode: Mode = Mode.REFERENCE
+) -> Chain:
     """Draws an edge over tables that check_tables accepted, as draw does and with the same answer; only the edge, the options
     and the buffers are checked, so that it is refused with 2, 3, 6 to 9 or 11 alone."""
     tables = of_type(Checked, checked, "checked").tables
     # Without lent buffers nobody else knows of any memory that is handed over.
-    call = parallel.cs_flat_draw_over if first is second is None else library.cs_flat_draw_over
-    return _draw(call, _asked(tables, edge, options), tables, first, second)
+    call = parallel.cs_flat_draw_over_in_mode if first is second is None else library.cs_flat_draw_over_in_mode
+    return _draw(call, _asked_in_mode(tables, edge, options, mode), tables, first, second)
 
 
 def _asked(tables, edge, options):
     """What every function over an edge takes first."""
     of_type(Tables, tables, "tables"), of_type(Edge, edge, "edge"), of_type(Options, options, "options")
     return (*tables._arguments(), *edge._arguments(), *options._arguments())
+
+
+def _asked_in_mode(tables, edge, options, mode):
+    """The same, and the mode, for what draws."""
+    return (*_asked(tables, edge, options), of_type(Mode, mode, "mode") is Mode.STRICT)
 
 
 def _draw(call, asked, tables, first, second):

@@ -18,7 +18,15 @@ from .sheets import ROOT, listing, read
 HEADER = (ROOT / "bindings/c/cornsunset.h").read_text()
 CODE = re.sub(r"/\*.*?\*/", "", HEADER, flags=re.S)
 CC = (os.environ.get("CC") or "cc").split()
-TYPES = {"uint32_t": c_uint32, "uint64_t": c_uint64, "size_t": c_size_t, "double": c_double, "bool": c_bool, "void": None}
+TYPES = {
+    "uint32_t": c_uint32,
+    "uint64_t": c_uint64,
+    "size_t": c_size_t,
+    "double": c_double,
+    "bool": c_bool,
+    "cs_mode": c_bool,
+    "void": None,
+}
 
 
 def header_name(name):
@@ -45,10 +53,11 @@ class Header(unittest.TestCase):
         self.assertEqual(len(places), cs.WIDTH)
         self.assertEqual(list(cs.Point.__dataclass_fields__), list(_library.FIELDS))
 
-    def test_kinds_refusals_and_ways(self):
+    def test_kinds_modes_refusals_and_ways(self):
         enums = [dict(re.findall(r"\bCS_(\w+) = (\d+)", enum)) for enum in re.findall(r"enum \{(.*?)\}", CODE, re.S)]
         enums = {next(iter(enum)): {name: int(number) for name, number in enum.items()} for enum in enums}
         self.assertEqual(enums["KIND_LINE"], {f"KIND_{kind.name}": kind.value for kind in cs.Kind})
+        self.assertEqual(enums["REFERENCE"], {mode.name: mode.value for mode in cs.Mode})
         self.assertEqual(enums["NO_CHAIN"], {"NO_CHAIN": 0, **{way.name: way.value for way in cs.Way}})
         self.assertEqual(enums["DRAWN"], {"DRAWN": 0, **{header_name(kind.__name__): kind.number for kind in cs.Refusal.ALL}})
 
@@ -125,6 +134,11 @@ class Examples(unittest.TestCase):
         plate = ROOT / "bindings/python/examples/plate.py"
         printed = subprocess.run([sys.executable, plate], check=True, capture_output=True, text=True).stdout
         self.assertEqual(printed, (ROOT / "bindings/plate.out").read_text())
+
+    def test_the_dish(self):
+        dish = ROOT / "bindings/python/examples/dish.py"
+        printed = subprocess.run([sys.executable, dish], check=True, capture_output=True, text=True).stdout
+        self.assertEqual(printed, dish.with_suffix(".out").read_text())
 
 
 class Sheets(unittest.TestCase):

@@ -78,7 +78,9 @@ class Lot(random.Random):
         checked = self.attempt(cs.check_tables, tables)
         lengths = self.randrange(60), self.randrange(60)
         buffers = self.choice(((), tuple(map(floats, lengths)), (self.anything(), self.anything())))
-        chains = self.attempt(cs.draw, tables, *records, *buffers), self.attempt(cs.draw_over, checked, *records, *buffers)
+        mode = self.choice(({}, {}, {"mode": cs.Mode.STRICT}, {"mode": self.choice((*cs.Mode, self.anything()))}))
+        calls = (cs.draw, tables), (cs.draw_over, checked)
+        chains = [self.attempt(call, over, *records, *buffers, **mode) for call, over in calls]
         for chain in filter(None, chains):
             there, back = ([bits((p.x, p.y, p.z, p.t)) for p in walk] for walk in (chain.forwards(), chain.backwards()))
             test.assertEqual((b"".join(there), there[::-1]), (bytes(chain.floats), back))
@@ -305,7 +307,7 @@ class Buffers(unittest.TestCase):
     def test_other_threads_wait_where_memory_is_lent(self):
         """And run where it is not."""
         checked = cs.check_tables(line())
-        with unittest.mock.patch("cornsunset._tables.parallel.cs_flat_draw_over", side_effect=ZeroDivisionError):
+        with unittest.mock.patch("cornsunset._tables.parallel.cs_flat_draw_over_in_mode", side_effect=ZeroDivisionError):
             self.assertEqual(cs.draw_over(checked, EDGE, OPTIONS, floats(80), floats(80)), EXPECTED)
             self.assertEqual(cs.draw(line(), EDGE, OPTIONS), EXPECTED)
             self.assertRaises(ZeroDivisionError, checked.draw, EDGE, OPTIONS)
@@ -334,6 +336,22 @@ class Arguments(unittest.TestCase):
                     if wrong is not good[place]:
                         self.assertRaises(TypeError, call, *good[:place], wrong, *good[place + 1 :])
             self.assertRaises(TypeError, cs.check_tables, wrong)
+
+    def test_a_mode_of_another_type(self):
+        checked = cs.check_tables(line())
+        for wrong in (None, True, False, 0, 1, "strict", "STRICT", cs.Mode, cs.Way.CHORD, Raising()):
+            for call, tables in ((cs.draw, line()), (cs.draw_over, checked), (cs.Checked.draw, checked)):
+                with self.assertRaisesRegex(TypeError, "mode is of type Mode, not"):
+                    call(tables, EDGE, OPTIONS, mode=wrong)
+            with self.assertRaises(TypeError):
+                cs.draw(line(), EDGE, OPTIONS, floats(80), floats(80), wrong)
+            with self.assertRaises(TypeError):
+                checked.draw(EDGE, OPTIONS, wrong)
+        # It is named, whatever it is.
+        with self.assertRaises(TypeError):
+            checked.draw(EDGE, OPTIONS, cs.Mode.STRICT)
+        with self.assertRaises(TypeError):
+            cs.check(line(), EDGE, OPTIONS, mode=cs.Mode.STRICT)
 
     def test_anything_at_all_ends_in_an_answer_or_an_exception(self):
         """Arguments by lot, good and bad, for every function: the interpreter lives, and an answer is of its type."""

@@ -108,7 +108,8 @@ numbered! {
     Way {
         /// As it was first drawn.
         AsDrawn = 1,
-        /// The chord of the vertices, since the edge has no usable range.
+        /// The chord of the vertices, since the edge has no usable range, as on a line where it is lost, and in
+        /// [`Mode::Strict`](crate::Mode::Strict) on a parabola or a hyperbola.
         Chord = 2,
         /// The complementary arc of a periodic curve.
         Complement = 3,

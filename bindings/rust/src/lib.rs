@@ -19,10 +19,11 @@
 //! ```
 //!
 //! Who has such tables already, or keeps buffers, lends them as slices to [`draw`], or to [`check_tables`] once and then to
-//! [`draw_over`].
+//! [`draw_over`]. What draws by a name that ends in `_in_mode`, as [`draw_in_mode`], takes a [`Mode`]; all else draws in the
+//! reference's.
 //!
-//! What a later version may add: members of [`Kind`], [`Refusal`], [`Way`] and [`PartError`], floats to a [`Point`] and with
-//! them to [`WIDTH`].
+//! What a later version may add: members of [`Kind`], [`Mode`], [`Refusal`], [`Way`] and [`PartError`], floats to a [`Point`]
+//! and with them to [`WIDTH`].
 
 mod answer;
 mod chain;
@@ -35,9 +36,9 @@ mod tables;
 
 pub use answer::{Refusal, Way};
 pub use chain::{Chain, OwnedChain, Point, Walk, MOST_POINTS, WIDTH};
-pub use options::{Angle, Options};
+pub use options::{Angle, Mode, Options};
 pub use part::{CheckedPart, Parameter, Part, PartError, PointNumber, PointRun, Row, Segment};
-pub use tables::{check, check_tables, draw, draw_over, Checked, Edge, Kind, Tables};
+pub use tables::{check, check_tables, draw, draw_in_mode, draw_over, draw_over_in_mode, Checked, Edge, Kind, Tables};
 
 /// The version of this crate, and of the header for C.
 pub const VERSION: &str = env!("CARGO_PKG_VERSION");

@@ -1,4 +1,4 @@
-//! Enumerations whose members have numbers: kinds of curves, refusals and ways. The numbers are the same in C.
+//! Enumerations whose members have numbers: kinds of curves, modes, refusals and ways. The numbers are the same in C.
 
 /// Declares one. It may get members later, so a caller's `match` needs an arm for others.
 macro_rules! numbered {

@@ -1,4 +1,5 @@
-//! Angles, and how finely to draw.
+//! Angles, how finely to draw, and in which mode.
+use crate::numbered::numbered;
 use crate::raw;
 
 /// An angle, made by [`Angle::degrees`] or [`Angle::radians`]: a bare number is none.
@@ -102,5 +103,46 @@ impl Options {
 impl Default for Options {
     fn default() -> Options {
         Options::preset(raw::cs_flat_default)
+    }
+}
+
+numbered! {
+    /// What a lost range means, and where a composite breaks. It stands beside the options, and is none of them: whatever draws
+    /// by a name that ends in `_in_mode` takes one, and all else draws in the reference's.
+    ///
+    /// ```
+    /// # use cornsunset::{Mode, Options, Part, Refusal, Way};
+    /// // A dish of focal distance 250 and 800 across, of which the range was lost.
+    /// let mut part = Part::new([0.0, -400.0, 0.0], [160.0, 400.0, 0.0]);
+    /// let dish = part.parabola([0.0; 3], [0.0, 0.0, 1.0], [1.0, 0.0, 0.0], 250.0)?;
+    /// let (start, end) = (part.point([160.0, -400.0, 0.0]), part.point([160.0, 400.0, 0.0]));
+    /// let profile = part.edge(dish, start, end, f64::NAN..f64::NAN);
+    /// let part = part.check()?;
+    ///
+    /// let options = Options { deflection: 0.05, relative: 0, depth: 20, ..Options::default() };
+    /// assert_eq!(part.draw(&profile, &options), Err(Refusal::NoRoom));
+    /// let chain = part.draw_in_mode(&profile, &options, Mode::Strict)?;
+    /// assert_eq!((chain.way(), chain.length()), (Way::Chord, 800.0));
+    /// # Ok::<(), Box<dyn std::error::Error>>(())
+    /// ```
+    #[derive(Default)]
+    Mode {
+        /// The default: the chain is that of the Rust from which the library was rewritten, bit for bit.
+        #[default]
+        Reference = 0,
+        /// Two things differ from `Reference`, and nothing else does.
+        ///
+        /// A parabola or a hyperbola whose range is lost (not finite, or not rising) has no real domain. Where it is the edge's
+        /// own row, and not under a trim, which has a range of its own, the chain is the chord of the edge's vertices:
+        /// [`Way::Chord`](crate::Way::Chord), in the first buffer, with the parameters lo and hi, their bits and all, whatever
+        /// the sense. Repair does not touch it, and it is refused neither with 8 nor with 11.
+        ///
+        /// A composite of n segments, or a trim of one, breaks where its segments meet: at each of the whole numbers 1 to n - 1
+        /// that lies inside the range by more than 1e-9 of its width, and none is merged with another. In `Reference` the breaks
+        /// are the lo and hi of its segments, taken for parameters of the composite. In both a break is dropped where three places
+        /// between those beside it show no bend, and composites inside segments add none.
+        ///
+        /// No refusal is new, and 1 to 7 are the same in both.
+        Strict = 1,
     }
 }

@@ -2,7 +2,7 @@
 use crate::answer::Refusal;
 use crate::chain::OwnedChain;
 use crate::frame;
-use crate::options::{Angle, Options};
+use crate::options::{Angle, Mode, Options};
 use crate::tables::{check_tables, Checked, Edge, Kind, Tables};
 use std::error::Error;
 use std::fmt;
@@ -134,7 +134,9 @@ impl Part {
         self.framed(Kind::Ellipse, origin, [axis, ref_dir], [sized(semi_axes[0])?, sized(semi_axes[1])?])
     }
 
-    /// Adds a parabola, open along ref_dir. At a parameter u lies origin + focal u² along ref_dir + 2 focal u beside it.
+    /// Adds a parabola, open along ref_dir. At a parameter u lies origin + focal u² along ref_dir + 2 focal u beside it. An edge
+    /// on it whose range is lost is drawn from -1e6 to 1e6, which ends in [`Refusal::NoRoom`] or mostly in
+    /// [`Way::Runaway`](crate::Way::Runaway); in [`Mode::Strict`] it is the chord of its vertices.
     ///
     /// ```
     /// # use cornsunset::{Options, Part};
@@ -158,10 +160,11 @@ impl Part {
 
     /// Adds the branch of a hyperbola that opens along ref_dir. At a parameter u lies origin + first cosh u along ref_dir +
     /// second sinh u beside it. A range is within -100 to 100: an edge that would ask for another parameter is refused with
-    /// [`Refusal::TooFar`], and so is one that is no trim and whose range is lost, or which leaves the box.
+    /// [`Refusal::TooFar`], and so is one that is no trim and whose range is lost, or which leaves the box. In [`Mode::Strict`]
+    /// the lost range gives the chord of the vertices.
     ///
     /// ```
-    /// # use cornsunset::{Edge, Options, Part, Refusal};
+    /// # use cornsunset::{Edge, Mode, Options, Part, Refusal};
     /// // A cone of half angle 45 degrees, cut 3 from its axis: 3 cosh u high, 3 sinh u to the side.
     /// let mut part = Part::new([-4.0, 3.0, 0.0], [4.0, 5.0, 0.0]);
     /// let cut = part.hyperbola([0.0; 3], [0.0, 0.0, -1.0], [0.0, 1.0, 0.0], [3.0, 3.0])?;
@@ -173,6 +176,7 @@ impl Part {
     /// # assert!(chain.iter().all(|p| (p.y() * p.y() - p.x() * p.x() - 9.0).abs() < 1e-12));
     /// let lost = Edge { lo: f64::NAN, ..edge };
     /// assert_eq!(part.draw(&lost, &Options::default()), Err(Refusal::TooFar));
+    /// assert_eq!(part.draw_in_mode(&lost, &Options::default(), Mode::Strict)?.len(), 2);
     /// # Ok::<(), Box<dyn std::error::Error>>(())
     /// ```
     pub fn hyperbola(
@@ -439,6 +443,11 @@ impl CheckedPart {
     /// is an edge refused for want of room.
     pub fn draw(&self, edge: &Edge, options: &Options) -> Result<OwnedChain, Refusal> {
         self.checked().draw(edge, options)
+    }
+
+    /// The same in a mode.
+    pub fn draw_in_mode(&self, edge: &Edge, options: &Options, mode: Mode) -> Result<OwnedChain, Refusal> {
+        self.checked().draw_in_mode(edge, options, mode)
     }
 
     /// The checked tables, for [`draw_over`](crate::draw_over) with buffers that the caller keeps.

@@ -33,6 +33,12 @@ edge_functions! {
     cs_flat_check();
     cs_flat_draw(first: *mut f64, first_len: usize, second: *mut f64, second_len: usize, way: &mut u32, count: &mut usize);
     cs_flat_draw_over(first: *mut f64, first_len: usize, second: *mut f64, second_len: usize, way: &mut u32, count: &mut usize);
+    cs_flat_draw_in_mode(
+        strict: bool, first: *mut f64, first_len: usize, second: *mut f64, second_len: usize, way: &mut u32, count: &mut usize
+    );
+    cs_flat_draw_over_in_mode(
+        strict: bool, first: *mut f64, first_len: usize, second: *mut f64, second_len: usize, way: &mut u32, count: &mut usize
+    );
 }
 
 /// A function that stores a preset's numbers.

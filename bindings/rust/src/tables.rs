@@ -2,7 +2,7 @@
 use crate::answer::{Refusal, Way};
 use crate::chain::{Chain, OwnedChain, MOST_POINTS, WIDTH};
 use crate::numbered::numbered;
-use crate::options::Options;
+use crate::options::{Mode, Options};
 use crate::raw;
 
 numbered! {
@@ -69,7 +69,8 @@ pub struct Tables<'a> {
 ///
 /// A range has to rise. One that does not, or is not finite, counts as lost: then the curve's whole range is drawn, a full
 /// turn on a circle, and on a line the chord of the vertices; a hyperbola that is no trim is refused with [`Refusal::TooFar`],
-/// and so is one that leaves the box. The chain runs from start to end whichever way the range does.
+/// and so is one that leaves the box. In [`Mode::Strict`] a parabola and a hyperbola that are no trims get the chord for a lost
+/// range. The chain runs from start to end whichever way the range does.
 ///
 /// ```
 /// # use cornsunset::{Angle, Edge, Options, Part};
@@ -143,6 +144,46 @@ pub fn draw<'b>(
         // SAFETY: slices are lent for the call; those that are written are borrowed alone. The function is proved to write
         // nothing else, whatever it is handed.
         unsafe { raw::call!(cs_flat_draw, tables, edge, options, radians, first, m, second, n, way, count) }
+    })
+}
+
+/// Draws an edge in a mode: in [`Mode::Reference`] as [`draw`] does, and with the same answer.
+///
+/// ```
+/// use cornsunset::{draw_in_mode, Edge, Kind, Mode, Options, Refusal, Tables, Way};
+///
+/// // A parabola's origin, axis and ref_dir, and its vertices; its range was lost.
+/// let points = [0., 0., 0., 0., 0., 1., 1., 0., 0., 8., -8., 0., 18., 12., 0.];
+/// let curves = [Kind::Parabola.number(), 0, 3];
+/// let tables =
+///     Tables { points: &points, curves: &curves, reals: &[2.0, 0.0], parts: &[], ranges: &[] };
+/// let (lo, hi) = (3.0, 3.0);
+/// let edge =
+///     Edge { curve: 0, start: 3, end: 4, sense: 1, lo, hi, tolerance: 0.0, low: 0, high: 4 };
+/// let options = Options { deflection: 0.01, ..Options::default() };
+///
+/// let (mut first, mut second) = ([0.0; 1_024], [0.0; 1_024]);
+/// let refused = draw_in_mode(&tables, &edge, &options, Mode::Reference, &mut first, &mut second);
+/// assert_eq!(refused.unwrap_err(), Refusal::NoRoom);
+/// let chain = draw_in_mode(&tables, &edge, &options, Mode::Strict, &mut first, &mut second)?;
+/// assert_eq!(chain.way(), Way::Chord);
+/// assert_eq!(chain.floats(), [8.0, -8.0, 0.0, lo, 18.0, 12.0, 0.0, hi]);
+/// # Ok::<(), Refusal>(())
+/// ```
+pub fn draw_in_mode<'b>(
+    tables: &Tables,
+    edge: &Edge,
+    options: &Options,
+    mode: Mode,
+    first: &'b mut [f64],
+    second: &'b mut [f64],
+) -> Result<Chain<'b>, Refusal> {
+    let (radians, strict) = (options.angle.to_radians(), mode == Mode::Strict);
+    drawn(first, second, |first, m, second, n, way, count| {
+        // SAFETY: as in `draw`.
+        unsafe {
+            raw::call!(cs_flat_draw_in_mode, tables, edge, options, radians, strict, first, m, second, n, way, count)
+        }
     })
 }
 
@@ -230,11 +271,16 @@ impl<'a> Checked<'a> {
     /// Draws an edge into buffers of its own, which grow while the edge is refused for want of room: a refusal 8 from here
     /// means that [`MOST_POINTS`] points are too few.
     pub fn draw(&self, edge: &Edge, options: &Options) -> Result<OwnedChain, Refusal> {
+        self.draw_in_mode(edge, options, Mode::Reference)
+    }
+
+    /// The same in a mode.
+    pub fn draw_in_mode(&self, edge: &Edge, options: &Options, mode: Mode) -> Result<OwnedChain, Refusal> {
         // Most edges have few points, and the library clears whatever it is lent.
         let mut room = 64;
         loop {
             let (mut first, mut second) = (vec![0.0; WIDTH * room], vec![0.0; WIDTH * room]);
-            match draw_over(self, edge, options, &mut first, &mut second) {
+            match draw_over_in_mode(self, edge, options, mode, &mut first, &mut second) {
                 Err(Refusal::NoRoom) if room < MOST_POINTS => room = MOST_POINTS.min(4 * room),
                 answer => return answer.map(|chain| chain.to_owned_chain()),
             }
@@ -276,5 +322,37 @@ pub fn draw_over<'b>(
     drawn(first, second, |first, m, second, n, way, count| {
         // SAFETY: as in `draw`. That the tables were accepted, and have been lent since, makes the answer `draw`'s.
         unsafe { raw::call!(cs_flat_draw_over, tables, edge, options, radians, first, m, second, n, way, count) }
+    })
+}
+
+/// Draws an edge in a mode over tables that [`check_tables`] accepted: as [`draw_over`], with the answer of [`draw_in_mode`].
+///
+/// ```
+/// # use cornsunset::{check_tables, draw_in_mode, draw_over_in_mode, Edge, Mode, Options, Refusal, Tables};
+/// # let points = [0., 0., 0., 0., 0., 1., 1., 0., 0., 3., 4., 0.];
+/// # let tables = Tables { points: &points, curves: &[8, 0, 3], reals: &[1.0, 2.0], parts: &[], ranges: &[] };
+/// # let edge = Edge { curve: 0, start: 2, end: 3, sense: 1, lo: f64::NAN, hi: 1.5, tolerance: 0.0, low: 0, high: 3 };
+/// # let (mut first, mut second, mut third, mut fourth) = ([1.0; 64], [2.0; 64], [3.0; 64], [4.0; 64]);
+/// let options = Options::default();
+/// let chain = draw_in_mode(&tables, &edge, &options, Mode::Strict, &mut first, &mut second)?;
+/// let checked = check_tables(&tables)?;
+/// let over = draw_over_in_mode(&checked, &edge, &options, Mode::Strict, &mut third, &mut fourth)?;
+/// assert_eq!((over.way(), over.len()), (chain.way(), chain.len()));
+/// # Ok::<(), Refusal>(())
+/// ```
+pub fn draw_over_in_mode<'b>(
+    checked: &Checked,
+    edge: &Edge,
+    options: &Options,
+    mode: Mode,
+    first: &'b mut [f64],
+    second: &'b mut [f64],
+) -> Result<Chain<'b>, Refusal> {
+    let (t, radians, strict) = (&checked.tables, options.angle.to_radians(), mode == Mode::Strict);
+    drawn(first, second, |first, m, second, n, way, count| {
+        // SAFETY: as in `draw_over`.
+        unsafe {
+            raw::call!(cs_flat_draw_over_in_mode, t, edge, options, radians, strict, first, m, second, n, way, count)
+        }
     })
 }

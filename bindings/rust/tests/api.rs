@@ -1,7 +1,7 @@
 //! The safe API by itself: refusals, buffers, tables that are checked once, NaN parameters, walks, angles and presets.
 use cornsunset::{
-    check, check_tables, draw, draw_over, Angle, Edge, Kind, Options, Point, Refusal, Tables, Walk, Way, MOST_POINTS,
-    VERSION, WIDTH,
+    check, check_tables, draw, draw_over, Angle, Edge, Kind, Mode, Options, Point, Refusal, Tables, Walk, Way,
+    MOST_POINTS, VERSION, WIDTH,
 };
 use std::fmt::Debug;
 
@@ -262,8 +262,8 @@ fn the_header_has_the_same_version_and_limits() {
     }
 }
 
-/// That the header has each of these under this number, ShortBuffer as SHORT_BUFFER, and that they run from 1 without a gap.
-fn are_in_the_header<T: Debug + Copy>(prefix: &str, all: &[T], number: impl Fn(T) -> u32) {
+/// That the header has each of these under this number, ShortBuffer as SHORT_BUFFER, and that they run from the least without a gap.
+fn are_in_the_header<T: Debug + Copy>(prefix: &str, all: &[T], number: impl Fn(T) -> u32, least: u32) {
     for (i, member) in all.iter().enumerate() {
         let mut wanted = prefix.to_string();
         for c in format!("{member:?}").chars() {
@@ -273,16 +273,18 @@ fn are_in_the_header<T: Debug + Copy>(prefix: &str, all: &[T], number: impl Fn(T
         wanted += &format!(" = {}", number(*member));
         assert!(header().any(|line| line == wanted), "{wanted}");
         // 10 is a sheet's, and no drawing answers it.
-        assert_eq!(number(*member), i as u32 + if i < 9 { 1 } else { 2 });
+        assert_eq!(number(*member), least + i as u32 + u32::from(i >= 9));
     }
 }
 
 #[test]
-fn kinds_refusals_and_ways_have_the_numbers_of_the_header() {
-    are_in_the_header("CS_KIND", Kind::ALL, Kind::number);
-    are_in_the_header("CS", Refusal::ALL, Refusal::number);
-    are_in_the_header("CS", Way::ALL, Way::number);
-    assert_eq!((Kind::ALL.len(), Refusal::ALL.len(), Way::ALL.len()), (8, 10, 5));
+fn kinds_modes_refusals_and_ways_have_the_numbers_of_the_header() {
+    are_in_the_header("CS_KIND", Kind::ALL, Kind::number, 1);
+    are_in_the_header("CS", Mode::ALL, Mode::number, 0);
+    are_in_the_header("CS", Refusal::ALL, Refusal::number, 1);
+    are_in_the_header("CS", Way::ALL, Way::number, 1);
+    assert_eq!((Kind::ALL.len(), Mode::ALL.len(), Refusal::ALL.len(), Way::ALL.len()), (8, 2, 10, 5));
+    assert_eq!((Mode::from_number(0), Mode::from_number(2)), (Some(Mode::Reference), None));
     assert_eq!((Refusal::from_number(9), Refusal::from_number(10)), (Some(Refusal::Endless), None));
     assert_eq!((Refusal::from_number(11), Kind::from_number(8)), (Some(Refusal::TooFar), Some(Kind::Hyperbola)));
     assert_eq!((Refusal::from_number(0), Way::from_number(6), Kind::from_number(0)), (None, None, None));

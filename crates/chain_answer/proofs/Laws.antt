@@ -16,8 +16,10 @@ use Rattle.sheet.specs.Sheet.{tables_of, leading}
 use Rattle.sheet.proofs.Parts.{too_long}
 use Rattle.sheet.proofs.Laws.{points_few, curves_few, segments_few, table_lengths, SheetRead}
 use Rattle.brep.specs.Rows.{Tables, most_points, most_rows, most_segments}
+use Rattle.options.specs.declared.Mode.TheVariants.{Reference}
 use Rattle.causes.specs.Causes.{oversize}
 use Rattle.brep.specs.declared.Edge.{Edge}
+use Rattle.options.specs.declared.Mode.{Mode}
 use Rattle.options.specs.declared.Options.{Options}
 use Rattle.edge_record.specs.Chain.{width, flat, samples}
 use Rattle.text_listing.specs.Listing.{float_bytes, line_bytes, refusal_bytes, listing, refusal, Put}
@@ -73,9 +75,9 @@ filled_long n l =
     let b = length-replicate (n - length l) (of_bits binary64 0) in
     omega arith
 
-module _ (t : Tables) (e : Edge) (o : Options) (first second : List Float) (d : Answer Drawn) (f s : List Float) (h : Outcome t e o first second d f s) where
+module _ (mode : Mode) (t : Tables) (e : Edge) (o : Options) (first second : List Float) (d : Answer Drawn) (f s : List Float) (h : Outcome mode t e o first second d f s) where
   abbrev made : Answer Got
-  made = drawn t e o (length first) (length second)
+  made = drawn mode t e o (length first) (length second)
 
   pub floats_few : chain_floats d ≤ width * room_of (length first) (length second)
   unfolding answer_of
@@ -83,7 +85,7 @@ module _ (t : Tables) (e : Edge) (o : Options) (first second : List Float) (d : 
     where
       go : (g : Answer Got) → made ≡ g → chain_floats d ≤ width * room_of (length first) (length second)
       go (Err n) q = let z = ap chain_floats (h.answered ∙ ap answer_of q) in omega arith
-      go (Ok g) q = let z = ap chain_floats (h.answered ∙ ap answer_of q) in let k = drawn_fits t e o (length first) (length second) g q in omega arith
+      go (Ok g) q = let z = ap chain_floats (h.answered ∙ ap answer_of q) in let k = drawn_fits mode t e o (length first) (length second) g q in omega arith
 
   -- both buffers are as long as before, so they hold the chain
   buffers_hold : (chain_floats d ≤ length f) × (chain_floats d ≤ length s)
@@ -115,26 +117,26 @@ module _ (t : Tables) (e : Edge) (o : Options) (first second : List Float) (d : 
           rw (h.answered, h.first_holds, h.second_holds, q) (ap (listing lo (last_bits g.way lo hi)) (read_back first second g))
 
 -- ---- the whole answer
-module _ (text : List ℕ) (first second : List Float) (out : List ℕ) (r : ℕ) (out' : List ℕ) where
+module _ (mode : Mode) (text : List ℕ) (first second : List Float) (out : List ℕ) (r : ℕ) (out' : List ℕ) where
   -- no sheet was read
-  pub no_sheet : (cause : Refusal) → read_sheet text ≡ Err cause → Put (refusal (number_of cause)) out r out' → Prints text first second out r first second out'
+  pub no_sheet : (cause : Refusal) → read_sheet text ≡ Err cause → Put (refusal (number_of cause)) out r out' → Prints mode text first second out r first second out'
   unfolding printed_read first_after_sheet second_after_sheet
   no_sheet cause q h = record { put = rw q h; first_holds = rw q; second_holds = rw q }
 
   -- a sheet was read, and its edge was drawn
   module _ (sheet : Sheet) (t : Tables) (read : SheetRead text sheet t) (d : Answer Drawn) (f s : List Float)
-      (h : Outcome (leading sheet.points sheet.curves sheet.segments t) sheet.edge sheet.options first second d f s) where
-    made_is : drawn (leading sheet.points sheet.curves sheet.segments t) sheet.edge sheet.options (length first) (length second) ≡ drawn_of read.raw (length first) (length second)
+      (h : Outcome mode (leading sheet.points sheet.curves sheet.segments t) sheet.edge sheet.options first second d f s) where
+    made_is : drawn mode (leading sheet.points sheet.curves sheet.segments t) sheet.edge sheet.options (length first) (length second) ≡ drawn_of mode read.raw (length first) (length second)
     made_is = rw (read.tables_are, read.edge_is, read.options_is)
 
-    bytes_are : shown sheet.lo sheet.hi d (chain_in f s d) ≡ printed_read (length first) (length second) (read_sheet text)
+    bytes_are : shown sheet.lo sheet.hi d (chain_in f s d) ≡ printed_read mode (length first) (length second) (read_sheet text)
     unfolding printed_read
     bytes_are =
         rw read.is
-        (shown_is (leading sheet.points sheet.curves sheet.segments t) sheet.edge sheet.options first second d f s h sheet.lo sheet.hi
+        (shown_is mode (leading sheet.points sheet.curves sheet.segments t) sheet.edge sheet.options first second d f s h sheet.lo sheet.hi
         ∙ rw (read.lo_is, read.hi_is, made_is))
 
-    pub sheet_drawn : Put (shown sheet.lo sheet.hi d (chain_in f s d)) out r out' → Prints text first second out r f s out'
+    pub sheet_drawn : Put (shown sheet.lo sheet.hi d (chain_in f s d)) out r out' → Prints mode text first second out r f s out'
     unfolding first_after_sheet second_after_sheet
     sheet_drawn p = record {
       put = subst (λ l. Put l out r out') bytes_are p;
@@ -144,7 +146,7 @@ module _ (text : List ℕ) (first second : List Float) (out : List ℕ) (r : ℕ
 
 -- ---- an input of which no more is read than one byte too many
 pub read_enough : ReadEnough
-read_enough n h input first second = ap (printed_read first second) (go (leb (length input) n) refl)
+read_enough mode n h input first second = ap (printed_read mode first second) (go (leb (length input) n) refl)
   where
     go : (b : Bool) → leb (length input) n ≡ b → read_sheet (take n input) ≡ read_sheet input
     go true e = ap read_sheet (take_all n input (leb-true (length input) n e))
@@ -157,7 +159,7 @@ read_enough n h input first second = ap (printed_read first second) (go (leb (le
 pub put_for_all : (n : ℕ) → size < n → (text input : List ℕ) → text ≡ take n input → {out : List ℕ} {r : ℕ} {out' : List ℕ}
     → Put (program_prints text) out r out' → Put (program_prints input) out r out'
 put_for_all n h text input e {out} {r} {out'} p =
-    subst (λ l. Put l out r out') (ap program_prints e ∙ read_enough n h input program_floats program_floats) p
+    subst (λ l. Put l out r out') (ap program_prints e ∙ read_enough Reference n h input program_floats program_floats) p
 
 -- ---- a sheet's tables are within their sizes
 pub never_oversize : NeverOversize

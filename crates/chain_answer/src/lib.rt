@@ -1,6 +1,7 @@
 #![tactic(auto)]
 // The answer to a sheet: its text in, the listing of its edge's chain or of a refusal out.
 ghost use Rattle.std.specs.Prelude.{◌≡◌, List, ℕ, ◌+◌, ◌*◌, ◌<◌, ◌≤◌, length, take};
+ghost use Rattle.options.specs.declared.Mode.TheVariants.{Reference};
 ghost use Rattle.sheet_layout.specs.Layout.{size};
 ghost use Rattle.sheet.specs.Sheet.{FitsTables, leading, written};
 ghost use Rattle.draw_spec.specs.Draw.{room_of, chain_in, program_floats, chain_floats, Outcome};
@@ -9,6 +10,7 @@ ghost use Rattle.chain_answer.specs.Own.Shown.{shown};
 ghost use Rattle.chain_answer.specs.Printed.{last_bits, Prints, program_prints};
 
 use draw_spec::{Drawn, Way};
+use options::Mode;
 use refusal::Refusal;
 use sheet::{Sheet, SheetTables};
 
@@ -55,39 +57,56 @@ fn show(
     }
 }
 
-// Draws the edge of a sheet that was read into these tables.
+// Draws the edge of a sheet that was read into these tables, in a mode, which no sheet names. Stays: mode and buffers, as the entry point takes
+// them.
 pub fn draw_sheet(
     tables: &SheetTables,
     sheet: &Sheet,
+    mode: Mode,
     first: &mut [f64],
     second: &mut [f64],
 ) -> Result<Drawn, Refusal>
     requires { FitsTables sheet.now }
-    ensures { Outcome (leading sheet.now.points sheet.now.curves sheet.now.segments (written tables.now)) sheet.now.edge sheet.now.options first.old second.old result first.new second.new }
+    ensures { Outcome mode (leading sheet.now.points sheet.now.curves sheet.now.segments (written tables.now)) sheet.now.edge sheet.now.options first.old second.old result first.new second.new }
 {
-    draw::draw(
+    draw::draw_in_mode(
         &tables.rows(sheet),
         sheet.edge,
         sheet.options,
+        mode,
         first,
         second,
     )
 }
 
-// THE ANSWER to a sheet: the bytes that the program prints, at the start of `out`, and how many they are. Stays: a struct of the four would be
+// The answer to a sheet in a mode: the bytes of its listing, at the start of `out`, and how many they are. Stays: a struct of the four would be
 // made twice, here and in replay_chain; a count and not the part, since `Prints` also says what is behind it.
-pub fn answer(text: &[u8], first: &mut [f64], second: &mut [f64], out: &mut [u8]) -> usize
+pub fn answer_in_mode(
+    text: &[u8],
+    mode: Mode,
+    first: &mut [f64],
+    second: &mut [f64],
+    out: &mut [u8],
+) -> usize
     requires { refusal_bytes + line_bytes * room_of (length first.old) (length second.old) ≤ length out.old }
-    ensures { Prints text.now first.old second.old out.old result first.new second.new out.new }
+    ensures { Prints mode text.now first.old second.old out.old result first.new second.new out.new }
 {
     let mut tables = SheetTables::new();
     match tables.read(text) {
         Ok(sheet) => {
-            let drawn = draw_sheet(&tables, &sheet, first, second);
+            let drawn = draw_sheet(&tables, &sheet, mode, first, second);
             show(drawn, first, second, sheet.lo, sheet.hi, out)
         }
         Err(cause) => text_listing::write_refusal(cause.number(), out),
     }
+}
+
+// THE ANSWER to a sheet: the bytes that the program prints, which knows no mode but the one that is equal to the Rust. Stays: as `answer_in_mode`.
+pub fn answer(text: &[u8], first: &mut [f64], second: &mut [f64], out: &mut [u8]) -> usize
+    requires { refusal_bytes + line_bytes * room_of (length first.old) (length second.old) ≤ length out.old }
+    ensures { Prints Reference text.now first.old second.old out.old result first.new second.new out.new }
+{
+    answer_in_mode(text, Mode::Reference, first, second, out)
 }
 
 // WHAT THE PROGRAM PRINTS for an input, and how many bytes: the answer, in chain buffers of `FLOATS` floats. The first n bytes

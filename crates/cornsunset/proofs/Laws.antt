@@ -10,6 +10,7 @@ use lib.ListN.{length}
 use lib.Ieee.{Float}
 use Rattle.brep.specs.declared.Edge.{Edge}
 use Rattle.brep.specs.Rows.{Tables}
+use Rattle.options.specs.declared.Mode.{Mode}
 use Rattle.options.specs.declared.Options.{Options}
 use Rattle.causes.specs.Causes.{oversize, unordered, too_deep, tables_verdict}
 use Rattle.causes_bounds.specs.Bounds.{unbounded_tables}
@@ -76,22 +77,22 @@ numbers_of first second D a x h p q =
       numbered = subst (λ (c : Codes). Numbered first second c.refusal c.way c.count) (sym w) (relied first second D h);
     }
 
--- with an edge and options that the numbers stand for
-module _ (T : Tables) (first second : List Float) (x : Codes) (f s : List Float) (e e' : Edge) (o o' : Options) (a : Answer Drawn) (p : e ≡ e') (q : o ≡ o') (w : x ≡ codes_of a) where
-  -- P of the edge and the options, and so of what they are put together from
-  put : (P : Edge → Options → Type 0) → P e o → P e' o'
-  put P h = subst (λ (z : Edge). P z o') p (subst (P e) q h)
+-- with a mode, an edge and options that the numbers stand for
+module _ (mode mode' : Mode) (T : Tables) (first second : List Float) (x : Codes) (f s : List Float) (e e' : Edge) (o o' : Options) (a : Answer Drawn) (m : mode ≡ mode') (p : e ≡ e') (q : o ≡ o') (w : x ≡ codes_of a) where
+  -- P of the mode, the edge and the options, and so of what they are put together from
+  put : (P : Mode → Edge → Options → Type 0) → P mode e o → P mode' e' o'
+  put P h = subst (λ (i : Mode). P i e' o') m (subst (λ (z : Edge). P mode z o') p (subst (P mode e) q h))
 
-  pub by_outcome : Outcome T e o first second a f s → NumberedOutcome T e' o' first second x.refusal x.way x.count f s
-  by_outcome h = put (λ i j. NumberedOutcome T i j first second x.refusal x.way x.count f s) (record {
-    answer = numbers_of (length first) (length second) (drawn T e o (length first) (length second)) a x (drawn_answerable T e o (length first) (length second)) h.answered w;
-    outcome = subst (λ (z : Answer Drawn). Outcome T e o first second z f s) h.answered h;
+  pub by_outcome : Outcome mode T e o first second a f s → NumberedOutcome mode' T e' o' first second x.refusal x.way x.count f s
+  by_outcome h = put (λ k i j. NumberedOutcome k T i j first second x.refusal x.way x.count f s) (record {
+    answer = numbers_of (length first) (length second) (drawn mode T e o (length first) (length second)) a x (drawn_answerable mode T e o (length first) (length second)) h.answered w;
+    outcome = subst (λ (z : Answer Drawn). Outcome mode T e o first second z f s) h.answered h;
   })
 
-  pub by_over : Over T e o first second a f s → NumberedOver T e' o' first second x.refusal x.way x.count f s
-  by_over h = put (λ i j. NumberedOver T i j first second x.refusal x.way x.count f s) (record {
-    answer = numbers_of (length first) (length second) (drawn_over T e o (length first) (length second)) a x (over_answerable T e o (length first) (length second)) h.answered w;
-    over = subst (λ (z : Answer Drawn). Over T e o first second z f s) h.answered h;
+  pub by_over : Over mode T e o first second a f s → NumberedOver mode' T e' o' first second x.refusal x.way x.count f s
+  by_over h = put (λ k i j. NumberedOver k T i j first second x.refusal x.way x.count f s) (record {
+    answer = numbers_of (length first) (length second) (drawn_over mode T e o (length first) (length second)) a x (over_answerable mode T e o (length first) (length second)) h.answered w;
+    over = subst (λ (z : Answer Drawn). Over mode T e o first second z f s) h.answered h;
   })
 
 -- no cause of the tables has the number 0

@@ -2,6 +2,7 @@
 use Rattle.std.specs.Prelude.{◌≡◌, List, ◌⊎◌, ℕ, ◌*◌, ◌≤◌, length, Float}
 use Rattle.brep.specs.declared.Edge.{Edge}
 use Rattle.brep.specs.Rows.{Tables}
+use Rattle.options.specs.declared.Mode.{Mode}
 use Rattle.options.specs.declared.Options.{Options}
 use Rattle.draw_spec.specs.Repair.{Got}
 use Rattle.draw_spec.specs.Draw.{drawn, answer_of, Outcome}
@@ -24,11 +25,11 @@ pub record NumberedAnswer (D : Answer Got) (first second refusal way count : ℕ
   pub numbered : Numbered first second refusal way count
 
 -- what drawing returns and stores: the answer's three numbers, and buffers with all that `Outcome` says of them
-pub record NumberedOutcome (T : Tables) (e : Edge) (o : Options) (first second : List Float) (refusal way count : ℕ) (first' second' : List Float) : Type 0 where
-  pub answer : NumberedAnswer (drawn T e o (length first) (length second)) (length first) (length second) refusal way count
-  pub outcome : Outcome T e o first second (answer_of (drawn T e o (length first) (length second))) first' second'
+pub record NumberedOutcome (mode : Mode) (T : Tables) (e : Edge) (o : Options) (first second : List Float) (refusal way count : ℕ) (first' second' : List Float) : Type 0 where
+  pub answer : NumberedAnswer (drawn mode T e o (length first) (length second)) (length first) (length second) refusal way count
+  pub outcome : Outcome mode T e o first second (answer_of (drawn mode T e o (length first) (length second))) first' second'
 
 -- what drawing over tables that are not gone through returns and stores, with all that `Over` says of the buffers
-pub record NumberedOver (T : Tables) (e : Edge) (o : Options) (first second : List Float) (refusal way count : ℕ) (first' second' : List Float) : Type 0 where
-  pub answer : NumberedAnswer (drawn_over T e o (length first) (length second)) (length first) (length second) refusal way count
-  pub over : Over T e o first second (answer_of (drawn_over T e o (length first) (length second))) first' second'
+pub record NumberedOver (mode : Mode) (T : Tables) (e : Edge) (o : Options) (first second : List Float) (refusal way count : ℕ) (first' second' : List Float) : Type 0 where
+  pub answer : NumberedAnswer (drawn_over mode T e o (length first) (length second)) (length first) (length second) refusal way count
+  pub over : Over mode T e o first second (answer_of (drawn_over mode T e o (length first) (length second))) first' second'

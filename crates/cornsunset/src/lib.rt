@@ -4,9 +4,10 @@
 ghost use Rattle.std.specs.Prelude.{◌≡◌, Ok};
 ghost use Rattle.brep.specs.Rows.{given};
 ghost use Rattle.causes.specs.Causes.{verdict, tables_verdict};
+ghost use Rattle.options.specs.declared.Mode.TheVariants.{Reference};
 ghost use Rattle.options.specs.Options.{radians as inRadians, degrees, is_clamped, default_options, draft_options, fine_options};
 ghost use Rattle.edge_walker.specs.Walk.{start_of, stepped};
-ghost use Rattle.ffi_numbers.specs.Numbers.{edge_of, options_of, cause_of, codes_of, passed, point_after};
+ghost use Rattle.ffi_numbers.specs.Numbers.{edge_of, options_of, mode_of, cause_of, codes_of, passed, point_after};
 ghost use Rattle.cornsunset.specs.Numbered.{NumberedOutcome, NumberedOver};
 
 use brep::LentTables;
@@ -52,7 +53,7 @@ pub extern "C" fn cs_flat_draw(
     way: &mut u32,
     count: &mut usize,
 ) -> u32
-    ensures { NumberedOutcome (given points curves reals parts ranges) (edge_of curve start end sense lo hi tolerance low high) (options_of deflection radians relative segments depth scale) first.old second.old result way.new count.new first.new second.new }
+    ensures { NumberedOutcome Reference (given points curves reals parts ranges) (edge_of curve start end sense lo hi tolerance low high) (options_of deflection radians relative segments depth scale) first.old second.old result way.new count.new first.new second.new }
 {
     let tables = LentTables {
         points,
@@ -64,6 +65,51 @@ pub extern "C" fn cs_flat_draw(
     let edge = ffi_numbers::edge_of(curve, start, end, sense, lo, hi, tolerance, low, high);
     let options = ffi_numbers::options_of(deflection, radians, relative, segments, depth, scale);
     let drawn = draw::draw(&tables, edge, options, first, second);
+    hand_answer(drawn, way, count)
+}
+
+// The same in a mode: strict, or equal to the Rust. No value of a bool stands for no mode.
+#[unsafe(no_mangle)]
+pub extern "C" fn cs_flat_draw_in_mode(
+    points: &[f64],
+    curves: &[u32],
+    reals: &[f64],
+    parts: &[u32],
+    ranges: &[f64],
+    curve: u32,
+    start: u32,
+    end: u32,
+    sense: u32,
+    lo: f64,
+    hi: f64,
+    tolerance: f64,
+    low: u32,
+    high: u32,
+    deflection: f64,
+    radians: f64,
+    relative: u32,
+    segments: u64,
+    depth: u32,
+    scale: f64,
+    strict: bool,
+    first: &mut [f64],
+    second: &mut [f64],
+    way: &mut u32,
+    count: &mut usize,
+) -> u32
+    ensures { NumberedOutcome (mode_of strict) (given points curves reals parts ranges) (edge_of curve start end sense lo hi tolerance low high) (options_of deflection radians relative segments depth scale) first.old second.old result way.new count.new first.new second.new }
+{
+    let tables = LentTables {
+        points,
+        curves,
+        reals,
+        parts,
+        ranges,
+    };
+    let e = ffi_numbers::edge_of(curve, start, end, sense, lo, hi, tolerance, low, high);
+    let o = ffi_numbers::options_of(deflection, radians, relative, segments, depth, scale);
+    let mode = ffi_numbers::mode_of(strict);
+    let drawn = draw::draw_in_mode(&tables, e, o, mode, first, second);
     hand_answer(drawn, way, count)
 }
 
@@ -96,7 +142,7 @@ pub extern "C" fn cs_flat_draw_over(
     way: &mut u32,
     count: &mut usize,
 ) -> u32
-    ensures { NumberedOver (given points curves reals parts ranges) (edge_of curve start end sense lo hi tolerance low high) (options_of deflection radians relative segments depth scale) first.old second.old result way.new count.new first.new second.new }
+    ensures { NumberedOver Reference (given points curves reals parts ranges) (edge_of curve start end sense lo hi tolerance low high) (options_of deflection radians relative segments depth scale) first.old second.old result way.new count.new first.new second.new }
 {
     let tables = LentTables {
         points,
@@ -112,6 +158,51 @@ pub extern "C" fn cs_flat_draw_over(
         first,
         second,
     );
+    hand_answer(drawn, way, count)
+}
+
+// The same in a mode.
+#[unsafe(no_mangle)]
+pub extern "C" fn cs_flat_draw_over_in_mode(
+    points: &[f64],
+    curves: &[u32],
+    reals: &[f64],
+    parts: &[u32],
+    ranges: &[f64],
+    curve: u32,
+    start: u32,
+    end: u32,
+    sense: u32,
+    lo: f64,
+    hi: f64,
+    tolerance: f64,
+    low: u32,
+    high: u32,
+    deflection: f64,
+    radians: f64,
+    relative: u32,
+    segments: u64,
+    depth: u32,
+    scale: f64,
+    strict: bool,
+    first: &mut [f64],
+    second: &mut [f64],
+    way: &mut u32,
+    count: &mut usize,
+) -> u32
+    ensures { NumberedOver (mode_of strict) (given points curves reals parts ranges) (edge_of curve start end sense lo hi tolerance low high) (options_of deflection radians relative segments depth scale) first.old second.old result way.new count.new first.new second.new }
+{
+    let tables = LentTables {
+        points,
+        curves,
+        reals,
+        parts,
+        ranges,
+    };
+    let e = ffi_numbers::edge_of(curve, start, end, sense, lo, hi, tolerance, low, high);
+    let o = ffi_numbers::options_of(deflection, radians, relative, segments, depth, scale);
+    let m = ffi_numbers::mode_of(strict);
+    let drawn = draw::draw_over_in_mode(&tables, e, o, m, first, second);
     hand_answer(drawn, way, count)
 }
 

@@ -17,6 +17,9 @@ use Rattle.math.specs.declared.Vec3.{Vec3}
 use Rattle.math.specs.declared.Interval.{Interval}
 use Rattle.brep.specs.declared.Edge.{Edge}
 use Rattle.brep.specs.Rows.{Tables}
+use Rattle.brep.specs.Tree.{CurveTree, analytic, line, circle, ellipse, parabola, hyperbola, polyline, trimmed, composite}
+use Rattle.options.specs.declared.Mode.{Mode}
+use Rattle.options.specs.declared.Mode.TheVariants.{Reference, Strict}
 use Rattle.options.specs.declared.Options.{Options}
 use Rattle.options.specs.declared.Resolved.{Resolved}
 use Rattle.options.specs.Options.{resolve, for_extent}
@@ -27,10 +30,10 @@ use Rattle.curve_prepared.specs.Own.Prepared.{prepared_of}
 use Rattle.curve_prepared.proofs.Laws.{through_line}
 use Rattle.curve_asks.specs.Asks.{asks_far}
 use Rattle.edge_params.specs.Params.{evenly}
-use Rattle.edge_params.specs.Work.{within}
+use Rattle.edge_params.specs.Work.{Work, done, within}
 use Rattle.edge_params.proofs.Asks.{some_far-never, asking_clear, asking_then}
 use Rattle.edge_params.proofs.Work.{within_then}
-use Rattle.edge_range.specs.Usable.{usable_range}
+use Rattle.edge_range.specs.Usable.{usable_range, is_open_conic, has_no_domain}
 use Rattle.edge_record.specs.declared.Sample.{Sample}
 use Rattle.edge_record.specs.Own.Stored.{counted_of}
 use Rattle.edge_record.specs.Chain.{width, shortest, flat, samples}
@@ -41,11 +44,11 @@ use Rattle.draw_spec.specs.declared.Way.TheVariants.{AsDrawn}
 use Rattle.draw_spec.specs.Edge.{edge_curve, edge_start, edge_end, edge_extent, placed, over_range, discretised}
 use Rattle.draw_spec.specs.Repair.{Got, by, stays, repaired}
 use Rattle.draw_spec.specs.Draw as draw
-use Rattle.draw_spec.specs.Draw.{first_way, local_options, probes, referenced, in_buffers, room_of, too_short, drawn, Outcome, in_first, after_refusal, first_after, second_after, drawn_as}
+use Rattle.draw_spec.specs.Draw.{first_way, local_options, probes, drawn_probed, lost_chord, referenced, in_buffers, room_of, too_short, drawn, Outcome, in_first, after_refusal, first_after, second_after, drawn_as}
 use Rattle.draw_spec.specs.Own.Binary.{AllBinary64}
 use Rattle.draw_spec.proofs.Answers.{Answers, late_above, answers_asking, answers_got, answers_refused}
 use Rattle.draw_spec.proofs.Discretised.{Chained, Room, discretised_answers}
-use Rattle.draw_spec.proofs.Repaired.{referenced_answers}
+use Rattle.draw_spec.proofs.Repaired.{probed_answers, referenced_answers}
 use Rattle.draw_spec.proofs.Sound.{Binary}
 use Rattle.draw_spec.proofs.Accepted.{given, by_tables, refused_so}
 use Rattle.draw_spec.proofs.ReadBack.{outcome}
@@ -104,27 +107,27 @@ unfolding draw.answer_of first_after second_after
 refused_left n first second h = record { answered = refl; first_holds = sym (late n first h); second_holds = sym (late n second h) }
 
 -- ---- drawing in the room answers 8, 9, 11 or a chain that fits it, whatever the tables hold
-pub room_answers : (t : Tables) (e : Edge) (r : Resolved) (first second : ℕ) → shortest ≤ first → shortest ≤ second
-    → Answers (room_of first second) (λ (g : Got). Chained ⊥ t e (merge_floor e.tolerance r.sag) (room_of first second) g.chain) (referenced t e r)
-room_answers t e r first second p q = referenced_answers ⊥ t e (λ x. absurd x) (λ x. absurd x) (room_of first second) (room_fine first second p q) r
+pub room_answers : (mode : Mode) (t : Tables) (e : Edge) (r : Resolved) (first second : ℕ) → shortest ≤ first → shortest ≤ second
+    → Answers (room_of first second) (λ (g : Got). Chained ⊥ t e (merge_floor e.tolerance r.sag) (room_of first second) g.chain) (referenced mode t e r)
+room_answers mode t e r first second p q = referenced_answers ⊥ mode t e (λ x. absurd x) (λ x. absurd x) (room_of first second) (room_fine first second p q) r
 
 -- ---- drawn_in, after discretise answered w and left new
-module _ (t : Tables) (e : Edge) (r : Resolved) (old : Buffers) where
+module _ (mode : Mode) (t : Tables) (e : Edge) (r : Resolved) (old : Buffers) where
   room : Room (room_in old)
   room = room_fine (length old.first.now) (length old.second.now) old.first_long old.second_long
 
   abbrev chain : Answer (List Sample)
-  chain = within (room_in old) (asked_discretised true t e r)
+  chain = within (room_in old) (asked_discretised true mode t e r)
 
   abbrev whole : Answer Got
-  whole = within (room_in old) (referenced t e r)
+  whole = within (room_in old) (drawn_probed mode t e r)
 
   abbrev way : Way
   way = first_way (usable_range (edge_curve t e) e.range)
 
-  chain_answers : Answers (room_in old) (Chained ⊥ t e (merge_floor e.tolerance r.sag) (room_in old)) (asked_discretised true t e r)
-  chain_answers = answers_asking (room_in old) (asks_far (edge_curve t e)) (probes (usable_range (edge_curve t e) e.range)) (discretised t e r)
-      (discretised_answers ⊥ t e (λ x. absurd x) (λ x. absurd x) (room_in old) room r)
+  chain_answers : Answers (room_in old) (Chained ⊥ t e (merge_floor e.tolerance r.sag) (room_in old)) (asked_discretised true mode t e r)
+  chain_answers = answers_asking (room_in old) (asks_far (edge_curve t e)) (probes (usable_range (edge_curve t e) e.range)) (discretised mode t e r)
+      (discretised_answers ⊥ mode t e (λ x. absurd x) (λ x. absurd x) (room_in old) room r)
 
   chain_late : (n : Refusal) → chain ≡ Err n → 7 < number_of n
   chain_late n h = late_above (answers_refused n chain_answers h)
@@ -133,18 +136,17 @@ module _ (t : Tables) (e : Edge) (r : Resolved) (old : Buffers) where
   chain_fits l h = room_least (length old.first.now) (length old.second.now) (length l) (answers_got l chain_answers h).fits
 
   whole_late : (n : Refusal) → whole ≡ Err n → 7 < number_of n
-  whole_late n h = late_above (answers_refused n (room_answers t e r (length old.first.now) (length old.second.now) old.first_long old.second_long) h)
+  whole_late n h = late_above (answers_refused n (probed_answers ⊥ mode t e (λ x. absurd x) (λ x. absurd x) (room_in old) room r) h)
 
   -- what follows the chain, by what discretise answered
-  whole_by : (c : Answer (List Sample)) → chain ≡ c → whole ≡ bind c (λ l. within (room_in old) (repaired t e r (by way l)))
-  unfolding referenced
+  whole_by : (c : Answer (List Sample)) → chain ≡ c → whole ≡ bind c (λ l. within (room_in old) (repaired mode t e r (by way l)))
   whole_by c h =
-      ap (within (room_in old)) (asking_then (asks_far (edge_curve t e)) (probes (usable_range (edge_curve t e) e.range)) (discretised t e r) (λ l. repaired t e r (by way l)))
-      ∙ within_then (room_in old) (asked_discretised true t e r) (λ l. repaired t e r (by way l))
-      ∙ ap (λ (x : Answer (List Sample)). bind x (λ l. within (room_in old) (repaired t e r (by way l)))) h
+      ap (within (room_in old)) (asking_then (asks_far (edge_curve t e)) (probes (usable_range (edge_curve t e) e.range)) (discretised mode t e r) (λ l. repaired mode t e r (by way l)))
+      ∙ within_then (room_in old) (asked_discretised true mode t e r) (λ l. repaired mode t e r (by way l))
+      ∙ ap (λ (x : Answer (List Sample)). bind x (λ l. within (room_in old) (repaired mode t e r (by way l)))) h
 
   module _ {w : Answer ℕ} (new : Buffers) (same : SameBuffers old new)
-      (d : DiscretisedInto (asked_discretised true t e r) old.first.now old.second.now w new.first.now new.second.now) where
+      (d : DiscretisedInto (asked_discretised true mode t e r) old.first.now old.second.now w new.first.now new.second.now) where
     -- it refused
     pub not_drawn : (n : Refusal) → w ≡ Err n → DrawnIn whole old (Err n) new
     not_drawn n is = record { same = same; drawn = go chain refl }
@@ -186,9 +188,9 @@ module _ (t : Tables) (e : Edge) (r : Resolved) (old : Buffers) where
 
     -- and repair_runaway went on from it
     pub drawn_on : (n : ℕ) → w ≡ Ok n → (v : Way) → v ≡ way → {answer : Answer Drawn} {end : Buffers}
-        → DrawnIn (within (room_in new) (repaired t e r (by v (samples n new.first.now)))) new answer end → DrawnIn whole old answer end
+        → DrawnIn (within (room_in new) (repaired mode t e r (by v (samples n new.first.now)))) new answer end → DrawnIn whole old answer end
     drawn_on n is v v_is h =
-        let q : within (room_in new) (repaired t e r (by v (samples n new.first.now))) ≡ whole =
+        let q : within (room_in new) (repaired mode t e r (by v (samples n new.first.now))) ≡ whole =
         rw (v_is, same.first_room, same.second_room) (sym (whole_by (Ok (samples n new.first.now)) (counts n is).is)) in
         record {
           same = then same h.same;
@@ -199,32 +201,57 @@ module _ (t : Tables) (e : Edge) (r : Resolved) (old : Buffers) where
           };
         }
 
+-- ---- by whether there is something to draw the curve over
+module _ (mode : Mode) (t : Tables) (e : Edge) (r : Resolved) where
+  domain_is : (b : Bool) → has_no_domain mode (edge_curve t e) e.range ≡ b → referenced mode t e r ≡ elim b [ true ↦ done (lost_chord t e) | false ↦ drawn_probed mode t e r ]
+  unfolding referenced
+  domain_is b = ap (λ (x : Bool). elim x [ true ↦ done (lost_chord t e) | false ↦ drawn_probed mode t e r ])
+
+  pub without_domain : has_no_domain mode (edge_curve t e) e.range ≡ true → done (lost_chord t e) ≡ referenced mode t e r
+  without_domain h = sym (domain_is true h)
+
+  pub with_domain : has_no_domain mode (edge_curve t e) e.range ≡ false → drawn_probed mode t e r ≡ referenced mode t e r
+  with_domain h = sym (domain_is false h)
+
+-- what reads as a line is no parabola and no hyperbola
+line_domain : (mode : Mode) (c : CurveTree) (range : Interval) {origin direction : Vec3} → prepared_of c ≡ Line origin direction → has_no_domain mode c range ≡ false
+unfolding has_no_domain is_open_conic prepared_of
+line_domain Reference c range h = refl
+line_domain Strict (analytic (line o d)) range h = refl
+line_domain Strict (analytic (circle f a)) range h = refl
+line_domain Strict (analytic (ellipse f a b)) range h = refl
+line_domain Strict (analytic (parabola f d)) range h = cc
+line_domain Strict (analytic (hyperbola f a b)) range h = cc
+line_domain Strict (polyline ps) range h = refl
+line_domain Strict (trimmed base own) range h = refl
+line_domain Strict (composite ss) range h = refl
+
 -- ---- draw_straight
-module _ (t : Tables) (e : Edge) (r : Resolved) (old : Buffers) (range : Interval)
+module _ (mode : Mode) (t : Tables) (e : Edge) (r : Resolved) (old : Buffers) (range : Interval)
     (u : usable_range (edge_curve t e) e.range ≡ Some range) (near : (x : Float) → asks_far (edge_curve t e) x ≡ false) where
-  over_usable : over_range t e r range ≡ discretised t e r
+  over_usable : over_range mode t e r range ≡ discretised mode t e r
   unfolding discretised
   over_usable = rw (u, discretised)
 
   -- and its probes ask for nothing that is too far
-  over_probed : over_range t e r range ≡ asked_discretised true t e r
+  over_probed : over_range mode t e r range ≡ asked_discretised true mode t e r
   over_probed =
       let ts = probes (usable_range (edge_curve t e) e.range) in
-      over_usable ∙ sym (asking_clear (asks_far (edge_curve t e)) ts (discretised t e r) (some_far-never (asks_far (edge_curve t e)) near ts))
+      over_usable ∙ sym (asking_clear (asks_far (edge_curve t e)) ts (discretised mode t e r) (some_far-never (asks_far (edge_curve t e)) near ts))
 
   -- one segment, which stays, is all of the drawing
-  straight_whole : (l : List Sample) → within (room_in old) (over_range t e r range) ≡ Ok l → stays t e r l ≡ true → whole t e r old ≡ Ok (by AsDrawn l)
+  straight_whole : (l : List Sample) → within (room_in old) (over_range mode t e r range) ≡ Ok l → stays t e r l ≡ true → whole mode t e r old ≡ Ok (by AsDrawn l)
   unfolding first_way
   straight_whole l h k =
-      whole_by t e r old (Ok l) (ap (within (room_in old)) (sym over_probed) ∙ h)
-      ∙ repaired_kept t e r (room_in old) (by (first_way (usable_range (edge_curve t e) e.range)) l) k
+      whole_by mode t e r old (Ok l) (ap (within (room_in old)) (sym over_probed) ∙ h)
+      ∙ repaired_kept t e r (room_in old) mode (by (first_way (usable_range (edge_curve t e) e.range)) l) k
       ∙ ap (λ (v : Option Interval). Ok (by (first_way v) l)) u
 
   straight_drawn : {b : Bool} {f s : List Float} → SegmentInto t e r range old.first.now b f → b ≡ true → stays t e r (placed t e (evenly range 1)) ≡ true
-      → s ≡ filled (length old.second.now) [] → DrawnInto (whole t e r old) old.first.now old.second.now (drawn_as AsDrawn 2) f s
+      → s ≡ filled (length old.second.now) [] → DrawnInto (whole mode t e r old) old.first.now old.second.now (drawn_as AsDrawn 2) f s
   unfolding draw.answer_of first_after second_after
   straight_drawn d h k c =
-      rw (straight_whole (placed t e (evenly range 1)) (d.chain h (room_in old) (room t e r old).least) k)
+      rw (straight_whole (placed t e (evenly range 1)) (d.chain h mode (room_in old) (room mode t e r old).least) k)
       (record { answered = ap (drawn_as AsDrawn) (sym (placed_size t e range)); first_holds = d.holds h; second_holds = c })
 
 -- ---- draw: answer and buffers, by the way out
@@ -237,26 +264,26 @@ pub early : (n : Refusal) (first second : List Float) (d : Answer Got) → numbe
 unfolding draw.answer_of first_after second_after
 early n first second d h q = record { answered = rw q; first_holds = rw (q, le-leb (number_of n) 7 h); second_holds = rw (q, le-leb (number_of n) 7 h) }
 
-module _ (t : Tables) (e : Edge) (o : Options) (first second : List Float) where
+module _ (mode : Mode) (t : Tables) (e : Edge) (o : Options) (first second : List Float) where
   -- draw_unchecked
-  pub too_short_lem : too_short (length first) (length second) ≡ true → DrawnInto (in_buffers t e o (length first) (length second)) first second (Err ShortBuffer) first second
+  pub too_short_lem : too_short (length first) (length second) ≡ true → DrawnInto (in_buffers mode t e o (length first) (length second)) first second (Err ShortBuffer) first second
   too_short_lem h = early ShortBuffer first second _ (omega arith) (rw h)
 
   pub in_buffers_lem : too_short (length first) (length second) ≡ false → (r : Resolved) → r ≡ local_options t e o
-      → (answer : Answer Drawn) (f s : List Float) → DrawnInto (within (room_of (length first) (length second)) (referenced t e r)) first second answer f s
-      → DrawnInto (in_buffers t e o (length first) (length second)) first second answer f s
+      → (answer : Answer Drawn) (f s : List Float) → DrawnInto (within (room_of (length first) (length second)) (referenced mode t e r)) first second answer f s
+      → DrawnInto (in_buffers mode t e o (length first) (length second)) first second answer f s
   in_buffers_lem h r is answer f s d = rw (h, ← is) d
 
   -- draw
-  pub by_verdict : (n : Refusal) → verdict t e o ≡ Err n → DrawnInto (drawn t e o (length first) (length second)) first second (Err n) first second
-  by_verdict n a = early n first second _ (omega (arith, verdict_numbers t e o n a)) (refused_so t e o (length first) (length second) n (by_tables a))
+  pub by_verdict : (n : Refusal) → verdict t e o ≡ Err n → DrawnInto (drawn mode t e o (length first) (length second)) first second (Err n) first second
+  by_verdict n a = early n first second _ (omega (arith, verdict_numbers t e o n a)) (refused_so mode t e o (length first) (length second) n (by_tables a))
 
-  pub by_drawing : verdict t e o ≡ Ok tt → (answer : Answer Drawn) (f s : List Float) → DrawnInto (in_buffers t e o (length first) (length second)) first second answer f s
-      → DrawnInto (drawn t e o (length first) (length second)) first second answer f s
-  by_drawing a answer f s = subst (λ (x : Answer Got). DrawnInto x first second answer f s) (sym (given t e o (length first) (length second) (Ok tt) (too_short (length first) (length second)) a refl))
+  pub by_drawing : verdict t e o ≡ Ok tt → (answer : Answer Drawn) (f s : List Float) → DrawnInto (in_buffers mode t e o (length first) (length second)) first second answer f s
+      → DrawnInto (drawn mode t e o (length first) (length second)) first second answer f s
+  by_drawing a answer f s = subst (λ (x : Answer Got). DrawnInto x first second answer f s) (sym (given mode t e o (length first) (length second) (Ok tt) (too_short (length first) (length second)) a refl))
 
-  pub all_outcome : Binary t e → (answer : Answer Drawn) (f s : List Float) → DrawnInto (drawn t e o (length first) (length second)) first second answer f s → Outcome t e o first second answer f s
-  all_outcome b answer f s d = outcome t e o first second answer f s d.answered d.first_holds d.second_holds b
+  pub all_outcome : Binary t e → (answer : Answer Drawn) (f s : List Float) → DrawnInto (drawn mode t e o (length first) (length second)) first second answer f s → Outcome mode t e o first second answer f s
+  all_outcome b answer f s d = outcome mode t e o first second answer f s d.answered d.first_holds d.second_holds b
 
 -- ---- the lengths that draw_unchecked looks at
 pub first_short : (a b : ℕ) → a < shortest → too_short a b ≡ true
@@ -287,7 +314,7 @@ not_straight D old new f s h k = record {
   kept_second = λ z. k;
 }
 
-module _ (t : Tables) (e : Edge) (o : Options) (old new : Buffers) (range : Interval)
+module _ (mode : Mode) (t : Tables) (e : Edge) (o : Options) (old new : Buffers) (range : Interval)
     (u : usable_range (edge_curve t e) e.range ≡ Some range) {origin direction : Vec3} (line : prepared_of (edge_curve t e) ≡ Line origin direction)
     {start end : Vec3} (at_start : start ≡ edge_start t e) (at_end : end ≡ edge_end t e) where
   -- a line asks no hyperbola for anything
@@ -303,21 +330,23 @@ module _ (t : Tables) (e : Edge) (o : Options) (old new : Buffers) (range : Inte
 
   pub straight : SameBuffers old new → {b : Bool} → SegmentInto t e (for_extent (resolve o) (edge_extent t e)) range old.first.now b new.first.now → b ≡ true
       → ((r : Resolved) → le plus_zero r.sag ≡ true → (x y : Float) → stays (of_points t.points) e r (chord_between start end x y) ≡ true)
-      → new.second.now ≡ filled (length old.second.now) [] → StraightInto (in_buffers t e o (length old.first.now) (length old.second.now)) old true new
+      → new.second.now ≡ filled (length old.second.now) [] → StraightInto (in_buffers mode t e o (length old.first.now) (length old.second.now)) old true new
   unfolding local_options for_extent
   straight same {b} d h k c =
       let r = for_extent (resolve o) (edge_extent t e) in
       record {
         same = same;
         chain = λ z.
-            in_buffers_lem t e o old.first.now old.second.now (neither_short (length old.first.now) (length old.second.now) old.first_long old.second_long) r refl _ new.first.now new.second.now
-            (straight_drawn t e r old range u line_near d h (own_stays r (k r (sag_above o (edge_extent t e)))) c);
+            in_buffers_lem mode t e o old.first.now old.second.now (neither_short (length old.first.now) (length old.second.now) old.first_long old.second_long) r refl _ new.first.now new.second.now
+            (subst (λ (D : Work Got). DrawnInto (within (room_in old) D) old.first.now old.second.now (drawn_as AsDrawn 2) new.first.now new.second.now)
+            (with_domain mode t e r (line_domain mode (edge_curve t e) e.range line))
+            (straight_drawn mode t e r old range u line_near d h (own_stays r (k r (sag_above o (edge_extent t e)))) c));
         kept_first = λ z. absurd (false≢true (sym z));
         kept_second = λ z. absurd (false≢true (sym z));
       }
 
 -- the buffers as they were, and drawing went on from there
-pub drawn_from : (t : Tables) (e : Edge) (r : Resolved) {first second f s : List Float} → f ≡ first → s ≡ second → {answer : Answer Drawn} {f' s' : List Float}
-    → DrawnInto (within (room_of (length f) (length s)) (referenced t e r)) f s answer f' s'
-    → DrawnInto (within (room_of (length first) (length second)) (referenced t e r)) first second answer f' s'
-drawn_from t e r h k d = rw (← h, ← k) d
+pub drawn_from : (D E : Work Got) → D ≡ E → {first second f s : List Float} → f ≡ first → s ≡ second → {answer : Answer Drawn} {f' s' : List Float}
+    → DrawnInto (within (room_of (length f) (length s)) D) f s answer f' s'
+    → DrawnInto (within (room_of (length first) (length second)) E) first second answer f' s'
+drawn_from D E q h k d = rw (← h, ← k, ← q) d

@@ -5,8 +5,9 @@ ghost use Rattle.std.specs.Prelude.{◌≡◌, length, T};
 ghost use Rattle.std.specs.Float.{binary64};
 ghost use Rattle.std.specs.Float.Ieee.{fits};
 ghost use Rattle.brep.specs.Rows.{lent};
-ghost use Rattle.edge_params.specs.Work.{within};
-ghost use Rattle.draw_spec.specs.Draw.{first_way, local_options, referenced, in_buffers, Outcome};
+ghost use Rattle.edge_params.specs.Work.{done, within};
+ghost use Rattle.draw_spec.specs.Draw.{first_way, local_options, drawn_probed, lost_chord, in_buffers, Outcome};
+ghost use Rattle.options.specs.declared.Mode.TheVariants.{Reference};
 ghost use Rattle.draw_spec.specs.Own.Binary.{AllBinary64};
 ghost use Rattle.edge_repair.specs.Own.Buffers.{room_in};
 ghost use Rattle.edge_repair.specs.Own.Redrawn.{DrawnInto, DrawnIn};
@@ -19,7 +20,7 @@ use draw_spec::{Drawn, Way};
 use edge_drawing::{Drawing, Plan};
 use edge_repair::Buffers;
 use math::Interval;
-use options::{Options, Resolved};
+use options::{Mode, Options, Resolved};
 use refusal::Refusal;
 
 // The way of the first drawing: the chord where the edge has no usable range.
@@ -66,7 +67,7 @@ fn local_options(drawing: &Drawing<'_>, options: Options) -> Resolved
 // Draws a line's edge in one segment, the commonest, at once, where neither its extent nor its box can change the chain, and says whether
 // it did. If not, both buffers are as they were, and it is drawn as any other.
 fn draw_straight(drawing: &Drawing<'_>, options: Options, buffers: &mut Buffers<'_>) -> bool
-    ensures { StraightInto (in_buffers (lent drawing.now.tables.now) drawing.now.edge options (length buffers.old.first.now) (length buffers.old.second.now)) buffers.old result buffers.new }
+    ensures { StraightInto (in_buffers drawing.now.mode (lent drawing.now.tables.now) drawing.now.edge options (length buffers.old.first.now) (length buffers.old.second.now)) buffers.old result buffers.new }
 {
     if 1 < options.segments {
         return false;
@@ -100,9 +101,28 @@ fn draw_straight(drawing: &Drawing<'_>, options: Options, buffers: &mut Buffers<
     false
 }
 
+// The chord of the vertices, with lo and hi, of a curve that strict mode finds nothing to draw over. Repair does not look at it.
+fn draw_lost(drawing: &Drawing<'_>, buffers: &mut Buffers<'_>) -> Result<Drawn, Refusal>
+    ensures { DrawnIn (within (room_in buffers.old) (done (lost_chord (lent drawing.now.tables.now) drawing.now.edge))) buffers.old result buffers.new }
+{
+    let edge = drawing.edge;
+    edge_place::chord(
+        drawing.tables.points,
+        edge,
+        edge.range.lo,
+        edge.range.hi,
+        buffers.first,
+    );
+    base_lists::clear_from(buffers.second, 0);
+    Ok(Drawn {
+        way: Way::Chord,
+        count: 2,
+    })
+}
+
 // The closure inside discretise_all: the probes, discretise, then repair_runaway.
 fn drawn_in(plan: &Plan<'_>, buffers: &mut Buffers<'_>) -> Result<Drawn, Refusal>
-    ensures { DrawnIn (within (room_in buffers.old) (referenced (lent plan.now.drawing.now.tables.now) plan.now.drawing.now.edge plan.now.options)) buffers.old result buffers.new }
+    ensures { DrawnIn (within (room_in buffers.old) (drawn_probed plan.now.drawing.now.mode (lent plan.now.drawing.now.tables.now) plan.now.drawing.now.edge plan.now.options)) buffers.old result buffers.new }
 {
     let count = edge_discretise::discretise_usable(plan, true, buffers.first, buffers.second)?;
     let way = first_way(plan.drawing.usable);
@@ -117,7 +137,7 @@ fn draw_unchecked(
     first: &mut [f64],
     second: &mut [f64],
 ) -> Result<Drawn, Refusal>
-    ensures { DrawnInto (in_buffers (lent drawing.now.tables.now) drawing.now.edge options (length first.old) (length second.old)) first.old second.old result first.new second.new }
+    ensures { DrawnInto (in_buffers drawing.now.mode (lent drawing.now.tables.now) drawing.now.edge options (length first.old) (length second.old)) first.old second.old result first.new second.new }
 {
     if first.len() < edge_record::SHORTEST || second.len() < edge_record::SHORTEST {
         return Err(Refusal::ShortBuffer);
@@ -128,6 +148,11 @@ fn draw_unchecked(
             way: Way::AsDrawn,
             count: 2,
         });
+    }
+    let curves = drawing.tables.curves;
+    let edge = drawing.edge;
+    if edge_range::has_no_domain(curves, edge.curve, edge.range, drawing.mode) {
+        return draw_lost(drawing, &mut buffers);
     }
     let plan = Plan {
         drawing,
@@ -145,27 +170,29 @@ fn draw_bounded(
     first: &mut [f64],
     second: &mut [f64],
 ) -> Result<Drawn, Refusal>
-    ensures { DrawnInto (drawn_bounded (lent drawing.now.tables.now) drawing.now.edge options (length first.old) (length second.old)) first.old second.old result first.new second.new }
+    ensures { DrawnInto (drawn_bounded drawing.now.mode (lent drawing.now.tables.now) drawing.now.edge options (length first.old) (length second.old)) first.old second.old result first.new second.new }
 {
     let tables = drawing.tables;
     let edge = drawing.edge;
     if curve_nests::nests(tables.curves, tables.parts, edge.curve) {
-        return draw(tables, edge, options, first, second);
+        return draw_in_mode(tables, edge, options, drawing.mode, first, second);
     }
     draw_unchecked(drawing, options, first, second)
 }
 
-// Draws an edge over tables that `causes::check_tables` has accepted, for many edges over the same tables: of the tables only the
-// lengths are looked at, unless composites nest. Any others are drawn as their rows read, or refused: a run of more segments than a
-// table may have is turned away before its segments are gone through.
-pub fn draw_over(
+// Draws an edge in a mode, over tables that `causes::check_tables` has accepted, for many edges over the same tables: of the tables only
+// the lengths are looked at, unless composites nest. Any others are drawn as their rows read, or refused: a run of more segments than a
+// table may have is turned away before its segments are gone through. Stays: tables, edge, options and mode are what a caller has, here, below
+// and in draw_handed; the old entry points take the first three.
+pub fn draw_over_in_mode(
     tables: &LentTables<'_>,
     edge: Edge,
     options: Options,
+    mode: Mode,
     first: &mut [f64],
     second: &mut [f64],
 ) -> Result<Drawn, Refusal>
-    ensures { Over (lent tables.now) edge options first.old second.old result first.new second.new }
+    ensures { Over mode (lent tables.now) edge options first.old second.old result first.new second.new }
 {
     binary64(tables.reals, tables.ranges, edge.range);
     if causes::oversize(tables) {
@@ -176,7 +203,7 @@ pub fn draw_over(
     if knots_sort::MOST_KNOTS < knots {
         return Err(Refusal::IllFormed);
     }
-    let drawing = Drawing::new(tables, edge);
+    let drawing = Drawing::new(tables, edge, mode);
     if knots == 0 {
         // It has no segments, so that nothing nests.
         return draw_unchecked(&drawing, options, first, second);
@@ -184,7 +211,36 @@ pub fn draw_over(
     draw_bounded(&drawing, options, first, second)
 }
 
-// THE ENTRY POINT: looks at the tables, the edge and the options, and draws the edge's chain into one of the buffers.
+// The same in the mode that is equal to the Rust.
+pub fn draw_over(
+    tables: &LentTables<'_>,
+    edge: Edge,
+    options: Options,
+    first: &mut [f64],
+    second: &mut [f64],
+) -> Result<Drawn, Refusal>
+    ensures { Over Reference (lent tables.now) edge options first.old second.old result first.new second.new }
+{
+    draw_over_in_mode(tables, edge, options, Mode::Reference, first, second)
+}
+
+// THE ENTRY POINT: looks at the tables, the edge and the options, and draws the edge's chain, in a mode, into one of the buffers.
+pub fn draw_in_mode(
+    tables: &LentTables<'_>,
+    edge: Edge,
+    options: Options,
+    mode: Mode,
+    first: &mut [f64],
+    second: &mut [f64],
+) -> Result<Drawn, Refusal>
+    ensures { Outcome mode (lent tables.now) edge options first.old second.old result first.new second.new }
+{
+    binary64(tables.reals, tables.ranges, edge.range);
+    causes::check(tables, edge, options)?;
+    draw_unchecked(&Drawing::new(tables, edge, mode), options, first, second)
+}
+
+// The same in the mode that is equal to the Rust.
 pub fn draw(
     tables: &LentTables<'_>,
     edge: Edge,
@@ -192,9 +248,7 @@ pub fn draw(
     first: &mut [f64],
     second: &mut [f64],
 ) -> Result<Drawn, Refusal>
-    ensures { Outcome (lent tables.now) edge options first.old second.old result first.new second.new }
+    ensures { Outcome Reference (lent tables.now) edge options first.old second.old result first.new second.new }
 {
-    binary64(tables.reals, tables.ranges, edge.range);
-    causes::check(tables, edge, options)?;
-    draw_unchecked(&Drawing::new(tables, edge), options, first, second)
+    draw_in_mode(tables, edge, options, Mode::Reference, first, second)
 }

@@ -19,13 +19,15 @@ use Rattle.math.specs.declared.Vec3.{Vec3}
 use Rattle.math.specs.declared.Aabb.{Aabb}
 use Rattle.math.specs.declared.Interval.{Interval}
 use Rattle.math.specs.Math.{v_finite, add_point, distance, at as along}
+use Rattle.options.specs.declared.Mode.{Mode}
 use Rattle.options.specs.declared.Resolved.{Resolved}
 use Rattle.brep.specs.Tree.{CurveTree, analytic, line, circle, ellipse, parabola, hyperbola, polyline, trimmed, composite, Segments, none, segment}
 use Rattle.curve.specs.Eval.{point_at, segment_point, natural_range}
 use Rattle.curve_tangent.specs.Derivative.{derivative_at, segment_derivative}
 use Rattle.curve_asks.specs.Asks.{asks_far, segment_asks_far}
 use Rattle.knots_inside.specs.Thinned.{next_of, thinned_from, thin_breaks}
-use Rattle.knots.specs.Knots.{curve_breaks, deviation}
+use Rattle.knots.specs.Knots.{deviation}
+use Rattle.knots_breaks.specs.Breaks.{breaks_in}
 use Rattle.knots_thin.specs.Thin.{deviation_asks, thin_asks, break_asks, thinning_asks}
 use Rattle.edge_params.specs.Params.{Move, asks, adds, asked, midpoint, subdividing, step_at, steps}
 use Rattle.edge_params.specs.Work.{some_far}
@@ -214,13 +216,13 @@ module _ (at real : Float → Vec3) where
         go f g true l = rw (f l)
         go f g false l = g l
 
-breaks_same : (c : CurveTree) (at : Float → Vec3) (lo hi sag : Float) → All (λ t. at t ≡ point_at c t) (break_asks c lo hi sag)
-    → thin_breaks (curve_breaks c lo hi) lo hi sag (deviation at) ≡ thin_breaks (curve_breaks c lo hi) lo hi sag (deviation (point_at c))
+breaks_same : (mode : Mode) (c : CurveTree) (at : Float → Vec3) (lo hi sag : Float) → All (λ t. at t ≡ point_at c t) (break_asks mode c lo hi sag)
+    → thin_breaks (breaks_in mode c lo hi) lo hi sag (deviation at) ≡ thin_breaks (breaks_in mode c lo hi) lo hi sag (deviation (point_at c))
 unfolding thin_breaks thinning_asks
-breaks_same c at lo hi sag = go (lt plus_zero sag)
+breaks_same mode c at lo hi sag = go (lt plus_zero sag)
   where
     bs : List Float
-    bs = curve_breaks c lo hi
+    bs = breaks_in mode c lo hi
 
     thinned : (Float → Vec3) → Bool → List Float
     thinned p v = elim v [ true ↦ thinned_from (deviation p) sag hi lo bs | false ↦ bs ]

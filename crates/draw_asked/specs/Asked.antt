@@ -13,13 +13,15 @@ use Rattle.math.specs.declared.Vec3.{Vec3}
 use Rattle.math.specs.declared.Aabb.{Aabb}
 use Rattle.math.specs.declared.Interval.{Interval}
 use Rattle.math.specs.Math.{v_zero, v_add, v_scale, y_dir, v_finite, add_point, distance, try_normalized}
+use Rattle.options.specs.declared.Mode.{Mode}
 use Rattle.options.specs.declared.Resolved.{Resolved}
 use Rattle.brep.specs.Tree.{CurveTree, analytic, line, circle, ellipse, parabola, hyperbola, polyline, trimmed, composite, Segments, none, segment}
 use Rattle.curve.specs.Eval.{run_length, segment_index, segment_local, own_parameter, polyline_point, axes_point, parabola_point, point_at, natural_range}
 use Rattle.curve_tangent.specs.Derivative.{polyline_derivative, signed_span, ellipse_derivative, parabola_derivative, hyperbola_derivative, derivative_at}
 use Rattle.curve_asks.specs.Asks.{is_far, asks_far}
 use Rattle.knots_inside.specs.Thinned.{thin_breaks}
-use Rattle.knots.specs.Knots.{curve_breaks, worst_of_three, deviation}
+use Rattle.knots.specs.Knots.{worst_of_three, deviation}
+use Rattle.knots_breaks.specs.Breaks.{breaks_in}
 use Rattle.knots_thin.specs.Thin.{kept_breaks, deviation_asks, break_asks}
 use Rattle.edge_params.specs.Work.{Work, asking}
 use Rattle.edge_params.specs.Params.{Move, asked, midpoint, subdividing, forming, evenly}
@@ -118,11 +120,11 @@ unfoldable pub worst_over : List Vec3 → Float
 worst_over ps = worst_of_three (get_or ps 0 v_zero) (get_or ps 1 v_zero) (get_or ps 2 v_zero) (get_or ps 3 v_zero) (get_or ps 4 v_zero)
 
 -- a span's deviation is that of the points at its five recorded parameters; and whatever agrees with the curve's points at all that are recorded
--- leaves the same breaks
+-- leaves the same breaks, in either mode
 pub record BreaksAsked : Type 0 where
   pub span : (at : Float → Vec3) (a b : Float) → deviation at a b ≡ worst_over (map at (deviation_asks a b))
-  pub breaks : (c : CurveTree) (at : Float → Vec3) (lo hi sag : Float) → All (λ t. at t ≡ point_at c t) (break_asks c lo hi sag)
-      → thin_breaks (curve_breaks c lo hi) lo hi sag (deviation at) ≡ kept_breaks c lo hi sag
+  pub breaks : (mode : Mode) (c : CurveTree) (at : Float → Vec3) (lo hi sag : Float) → All (λ t. at t ≡ point_at c t) (break_asks mode c lo hi sag)
+      → thin_breaks (breaks_in mode c lo hi) lo hi sag (deviation at) ≡ kept_breaks mode c lo hi sag
 
 -- ---- subdivide
 -- `within_budget` of what is a curve's point and derivative at a parameter

@@ -13,6 +13,7 @@ use Rattle.brep.specs.Rows.{point_of, kind_of, curve_of}
 use Rattle.brep.specs.Tree.{CurveTree, tree, below, grown}
 use Rattle.curve.specs.Eval.{point_at, natural_range}
 use Rattle.curve_asks.specs.Asks.{asks_far}
+use Rattle.options.specs.declared.Mode.{Mode}
 use Rattle.options.specs.declared.Resolved.{Resolved}
 use Rattle.edge_params.specs.Work.{Work, done}
 use Rattle.draw_spec.specs.Edge.{edge_curve, edge_start, edge_end}
@@ -93,9 +94,9 @@ never_far : (t : Float) → asks_far (edge_curve boxed escaping) t ≡ false
 unfolding asks_far tree below grown curve_of kind_of kind_numbered
 never_far t = refl
 
--- and the chord is left, whatever the options are
-pub runs_away : (r : Resolved) → by_short_arc boxed escaping r ≡ done (runaway boxed escaping)
+-- and the chord is left, whatever the mode and the options are
+pub runs_away : (mode : Mode) (r : Resolved) → by_short_arc mode boxed escaping r ≡ done (runaway boxed escaping)
 unfolding short_arc_tried
-runs_away r =
-    short_arc_never boxed escaping r never_far
+runs_away mode r =
+    short_arc_never mode boxed escaping r never_far
     ∙ chosen _ _ (not_both (is_swept (natural_range (edge_curve boxed escaping))) _ (no_length _ _ from_start from_end))

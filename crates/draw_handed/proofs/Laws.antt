@@ -11,6 +11,7 @@ use Rattle.base_lists.specs.Room.{filled}
 use Rattle.base_lists.proofs.Filled.{filled_front}
 use Rattle.brep.specs.declared.Edge.{Edge}
 use Rattle.brep.specs.Rows.{Tables}
+use Rattle.options.specs.declared.Mode.{Mode}
 use Rattle.options.specs.declared.Options.{Options}
 use Rattle.edge_record.specs.declared.Sample.{Sample}
 use Rattle.edge_record.specs.Chain.{width, flat}
@@ -46,35 +47,35 @@ part_of (Ok g) first second = at (in_first g.way)
     at true = lead (length first) g.chain
     at false = lead (length second) g.chain
 
-module _ (t : Tables) (e : Edge) (o : Options) (first second : List Float) (answer : Answer Drawn) (f s : List Float) (h : Outcome t e o first second answer f s) where
+module _ (mode : Mode) (t : Tables) (e : Edge) (o : Options) (first second : List Float) (answer : Answer Drawn) (f s : List Float) (h : Outcome mode t e o first second answer f s) where
   abbrev D : Answer Got
-  D = drawn t e o (length first) (length second)
+  D = drawn mode t e o (length first) (length second)
 
   -- the part that chain_of returns of draw's own answer holds the chain's records
   pub part_is_chain : take (chain_floats answer) (cond (lies_in_first answer) f s) ≡ chain_of D
   part_is_chain = rw (h.answered, h.first_holds, h.second_holds) (part_of D first second)
 
   -- the outcome by the definition's own answer and buffers
-  own_outcome : Outcome t e o first second (answer_of D) (first_after first D) (second_after second D)
+  own_outcome : Outcome mode t e o first second (answer_of D) (first_after first D) (second_after second D)
   own_outcome = rw (← h.answered, ← h.first_holds, ← h.second_holds) h
 
 -- ---- drawn_chain
 lies : {A : Type 0} (d d' : Answer Drawn) (x x' y y' : A) → d ≡ d' → x ≡ x' → y ≡ y' → cond (lies_in_first d) x y ≡ cond (lies_in_first d') x' y'
 lies d d' x x' y y' e p q = rw (e, p, q)
 
-module _ (t : Tables) (e : Edge) (o : Options) (first second : MutBor (List Float)) (answer : Answer Drawn) (f s : Bor (List Float)) (h : Outcome t e o first.now second.now answer f.now s.now) where
+module _ (mode : Mode) (t : Tables) (e : Edge) (o : Options) (first second : MutBor (List Float)) (answer : Answer Drawn) (f s : Bor (List Float)) (h : Outcome mode t e o first.now second.now answer f.now s.now) where
   pub hands_back : (part : Bor (List Float)) → f.ref_ptr ≡ first.ref_ptr → s.ref_ptr ≡ second.ref_ptr
       → part.now ≡ take (chain_floats answer) (cond (lies_in_first answer) f.now s.now) → part.ref_ptr ≡ cond (lies_in_first answer) f.ref_ptr s.ref_ptr
-      → Handed t e o first second (record { drawn = answer; chain = part; first = f; second = s })
+      → Handed mode t e o first second (record { drawn = answer; chain = part; first = f; second = s })
   hands_back part p q l r = record {
     handed = record {
       answered = h.answered;
-      chain_holds = l ∙ part_is_chain t e o first.now second.now answer f.now s.now h;
+      chain_holds = l ∙ part_is_chain mode t e o first.now second.now answer f.now s.now h;
       first_holds = h.first_holds;
       second_holds = h.second_holds;
       chain_lies = r ∙ lies _ _ _ _ _ _ h.answered p q;
       first_lies = p;
       second_lies = q;
     };
-    outcome = own_outcome t e o first.now second.now answer f.now s.now h;
+    outcome = own_outcome mode t e o first.now second.now answer f.now s.now h;
   }

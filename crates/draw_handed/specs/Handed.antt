@@ -3,6 +3,7 @@ use Rattle.std.specs.Prelude.{◌≡◌, cond, List, [], length, Float, Err, Ok}
 use Rattle.std.specs.Borrow.{MutBor}
 use Rattle.brep.specs.declared.Edge.{Edge}
 use Rattle.brep.specs.Rows.{Tables}
+use Rattle.options.specs.declared.Mode.{Mode}
 use Rattle.options.specs.declared.Options.{Options}
 use Rattle.edge_record.specs.Chain.{flat}
 use Rattle.draw_spec.specs.Repair.{Got}
@@ -28,9 +29,9 @@ pub record HandedBy (D : Answer Got) (first second : MutBor (List Float)) (back 
   pub first_lies : back.first.ref_ptr ≡ first.ref_ptr
   pub second_lies : back.second.ref_ptr ≡ second.ref_ptr
 
--- that of the entry point, with all that `draw` promises of its answer and buffers
-pub record Handed (T : Tables) (e : Edge) (o : Options) (first second : MutBor (List Float)) (back : HandedBack) : Type 0 where
-  pub handed : HandedBy (drawn T e o (length first.now) (length second.now)) first second back
+-- that of the entry point in a mode, with all that `draw_in_mode` promises of its answer and buffers
+pub record Handed (mode : Mode) (T : Tables) (e : Edge) (o : Options) (first second : MutBor (List Float)) (back : HandedBack) : Type 0 where
+  pub handed : HandedBy (drawn mode T e o (length first.now) (length second.now)) first second back
   pub outcome :
-      let D = drawn T e o (length first.now) (length second.now) in
-      Outcome T e o first.now second.now (answer_of D) (first_after first.now D) (second_after second.now D)
+      let D = drawn mode T e o (length first.now) (length second.now) in
+      Outcome mode T e o first.now second.now (answer_of D) (first_after first.now D) (second_after second.now D)

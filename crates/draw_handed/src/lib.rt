@@ -2,13 +2,14 @@
 // The chain of an answer, handed back as the part of the lent buffer that holds it, without copying.
 ghost use Rattle.std.specs.Prelude.{◌≡◌, cond, ◌*◌, take};
 ghost use Rattle.brep.specs.Rows.{lent};
+ghost use Rattle.options.specs.declared.Mode.TheVariants.{Reference};
 ghost use Rattle.edge_record.specs.Chain.{width};
 ghost use Rattle.draw_spec.specs.Draw.{in_first, lies_in_first, chain_floats};
 ghost use Rattle.draw_handed.specs.Handed.{Handed};
 
 use brep::{Edge, LentTables};
 use draw_spec::{Drawn, Way};
-use options::Options;
+use options::{Mode, Options};
 use refusal::Refusal;
 
 // What a drawing hands back: its answer, the answer's chain as the part of the buffer that holds it, and both buffers whole.
@@ -53,17 +54,18 @@ pub fn chain_of<'a>(drawn: Result<Drawn, Refusal>, first: &'a [f64], second: &'a
     }
 }
 
-// Draws an edge, and hands back its answer and chain, the first buffer whole and the second.
-pub fn drawn_chain<'a>(
+// Draws an edge in a mode, and hands back its answer and chain, the first buffer whole and the second.
+pub fn drawn_chain_in_mode<'a>(
     tables: &LentTables<'_>,
     edge: Edge,
     options: Options,
+    mode: Mode,
     first: &'a mut [f64],
     second: &'a mut [f64],
 ) -> HandedBack<'a>
-    ensures { Handed (lent tables.now) edge options first.entry second.entry result }
+    ensures { Handed mode (lent tables.now) edge options first.entry second.entry result }
 {
-    let drawn = draw::draw(tables, edge, options, &mut *first, &mut *second);
+    let drawn = draw::draw_in_mode(tables, edge, options, mode, &mut *first, &mut *second);
     let first = &first[..];
     let second = &second[..];
     HandedBack {
@@ -72,4 +74,17 @@ pub fn drawn_chain<'a>(
         first,
         second,
     }
+}
+
+// The same in the mode that is equal to the Rust.
+pub fn drawn_chain<'a>(
+    tables: &LentTables<'_>,
+    edge: Edge,
+    options: Options,
+    first: &'a mut [f64],
+    second: &'a mut [f64],
+) -> HandedBack<'a>
+    ensures { Handed Reference (lent tables.now) edge options first.entry second.entry result }
+{
+    drawn_chain_in_mode(tables, edge, options, Mode::Reference, first, second)
 }

@@ -17,8 +17,11 @@ use Rattle.brep.specs.declared.Edge.{Edge}
 use Rattle.brep.specs.Rows.{Tables}
 use Rattle.brep.specs.Tree.{CurveTree}
 use Rattle.curve.specs.Eval.{point_at, is_sampled}
+use Rattle.options.specs.declared.Mode.{Mode}
 use Rattle.options.specs.declared.Resolved.{Resolved}
-use Rattle.knots.specs.Knots.{curve_knots, curve_breaks, deviation}
+use Rattle.knots.specs.Knots.{deviation}
+use Rattle.knots_breaks.specs.Breaks.{breaks_in}
+use Rattle.knots_breaks.proofs.Laws.{breaks_fit, breaks_between}
 use Rattle.edge_params.proofs.Runs.{good_number}
 use Rattle.edge_params.proofs.Steady.{Steady, steady_sub, steady_one_way, two_one_way, two_steady}
 use Rattle.curve_asks.specs.Asks.{asks_far}
@@ -169,40 +172,41 @@ module _ (range : Interval) where
     still_steady (a ∷ b ∷ l) s = s
 
 -- ---- discretise
-module _ (H : Type 0) (t : Tables) (e : Edge) (tame : H → Tame (edge_curve t e)) (own : H → Ends e.range) (room : ℕ) (fine : Room room) (r : Resolved) where
+module _ (H : Type 0) (mode : Mode) (t : Tables) (e : Edge) (tame : H → Tame (edge_curve t e)) (own : H → Ends e.range) (room : ℕ) (fine : Room room) (r : Resolved) where
   -- the parameters of the curve over a range: whatever was asked for before, they are what `sampled_in` gives
   module _ (range : Interval) (g : H → Goods range) where
     abbrev c : CurveTree
     c = edge_curve t e
 
-    list_steady : (l : List Float) → sampled_in room c range r ≡ Ok l → H → Steady l
-    unfolding sampled_in sampler curve_breaks
+    list_steady : (l : List Float) → sampled_in room mode c range r ≡ Ok l → H → Steady l
+    unfolding sampled_in sampler
     list_steady l q x =
-        sampled_steady (sampler c range r) range
-        (thin_sampleable (sampler c range r) range (curve_knots c) r.sag (deviation (point_at c)) refl (tame x).knots (g x).low (g x).high)
+        sampled_steady (sampler mode c range r) range
+        (thin_sampleable (sampler mode c range r) range (breaks_in mode c range.lo range.hi) r.sag (deviation (point_at c)) refl (breaks_fit mode c range.lo range.hi (tame x).knots)
+        (breaks_between mode c range.lo range.hi (g x).low.fits64 (g x).high.fits64 (g x).low.modest (g x).high.modest) (g x).low (g x).high)
         room fine.most l q
 
-    listed_answers : Answers room (Parameters H room) (listed c range r)
+    listed_answers : Answers room (Parameters H room) (listed mode c range r)
     listed_answers =
-        answers_then room (sampled c range r) (λ l. asking (asks_far c) (at_least_two range l) (done (at_least_two range l)))
-        (answers_eleven {P = λ l. sampled_in room c range r ≡ Ok l} room (sampled c range r) (sampled_refused c range r) (sampled_kept room c range r))
+        answers_then room (sampled mode c range r) (λ l. asking (asks_far c) (at_least_two range l) (done (at_least_two range l)))
+        (answers_eleven {P = λ l. sampled_in room mode c range r ≡ Ok l} room (sampled mode c range r) (sampled_refused mode c range r) (sampled_kept room mode c range r))
         (λ l q. answers_asking room (asks_far c) (at_least_two range l) (done (at_least_two range l)) (answers_ends room (answer (record {
           two = at_least_two_lem range l;
-          fits = at_most range room fine.least l (sampled_room room c range r l q);
+          fits = at_most range room fine.least l (sampled_room room mode c range r l q);
           steady = λ x. still_steady range (g x) l (list_steady l q x);
         }))))
 
-  pub discretised_answers : Answers room (Chained H t e (merge_floor e.tolerance r.sag) room) (discretised t e r)
+  pub discretised_answers : Answers room (Chained H t e (merge_floor e.tolerance r.sag) room) (discretised mode t e r)
   unfolding discretised
   discretised_answers = go (usable_range (edge_curve t e) e.range) refl
     where
       go : (u : Option Interval) → usable_range (edge_curve t e) e.range ≡ u
           → Answers room (Chained H t e (merge_floor e.tolerance r.sag) room) (elim u [
             | None ↦ done (chord_of t e e.range.lo e.range.hi)
-            | Some range ↦ over_range t e r range
+            | Some range ↦ over_range mode t e r range
           ])
       go None q = answers_ends room (answer (chord_chained H t e (merge_floor e.tolerance r.sag) room fine.least e.range.lo e.range.hi))
       go (Some range) q =
-          answers_then room (listed (edge_curve t e) range r) (λ params. ends (finished t e r params))
+          answers_then room (listed mode (edge_curve t e) range r) (λ params. ends (finished t e r params))
           (listed_answers range (λ x. usable_goods (edge_curve t e) (tame x) range e.range (own x) q))
           (finished_answers t e r H room)

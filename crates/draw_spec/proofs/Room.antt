@@ -8,6 +8,7 @@ use lib.Dec.{ltb}
 use borrow.Author.Tests.{ltb-false, le-ltb}
 use Rattle.brep.specs.declared.Edge.{Edge}
 use Rattle.brep.specs.Rows.{Tables}
+use Rattle.options.specs.declared.Mode.{Mode}
 use Rattle.options.specs.declared.Options.{Options}
 use Rattle.std.proofs.lemmas.Bool.{or_parts}
 use Rattle.edge_params.proofs.Work.{within_roomier}
@@ -28,11 +29,11 @@ module _ (first second first' second' : ℕ) (h : first ≤ first') (k : second 
       rw (le-ltb first' 8 (omega arith), le-ltb second' 8 (omega arith))
 
   -- a chain answered with two buffers is answered with any two that are no shorter
-  pub roomier : (t : Tables) (e : Edge) (o : Options) (g : Got) → drawn t e o first second ≡ Ok g → drawn t e o first' second' ≡ Ok g
-  roomier t e o g q =
-      let a = accepts t e o first second g q in
-      accepted_so t e o first' second' g (record {
+  pub roomier : (mode : Mode) (t : Tables) (e : Edge) (o : Options) (g : Got) → drawn mode t e o first second ≡ Ok g → drawn mode t e o first' second' ≡ Ok g
+  roomier mode t e o g q =
+      let a = accepts mode t e o first second g q in
+      accepted_so mode t e o first' second' g (record {
         accepted = a.accepted;
         long = still_long a.long;
-        made = within_roomier (room_of first second) (room_of first' second') room_grows (referenced t e (local_options t e o)) g a.made;
+        made = within_roomier (room_of first second) (room_of first' second') room_grows (referenced mode t e (local_options t e o)) g a.made;
       })

@@ -10,6 +10,7 @@ use lib.Ieee.{binary64, fits}
 use borrow.Author.Tests.{ltb-false}
 use Rattle.brep.specs.declared.Edge.{Edge}
 use Rattle.brep.specs.Rows.{Tables}
+use Rattle.options.specs.declared.Mode.{Mode}
 use Rattle.options.specs.declared.Options.{Options}
 use Rattle.causes.specs.Causes.{verdict}
 use Rattle.std.proofs.lemmas.Bool.{or_parts}
@@ -46,7 +47,7 @@ room_fine first second h =
     let q = ltb-false second shortest k.1 in
     record { least = omega arith; most = omega arith }
 
-module _ (t : Tables) (e : Edge) (o : Options) (first second : ℕ) where
+module _ (mode : Mode) (t : Tables) (e : Edge) (o : Options) (first second : ℕ) where
   -- ---- the hypotheses that accepted tables meet
   own_range : verdict t e o ≡ Ok tt → Binary t e → OwnRange e.range
   own_range a b =
@@ -61,35 +62,35 @@ module _ (t : Tables) (e : Edge) (o : Options) (first second : ℕ) where
 
   drawn_answers : verdict t e o ≡ Ok tt → too_short first second ≡ false
       → Answers (room_of first second) (λ (g : Got). Chained (Binary t e) t e (merge_floor e.tolerance (local_options t e o).sag) (room_of first second) g.chain)
-      (referenced t e (local_options t e o))
+      (referenced mode t e (local_options t e o))
   drawn_answers a h =
       let k = checked t e o a in
-      referenced_answers (Binary t e) t e (λ b. tree_tame t e o k b.reals b.ranges e.curve k.curve_inside) (own_range a) (room_of first second)
+      referenced_answers (Binary t e) mode t e (λ b. tree_tame t e o k b.reals b.ranges e.curve k.curve_inside) (own_range a) (room_of first second)
       (room_fine first second h) (local_options t e o)
 
-  chained : (g : Got) → drawn t e o first second ≡ Ok g → Chained (Binary t e) t e (merge_floor e.tolerance (local_options t e o).sag) (room_of first second) g.chain
-  chained g q = let a = accepts t e o first second g q in answers_got g (drawn_answers a.accepted a.long) a.made
+  chained : (g : Got) → drawn mode t e o first second ≡ Ok g → Chained (Binary t e) t e (merge_floor e.tolerance (local_options t e o).sag) (room_of first second) g.chain
+  chained g q = let a = accepts mode t e o first second g q in answers_got g (drawn_answers a.accepted a.long) a.made
 
   -- DEMAND 3: of a chain, whichever way it was got, all five clauses hold together
-  pub drawn_sound : (g : Got) → Binary t e → drawn t e o first second ≡ Ok g → Sound t e (merge_floor e.tolerance (local_options t e o).sag) g.chain
+  pub drawn_sound : (g : Got) → Binary t e → drawn mode t e o first second ≡ Ok g → Sound t e (merge_floor e.tolerance (local_options t e o).sag) g.chain
   drawn_sound g b q = (chained g q).sound b
 
   -- it fits the room, and so both buffers
-  pub drawn_fits : (g : Got) → drawn t e o first second ≡ Ok g → length g.chain ≤ room_of first second
+  pub drawn_fits : (g : Got) → drawn mode t e o first second ≡ Ok g → length g.chain ≤ room_of first second
   drawn_fits g q = (chained g q).fits
 
   -- ---- the numbers of refusals
   -- once none of 1 to 7 applies, 8 is for a list that is longer than the room, 9 for a reference that never ends, and 11 for one that would ask
   -- a hyperbola for a parameter that is too far
-  pub drawn_late : (n : Refusal) → within (room_of first second) (referenced t e (local_options t e o)) ≡ Err n → verdict t e o ≡ Ok tt → too_short first second ≡ false
-      → Cause (overflows (room_of first second) (referenced t e (local_options t e o)).acts) (referenced t e (local_options t e o)).end n
+  pub drawn_late : (n : Refusal) → within (room_of first second) (referenced mode t e (local_options t e o)) ≡ Err n → verdict t e o ≡ Ok tt → too_short first second ≡ false
+      → Cause (overflows (room_of first second) (referenced mode t e (local_options t e o)).acts) (referenced mode t e (local_options t e o)).end n
   drawn_late n q a h = answers_cause n (drawn_answers a h) q
 
   -- every refusal is from 1 to 9, or 11
-  pub drawn_numbers : (n : Refusal) → drawn t e o first second ≡ Err n → (1 ≤ number_of n) × (number_of n ≤ 11) × (n ≡ NoSheet → ⊥)
-  drawn_numbers n q = go (refuses t e o first second n q)
+  pub drawn_numbers : (n : Refusal) → drawn mode t e o first second ≡ Err n → (1 ≤ number_of n) × (number_of n ≤ 11) × (n ≡ NoSheet → ⊥)
+  drawn_numbers n q = go (refuses mode t e o first second n q)
     where
-      go : Refuses t e o first second n → (1 ≤ number_of n) × (number_of n ≤ 11) × (n ≡ NoSheet → ⊥)
+      go : Refuses mode t e o first second n → (1 ≤ number_of n) × (number_of n ≤ 11) × (n ≡ NoSheet → ⊥)
       go (by_tables a) = let k = verdict_numbers t e o n a in (k.0, omega (arith, k.1), λ z. let w : number_of n ≡ 10 = rw z refl in omega (arith, k.1))
       go (by_buffers a b z) = (rw z (omega arith), rw z (omega arith), λ t. cc)
       go (by_drawing a b r) =

@@ -1,4 +1,4 @@
--- Drawing an edge: the answer, what both chain buffers hold afterwards, and what holds of every chain. Definitions only.
+-- Drawing an edge in a mode: the answer, what both chain buffers hold afterwards, and what holds of every chain. Definitions only.
 use Rattle.std.specs.Prelude.{◌≡◌, Bool, true, false, cond, ◌||◌, ℕ, ◌<◌, ◌≤◌, ◌-◌, ◌*◌, ◌/◌, min, length, ltb, leb, Float, Option, Some, None, Ok, Err}
 use mathlib.Core.List.{List, [], map, drop_last}
 use Rattle.std.specs.Float.Ieee.{lt}
@@ -8,6 +8,7 @@ use Rattle.arith.specs.Notation.{plus_zero}
 use Rattle.brep.specs.declared.Edge.{Edge}
 use Rattle.brep.specs.Rows.{Tables}
 use Rattle.curve.specs.Eval.{point_at}
+use Rattle.options.specs.declared.Mode.{Mode}
 use Rattle.options.specs.declared.Options.{Options}
 use Rattle.options.specs.declared.Resolved.{Resolved}
 use Rattle.options.specs.Options.{resolve, for_extent}
@@ -15,16 +16,16 @@ use Rattle.causes_bounds.specs.Bounds.{unbounded}
 use Rattle.causes_form.specs.Forms.{ill_formed}
 use Rattle.causes.specs.Causes.{oversize, unordered, too_deep, missing, verdict}
 use Rattle.curve_asks.specs.Asks.{asks_far}
-use Rattle.edge_params.specs.Work.{Work, and_then, asking, overflows, within}
+use Rattle.edge_params.specs.Work.{Work, done, and_then, asking, overflows, within}
 use Rattle.edge_params.specs.Params.{evenly}
 use Rattle.edge_params.specs.OneWay.{OneWay}
 use Rattle.edge_record.specs.declared.Sample.{Sample}
 use Rattle.edge_record.specs.Chain.{width, shortest, most, flat, samples, sample_point, inner_samples}
 use Rattle.edge_merge.specs.Merge.{merge_floor, Apart}
-use Rattle.edge_range.specs.Usable.{usable_range}
+use Rattle.edge_range.specs.Usable.{usable_range, has_no_domain}
 use Rattle.draw_spec.specs.declared.Way.{Way}
 use Rattle.draw_spec.specs.declared.Way.TheVariants.{AsDrawn, Chord, Complement, ShortArc, Runaway}
-use Rattle.draw_spec.specs.Edge.{edge_curve, edge_start, edge_end, edge_extent, discretised}
+use Rattle.draw_spec.specs.Edge.{edge_curve, edge_start, edge_end, edge_extent, chord_of, discretised}
 use Rattle.draw_spec.specs.Repair.{Got, by, repaired}
 use Rattle.math.specs.declared.Interval.{Interval}
 use Rattle.draw_spec.specs.declared.Drawn.{Drawn}
@@ -49,13 +50,25 @@ probes (Some range) = evenly range 8
 probes None = []
 
 -- discretise, then repair_runaway
-abbrev pub drawn_repaired : Tables → Edge → Resolved → Work Got
-drawn_repaired T e r =
-    and_then (discretised T e r) (λ chain. repaired T e r (by (first_way (usable_range (edge_curve T e) e.range)) chain))
+abbrev pub drawn_repaired : Mode → Tables → Edge → Resolved → Work Got
+drawn_repaired mode T e r =
+    and_then (discretised mode T e r) (λ chain. repaired mode T e r (by (first_way (usable_range (edge_curve T e) e.range)) chain))
 
--- edge_extent's probes, discretise, repair_runaway: the reference, which has no room
-unfoldable pub referenced : Tables → Edge → Resolved → Work Got
-referenced T e r = asking (asks_far (edge_curve T e)) (probes (usable_range (edge_curve T e) e.range)) (drawn_repaired T e r)
+-- edge_extent's probes, then that
+abbrev pub drawn_probed : Mode → Tables → Edge → Resolved → Work Got
+drawn_probed mode T e r = asking (asks_far (edge_curve T e)) (probes (usable_range (edge_curve T e) e.range)) (drawn_repaired mode T e r)
+
+-- what strict mode answers for a curve that has no domain: the chord of the vertices, its parameters lo and hi. Repair does not look at it
+abbrev pub lost_chord : Tables → Edge → Got
+lost_chord T e = by Chord (chord_of T e e.range.lo e.range.hi)
+
+-- the reference, which has no room: as it was published, or corrected in strict mode
+unfoldable pub referenced : Mode → Tables → Edge → Resolved → Work Got
+referenced mode T e r =
+    elim (has_no_domain mode (edge_curve T e) e.range) [
+      | true ↦ done (lost_chord T e)
+      | false ↦ drawn_probed mode T e r
+    ]
 
 -- ---- the entry point
 -- room R, of buffers of so many floats: the smallest of 16,384 and the number of whole records in either
@@ -75,16 +88,16 @@ abbrev pub too_short : ℕ → ℕ → Bool
 too_short first second = ltb first shortest || ltb second shortest
 
 -- drawing into two buffers of so many floats: 7 where one is too short; else the reference in the room: 8, 9, 11, or the chain and its way
-abbrev pub in_buffers : Tables → Edge → Options → ℕ → ℕ → Answer Got
-in_buffers T e o first second =
-    cond (too_short first second) (Err ShortBuffer) (within (room_of first second) (referenced T e (local_options T e o)))
+abbrev pub in_buffers : Mode → Tables → Edge → Options → ℕ → ℕ → Answer Got
+in_buffers mode T e o first second =
+    cond (too_short first second) (Err ShortBuffer) (within (room_of first second) (referenced mode T e (local_options T e o)))
 
 -- the refusal with the lowest number from 1 to 6; else drawing into the buffers
-unfoldable pub drawn : Tables → Edge → Options → ℕ → ℕ → Answer Got
-drawn T e o first second =
+unfoldable pub drawn : Mode → Tables → Edge → Options → ℕ → ℕ → Answer Got
+drawn mode T e o first second =
     elim (verdict T e o) [
       | Err n ↦ Err n
-      | Ok t ↦ in_buffers T e o first second
+      | Ok t ↦ in_buffers mode T e o first second
     ]
 
 -- a chain got in a way, of so many points
@@ -150,41 +163,41 @@ pub record Sound (T : Tables) (e : Edge) (floor : Float) (chain : List Sample) :
 
 -- ---- the table of causes
 -- cause n applies, whether or not a lower one does
-pub data Applies (T : Tables) (e : Edge) (o : Options) (first second : ℕ) : ℕ → Type 0 where
+pub data Applies (mode : Mode) (T : Tables) (e : Edge) (o : Options) (first second : ℕ) : ℕ → Type 0 where
   -- a table above its size
-  one : oversize T ≡ true → Applies T e o first second 1
+  one : oversize T ≡ true → Applies mode T e o first second 1
   -- a float not finite, or above 1e9 in magnitude
-  two : unbounded T.points T.reals T.ranges e o ≡ true → Applies T e o first second 2
+  two : unbounded T.points T.reals T.ranges e o ≡ true → Applies mode T e o first second 2
   -- what does not follow the tables' form
-  three : ill_formed T e o ≡ true → Applies T e o first second 3
+  three : ill_formed T e o ≡ true → Applies mode T e o first second 3
   -- a reference that does not fall
-  four : unordered T ≡ true → Applies T e o first second 4
+  four : unordered T ≡ true → Applies mode T e o first second 4
   -- nested deeper than 8
-  five : too_deep T ≡ true → Applies T e o first second 5
+  five : too_deep T ≡ true → Applies mode T e o first second 5
   -- the edge's curve, start, end, low or high outside its table
-  six : missing T e ≡ true → Applies T e o first second 6
+  six : missing T e ≡ true → Applies mode T e o first second 6
   -- a chain buffer shorter than two records
-  seven : too_short first second ≡ true → Applies T e o first second 7
+  seven : too_short first second ≡ true → Applies mode T e o first second 7
   -- a parameter list formed on the reference's way is longer than the room
-  eight : overflows (room_of first second) (referenced T e (local_options T e o)).acts ≡ true → Applies T e o first second 8
+  eight : overflows (room_of first second) (referenced mode T e (local_options T e o)).acts ≡ true → Applies mode T e o first second 8
   -- the reference never ends: `thin` reaches a span that it splits for ever
-  nine : (referenced T e (local_options T e o)).end ≡ Err Endless → Applies T e o first second 9
+  nine : (referenced mode T e (local_options T e o)).end ≡ Err Endless → Applies mode T e o first second 9
   -- the reference would ask a hyperbola for a parameter beyond 100 in magnitude
-  eleven : (referenced T e (local_options T e o)).end ≡ Err TooFar → Applies T e o first second 11
+  eleven : (referenced mode T e (local_options T e o)).end ≡ Err TooFar → Applies mode T e o first second 11
 
 -- cause n applies, and no lower one. (8, 9 and 11 need no order of their own: whatever is recorded of the reference's work comes before the span at
 -- which it never ends, and before the parameter that it may not ask for.)
-pub record Lowest (T : Tables) (e : Edge) (o : Options) (first second n : ℕ) : Type 0 where
-  pub applies : Applies T e o first second n
-  pub lowest : (m : ℕ) → m < n → Applies T e o first second m → ⊥
+pub record Lowest (mode : Mode) (T : Tables) (e : Edge) (o : Options) (first second n : ℕ) : Type 0 where
+  pub applies : Applies mode T e o first second n
+  pub lowest : (m : ℕ) → m < n → Applies mode T e o first second m → ⊥
 
 -- the outcome of drawing: answer and buffers by the definition, and the five clauses of the chain that the buffers hold
-pub record Outcome (T : Tables) (e : Edge) (o : Options) (first second : List Float) (answer : Answer Drawn) (first' second' : List Float) : Type 0 where
-  pub answered : answer ≡ answer_of (drawn T e o (length first) (length second))
-  pub first_holds : first' ≡ first_after first (drawn T e o (length first) (length second))
-  pub second_holds : second' ≡ second_after second (drawn T e o (length first) (length second))
+pub record Outcome (mode : Mode) (T : Tables) (e : Edge) (o : Options) (first second : List Float) (answer : Answer Drawn) (first' second' : List Float) : Type 0 where
+  pub answered : answer ≡ answer_of (drawn mode T e o (length first) (length second))
+  pub first_holds : first' ≡ first_after first (drawn mode T e o (length first) (length second))
+  pub second_holds : second' ≡ second_after second (drawn mode T e o (length first) (length second))
   -- a refusal is that of a cause that applies, the lowest; a chain is answered exactly where none applies
-  pub refuses : (cause : Refusal) → answer ≡ Err cause → Lowest T e o (length first) (length second) (number_of cause)
-  pub accepts : (chain : Drawn) → answer ≡ Ok chain → (m : ℕ) → Applies T e o (length first) (length second) m → ⊥
+  pub refuses : (cause : Refusal) → answer ≡ Err cause → Lowest mode T e o (length first) (length second) (number_of cause)
+  pub accepts : (chain : Drawn) → answer ≡ Ok chain → (m : ℕ) → Applies mode T e o (length first) (length second) m → ⊥
   pub sound : (chain : Drawn) → answer ≡ Ok chain
       → Sound T e (merge_floor e.tolerance (local_options T e o).sag) (chain_in first' second' answer)

@@ -12,6 +12,7 @@ use Rattle.brep.specs.declared.Edge.{Edge}
 use Rattle.brep.specs.Rows.{Tables, point_of}
 use Rattle.brep.specs.Tree.{CurveTree, tree}
 use Rattle.curve.specs.Eval.{point_at, is_sampled}
+use Rattle.options.specs.declared.Mode.{Mode}
 use Rattle.options.specs.declared.Resolved.{Resolved}
 use Rattle.edge_record.specs.declared.Sample.{Sample}
 use Rattle.edge_record.specs.Chain.{last_of}
@@ -124,17 +125,17 @@ unfoldable pub finished : Tables → Edge → Resolved → List Float → Answer
 finished T e r params = thinned_merged T e r (placed T e params)
 
 -- the parameters over a usable range, at least two, and the curve asked for its points at them
-abbrev pub listed : CurveTree → Interval → Resolved → Work (List Float)
-listed c range r = and_then (sampled c range r) (λ params. asking (asks_far c) (at_least_two range params) (done (at_least_two range params)))
+abbrev pub listed : Mode → CurveTree → Interval → Resolved → Work (List Float)
+listed mode c range r = and_then (sampled mode c range r) (λ params. asking (asks_far c) (at_least_two range params) (done (at_least_two range params)))
 
 -- the chain over a usable range
-abbrev pub over_range : Tables → Edge → Resolved → Interval → Work (List Sample)
-over_range T e r range = and_then (listed (edge_curve T e) range r) (λ params. ends (finished T e r params))
+abbrev pub over_range : Mode → Tables → Edge → Resolved → Interval → Work (List Sample)
+over_range mode T e r range = and_then (listed mode (edge_curve T e) range r) (λ params. ends (finished T e r params))
 
 -- discretise
-unfoldable pub discretised : Tables → Edge → Resolved → Work (List Sample)
-discretised T e r =
+unfoldable pub discretised : Mode → Tables → Edge → Resolved → Work (List Sample)
+discretised mode T e r =
     elim (usable_range (edge_curve T e) e.range) [
       | None ↦ done (chord_of T e e.range.lo e.range.hi)
-      | Some range ↦ over_range T e r range
+      | Some range ↦ over_range mode T e r range
     ]

@@ -13,6 +13,7 @@ use Rattle.brep.specs.declared.Edge.{Edge}
 use Rattle.brep.specs.Rows.{Tables, point_of}
 use Rattle.brep.specs.Tree.{CurveTree}
 use Rattle.curve.specs.Eval.{natural_range, period, point_at}
+use Rattle.options.specs.declared.Mode.{Mode}
 use Rattle.options.specs.declared.Resolved.{Resolved}
 use Rattle.curve_asks.specs.Asks.{asks_far}
 use Rattle.edge_params.specs.Work.{Work, done, and_then, asking}
@@ -102,16 +103,16 @@ unfoldable pub arc_or_chord : Tables → Edge → Resolved → List Sample → G
 arc_or_chord T e r arc = cond (serves T e r arc) (by ShortArc arc) (runaway T e)
 
 -- drawn and tried, else the chord
-unfoldable pub short_arc_tried : Tables → Edge → Resolved → Work Got
-short_arc_tried T e r =
+unfoldable pub short_arc_tried : Mode → Tables → Edge → Resolved → Work Got
+short_arc_tried mode T e r =
     elim (has_short_arc T e) [
-      | true ↦ and_then (discretised T (with_range e (short_range T e)) r) (λ arc. done (arc_or_chord T e r arc))
+      | true ↦ and_then (discretised mode T (with_range e (short_range T e)) r) (λ arc. done (arc_or_chord T e r arc))
       | false ↦ done (runaway T e)
     ]
 
 -- the sweep, then that
-abbrev pub by_short_arc : Tables → Edge → Resolved → Work Got
-by_short_arc T e r = asking (asks_far (edge_curve T e)) (sweep (natural_range (edge_curve T e))) (short_arc_tried T e r)
+abbrev pub by_short_arc : Mode → Tables → Edge → Resolved → Work Got
+by_short_arc mode T e r = asking (asks_far (edge_curve T e)) (sweep (natural_range (edge_curve T e))) (short_arc_tried mode T e r)
 
 -- ---- the complementary arc of a periodic curve
 -- its range: from where the edge's range ends back round to where it began
@@ -119,23 +120,23 @@ abbrev pub complement_range : Edge → Float → Interval
 complement_range e p = interval e.range.hi (e.range.lo ⊕ p)
 
 -- the arc where it stays inside, else the short arc
-abbrev pub complement_or_short : Tables → Edge → Resolved → List Sample → Work Got
-complement_or_short T e r arc =
-    elim (escapes (reference T e) r arc) [ true ↦ by_short_arc T e r | false ↦ done (by Complement arc) ]
+abbrev pub complement_or_short : Mode → Tables → Edge → Resolved → List Sample → Work Got
+complement_or_short mode T e r arc =
+    elim (escapes (reference T e) r arc) [ true ↦ by_short_arc mode T e r | false ↦ done (by Complement arc) ]
 
 -- drawn and tried where its range is not empty, else the short arc
-unfoldable pub by_complement : Tables → Edge → Resolved → Float → Work Got
-by_complement T e r p =
+unfoldable pub by_complement : Mode → Tables → Edge → Resolved → Float → Work Got
+by_complement mode T e r p =
     elim (lt plus_zero (span_of (complement_range e p))) [
-      | true ↦ and_then (discretised T (with_range e (complement_range e p)) r) (λ arc. complement_or_short T e r arc)
-      | false ↦ by_short_arc T e r
+      | true ↦ and_then (discretised mode T (with_range e (complement_range e p)) r) (λ arc. complement_or_short mode T e r arc)
+      | false ↦ by_short_arc mode T e r
     ]
 
 -- ---- repair_runaway
 -- the complementary arc where the curve has a period, else the short arc
-unfoldable pub by_period : Tables → Edge → Resolved → Option Float → Work Got
-by_period T e r (Some p) = by_complement T e r p
-by_period T e r None = by_short_arc T e r
+unfoldable pub by_period : Mode → Tables → Edge → Resolved → Option Float → Work Got
+by_period mode T e r (Some p) = by_complement mode T e r p
+by_period mode T e r None = by_short_arc mode T e r
 
 -- a chain stays where the box has no extent or holds it
 abbrev pub stays : Tables → Edge → Resolved → List Sample → Bool
@@ -144,6 +145,6 @@ stays T e r chain =
     is_empty box || (not (lt plus_zero (diagonal box)) || not (escapes box r chain))
 
 -- a chain that stays, or what is drawn in its place
-unfoldable pub repaired : Tables → Edge → Resolved → Got → Work Got
-repaired T e r g =
-    elim (stays T e r g.chain) [ true ↦ done g | false ↦ by_period T e r (period (edge_curve T e)) ]
+unfoldable pub repaired : Mode → Tables → Edge → Resolved → Got → Work Got
+repaired mode T e r g =
+    elim (stays T e r g.chain) [ true ↦ done g | false ↦ by_period mode T e r (period (edge_curve T e)) ]

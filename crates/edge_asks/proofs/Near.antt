@@ -8,6 +8,7 @@ use Rattle.arith.specs.Notation.{◌⊕◌, half}
 use Rattle.arith.proofs.Cmp.{holds}
 use Rattle.math.specs.declared.Interval.{Interval}
 use Rattle.brep.specs.Tree.{CurveTree, analytic, line, circle, ellipse, parabola, hyperbola, polyline, trimmed, composite}
+use Rattle.options.specs.declared.Mode.{Mode}
 use Rattle.options.specs.declared.Resolved.{Resolved}
 use Rattle.curve_asks.specs.Asks.{farthest, is_far, asks_far}
 use Rattle.curve_asks.specs.Own.Risk.{in_reach, is_hyperbola, may_ask}
@@ -122,16 +123,16 @@ module _ (far : Float → Bool) (same : (t : Float) → far t ≡ is_far t) (bud
       go false l r = rw (asked_append L (adds m ∷ R)) (some_far-join far (asked L) (asked R) l r)
 
 -- ---- THE LAW of near hyperbolas
-pub near_clear : (c : CurveTree) (range : Interval) (r : Resolved) → T (fits binary64 range.lo) → T (fits binary64 range.hi)
-    → is_hyperbola c && (in_reach range.lo && in_reach range.hi) ≡ true → NothingFar (sampler c range r) range
+pub near_clear : (mode : Mode) (c : CurveTree) (range : Interval) (r : Resolved) → T (fits binary64 range.lo) → T (fits binary64 range.hi)
+    → is_hyperbola c && (in_reach range.lo && in_reach range.hi) ≡ true → NothingFar (sampler mode c range r) range
 unfolding sampler
-near_clear c range r F G e =
+near_clear mode c range r F G e =
     let h = both (is_hyperbola c) (in_reach range.lo && in_reach range.hi) e in
     let n = both (in_reach range.lo) (in_reach range.hi) h.1 in
     let k = hyperbola_is c h.0 in
-    let s = sampler c range r in
+    let s = sampler mode c range r in
     let lo : Near64 range.lo = record { fits64 = F; in100 = near range.lo (holds n.0) } in
     let hi : Near64 range.hi = record { fits64 = G; in100 = near range.hi (holds n.1) } in (
-      rw (no_asks c range.lo range.hi r.sag k.1) (some_far-none (asks_far c)),
-      rw (asked_whole s range (sym (no_breaks c range.lo range.hi r.sag k.1))) (subdividing_near (asks_far c) k.0 s.within s.depth lo hi),
+      rw (no_asks mode c range.lo range.hi r.sag k.1) (some_far-none (asks_far c)),
+      rw (asked_whole s range (sym (no_breaks mode c range.lo range.hi r.sag k.1))) (subdividing_near (asks_far c) k.0 s.within s.depth lo hi),
     )

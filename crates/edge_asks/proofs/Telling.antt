@@ -4,6 +4,7 @@ use Rattle.std.proofs.Common.{◌≡◌, ℕ, suc, ◌-◌, ◌<◌, ◌≤◌, 
 use lib.Ieee.{Float}
 use Rattle.math.specs.declared.Interval.{Interval}
 use Rattle.brep.specs.Tree.{CurveTree}
+use Rattle.options.specs.declared.Mode.{Mode}
 use Rattle.options.specs.declared.Resolved.{Resolved}
 use Rattle.curve_asks.specs.Asks.{asks_far}
 use Rattle.knots_thin.specs.Thin.{break_asks}
@@ -34,16 +35,16 @@ abbrev pub floor_far : ℕ → CurveTree → Interval → Resolved → Bool
 floor_far room c range r = ltb r.segments room && some_far (asks_far c) (evenly range r.segments)
 
 -- ---- what is told, behind some parameters that are asked for
-module _ (room : ℕ) (c : CurveTree) (range : Interval) (r : Resolved) (before : List Float) where
+module _ (room : ℕ) (mode : Mode) (c : CurveTree) (range : Interval) (r : Resolved) (before : List Float) where
   abbrev behind : Answer (List Float)
-  behind = within room (asking (asks_far c) before (listed c range r))
+  behind = within room (asking (asks_far c) before (listed mode c range r))
 
-  by_far : (v : Bool) → some_far (asks_far c) before ≡ v → behind ≡ elim v [ true ↦ Err TooFar | false ↦ within room (listed c range r) ]
+  by_far : (v : Bool) → some_far (asks_far c) before ≡ v → behind ≡ elim v [ true ↦ Err TooFar | false ↦ within room (listed mode c range r) ]
   by_far v e =
-      within_asking (asks_far c) before (listed c range r) room ∙ ap (λ (b : Bool). elim b [ true ↦ Err TooFar | false ↦ within room (listed c range r) ]) e
+      within_asking (asks_far c) before (listed mode c range r) room ∙ ap (λ (b : Bool). elim b [ true ↦ Err TooFar | false ↦ within room (listed mode c range r) ]) e
 
   -- none of them is too far: what is told of the range alone
-  pub told_near : {x : Answer (List Float)} → some_far (asks_far c) before ≡ false → within room (listed c range r) ≡ x → behind ≡ x
+  pub told_near : {x : Answer (List Float)} → some_far (asks_far c) before ≡ false → within room (listed mode c range r) ≡ x → behind ≡ x
   told_near near own = by_far false near ∙ own
 
   -- one of them is: 11, whatever follows
@@ -51,11 +52,11 @@ module _ (room : ℕ) (c : CurveTree) (range : Interval) (r : Resolved) (before 
   told_far = by_far true
 
   -- what is told to be clear is near, before and in sampling: sampling itself refuses with 8 alone
-  pub told_clear : behind ≡ sampled_in room c range r → (some_far (asks_far c) before ≡ false) × (within room (listed c range r) ≡ sampled_in room c range r)
+  pub told_clear : behind ≡ sampled_in room mode c range r → (some_far (asks_far c) before ≡ false) × (within room (listed mode c range r) ≡ sampled_in room mode c range r)
   told_clear q = go (some_far (asks_far c) before) refl
     where
-      go : (v : Bool) → some_far (asks_far c) before ≡ v → (v ≡ false) × (within room (listed c range r) ≡ sampled_in room c range r)
-      go true e = let z : ◌≡◌ {A = Refusal} TooFar NoRoom = sampled_in_eight room c range r TooFar (sym q ∙ by_far true e) in cc
+      go : (v : Bool) → some_far (asks_far c) before ≡ v → (v ≡ false) × (within room (listed mode c range r) ≡ sampled_in room mode c range r)
+      go true e = let z : ◌≡◌ {A = Refusal} TooFar NoRoom = sampled_in_eight room mode c range r TooFar (sym q ∙ by_far true e) in cc
       go false e = (refl, sym (by_far false e) ∙ q)
 
 -- what is refused is refused before it is measured
@@ -64,9 +65,9 @@ each_refused f (Err i) n q = cc
 each_refused f (Ok a) n q = cc
 
 -- ---- of a curve that has no closed form
-module _ (room : ℕ) (c : CurveTree) (range : Interval) (r : Resolved) (formless : analytic_segments c range r ≡ None) where
+module _ (room : ℕ) (mode : Mode) (c : CurveTree) (range : Interval) (r : Resolved) (formless : analytic_segments c range r ≡ None) where
   abbrev s : Sampler
-  s = sampler c range r
+  s = sampler mode c range r
 
   abbrev halves : List Float
   halves = bisected s range
@@ -76,14 +77,14 @@ module _ (room : ℕ) (c : CurveTree) (range : Interval) (r : Resolved) (formles
 
   -- nothing that sampling asks for is too far: of the answer only the floor's steps are looked at, where bisection has fewer segments
   pub clear_told : NothingFar s range → 0 < r.depth → (length halves ≤ r.segments → floor_far room c range r ≡ false)
-      → within room (listed c range r) ≡ sampled_in room c range r
+      → within room (listed mode c range r) ≡ sampled_in room mode c range r
   clear_told clear deep near =
-      listed_open room c range r clear formless deep
+      listed_open room mode c range r clear formless deep
       (λ few fits. rw (lt-ltb r.segments room (omega arith)) at (near (omega (arith, bisected_long s range))))
 
   -- what thinning the breaks asks for, and bisection's list behind it
   abbrev asks : List Float
-  asks = break_asks c range.lo range.hi r.sag
+  asks = break_asks mode c range.lo range.hi r.sag
 
   abbrev forms : Work (List Float)
   forms = forming (asks_far c) 0 (bisecting s range)
@@ -92,7 +93,7 @@ module _ (room : ℕ) (c : CurveTree) (range : Interval) (r : Resolved) (formles
   formed = within room (asking (asks_far c) asks forms)
 
   -- sample_params: that list, and then the floor
-  sampled_formed : within room (sampled c range r) ≡ bind formed floor
+  sampled_formed : within room (sampled mode c range r) ≡ bind formed floor
   unfolding sampled sampler
   sampled_formed =
       ap (within room) (sample_params_open s range formless) ∙ refined_within room s range ∙ go (some_far (asks_far c) asks)
@@ -104,10 +105,10 @@ module _ (room : ℕ) (c : CurveTree) (range : Interval) (r : Resolved) (formles
       go false = refl
 
   -- what is refused in counting is refused
-  pub refused_told : (n : Refusal) → range_counted room c range r ≡ Err n → within room (listed c range r) ≡ Err n
+  pub refused_told : (n : Refusal) → range_counted room mode c range r ≡ Err n → within room (listed mode c range r) ≡ Err n
   refused_told n q =
-      listed_refused room c range r n
-      (sampled_formed ∙ ap (λ (x : Answer (List Float)). bind x floor) (each_refused length formed n (sym (range_counted_lem room c range r) ∙ q)))
+      listed_refused room mode c range r n
+      (sampled_formed ∙ ap (λ (x : Answer (List Float)). bind x floor) (each_refused length formed n (sym (range_counted_lem room mode c range r) ∙ q)))
 
   -- a count: nothing that is asked for is too far, and it is that of bisection's list, which fits the room
   pub record Formed (n : ℕ) : Type 0 where
@@ -115,9 +116,9 @@ module _ (room : ℕ) (c : CurveTree) (range : Interval) (r : Resolved) (formles
     pub list : formed ≡ Ok halves
     pub long : n ≡ length halves
 
-  pub counted_told : (n : ℕ) → range_counted room c range r ≡ Ok n → Formed n
+  pub counted_told : (n : ℕ) → range_counted room mode c range r ≡ Ok n → Formed n
   unfolding sampler
-  counted_told n q = go formed refl (sym (range_counted_lem room c range r) ∙ q)
+  counted_told n q = go formed refl (sym (range_counted_lem room mode c range r) ∙ q)
     where
       go : (x : Answer (List Float)) → formed ≡ x → each length x ≡ Ok n → Formed n
       go (Err i) e q = cc
@@ -137,11 +138,11 @@ module _ (room : ℕ) (c : CurveTree) (range : Interval) (r : Resolved) (formles
       ∙ fitting_fits room steps (omega (arith, steps_length range r.segments (suc r.segments)))
 
   -- and then one of them may not be asked for
-  pub floor_told : (n : ℕ) → Formed n → n ≤ r.segments → floor_far room c range r ≡ true → within room (listed c range r) ≡ Err TooFar
+  pub floor_told : (n : ℕ) → Formed n → n ≤ r.segments → floor_far room c range r ≡ true → within room (listed mode c range r) ≡ Err TooFar
   floor_told n k few far =
       let steps = evenly range r.segments in
       let f = both (ltb r.segments room) (some_far (asks_far c) steps) far in
-      listed_far room c range r steps
+      listed_far room mode c range r steps
       (sampled_formed ∙ ap (λ (x : Answer (List Float)). bind x floor) k.list
       ∙ few_formed (omega (arith, k.long, bisected_long s range)) (ltb-true r.segments room f.0))
       f.1

@@ -118,7 +118,7 @@ fn floor_far(
 fn tell_by_count(sampling: &Sampling<'_>, room: usize) -> Result<(), Refusal>
     requires { (0 < sampling.now.options.depth)
         × (analytic_segments (sampled_curve sampling.now) sampling.now.range sampling.now.options ≡ None) }
-    ensures { within room (listed (sampled_curve sampling.now) sampling.now.range sampling.now.options) ≡ told_of result (sampled_in room (sampled_curve sampling.now) sampling.now.range sampling.now.options) }
+    ensures { within room (listed sampling.now.drawing.now.mode (sampled_curve sampling.now) sampling.now.range sampling.now.options) ≡ told_of result (sampled_in room sampling.now.drawing.now.mode (sampled_curve sampling.now) sampling.now.range sampling.now.options) }
 {
     let tables = sampling.drawing.tables;
     let segments = sampling.options.segments;
@@ -145,7 +145,7 @@ fn tell_by_count(sampling: &Sampling<'_>, room: usize) -> Result<(), Refusal>
 // may be told: sampling then refuses it.
 pub fn tell(sampling: &Sampling<'_>, probes_first: bool, room: usize) -> Result<(), Refusal>
     requires { 0 < sampling.now.options.depth }
-    ensures { within room (asking (asks_far (sampled_curve sampling.now)) (asked_first probes_first (Some sampling.now.range)) (listed (sampled_curve sampling.now) sampling.now.range sampling.now.options)) ≡ told_of result (sampled_in room (sampled_curve sampling.now) sampling.now.range sampling.now.options) }
+    ensures { within room (asking (asks_far (sampled_curve sampling.now)) (asked_first probes_first (Some sampling.now.range)) (listed sampling.now.drawing.now.mode (sampled_curve sampling.now) sampling.now.range sampling.now.options)) ≡ told_of result (sampled_in room sampling.now.drawing.now.mode (sampled_curve sampling.now) sampling.now.range sampling.now.options) }
 {
     let tables = sampling.drawing.tables;
     let curves = tables.curves;

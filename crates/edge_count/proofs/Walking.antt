@@ -7,6 +7,7 @@ use lib.ListN.{length, get_or, drop}
 use lib.Ieee.{Float, nan}
 use Rattle.math.specs.declared.Interval.{Interval}
 use Rattle.brep.specs.Tree.{CurveTree}
+use Rattle.options.specs.declared.Mode.{Mode}
 use Rattle.options.specs.declared.Resolved.{Resolved}
 use Rattle.curve_asks.specs.Asks.{asks_far}
 use Rattle.knots_thin.specs.Thin.{kept_breaks}
@@ -24,10 +25,10 @@ use Rattle.edge_count.proofs.Counting.{stands, goes_on, span_moves}
 use Rattle.refusal.specs.Answer.{Answer, bind}
 use Rattle.refusal.specs.declared.Refusal.{Refusal}
 
-module _ (c : CurveTree) (range : Interval) (r : Resolved) where
+module _ (mode : Mode) (c : CurveTree) (range : Interval) (r : Resolved) where
   -- what the walk does from left on, with range.hi
   pub onwards : Float → List Float → List Move
-  onwards left bs = walking (sampler c range r) range left bs ++ (adds range.hi ∷ [])
+  onwards left bs = walking (sampler mode c range r) range left bs ++ (adds range.hi ∷ [])
 
   onwards_none : (left : Float) → onwards left [] ≡ adds range.hi ∷ []
   unfolding onwards walking
@@ -37,13 +38,13 @@ module _ (c : CurveTree) (range : Interval) (r : Resolved) where
   unfolding onwards walking sampler
   onwards_more left b bs = simp append_assoc
 
-module _ (c : CurveTree) (range : Interval) (r : Resolved) (room : ℕ) where
+module _ (mode : Mode) (c : CurveTree) (range : Interval) (r : Resolved) (room : ℕ) where
   -- the number of parameters in the end, where there are k so far
   abbrev onward : ℕ → Float → List Float → Answer ℕ
-  onward k left bs = counted (asks_far c) room k (onwards c range r left bs)
+  onward k left bs = counted (asks_far c) room k (onwards mode c range r left bs)
 
   abbrev whole : Answer ℕ
-  whole = counted (asks_far c) room 0 (bisecting (sampler c range r) range)
+  whole = counted (asks_far c) room 0 (bisecting (sampler mode c range r) range)
 
   -- left is the end at the last stop, i the number of the next one
   pub record Walking (breaks : List Float) (left : End) (k i : ℕ) : Type 0 where
@@ -52,14 +53,14 @@ module _ (c : CurveTree) (range : Interval) (r : Resolved) (room : ℕ) where
 
   module _ (breaks : List Float) where
     -- range.lo, and what is counted behind it
-    module _ (B : breaks ≡ kept_breaks c range.lo range.hi r.sag) where
-      moves : adds range.lo ∷ onwards c range r range.lo (stops range breaks) ≡ bisecting (sampler c range r) range
+    module _ (B : breaks ≡ kept_breaks mode c range.lo range.hi r.sag) where
+      moves : adds range.lo ∷ onwards mode c range r range.lo (stops range breaks) ≡ bisecting (sampler mode c range r) range
       unfolding onwards bisecting breaks_along stops sampler
-      moves = ap (λ (bs : List Float). adds range.lo ∷ onwards c range r range.lo (stops range bs)) B
+      moves = ap (λ (bs : List Float). adds range.lo ∷ onwards mode c range r range.lo (stops range bs)) B
 
       begun : bind (counted (asks_far c) room 0 (adds range.lo ∷ [])) (λ (n : ℕ). onward n range.lo (stops range breaks)) ≡ whole
       begun =
-          sym (counted_append (asks_far c) room 0 (adds range.lo ∷ []) (onwards c range r range.lo (stops range breaks)))
+          sym (counted_append (asks_far c) room 0 (adds range.lo ∷ []) (onwards mode c range r range.lo (stops range breaks)))
           ∙ ap (counted (asks_far c) room 0) moves
 
       pub low_refused : {n : Refusal} → Err n ≡ counted (asks_far c) room 0 (adds range.lo ∷ []) → Err n ≡ whole
@@ -83,8 +84,8 @@ module _ (c : CurveTree) (range : Interval) (r : Resolved) (room : ℕ) where
 
         split : bind (counted (asks_far c) room k (span_moves c range r r.depth left.t right.t)) rest ≡ whole
         split =
-            sym (counted_append (asks_far c) room k (span_moves c range r r.depth left.t right.t) (onwards c range r right.t (drop (i + 1) (stops range breaks))))
-            ∙ ap (counted (asks_far c) room k) (onwards_more c range r left.t right.t (drop (i + 1) (stops range breaks)) ∙ ap (onwards c range r left.t) behind)
+            sym (counted_append (asks_far c) room k (span_moves c range r r.depth left.t right.t) (onwards mode c range r right.t (drop (i + 1) (stops range breaks))))
+            ∙ ap (counted (asks_far c) room k) (onwards_more mode c range r left.t right.t (drop (i + 1) (stops range breaks)) ∙ ap (onwards mode c range r left.t) behind)
             ∙ s.all
 
         pub walking_refused : {n : Refusal} → Err n ≡ counted (asks_far c) room k (span_moves c range r r.depth left.t right.t) → Err n ≡ whole
@@ -96,4 +97,4 @@ module _ (c : CurveTree) (range : Interval) (r : Resolved) (room : ℕ) where
       -- range.hi
       pub walking_done : i ≡ length breaks + 1 → {x : Answer ℕ} → x ≡ counted (asks_far c) room k (adds range.hi ∷ []) → x ≡ whole
       walking_done e W =
-          W ∙ ap (counted (asks_far c) room k) (sym (ap (onwards c range r left.t) (stops_past range breaks i e) ∙ onwards_none c range r left.t)) ∙ s.all
+          W ∙ ap (counted (asks_far c) room k) (sym (ap (onwards mode c range r left.t) (stops_past range breaks i e) ∙ onwards_none mode c range r left.t)) ∙ s.all

@@ -133,7 +133,7 @@ impl Counter<'_> {
 
 // range.lo, the spans between the stops, range.hi.
 fn count_walk(sampling: &Sampling<'_>, breaks: &[f64], room: usize) -> Result<usize, Refusal>
-    requires { breaks.now ≡ kept_breaks (sampled_curve sampling.now) sampling.now.range.lo sampling.now.range.hi sampling.now.options.sag }
+    requires { breaks.now ≡ kept_breaks sampling.now.drawing.now.mode (sampled_curve sampling.now) sampling.now.range.lo sampling.now.range.hi sampling.now.options.sag }
     ensures { result ≡ counted (asks_far (sampled_curve sampling.now)) room 0 (bisecting (sampler_of sampling.now) sampling.now.range) }
 {
     let drawing = sampling.drawing;
@@ -194,19 +194,22 @@ fn thin_far(sampling: &Sampling<'_>, breaks: &[f64]) -> bool
 
 // The count of a curve that has knots.
 fn count_breaks(sampling: &Sampling<'_>, room: usize) -> Result<usize, Refusal>
-    ensures { result ≡ range_counted room (sampled_curve sampling.now) sampling.now.range sampling.now.options }
+    ensures { result ≡ range_counted room sampling.now.drawing.now.mode (sampled_curve sampling.now) sampling.now.range sampling.now.options }
 {
     let tables = sampling.drawing.tables;
     let row = sampling.drawing.edge.curve;
     let range = sampling.range;
     let mut breaks = [0.0; knots_sort::MOST_KNOTS];
     // Never refused, here and below: the knots fit.
-    let n = knots::curve_breaks(tables, row, range, &mut breaks).ok_or(Refusal::NoRoom)?;
+    let mode = sampling.drawing.mode;
+    let n = knots_breaks::breaks_in(tables, row, range, mode, &mut breaks).ok_or(Refusal::NoRoom)?;
     if thin_far(sampling, &breaks[..n]) {
         return Err(Refusal::TooFar);
     }
     let sag = sampling.options.sag;
-    let m = knots_thin::kept_breaks(tables, row, range, sag, &mut breaks).ok_or(Refusal::NoRoom)?;
+    let m = knots_thin::kept_breaks(tables, row, range, mode, sag, &mut breaks).ok_or(
+        Refusal::NoRoom,
+    )?;
     count_walk(sampling, &breaks[..m], room)
 }
 
@@ -215,7 +218,7 @@ fn count_breaks(sampling: &Sampling<'_>, room: usize) -> Result<usize, Refusal>
 // one function over what each does then would be this test again, with a closure for either way.
 #[tactic(auto, using(crate::proofs::Laws::range_plain, edge_sample::proofs::Broken::no_breaks))]
 pub fn count_range(sampling: &Sampling<'_>, room: usize) -> Result<usize, Refusal>
-    ensures { result ≡ range_counted room (sampled_curve sampling.now) sampling.now.range sampling.now.options }
+    ensures { result ≡ range_counted room sampling.now.drawing.now.mode (sampled_curve sampling.now) sampling.now.range sampling.now.options }
 {
     if knots::knot_count(sampling.drawing.tables, sampling.drawing.edge.curve) == 0 {
         let none = [0.0; 1];

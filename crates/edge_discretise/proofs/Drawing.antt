@@ -14,6 +14,7 @@ use Rattle.math.specs.declared.Interval.{Interval}
 use Rattle.brep.specs.declared.Edge.{Edge}
 use Rattle.brep.specs.Rows.{Tables}
 use Rattle.brep.specs.Tree.{CurveTree}
+use Rattle.options.specs.declared.Mode.{Mode}
 use Rattle.options.specs.declared.Resolved.{Resolved}
 use Rattle.curve_asks.specs.Asks.{asks_far}
 use Rattle.edge_params.specs.Work.{Work, some_far, asking, overflows, within}
@@ -71,9 +72,9 @@ pub record Sampling (room : ℕ) (S : Answer (List Float)) (n : ℕ) (out : List
   pub fits : n ≤ room
   pub floats : out ≡ filled room params
 
-pub sampling_some : (room : ℕ) (c : CurveTree) (range : Interval) (r : Resolved) (w : Option ℕ) (n : ℕ) (out : List Float)
-    → SampledInto room (sampled_in room c range r) w out → w ≡ Some n → Sampling room (sampled_in room c range r) n out
-sampling_some room c range r w n out p e = go (sampled_in room c range r) (λ l q. sampled_two room c range r l q) (λ l q. sampled_room room c range r l q) p
+pub sampling_some : (room : ℕ) (mode : Mode) (c : CurveTree) (range : Interval) (r : Resolved) (w : Option ℕ) (n : ℕ) (out : List Float)
+    → SampledInto room (sampled_in room mode c range r) w out → w ≡ Some n → Sampling room (sampled_in room mode c range r) n out
+sampling_some room mode c range r w n out p e = go (sampled_in room mode c range r) (λ l q. sampled_two room mode c range r l q) (λ l q. sampled_room room mode c range r l q) p
   where
     go : (S : Answer (List Float)) → ((l : List Float) → S ≡ Ok l → 2 ≤ length l) → ((l : List Float) → S ≡ Ok l → length l ≤ room)
         → SampledInto room S w out → Sampling room S n out
@@ -100,15 +101,15 @@ module _ {room : ℕ} {S : Answer (List Float)} {n : ℕ} {out : List Float} (s 
       ∙ filled_part room n s.params [] s.size s.fits (omega arith)
 
 -- a range drawn in a room, where nothing asked for is too far: the parameters that fit it, finished
-module _ (T : Tables) (e : Edge) (r : Resolved) (range : Interval) (room : ℕ) (near : within room (listed (edge_curve T e) range r) ≡ sampled_in room (edge_curve T e) range r) where
-  over_in : within room (over_range T e r range) ≡ bind (sampled_in room (edge_curve T e) range r) (finished T e r)
-  over_in = over_within T e r range room ∙ ap (λ (x : Answer (List Float)). bind x (finished T e r)) near
+module _ (mode : Mode) (T : Tables) (e : Edge) (r : Resolved) (range : Interval) (room : ℕ) (near : within room (listed mode (edge_curve T e) range r) ≡ sampled_in room mode (edge_curve T e) range r) where
+  over_in : within room (over_range mode T e r range) ≡ bind (sampled_in room mode (edge_curve T e) range r) (finished T e r)
+  over_in = over_within mode T e r range room ∙ ap (λ (x : Answer (List Float)). bind x (finished T e r)) near
 
-  pub leads_over : {w : Answer ℕ} {g : List Float} → ChainLeads (bind (sampled_in room (edge_curve T e) range r) (finished T e r)) w g
-      → ChainLeads (within room (over_range T e r range)) w g
+  pub leads_over : {w : Answer ℕ} {g : List Float} → ChainLeads (bind (sampled_in room mode (edge_curve T e) range r) (finished T e r)) w g
+      → ChainLeads (within room (over_range mode T e r range)) w g
   leads_over = leads_is _ _ (sym over_in)
 
-module _ {room : ℕ} (T : Tables) (e : Edge) (r : Resolved) (range : Interval) {n : ℕ} {out : List Float} (s : Sampling room (sampled_in room (edge_curve T e) range r) n out)
+module _ {room : ℕ} (mode : Mode) (T : Tables) (e : Edge) (r : Resolved) (range : Interval) {n : ℕ} {out : List Float} (s : Sampling room (sampled_in room mode (edge_curve T e) range r) n out)
     (chain d : List Float) (fits : width * n ≤ length chain) (p : d ≡ sets chain 0 (flat (placed T e (take n out)))) where
   pub placed_room : width * n ≤ length d
   placed_room = omega (arith, ap length p, length-sets chain 0 (flat (placed T e (take n out))))
@@ -123,24 +124,24 @@ module _ {room : ℕ} (T : Tables) (e : Edge) (r : Resolved) (range : Interval) 
       ∙ lead chain P (omega arith))
 
   -- that it was known that nothing asked for is too far
-  module _ (near : within room (listed (edge_curve T e) range r) ≡ sampled_in room (edge_curve T e) range r) where
-    over_some : thinned_merged T e r (samples (length (take (width * n) d) / width) (take (width * n) d)) ≡ within room (over_range T e r range)
+  module _ (near : within room (listed mode (edge_curve T e) range r) ≡ sampled_in room mode (edge_curve T e) range r) where
+    over_some : thinned_merged T e r (samples (length (take (width * n) d) / width) (take (width * n) d)) ≡ within room (over_range mode T e r range)
     unfolding finished
     over_some =
-        ap (thinned_merged T e r) reads_placed ∙ ap (λ (x : Answer (List Float)). bind x (finished T e r)) (sym s.is) ∙ sym (over_in T e r range room near)
+        ap (thinned_merged T e r) reads_placed ∙ ap (λ (x : Answer (List Float)). bind x (finished T e r)) (sym s.is) ∙ sym (over_in mode T e r range room near)
 
     pub leads_some : (w : Answer ℕ) (f more : List Float) → ChainLeads (thinned_merged T e r (samples (length (take (width * n) d) / width) (take (width * n) d))) w f
-        → ChainLeads (within room (over_range T e r range)) w (f ++ more)
+        → ChainLeads (within room (over_range mode T e r range)) w (f ++ more)
     leads_some w f more h = leads_is _ _ over_some (leads_more more h)
 
 -- what sample_params left in the part of the chain that it was lent, where it says that these are the parameters' records
-module _ {room : ℕ} (T : Tables) (e : Edge) (r : Resolved) (range : Interval) {n : ℕ} {out : List Float} (s : Sampling room (sampled_in room (edge_curve T e) range r) n out)
-    {known : Bool} (part left more : List Float) (wide : width * room ≤ length part) (p : traced known left ≡ traced_sampled room (edge_curve T e) range r part) where
+module _ {room : ℕ} (mode : Mode) (T : Tables) (e : Edge) (r : Resolved) (range : Interval) {n : ℕ} {out : List Float} (s : Sampling room (sampled_in room mode (edge_curve T e) range r) n out)
+    {known : Bool} (part left more : List Float) (wide : width * room ≤ length part) (p : traced known left ≡ traced_sampled room mode (edge_curve T e) range r part) where
   pub held : known ≡ true → samples (length (take n out)) (left ++ more) ≡ located (edge_curve T e) (take n out)
   held h =
       ap (λ (i : ℕ). samples i (left ++ more)) (part_length s ∙ sym s.size)
       ∙ ap (λ (t : Traced). samples (length s.params) (t.chain ++ more)) p
-      ∙ reads_held (edge_curve T e) s.params room range r part more wide s.is (sym (ap (λ (t : Traced). t.known) p) ∙ h)
+      ∙ reads_held (edge_curve T e) s.params room mode range r part more wide s.is (sym (ap (λ (t : Traced). t.known) p) ∙ h)
       ∙ ap (located (edge_curve T e)) (sym (params_of s))
 
 pub leads_none : (S : Answer (List Float)) (f : List Float → Answer (List Sample)) (w : Option ℕ) (g : List Float) → said w ≡ each length S → w ≡ None
@@ -155,34 +156,34 @@ none_listed room (Ok l) w a e h = let q : ◌≡◌ {A = Answer ℕ} (Err NoRoom
 
 -- ---- `draw_range`
 -- by what is told of the range, after some parameters were asked for: the refusal that comes first, or that nothing asked for is too far
-module _ (T : Tables) (e : Edge) (r : Resolved) (range : Interval) (room : ℕ) (before : List Float) (w : Answer ⊤)
-    (own : within room (asking (asks_far (edge_curve T e)) before (listed (edge_curve T e) range r)) ≡ told_of w (sampled_in room (edge_curve T e) range r)) where
+module _ (mode : Mode) (T : Tables) (e : Edge) (r : Resolved) (range : Interval) (room : ℕ) (before : List Float) (w : Answer ⊤)
+    (own : within room (asking (asks_far (edge_curve T e)) before (listed mode (edge_curve T e) range r)) ≡ told_of w (sampled_in room mode (edge_curve T e) range r)) where
   abbrev far : Float → Bool
   far = asks_far (edge_curve T e)
 
   abbrev asked : Work (List Sample)
-  asked = asking far before (over_range T e r range)
+  asked = asking far before (over_range mode T e r range)
 
-  over_asked : within room asked ≡ bind (within room (asking far before (listed (edge_curve T e) range r))) (finished T e r)
+  over_asked : within room asked ≡ bind (within room (asking far before (listed mode (edge_curve T e) range r))) (finished T e r)
   over_asked =
-      within_asking far before (over_range T e r range) room ∙ go (some_far far before)
-      ∙ sym (ap (λ (x : Answer (List Float)). bind x (finished T e r)) (within_asking far before (listed (edge_curve T e) range r) room))
+      within_asking far before (over_range mode T e r range) room ∙ go (some_far far before)
+      ∙ sym (ap (λ (x : Answer (List Float)). bind x (finished T e r)) (within_asking far before (listed mode (edge_curve T e) range r) room))
     where
-      go : (v : Bool) → elim v [ true ↦ Err TooFar | false ↦ within room (over_range T e r range) ]
-          ≡ bind (elim v [ true ↦ Err TooFar | false ↦ within room (listed (edge_curve T e) range r) ]) (finished T e r)
+      go : (v : Bool) → elim v [ true ↦ Err TooFar | false ↦ within room (over_range mode T e r range) ]
+          ≡ bind (elim v [ true ↦ Err TooFar | false ↦ within room (listed mode (edge_curve T e) range r) ]) (finished T e r)
       go true = refl
-      go false = over_within T e r range room
+      go false = over_within mode T e r range room
 
-  pub clear : w ≡ Ok tt → (some_far far before ≡ false) × (within room (listed (edge_curve T e) range r) ≡ sampled_in room (edge_curve T e) range r)
-  clear q = told_clear room (edge_curve T e) range r before (own ∙ ap (λ (v : Answer ⊤). told_of v (sampled_in room (edge_curve T e) range r)) q)
+  pub clear : w ≡ Ok tt → (some_far far before ≡ false) × (within room (listed mode (edge_curve T e) range r) ≡ sampled_in room mode (edge_curve T e) range r)
+  clear q = told_clear room mode (edge_curve T e) range r before (own ∙ ap (λ (v : Answer ⊤). told_of v (sampled_in room mode (edge_curve T e) range r)) q)
 
-  pub leads_clear : {a : Answer ℕ} {g : List Float} → w ≡ Ok tt → ChainLeads (within room (over_range T e r range)) a g → ChainLeads (within room asked) a g
-  leads_clear q = leads_is _ _ (sym (ap (within room) (asking_clear far before (over_range T e r range) (clear q).0)))
+  pub leads_clear : {a : Answer ℕ} {g : List Float} → w ≡ Ok tt → ChainLeads (within room (over_range mode T e r range)) a g → ChainLeads (within room asked) a g
+  leads_clear q = leads_is _ _ (sym (ap (within room) (asking_clear far before (over_range mode T e r range) (clear q).0)))
 
   pub leads_told : (n : Refusal) (g : List Float) → w ≡ Err n → ChainLeads (within room asked) (Err n) g
   unfolding flat
   leads_told n g q =
-      let x : within room asked ≡ Err n = over_asked ∙ ap (λ (x : Answer (List Float)). bind x (finished T e r)) (own ∙ ap (λ (v : Answer ⊤). told_of v (sampled_in room (edge_curve T e) range r)) q) in
+      let x : within room asked ≡ Err n = over_asked ∙ ap (λ (x : Answer (List Float)). bind x (finished T e r)) (own ∙ ap (λ (v : Answer ⊤). told_of v (sampled_in room mode (edge_curve T e) range r)) q) in
       leads_is (Err n) _ (sym x) (record { answered = refl; fits = omega arith; holds = refl })
 
 -- ---- `discretise_usable`
@@ -241,11 +242,11 @@ cleared_rest {D} {w} {f} {g} {n} {k} p e l q = record {
 }
 
 -- an edge that is not probed is discretised, and no more
-pub unprobed : (T : Tables) (e : Edge) (r : Resolved) {chain scratch : List Float} {w : Answer ℕ} {f g : List Float}
-    → DiscretisedInto (asked_discretised false T e r) chain scratch w f g → DiscretisedInto (discretised T e r) chain scratch w f g
-unprobed T e r {chain} {scratch} {w} {f} {g} =
+pub unprobed : (mode : Mode) (T : Tables) (e : Edge) (r : Resolved) {chain scratch : List Float} {w : Answer ℕ} {f g : List Float}
+    → DiscretisedInto (asked_discretised false mode T e r) chain scratch w f g → DiscretisedInto (discretised mode T e r) chain scratch w f g
+unprobed mode T e r {chain} {scratch} {w} {f} {g} =
     let far = asks_far (edge_curve T e) in
-    subst (λ (D : Work (List Sample)). DiscretisedInto D chain scratch w f g) (asking_clear far [] (discretised T e r) (some_far-none far))
+    subst (λ (D : Work (List Sample)). DiscretisedInto D chain scratch w f g) (asking_clear far [] (discretised mode T e r) (some_far-none far))
 
 -- what has no range is not probed
 nothing_first : (far : Float → Bool) (probes_first : Bool) → some_far far (asked_first probes_first None) ≡ false
@@ -253,27 +254,27 @@ unfolding probes
 nothing_first far true = some_far-none far
 nothing_first far false = some_far-none far
 
-module _ (room : ℕ) (T : Tables) (e : Edge) (probes_first : Bool) (r : Resolved) (k : ℕ) {w : Answer ℕ} {g : List Float} (u : Option Interval) (own : u ≡ usable_range (edge_curve T e) e.range) where
-  pub into_range : (range : Interval) (j : ℕ) → u ≡ Some range → j ≡ room → ChainInto k (within j (asking (asks_far (edge_curve T e)) (asked_first probes_first (Some range)) (over_range T e r range))) w g
-      → ChainInto k (within room (asked_discretised probes_first T e r)) w g
+module _ (room : ℕ) (mode : Mode) (T : Tables) (e : Edge) (probes_first : Bool) (r : Resolved) (k : ℕ) {w : Answer ℕ} {g : List Float} (u : Option Interval) (own : u ≡ usable_range (edge_curve T e) e.range) where
+  pub into_range : (range : Interval) (j : ℕ) → u ≡ Some range → j ≡ room → ChainInto k (within j (asking (asks_far (edge_curve T e)) (asked_first probes_first (Some range)) (over_range mode T e r range))) w g
+      → ChainInto k (within room (asked_discretised probes_first mode T e r)) w g
   unfolding discretised
   into_range range j q h =
       let far = asks_far (edge_curve T e) in
       let is : Some range ≡ usable_range (edge_curve T e) e.range = sym q ∙ own in
-      let s : over_range T e r range ≡ discretised T e r = rw (sym is, discretised) in
+      let s : over_range mode T e r range ≡ discretised mode T e r = rw (sym is, discretised) in
       into_is k k _ _ refl
-      (ap (λ (i : ℕ). within i (asking far (asked_first probes_first (Some range)) (over_range T e r range))) h
-      ∙ ap (λ (x : Option Interval). within room (asking far (asked_first probes_first x) (over_range T e r range))) is
+      (ap (λ (i : ℕ). within i (asking far (asked_first probes_first (Some range)) (over_range mode T e r range))) h
+      ∙ ap (λ (x : Option Interval). within room (asking far (asked_first probes_first x) (over_range mode T e r range))) is
       ∙ ap (λ (x : Work (List Sample)). within room (asking far (asked_first probes_first (usable_range (edge_curve T e) e.range)) x)) s)
 
-  pub into_chord : u ≡ None → w ≡ Ok 2 → g ≡ filled k (flat (chord_of T e e.range.lo e.range.hi)) → ChainInto k (within room (asked_discretised probes_first T e r)) w g
+  pub into_chord : u ≡ None → w ≡ Ok 2 → g ≡ filled k (flat (chord_of T e e.range.lo e.range.hi)) → ChainInto k (within room (asked_discretised probes_first mode T e r)) w g
   unfolding discretised overflows
   into_chord q a b =
       let far = asks_far (edge_curve T e) in
       let is : usable_range (edge_curve T e) e.range ≡ None = sym own ∙ q in
-      let chord : ChainInto k (within room (discretised T e r)) w g = rw (is, discretised) (record { answered = a; holds = b }) in
+      let chord : ChainInto k (within room (discretised mode T e r)) w g = rw (is, discretised) (record { answered = a; holds = b }) in
       into_is k k _ _ refl
       (sym
       (ap (within room)
-      (asking_clear far (asked_first probes_first (usable_range (edge_curve T e) e.range)) (discretised T e r) (ap (λ (x : Option Interval). some_far far (asked_first probes_first x)) is ∙ nothing_first far probes_first))))
+      (asking_clear far (asked_first probes_first (usable_range (edge_curve T e) e.range)) (discretised mode T e r) (ap (λ (x : Option Interval). some_far far (asked_first probes_first x)) is ∙ nothing_first far probes_first))))
       chord

@@ -67,8 +67,8 @@ fn draw_sampled(
     scratch: &mut [f64],
 ) -> Result<usize, Refusal>
     requires { (length scratch.old ≤ most) × (width * length scratch.old ≤ length chain.old)
-        × (within (length scratch.old) (listed (sampled_curve sampling.now) sampling.now.range sampling.now.options) ≡ sampled_in (length scratch.old) (sampled_curve sampling.now) sampling.now.range sampling.now.options) }
-    ensures { ChainLeads (within (length scratch.old) (over_range (lent sampling.now.drawing.now.tables.now) sampling.now.drawing.now.edge sampling.now.options sampling.now.range)) result chain.new
+        × (within (length scratch.old) (listed sampling.now.drawing.now.mode (sampled_curve sampling.now) sampling.now.range sampling.now.options) ≡ sampled_in (length scratch.old) sampling.now.drawing.now.mode (sampled_curve sampling.now) sampling.now.range sampling.now.options) }
+    ensures { ChainLeads (within (length scratch.old) (over_range sampling.now.drawing.now.mode (lent sampling.now.drawing.now.tables.now) sampling.now.drawing.now.edge sampling.now.options sampling.now.range)) result chain.new
         × (scratch.new ≡ filled (length scratch.old) []) }
 {
     let drawing = sampling.drawing;
@@ -96,7 +96,7 @@ fn draw_range(
     scratch: &mut [f64],
 ) -> Result<usize, Refusal>
     requires { (length scratch.old ≤ most) × (width * length scratch.old ≤ length chain.old) }
-    ensures { ChainLeads (within (length scratch.old) (asking (asks_far (drawn_curve plan.now.drawing.now)) (asked_first probes_first (Some range)) (over_range (lent plan.now.drawing.now.tables.now) plan.now.drawing.now.edge plan.now.options range))) result chain.new
+    ensures { ChainLeads (within (length scratch.old) (asking (asks_far (drawn_curve plan.now.drawing.now)) (asked_first probes_first (Some range)) (over_range plan.now.drawing.now.mode (lent plan.now.drawing.now.tables.now) plan.now.drawing.now.edge plan.now.options range))) result chain.new
         × (scratch.new ≡ filled (length scratch.old) []) }
 {
     let sampling = Sampling {
@@ -127,7 +127,7 @@ pub fn discretise_usable(
     scratch: &mut [f64],
 ) -> Result<usize, Refusal>
     requires { (shortest ≤ length chain.old) × (shortest ≤ length scratch.old) }
-    ensures { DiscretisedInto (asked_discretised probes_first (lent plan.now.drawing.now.tables.now) plan.now.drawing.now.edge plan.now.options) chain.old scratch.old result chain.new scratch.new }
+    ensures { DiscretisedInto (asked_discretised probes_first plan.now.drawing.now.mode (lent plan.now.drawing.now.tables.now) plan.now.drawing.now.edge plan.now.options) chain.old scratch.old result chain.new scratch.new }
 {
     let drawing = plan.drawing;
     let Some(range) = drawing.usable else {
@@ -154,7 +154,7 @@ pub fn discretise_usable(
 // The edge's chain from the start of chain, and +0.0 behind it, or everywhere where it is refused; +0.0 in all of scratch.
 pub fn discretise(plan: &Plan<'_>, chain: &mut [f64], scratch: &mut [f64]) -> Result<usize, Refusal>
     requires { (shortest ≤ length chain.old) × (shortest ≤ length scratch.old) }
-    ensures { DiscretisedInto (discretised (lent plan.now.drawing.now.tables.now) plan.now.drawing.now.edge plan.now.options) chain.old scratch.old result chain.new scratch.new }
+    ensures { DiscretisedInto (discretised plan.now.drawing.now.mode (lent plan.now.drawing.now.tables.now) plan.now.drawing.now.edge plan.now.options) chain.old scratch.old result chain.new scratch.new }
 {
     discretise_usable(plan, false, chain, scratch)
 }

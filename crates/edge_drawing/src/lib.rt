@@ -10,40 +10,44 @@ ghost use Rattle.edge_drawing.specs.Range.{with_range};
 
 use brep::{Edge, LentTables};
 use math::Interval;
-use options::Resolved;
+use options::{Mode, Resolved};
 
-// An edge over its tables, whose curve has no more knots than can be sorted, with its usable range.
+// An edge over its tables, whose curve has no more knots than can be sorted, with its usable range, and the mode that it is drawn in.
 #[derive(Clone, Copy)]
 pub struct Drawing<'a> {
     pub tables: &'a LentTables<'a>,
     pub edge: Edge,
+    pub mode: Mode,
     pub usable: Option<Interval>,
     ghost sortable: { length (curve_knots (tree (lent tables.now) edge.curve)) ≤ most_knots },
     ghost own: { usable ≡ usable_range (tree (lent tables.now) edge.curve) edge.range },
 }
 
 impl<'a> Drawing<'a> {
-    // The edge over its tables; its usable range is worked out.
-    pub fn new(tables: &'a LentTables<'a>, edge: Edge) -> Drawing<'a>
+    // The edge over its tables, in a mode; its usable range is worked out.
+    pub fn new(tables: &'a LentTables<'a>, edge: Edge, mode: Mode) -> Drawing<'a>
         requires { length (curve_knots (tree (lent tables.now) edge.curve)) ≤ most_knots }
         ensures over { lent result.tables.now ≡ lent tables.now }
         ensures of { result.edge ≡ edge }
+        ensures in_mode { result.mode ≡ mode }
     {
         let usable = edge_range::usable_range(tables, edge.curve, edge.range);
         Drawing {
             tables,
             edge,
+            mode,
             usable,
         }
     }
 
-    // The same edge over another range.
+    // The same edge over another range, in the same mode.
     pub fn with_range(&self, range: Interval) -> Drawing<'a>
         ensures over { lent result.tables.now ≡ lent self.now.tables.now }
         ensures of { result.edge ≡ with_range self.now.edge range }
+        ensures in_mode { result.mode ≡ self.now.mode }
     {
         let edge = Edge { range, ..self.edge };
-        Drawing::new(self.tables, edge)
+        Drawing::new(self.tables, edge, self.mode)
     }
 }
 

@@ -11,9 +11,7 @@ use Rattle.base_lists.specs.Own.Sub.{Sub, end, keep, skip}
 use Rattle.base_lists.proofs.Joined.{Within, all_map, all_reverse, pair_reverse}
 use Rattle.base_lists.proofs.Parts.{all_both}
 use Rattle.base_lists.proofs.Order.{sub_all, sub_pairwise, sub_same}
-use Rattle.knots_inside.specs.Breaks.{inside_of}
-use Rattle.knots_inside.proofs.Kept.{inside_all}
-use Rattle.knots_inside.proofs.Between.{Between, inside_between}
+use Rattle.knots_inside.proofs.Between.{Between}
 use Rattle.knots_inside.specs.Thinned.{next_of, thinned_from, thin_breaks}
 use Rattle.edge_params.specs.Params.{Sampler, evenly, breaks_along}
 use Rattle.edge_params.specs.Own.Bisected.{through, bisected}
@@ -103,17 +101,16 @@ between_sub lo hi {k} {l} s = go (lt hi lo)
     go true w = within_sub s w
     go false w = within_sub s w
 
--- ---- what a caller shows of its range: the breaks are what thin_breaks leaves of those that `inside` finds among the knots
-module _ (s : Sampler) (range : Interval) (knots : List Float) (sag : Float) (deviation : Float → Float → Float)
-    (e : s.breaks ≡ thin_breaks (inside_of knots range.lo range.hi) range.lo range.hi sag deviation) where
-  leaves : Sub s.breaks (inside_of knots range.lo range.hi)
-  leaves = rw e (thin_sub (inside_of knots range.lo range.hi) range.lo range.hi sag deviation)
+-- ---- what a caller shows of its range: the breaks are what thin_breaks leaves of some that lie between its ends
+module _ (s : Sampler) (range : Interval) (inside : List Float) (sag : Float) (deviation : Float → Float → Float)
+    (e : s.breaks ≡ thin_breaks inside range.lo range.hi sag deviation) where
+  leaves : Sub s.breaks inside
+  leaves = rw e (thin_sub inside range.lo range.hi sag deviation)
 
-  pub thin_sampleable : All (λ k. T (fits binary64 k)) knots → Good range.lo → Good range.hi → Sampleable s range
-  thin_sampleable F L H = record {
+  pub thin_sampleable : All (λ k. T (fits binary64 k)) inside → Between range.lo range.hi inside → Good range.lo → Good range.hi → Sampleable s range
+  thin_sampleable F B L H = record {
     low = L;
     high = H;
-    fit = sub_all leaves (inside_all knots F range.lo range.hi);
-    between = between_sub range.lo range.hi leaves
-        (inside_between knots range.lo range.hi L.fits64 H.fits64 L.modest H.modest);
+    fit = sub_all leaves F;
+    between = between_sub range.lo range.hi leaves B;
   }

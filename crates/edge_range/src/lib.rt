@@ -100,7 +100,8 @@ pub fn usable_range(tables: &LentTables<'_>, row: u32, range: Interval) -> Optio
     }
 }
 
-// Whether strict mode finds nothing to draw a row over: a parabola or a hyperbola whose range is lost.
+// Whether strict mode finds nothing to draw a row over: a parabola or a hyperbola whose range is lost. Stays: row, range and mode, as
+// `knots_breaks::breaks_in` has them; `edge_drawing::Drawing`, which holds them too, stands on this crate.
 #[tactic(auto, unfolding(crate::specs::Usable::has_no_domain, crate::specs::Usable::is_open_conic, brep::specs::Tree::tree, brep::specs::Tree::grown, brep::specs::Rows::curve_of, brep::specs::Rows::kind_of))]
 pub fn has_no_domain(curves: &[u32], row: u32, range: Interval, mode: Mode) -> bool
     ensures { (points reals : List Float) (parts : List ℕ) (ranges : List Float) → result ≡ has_no_domain mode (tree (tables points curves.now reals parts ranges) row) range }

@@ -15,6 +15,7 @@ use Rattle.base_lists.proofs.Filled.{filled_most}
 use Rattle.math.specs.declared.Aabb.{Aabb}
 use Rattle.brep.specs.declared.Edge.{Edge}
 use Rattle.brep.specs.Rows.{Tables}
+use Rattle.options.specs.declared.Mode.{Mode}
 use Rattle.options.specs.declared.Resolved.{Resolved}
 use Rattle.edge_params.specs.Work.{Work, within}
 use Rattle.edge_record.specs.declared.Sample.{Sample}
@@ -55,25 +56,25 @@ enough : (a b : ℕ) → shortest ≤ a → shortest ≤ b → Room (room_of a b
 unfolding room_of
 enough a b h k = record { least = omega arith; most = omega arith }
 
-discretised_late : (T : Tables) (e : Edge) (r : Resolved) (a b : ℕ) (n : Refusal) → shortest ≤ a → shortest ≤ b → within (room_of a b) (discretised T e r) ≡ Err n → 7 < number_of n
-discretised_late T e r a b n h k q =
-    late_above (answers_refused n (discretised_answers ⊥ T e (λ x. absurd x) (λ x. absurd x) (room_of a b) (enough a b h k) r) q)
+discretised_late : (mode : Mode) (T : Tables) (e : Edge) (r : Resolved) (a b : ℕ) (n : Refusal) → shortest ≤ a → shortest ≤ b → within (room_of a b) (discretised mode T e r) ≡ Err n → 7 < number_of n
+discretised_late mode T e r a b n h k q =
+    late_above (answers_refused n (discretised_answers ⊥ mode T e (λ x. absurd x) (λ x. absurd x) (room_of a b) (enough a b h k) r) q)
 
-pub redrawn_chain : (T U : Tables) (e d : Edge) (r : Resolved) (old : Buffers) {w : Answer ℕ} (new : Buffers) → SameBuffers old new → U ≡ T → e ≡ d
-    → DiscretisedInto (discretised U e r) old.second.now old.first.now w new.second.now new.first.now
-    → RedrawnChain (within (room_in old) (discretised T d r)) old w new
-redrawn_chain T U e d r old new same t s p =
+pub redrawn_chain : (mode other : Mode) (T U : Tables) (e d : Edge) (r : Resolved) (old : Buffers) {w : Answer ℕ} (new : Buffers) → SameBuffers old new → other ≡ mode → U ≡ T → e ≡ d
+    → DiscretisedInto (discretised other U e r) old.second.now old.first.now w new.second.now new.first.now
+    → RedrawnChain (within (room_in old) (discretised mode T d r)) old w new
+redrawn_chain mode other T U e d r old new same m t s p =
     let first = old.first.now in
     let second = old.second.now in
-    let q : within (room_of (length second) (length first)) (discretised U e r) ≡ within (room_of (length first) (length second)) (discretised T d r) =
-    rw (t, s, room_swap (length second) (length first)) in
+    let q : within (room_of (length second) (length first)) (discretised other U e r) ≡ within (room_of (length first) (length second)) (discretised mode T d r) =
+    rw (m, t, s, room_swap (length second) (length first)) in
     let a = p.drawn.answered ∙ ap counted q in
     record {
       same = same;
       answered = a;
       first_holds = p.cleared;
       second_holds = p.drawn.holds ∙ ap (λ (X : Answer (List Sample)). filled (length second) (flat (list_of X))) q;
-      late = λ n t. go n (within (room_of (length first) (length second)) (discretised T d r)) (discretised_late T d r (length first) (length second) n old.first_long old.second_long) (sym t ∙ a);
+      late = λ n t. go n (within (room_of (length first) (length second)) (discretised mode T d r)) (discretised_late mode T d r (length first) (length second) n old.first_long old.second_long) (sym t ∙ a);
     }
   where
     go : (n : Refusal) (X : Answer (List Sample)) → (X ≡ Err n → 7 < number_of n) → Err n ≡ counted X → 7 < number_of n

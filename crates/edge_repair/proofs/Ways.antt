@@ -14,6 +14,7 @@ use Rattle.math.specs.declared.Vec3.{Vec3}
 use Rattle.brep.specs.declared.Edge.{Edge}
 use Rattle.brep.specs.Rows.{Tables}
 use Rattle.curve.specs.Eval.{natural_range, period}
+use Rattle.options.specs.declared.Mode.{Mode}
 use Rattle.options.specs.declared.Resolved.{Resolved}
 use Rattle.curve_asks.specs.Asks.{asks_far}
 use Rattle.edge_params.specs.Work.{done, and_then, some_far, overflows, within}
@@ -74,20 +75,20 @@ module _ (T : Tables) (e : Edge) (r : Resolved) where
   unfolding arc_or_chord
   arc_points arc = refl
 
-  module _ (room : ℕ) where
+  module _ (room : ℕ) (mode : Mode) where
     -- ---- the short arc
-    pub short_chord : has_short_arc T e ≡ false → Ok (runaway (of_points T.points) e) ≡ within room (short_arc_tried T e r)
+    pub short_chord : has_short_arc T e ≡ false → Ok (runaway (of_points T.points) e) ≡ within room (short_arc_tried mode T e r)
     unfolding short_arc_tried overflows
     short_chord h = rw (h, short_arc_tried)
 
     module _ {short : Interval} (h : has_short_arc T e ≡ true) (s : short ≡ short_range T e) where
-      pub short_bind : within room (short_arc_tried T e r) ≡ bind (within room (discretised T (with_range e short) r)) (λ arc. Ok (arc_or_chord T e r arc))
+      pub short_bind : within room (short_arc_tried mode T e r) ≡ bind (within room (discretised mode T (with_range e short) r)) (λ arc. Ok (arc_or_chord T e r arc))
       unfolding short_arc_tried overflows
       short_bind =
-          let q : short_arc_tried T e r ≡ and_then (discretised T (with_range e short) r) (λ arc. done (arc_or_chord T e r arc)) = rw (h, short_arc_tried, s) in
-          ap (within room) q ∙ within_then room (discretised T (with_range e short) r) (λ arc. done (arc_or_chord T e r arc))
+          let q : short_arc_tried mode T e r ≡ and_then (discretised mode T (with_range e short) r) (λ arc. done (arc_or_chord T e r arc)) = rw (h, short_arc_tried, s) in
+          ap (within room) q ∙ within_then room (discretised mode T (with_range e short) r) (λ arc. done (arc_or_chord T e r arc))
 
-      pub short_drawn : (arc : List Sample) → within room (discretised T (with_range e short) r) ≡ Ok arc → Ok (arc_or_chord T e r arc) ≡ within room (short_arc_tried T e r)
+      pub short_drawn : (arc : List Sample) → within room (discretised mode T (with_range e short) r) ≡ Ok arc → Ok (arc_or_chord T e r arc) ≡ within room (short_arc_tried mode T e r)
       short_drawn arc d = sym (short_bind ∙ ap (λ (X : Answer (List Sample)). bind X (λ arc. Ok (arc_or_chord T e r arc))) d)
 
     -- swept first: a parameter that is too far is refused, and otherwise it is tried
@@ -95,12 +96,12 @@ module _ (T : Tables) (e : Edge) (r : Resolved) where
       sweep_is : (v : Bool) → w ≡ v → some_far (asks_far (edge_curve T e)) (sweep (natural_range (edge_curve T e))) ≡ v
       sweep_is v h = ap (λ (i : Interval). some_far (asks_far (edge_curve T e)) (sweep i)) (sym p) ∙ sym own ∙ h
 
-      pub short_far : w ≡ true → Err TooFar ≡ within room (by_short_arc T e r)
+      pub short_far : w ≡ true → Err TooFar ≡ within room (by_short_arc mode T e r)
       unfolding overflows
-      short_far h = sym (ap (within room) (asking_far (asks_far (edge_curve T e)) _ (short_arc_tried T e r) (sweep_is true h)))
+      short_far h = sym (ap (within room) (asking_far (asks_far (edge_curve T e)) _ (short_arc_tried mode T e r) (sweep_is true h)))
 
-      pub short_tried : w ≡ false → within room (short_arc_tried T e r) ≡ within room (by_short_arc T e r)
-      short_tried h = sym (ap (within room) (asking_clear (asks_far (edge_curve T e)) _ (short_arc_tried T e r) (sweep_is false h)))
+      pub short_tried : w ≡ false → within room (short_arc_tried mode T e r) ≡ within room (by_short_arc mode T e r)
+      short_tried h = sym (ap (within room) (asking_clear (asks_far (edge_curve T e)) _ (short_arc_tried mode T e r) (sweep_is false h)))
 
     -- ---- the complementary arc
     module _ (p : Float) {width : Float} (w : width ≡ span_of (complement_range e p)) where
@@ -111,46 +112,46 @@ module _ (T : Tables) (e : Edge) (r : Resolved) where
           go true h = ap not h
           go false h = ap not h
 
-      pub complement_none : not (lt plus_zero width) ≡ true → within room (by_short_arc T e r) ≡ within room (by_complement T e r p)
+      pub complement_none : not (lt plus_zero width) ≡ true → within room (by_short_arc mode T e r) ≡ within room (by_complement mode T e r p)
       unfolding by_complement
       complement_none h = rw (complement_long h, by_complement)
 
       module _ (h : not (lt plus_zero width) ≡ false) where
-        pub complement_bind : within room (by_complement T e r p) ≡ bind (within room (discretised T (with_range e (complement_range e p)) r)) (λ arc. within room (complement_or_short T e r arc))
+        pub complement_bind : within room (by_complement mode T e r p) ≡ bind (within room (discretised mode T (with_range e (complement_range e p)) r)) (λ arc. within room (complement_or_short mode T e r arc))
         unfolding by_complement
         complement_bind =
-            let q : by_complement T e r p ≡ and_then (discretised T (with_range e (complement_range e p)) r) (λ arc. complement_or_short T e r arc) = rw (complement_long h, by_complement) in
-            ap (within room) q ∙ within_then room (discretised T (with_range e (complement_range e p)) r) (λ arc. complement_or_short T e r arc)
+            let q : by_complement mode T e r p ≡ and_then (discretised mode T (with_range e (complement_range e p)) r) (λ arc. complement_or_short mode T e r arc) = rw (complement_long h, by_complement) in
+            ap (within room) q ∙ within_then room (discretised mode T (with_range e (complement_range e p)) r) (λ arc. complement_or_short mode T e r arc)
 
-        module _ (arc : List Sample) (q : within room (discretised T (with_range e (complement_range e p)) r) ≡ Ok arc) where
-          complement_drawn : within room (by_complement T e r p) ≡ within room (complement_or_short T e r arc)
-          complement_drawn = complement_bind ∙ ap (λ (X : Answer (List Sample)). bind X (λ arc. within room (complement_or_short T e r arc))) q
+        module _ (arc : List Sample) (q : within room (discretised mode T (with_range e (complement_range e p)) r) ≡ Ok arc) where
+          complement_drawn : within room (by_complement mode T e r p) ≡ within room (complement_or_short mode T e r arc)
+          complement_drawn = complement_bind ∙ ap (λ (X : Answer (List Sample)). bind X (λ arc. within room (complement_or_short mode T e r arc))) q
 
-          pub complement_escapes : escapes (reference T e) r arc ≡ true → within room (by_short_arc T e r) ≡ within room (by_complement T e r p)
+          pub complement_escapes : escapes (reference T e) r arc ≡ true → within room (by_short_arc mode T e r) ≡ within room (by_complement mode T e r p)
           complement_escapes k = sym (complement_drawn ∙ rw (k, complement_or_short))
 
-          pub complement_stays : escapes (reference T e) r arc ≡ false → Ok (by Complement arc) ≡ within room (by_complement T e r p)
+          pub complement_stays : escapes (reference T e) r arc ≡ false → Ok (by Complement arc) ≡ within room (by_complement mode T e r p)
           unfolding overflows
           complement_stays k = sym (complement_drawn ∙ rw (k, complement_or_short))
 
     -- ---- the repair
     module _ (g : Got) where
-      pub repaired_kept : stays (of_points T.points) e r g.chain ≡ true → within room (repaired T e r g) ≡ Ok g
+      pub repaired_kept : stays (of_points T.points) e r g.chain ≡ true → within room (repaired mode T e r g) ≡ Ok g
       unfolding repaired overflows
       repaired_kept h = rw (h, repaired)
 
       module _ (h : stays (of_points T.points) e r g.chain ≡ false) {u : Option Float} (own : u ≡ period (edge_curve T e)) where
-        repaired_by : by_period T e r u ≡ repaired T e r g
+        repaired_by : by_period mode T e r u ≡ repaired mode T e r g
         unfolding repaired
         repaired_by = rw (own, h, repaired)
 
-        pub repaired_complement : (p : Float) → u ≡ Some p → within room (by_complement T e r p) ≡ within room (repaired T e r g)
+        pub repaired_complement : (p : Float) → u ≡ Some p → within room (by_complement mode T e r p) ≡ within room (repaired mode T e r g)
         unfolding by_period
-        repaired_complement p q = ap (within room) (sym (ap (by_period T e r) q) ∙ repaired_by)
+        repaired_complement p q = ap (within room) (sym (ap (by_period mode T e r) q) ∙ repaired_by)
 
-        pub repaired_short : u ≡ None → within room (by_short_arc T e r) ≡ within room (repaired T e r g)
+        pub repaired_short : u ≡ None → within room (by_short_arc mode T e r) ≡ within room (repaired mode T e r g)
         unfolding by_period
-        repaired_short q = ap (within room) (sym (ap (by_period T e r) q) ∙ repaired_by)
+        repaired_short q = ap (within room) (sym (ap (by_period mode T e r) q) ∙ repaired_by)
 
   -- ---- the tests, by what the calls answer
   module _ (chain : List Sample) {box : Aabb} (b : box ≡ reference T e) where

@@ -106,7 +106,7 @@ fn short_range(drawing: &Drawing<'_>) -> Interval
 
 // Draws the edge over another range, into the second buffer, and clears the first.
 fn redraw(plan: &Plan<'_>, range: Interval, buffers: &mut Buffers<'_>) -> Result<usize, Refusal>
-    ensures { RedrawnChain (within (room_in buffers.old) (discretised (lent plan.now.drawing.now.tables.now) (with_range plan.now.drawing.now.edge range) plan.now.options)) buffers.old result buffers.new }
+    ensures { RedrawnChain (within (room_in buffers.old) (discretised plan.now.drawing.now.mode (lent plan.now.drawing.now.tables.now) (with_range plan.now.drawing.now.edge range) plan.now.options)) buffers.old result buffers.new }
 {
     let drawing = plan.drawing.with_range(range);
     let other = Plan {
@@ -119,7 +119,7 @@ fn redraw(plan: &Plan<'_>, range: Interval, buffers: &mut Buffers<'_>) -> Result
 // The short arc, whose range is known, drawn and tried; else the chord.
 fn draw_short(plan: &Plan<'_>, short: Interval, buffers: &mut Buffers<'_>) -> Result<Drawn, Refusal>
     requires { (has_short_arc (lent plan.now.drawing.now.tables.now) plan.now.drawing.now.edge ≡ true) × (short ≡ short_range (lent plan.now.drawing.now.tables.now) plan.now.drawing.now.edge) }
-    ensures { RedrawnInto (short_arc_tried (lent plan.now.drawing.now.tables.now) plan.now.drawing.now.edge plan.now.options) buffers.old result buffers.new }
+    ensures { RedrawnInto (short_arc_tried plan.now.drawing.now.mode (lent plan.now.drawing.now.tables.now) plan.now.drawing.now.edge plan.now.options) buffers.old result buffers.new }
 {
     let n = redraw(plan, short, buffers)?;
     arc_or_chord(plan, buffers.second, n)
@@ -133,7 +133,7 @@ fn try_short_arc(
     buffers: &mut Buffers<'_>,
 ) -> Result<Drawn, Refusal>
     requires { natural ≡ natural_range (drawn_curve plan.now.drawing.now) }
-    ensures { RedrawnInto (short_arc_tried (lent plan.now.drawing.now.tables.now) plan.now.drawing.now.edge plan.now.options) buffers.old result buffers.new }
+    ensures { RedrawnInto (short_arc_tried plan.now.drawing.now.mode (lent plan.now.drawing.now.tables.now) plan.now.drawing.now.edge plan.now.options) buffers.old result buffers.new }
 {
     let span = natural.span();
     if arith::is_finite(span) && 0.0 < span {
@@ -148,7 +148,7 @@ fn try_short_arc(
 
 // Where the range itself ran away: the curve is swept for the parameters at which the vertices sit, unless that would ask for one that is too far.
 fn by_short_arc(plan: &Plan<'_>, buffers: &mut Buffers<'_>) -> Result<Drawn, Refusal>
-    ensures { RedrawnInto (by_short_arc (lent plan.now.drawing.now.tables.now) plan.now.drawing.now.edge plan.now.options) buffers.old result buffers.new }
+    ensures { RedrawnInto (by_short_arc plan.now.drawing.now.mode (lent plan.now.drawing.now.tables.now) plan.now.drawing.now.edge plan.now.options) buffers.old result buffers.new }
 {
     let tables = plan.drawing.tables;
     let row = plan.drawing.edge.curve;
@@ -174,7 +174,7 @@ fn arc_escapes(plan: &Plan<'_>, buffers: &Buffers<'_>, n: usize) -> bool
 // The complementary arc of a curve of period p, from where the range ends back round to where it began, drawn and tried;
 // where there is none, or it escapes too, the short arc.
 fn by_complement(plan: &Plan<'_>, p: f64, buffers: &mut Buffers<'_>) -> Result<Drawn, Refusal>
-    ensures { RedrawnInto (by_complement (lent plan.now.drawing.now.tables.now) plan.now.drawing.now.edge plan.now.options p) buffers.old result buffers.new }
+    ensures { RedrawnInto (by_complement plan.now.drawing.now.mode (lent plan.now.drawing.now.tables.now) plan.now.drawing.now.edge plan.now.options p) buffers.old result buffers.new }
 {
     let range = plan.drawing.edge.range;
     let complement = Interval {
@@ -230,7 +230,7 @@ pub fn repair_runaway(
 ) -> Result<Drawn, Refusal>
     requires { (width * drawn.count ≤ length buffers.old.first.now) × (buffers.old.first.now ≡ filled (length buffers.old.first.now) (flat (samples drawn.count buffers.old.first.now)))
         × (buffers.old.second.now ≡ filled (length buffers.old.second.now) []) × (in_first drawn.way ≡ true) }
-    ensures { DrawnIn (within (room_in buffers.old) (repaired (lent plan.now.drawing.now.tables.now) plan.now.drawing.now.edge plan.now.options (by drawn.way (samples drawn.count buffers.old.first.now)))) buffers.old result buffers.new }
+    ensures { DrawnIn (within (room_in buffers.old) (repaired plan.now.drawing.now.mode (lent plan.now.drawing.now.tables.now) plan.now.drawing.now.edge plan.now.options (by drawn.way (samples drawn.count buffers.old.first.now)))) buffers.old result buffers.new }
 {
     if stays(plan, buffers, drawn.count) {
         return Ok(drawn);

@@ -14,6 +14,7 @@ use lib.Ieee.{Float}
 use borrow.Author.Tests.{ltb-true}
 use Rattle.math.specs.declared.Interval.{Interval}
 use Rattle.brep.specs.Tree.{CurveTree, analytic, line, circle, ellipse, parabola, hyperbola, polyline, trimmed, composite}
+use Rattle.options.specs.declared.Mode.{Mode}
 use Rattle.options.specs.declared.Resolved.{Resolved}
 use Rattle.options.specs.Options.{segments_for_arc}
 use Rattle.edge_params.specs.Work.{within}
@@ -124,37 +125,37 @@ module _ (room : ℕ) (s : Sampler) (range : Interval) where
       go (Some n) e =
           then_long (λ l. elim (s.meets l) [ true ↦ Ok l | false ↦ refined_in room s range ]) (even_long n (some n e)) (λ l h. checked l h (s.meets l))
 
-module _ (room : ℕ) (c : CurveTree) (range : Interval) (r : Resolved) (l : List Float) (e : sampled_in room c range r ≡ Ok l) where
+module _ (room : ℕ) (mode : Mode) (c : CurveTree) (range : Interval) (r : Resolved) (l : List Float) (e : sampled_in room mode c range r ≡ Ok l) where
   pub sampled_two : 2 ≤ length l
   unfolding sampled_in sampler
-  sampled_two = gives_got l (sampled_long room (sampler c range r) range (form_some c range r)) e
+  sampled_two = gives_got l (sampled_long room (sampler mode c range r) range (form_some c range r)) e
 
   pub sampled_room : length l ≤ room
   unfolding sampled_in
-  sampled_room = sampled_length room (sampler c range r) range l e
+  sampled_room = sampled_length room (sampler mode c range r) range l e
 
 -- ---- the reference's sample_params, within the room
-module _ (room : ℕ) (c : CurveTree) (range : Interval) (r : Resolved) where
+module _ (room : ℕ) (mode : Mode) (c : CurveTree) (range : Interval) (r : Resolved) where
   -- where nothing that it asks for is too far
-  pub sampled_in_lem : NothingFar (sampler c range r) range → within room (sampled c range r) ≡ sampled_in room c range r
+  pub sampled_in_lem : NothingFar (sampler mode c range r) range → within room (sampled mode c range r) ≡ sampled_in room mode c range r
   unfolding sampled sampled_in
-  sampled_in_lem clear = sample_params_in_lem room (sampler c range r) range clear
+  sampled_in_lem clear = sample_params_in_lem room (sampler mode c range r) range clear
 
   -- parameters that are answered
-  pub sampled_kept : (l : List Float) → within room (sampled c range r) ≡ Ok l → sampled_in room c range r ≡ Ok l
+  pub sampled_kept : (l : List Float) → within room (sampled mode c range r) ≡ Ok l → sampled_in room mode c range r ≡ Ok l
   unfolding sampled sampled_in
-  sampled_kept l = sample_params_kept room (sampler c range r) range l
+  sampled_kept l = sample_params_kept room (sampler mode c range r) range l
 
   -- in a room alone a refusal is 8
-  pub sampled_in_eight : (n : Refusal) → sampled_in room c range r ≡ Err n → n ≡ NoRoom
+  pub sampled_in_eight : (n : Refusal) → sampled_in room mode c range r ≡ Err n → n ≡ NoRoom
   unfolding sampled_in
-  sampled_in_eight = sample_params_eight room (sampler c range r) range
+  sampled_in_eight = sample_params_eight room (sampler mode c range r) range
 
   -- a refusal is 8 or 11, and what has no room is refused with 11 alone
-  pub sampled_late : (n : Refusal) → within room (sampled c range r) ≡ Err n → (n ≡ NoRoom) ⊎ (n ≡ TooFar)
+  pub sampled_late : (n : Refusal) → within room (sampled mode c range r) ≡ Err n → (n ≡ NoRoom) ⊎ (n ≡ TooFar)
   unfolding sampled
-  sampled_late n = sample_params_late room (sampler c range r) range n
+  sampled_late n = sample_params_late room (sampler mode c range r) range n
 
-pub sampled_refused : (c : CurveTree) (range : Interval) (r : Resolved) (n : Refusal) → (sampled c range r).end ≡ Err n → n ≡ TooFar
+pub sampled_refused : (mode : Mode) (c : CurveTree) (range : Interval) (r : Resolved) (n : Refusal) → (sampled mode c range r).end ≡ Err n → n ≡ TooFar
 unfolding sampled
-sampled_refused c range r n = sample_params_refused (sampler c range r) range n
+sampled_refused mode c range r n = sample_params_refused (sampler mode c range r) range n

@@ -13,6 +13,7 @@ use Rattle.curve_prepared.specs.declared.PreparedCurve.{PreparedCurve}
 use Rattle.curve_prepared.specs.Own.PreparedCurve.{curve_of}
 use Rattle.edge_drawing.specs.declared.Drawing.{Drawing}
 use Rattle.edge_drawing.specs.Own.Drawing.{drawn_curve}
+use Rattle.options.specs.declared.Mode.{Mode}
 use Rattle.options.specs.declared.Resolved.{Resolved}
 use Rattle.edge_params.specs.Params.{breaks_along, unless_hi}
 use Rattle.edge_params.specs.Own.Bisected.{subdivided, walked, through, bisected}
@@ -43,14 +44,14 @@ pub prepared_drawn : (d : Drawing) (p : PreparedCurve) → p.tables.now ≡ d.ta
 prepared_drawn d p T R = rw (T, R)
 
 -- ---- the walk
-module _ (c : CurveTree) (range : Interval) (r : Resolved) where
+module _ (mode : Mode) (c : CurveTree) (range : Interval) (r : Resolved) where
   -- what one span pushes
   abbrev pub span : Float → Float → List Float
   span a b = subdivided (within_budget c r) r.depth a b ++ unless_hi range b
 
   -- what the walk pushes from left on, with range.hi
   pub onwards : Float → List Float → List Float
-  onwards left bs = walked (sampler c range r) range left bs ++ (range.hi ∷ [])
+  onwards left bs = walked (sampler mode c range r) range left bs ++ (range.hi ∷ [])
 
   onwards_none : (left : Float) → onwards left [] ≡ range.hi ∷ []
   unfolding onwards walked
@@ -76,25 +77,25 @@ module _ (c : CurveTree) (range : Interval) (r : Resolved) where
 
   module _ (breaks : List Float) where
     -- range.lo, and what is put behind it; the breaks are those of the curve d, which the walk's own is
-    module _ (d : CurveTree) (same : c ≡ d) (B : breaks ≡ kept_breaks d range.lo range.hi r.sag) (low : End)
+    module _ (d : CurveTree) (same : c ≡ d) (B : breaks ≡ kept_breaks mode d range.lo range.hi r.sag) (low : End)
         (L : low ≡ end_at c range.lo) {w₁ : Option (Unit {0})} {start first : Recorder} (h : Records c (low.t ∷ []) w₁ start first) where
-      whole : low.t ∷ onwards range.lo (stops range breaks) ≡ bisected (sampler c range r) range
+      whole : low.t ∷ onwards range.lo (stops range breaks) ≡ bisected (sampler mode c range r) range
       unfolding onwards through breaks_along stops sampler
       whole =
           ap (λ (t : Float). t ∷ onwards range.lo (stops range breaks)) (end_t c range.lo low L)
-          ∙ ap (λ (bs : List Float). range.lo ∷ onwards range.lo (stops range bs)) (B ∙ ap (λ (x : CurveTree). kept_breaks x range.lo range.hi r.sag) (sym same))
+          ∙ ap (λ (bs : List Float). range.lo ∷ onwards range.lo (stops range bs)) (B ∙ ap (λ (x : CurveTree). kept_breaks mode x range.lo range.hi r.sag) (sym same))
 
       whole_of : {w : Option (Unit {0})} {to : Recorder} → Records c (low.t ∷ onwards range.lo (stops range breaks)) w start to
-          → Records d (bisected (sampler d range r) range) w start to
+          → Records d (bisected (sampler mode d range r) range) w start to
       whole_of {w} {to} g =
-          subst (λ (x : CurveTree). Records x (bisected (sampler x range r) range) w start to) same
+          subst (λ (x : CurveTree). Records x (bisected (sampler mode x range r) range) w start to) same
           (subst (λ (l : List Float). Records c l w start to) whole g)
 
-      pub low_refused : w₁ ≡ None → Records d (bisected (sampler d range r) range) None start first
+      pub low_refused : w₁ ≡ None → Records d (bisected (sampler mode d range r) range) None start first
       low_refused e = whole_of (records_refused c h e (onwards range.lo (stops range breaks)))
 
       pub low_then : w₁ ≡ Some tt → {w : Option (Unit {0})} {to : Recorder} → Records c (onwards range.lo (stops range breaks)) w first to
-          → Records d (bisected (sampler d range r) range) w start to
+          → Records d (bisected (sampler mode d range r) range) w start to
       low_then e g = whole_of (records_then c h e (onwards range.lo (stops range breaks)) g)
 
       pub walking_start : Walking breaks first first low 0

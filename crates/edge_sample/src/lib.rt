@@ -57,7 +57,7 @@ fn step(
 
 // range.lo, the spans between the stops, range.hi.
 fn walk(sampling: &Sampling<'_>, breaks: &[f64], to: &mut Recorder<'_>) -> Option<()>
-    requires { breaks.now ≡ kept_breaks (sampled_curve sampling.now) sampling.now.range.lo sampling.now.range.hi sampling.now.options.sag }
+    requires { breaks.now ≡ kept_breaks sampling.now.drawing.now.mode (sampled_curve sampling.now) sampling.now.range.lo sampling.now.range.hi sampling.now.options.sag }
     ensures { Records (sampled_curve sampling.now) (bisected (sampler_of sampling.now) sampling.now.range) result to.old to.new }
 {
     let drawing = sampling.drawing;
@@ -86,6 +86,7 @@ fn walk_breaks(sampling: &Sampling<'_>, to: &mut Recorder<'_>) -> Option<()>
         sampling.drawing.tables,
         sampling.drawing.edge.curve,
         sampling.range,
+        sampling.drawing.mode,
         sampling.options.sag,
         &mut breaks,
     )?;
@@ -126,7 +127,7 @@ fn settle(listed: Option<usize>, known: bool, out: &mut [f64]) -> Option<Sampled
 fn refine(sampling: &Sampling<'_>, out: &mut [f64], chain: &mut [f64]) -> Option<Sampled>
     requires { Room out.old chain.old 0 }
     ensures { SampledInto (length out.old) (refined_in (length out.old) (sampler_of sampling.now) sampling.now.range) (count_of result) out.new
-        × (traced (known_of result) chain.new ≡ traced_refined (length out.old) (sampled_curve sampling.now) sampling.now.range sampling.now.options chain.old) }
+        × (traced (known_of result) chain.new ≡ traced_refined (length out.old) sampling.now.drawing.now.mode (sampled_curve sampling.now) sampling.now.range sampling.now.options chain.old) }
 {
     let mut to = Recorder {
         params: out,
@@ -151,8 +152,8 @@ fn refine(sampling: &Sampling<'_>, out: &mut [f64], chain: &mut [f64]) -> Option
 // the chain, which has a record for each float of out. Stays: two buffers, as for `refine`.
 pub fn sample_params(sampling: &Sampling<'_>, out: &mut [f64], chain: &mut [f64]) -> Option<Sampled>
     requires { Room out.old chain.old 0 }
-    ensures { SampledInto (length out.old) (sampled_in (length out.old) (sampled_curve sampling.now) sampling.now.range sampling.now.options) (count_of result) out.new
-        × (traced (known_of result) chain.new ≡ traced_sampled (length out.old) (sampled_curve sampling.now) sampling.now.range sampling.now.options chain.old) }
+    ensures { SampledInto (length out.old) (sampled_in (length out.old) sampling.now.drawing.now.mode (sampled_curve sampling.now) sampling.now.range sampling.now.options) (count_of result) out.new
+        × (traced (known_of result) chain.new ≡ traced_sampled (length out.old) sampling.now.drawing.now.mode (sampled_curve sampling.now) sampling.now.range sampling.now.options chain.old) }
 {
     let tables = sampling.drawing.tables;
     let row = sampling.drawing.edge.curve;

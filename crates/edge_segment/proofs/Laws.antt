@@ -21,6 +21,7 @@ use Rattle.curve.specs.Eval.{point_at, is_sampled}
 use Rattle.curve_prepared.specs.declared.Prepared.TheVariants.{Line}
 use Rattle.curve_prepared.specs.Own.Prepared.{prepared_of}
 use Rattle.curve_prepared.proofs.Laws.{through_line}
+use Rattle.options.specs.declared.Mode.{Mode}
 use Rattle.options.specs.declared.Options.{Options}
 use Rattle.options.specs.declared.Resolved.{Resolved}
 use Rattle.options.specs.Options.{resolve, sag_for, for_extent}
@@ -96,13 +97,13 @@ module _ (c : CurveTree) {o d : Vec3} (R : prepared_of c ≡ Line o d) (range : 
   line_unsampled = through_line is_sampled (λ b i. refl) c R
 
   -- in any room for two
-  line_sampled : (room : ℕ) → 2 ≤ room → r.segments ≤ 1 → le (worst_miss c plus_zero (evenly range 1)) r.sag ≡ true → sampled_in room c range r ≡ Ok (evenly range 1)
+  line_sampled : (mode : Mode) (room : ℕ) → 2 ≤ room → r.segments ≤ 1 → le (worst_miss c plus_zero (evenly range 1)) r.sag ≡ true → sampled_in room mode c range r ≡ Ok (evenly range 1)
   unfolding sampled_in sampler sample_params_in
-  line_sampled room h k m =
+  line_sampled mode room h k m =
       let l = evenly range 1 in
-      let worse = refined_in room (sampler c range r) range in
+      let worse = refined_in room (sampler mode c range r) range in
       rw (line_form k, sample_params_in)
-      (ap (λ (x : Answer (List Float)). bind x (λ l. elim ((sampler c range r).meets l) [ true ↦ Ok l | false ↦ worse ])) (fitting_fits room l (omega (arith, steps_length range 1 2)))
+      (ap (λ (x : Answer (List Float)). bind x (λ l. elim ((sampler mode c range r).meets l) [ true ↦ Ok l | false ↦ worse ])) (fitting_fits room l (omega (arith, steps_length range 1 2)))
       ∙ ap (λ (b : Bool). elim b [ true ↦ Ok l | false ↦ worse ]) m)
 
 -- merging leaves two as they are
@@ -122,13 +123,13 @@ placed_size T e range = placed_length T e (evenly range 1) ∙ steps_length rang
 
 module _ (T : Tables) (e : Edge) {o d : Vec3} (R : prepared_of (edge_curve T e) ≡ Line o d) (range : Interval) where
   line_over : (r : Resolved) → r.segments ≤ 1 → le (worst_miss (edge_curve T e) plus_zero (evenly range 1)) r.sag ≡ true
-      → (room : ℕ) → 2 ≤ room → within room (over_range T e r range) ≡ Ok (placed T e (evenly range 1))
+      → (mode : Mode) (room : ℕ) → 2 ≤ room → within room (over_range mode T e r range) ≡ Ok (placed T e (evenly range 1))
   unfolding finished thinned_if
-  line_over r k m room h =
+  line_over r k m mode room h =
       let c = edge_curve T e in
       let P = placed T e (evenly range 1) in
-      over_within T e r range room
-      ∙ ap (λ (x : Answer (List Float)). bind x (finished T e r)) (listed_never room c range r (closed_never_far c range r 1 (line_form c R range r k)) ∙ line_sampled c R range r room h k m)
+      over_within mode T e r range room
+      ∙ ap (λ (x : Answer (List Float)). bind x (finished T e r)) (listed_never room mode c range r (closed_never_far c range r 1 (line_form c R range r k)) ∙ line_sampled c R range r mode room h k m)
       ∙ ap (λ (b : Bool). each (merged (merge_floor e.tolerance r.sag)) (thinned_if b r P)) (line_unsampled c R range r)
       ∙ ap Ok (merged_two (merge_floor e.tolerance r.sag) P (placed_size T e range))
 

@@ -5,15 +5,17 @@ use Rattle.arith.specs.Notation.{plus_zero}
 use Rattle.knots_inside.specs.Thinned.{next_of, thin_breaks}
 use Rattle.brep.specs.Tree.{CurveTree}
 use Rattle.curve.specs.Eval.{point_at}
-use Rattle.knots.specs.Knots.{curve_breaks, inner_parameter, deviation}
+use Rattle.knots.specs.Knots.{inner_parameter, deviation}
+use Rattle.knots_breaks.specs.Breaks.{breaks_in}
+use Rattle.options.specs.declared.Mode.{Mode}
 
 -- thin_breaks(breaks, lo, hi, sag, &|t| curve.point_at(t))
 abbrev pub curve_thinned : CurveTree → List Float → Float → Float → Float → List Float
 curve_thinned curve breaks lo hi sag = thin_breaks breaks lo hi sag (deviation (point_at curve))
 
--- the breaks that sampling starts from: thin_breaks of curve_breaks
-abbrev pub kept_breaks : CurveTree → Float → Float → Float → List Float
-kept_breaks curve lo hi sag = curve_thinned curve (curve_breaks curve lo hi) lo hi sag
+-- the breaks that sampling starts from, in a mode: thin_breaks of curve_breaks, or of strict mode's breaks
+abbrev pub kept_breaks : Mode → CurveTree → Float → Float → Float → List Float
+kept_breaks mode curve lo hi sag = curve_thinned curve (breaks_in mode curve lo hi) lo hi sag
 
 -- ---- what it asks the curve for
 -- the parameters of deviation's points: both ends of a span, and three between them
@@ -38,5 +40,5 @@ thinning_asks curve breaks lo hi sag =
     ]
 
 -- of the breaks that sampling starts from
-abbrev pub break_asks : CurveTree → Float → Float → Float → List Float
-break_asks curve lo hi sag = thinning_asks curve (curve_breaks curve lo hi) lo hi sag
+abbrev pub break_asks : Mode → CurveTree → Float → Float → Float → List Float
+break_asks mode curve lo hi sag = thinning_asks curve (breaks_in mode curve lo hi) lo hi sag

@@ -12,6 +12,7 @@ ghost use Rattle.knots_thin.specs.Thin.{curve_thinned};
 
 use brep::LentTables;
 use math::{Interval, Vec3};
+use options::Mode;
 
 // How far the curve of a row leaves the chord from a to b; pa is its point at a.
 pub fn deviation(tables: &LentTables<'_>, row: u32, a: f64, b: f64, pa: Vec3) -> f64
@@ -67,19 +68,20 @@ fn thin_breaks(
     k
 }
 
-// The breaks of the curve of a row inside a range that it bends across, from the start of out, and +0.0 after them; none where its knots do
-// not fit. Stays: tables, row, range and out, as for `knots::curve_breaks`.
+// The breaks of the curve of a row inside a range that it bends across, in a mode, from the start of out, and +0.0 after them; none where its
+// knots do not fit. Stays: tables, row, range and out, as for `knots::curve_breaks`.
 pub fn kept_breaks(
     tables: &LentTables<'_>,
     row: u32,
     range: Interval,
+    mode: Mode,
     sag: f64,
     out: &mut [f64],
 ) -> Option<usize>
     requires { length out.old ≤ most_knots }
-    ensures { (result ≡ kept_answer (length out.old) (tree (lent tables.now) row) range.lo range.hi sag)
-        × (out.new ≡ kept_after out.old (tree (lent tables.now) row) range.lo range.hi sag) }
+    ensures { (result ≡ kept_answer (length out.old) mode (tree (lent tables.now) row) range.lo range.hi sag)
+        × (out.new ≡ kept_after out.old mode (tree (lent tables.now) row) range.lo range.hi sag) }
 {
-    let n = knots::curve_breaks(tables, row, range, out)?;
+    let n = knots_breaks::breaks_in(tables, row, range, mode, out)?;
     Some(thin_breaks(tables, row, range, sag, &mut out[..n]))
 }

@@ -22,7 +22,7 @@ ghost use Rattle.std.specs.Prelude.{◌≤◌};
 
 use brep::{Edge, Kind, LentTables};
 use math::{Interval, Vec3};
-use options::{Angle, Options, Resolved};
+use options::{Angle, Mode, Options, Resolved};
 use refusal::Refusal;
 use replay_text::{Parts, Waiting};
 use sheet::{Sheet, SheetTables};
@@ -388,7 +388,7 @@ fn put_found(name: &[u8], found: Option<usize>, list: &[f64], out: &mut Waiting)
     put_floats(b"", kept, out);
 }
 
-// The usable range, the breaks within it, and those that are kept. No sheet has segments for more than 3,448.
+// The usable range, the breaks of the Rust within it, and those that are kept. No sheet has segments for more than 3,448.
 fn put_usable(
     tables: &LentTables<'_>,
     row: u32,
@@ -404,7 +404,7 @@ fn put_usable(
     put_floats(b"usable ", &[range.lo, range.hi], out);
     let found = knots::curve_breaks(tables, row, range, &mut list);
     put_found(b"breaks ", found, &list, out);
-    let kept = knots_thin::kept_breaks(tables, row, range, sag, &mut list);
+    let kept = knots_thin::kept_breaks(tables, row, range, Mode::Reference, sag, &mut list);
     put_found(b"kept ", kept, &list, out);
 }
 

@@ -3,12 +3,15 @@
 // alike. A part that is one line with a setting holds for the sheets behind it and has an empty answer:
 //   buffers FIRST SECOND   the chain buffers have so many floats, each at most 65,536; 8,192 before the first such part
 //   ask chain              the answer is what the program `chain` prints, as before the first such part
+//   mode strict            edges are drawn in strict mode
+//   mode reference         and in the one that is equal to the Rust, as before the first such part
 //   ask both               the answer is the whole of what `draw` answers, with every float of both buffers
 ghost use Rattle.std.specs.Prelude.{◌+◌, ◌*◌, ◌≤◌, length};
 ghost use Rattle.edge_record.specs.Chain.{width, most};
 ghost use Rattle.text_listing.specs.Listing.{line_bytes, refusal_bytes};
 
 use draw_spec::{Drawn, Way};
+use options::Mode;
 use refusal::Refusal;
 use replay_text::{Parts, Waiting};
 use sheet::SheetTables;
@@ -35,11 +38,12 @@ const BEFORE: f64 = 85.33333333333333;
 // The bits of a NaN that an operation makes.
 const QUIET: u64 = 0x7FF8000000000000;
 
-// How sheets are answered: the floats of both chain buffers, and whether the whole answer is asked for.
+// How sheets are answered: the floats of both chain buffers, the mode, and whether the whole answer is asked for.
 #[derive(Clone, Copy)]
 struct Settings {
     first: usize,
     second: usize,
+    mode: Mode,
     both: bool,
 }
 
@@ -67,6 +71,14 @@ fn set(text: &[u8], settings: Settings) -> Option<Settings> {
         }),
         b"ask chain\n" => Some(Settings {
             both: false,
+            ..settings
+        }),
+        b"mode strict\n" => Some(Settings {
+            mode: Mode::Strict,
+            ..settings
+        }),
+        b"mode reference\n" => Some(Settings {
+            mode: Mode::Reference,
             ..settings
         }),
         _ => with_sizes(text, settings),
@@ -135,13 +147,13 @@ fn put_drawn(drawn: Result<Drawn, Refusal>, out: &mut Waiting) {
 
 // The answer of drawing and every float of both buffers: what a listing leaves out. A chord for want of a range is in the first, its
 // parameters lo and hi; a runaway chord in the second, with lo twice.
-fn put_both(text: &[u8], first: &mut [f64], second: &mut [f64], out: &mut Waiting) {
+fn put_both(text: &[u8], mode: Mode, first: &mut [f64], second: &mut [f64], out: &mut Waiting) {
     let mut tables = SheetTables::new();
     match tables.read(text) {
         Ok(sheet) => {
             first.fill(BEFORE);
             second.fill(BEFORE);
-            let drawn = chain_answer::draw_sheet(&tables, &sheet, first, second);
+            let drawn = chain_answer::draw_sheet(&tables, &sheet, mode, first, second);
             put_drawn(drawn, out);
             put_floats(first, sheet.lo, sheet.hi, out);
             put_floats(second, sheet.lo, sheet.lo, out);
@@ -157,17 +169,18 @@ fn write_answer(
     first: &mut [f64],
     second: &mut [f64],
     out: &mut [u8],
+    mode: Mode,
     both: bool,
 )
     requires { refusal_bytes + line_bytes * most ≤ length out.old }
 {
     if both {
         let mut waiting = Waiting::new(to);
-        put_both(text, first, second, &mut waiting);
+        put_both(text, mode, first, second, &mut waiting);
         waiting.flush();
         return;
     }
-    let written = chain_answer::answer(text, first, second, out);
+    let written = chain_answer::answer_in_mode(text, mode, first, second, out);
     let _ = to.write_all(&out[..written]);
 }
 
@@ -190,6 +203,7 @@ fn write_sheet(
         &mut first[..n],
         &mut second[..m],
         out,
+        settings.mode,
         settings.both,
     );
 }
@@ -205,6 +219,7 @@ fn main(rt: HostRuntime) {
     let mut settings = Settings {
         first: chain_answer::FLOATS,
         second: chain_answer::FLOATS,
+        mode: Mode::Reference,
         both: false,
     };
     for _ in 0..u64::MAX {

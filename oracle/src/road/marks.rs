@@ -112,6 +112,17 @@ pub const ALL: [&str; 106] = [
     "thin: split for turn alone",
 ];
 
+/// Those that strict mode alone can meet. Its thinned joints are marked as breaks are.
+pub const STRICT: [&str; 7] = [
+    "joints: dropped by thinning",
+    "joints: inside",
+    "joints: kept",
+    "joints: no break of the Rust",
+    "joints: nearer to an end than is told from it",
+    "joints: nearer to each other than the Rust keeps apart",
+    "joints: walked backwards",
+];
+
 thread_local! {
     static MET: RefCell<Vec<&'static str>> = const { RefCell::new(Vec::new()) };
     static PLACE: Cell<&'static str> = const { Cell::new("") };

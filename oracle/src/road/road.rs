@@ -15,6 +15,7 @@ pub mod knots;
 #[cfg(marked)]
 pub mod marks;
 pub mod math;
+pub mod mode;
 pub mod options;
 pub mod steps;
 

@@ -9,13 +9,13 @@ returns-then-nests c =
     let a = c.args in
     let d = a.drawing.now in
     let T = lent d.tables.now in
-    bounded_nested T d.edge a.options a.first.now a.second.now _ _ _
-    (sym (c.nests.ensures T.points T.reals T.ranges) ∙ c.if-nests.true) c.draw.ensures
+    bounded_nested d.mode T d.edge a.options a.first.now a.second.now _ _ _
+    (sym (c.nests.ensures T.points T.reals T.ranges) ∙ c.if-nests.true) c.draw_in_mode.ensures
 
 pub returns : goal.returns
 returns c =
     let a = c.args in
     let d = a.drawing.now in
     let T = lent d.tables.now in
-    bounded_flat T d.edge a.options a.first.now a.second.now _ _ _
+    bounded_flat d.mode T d.edge a.options a.first.now a.second.now _ _ _
     (sym (c.nests.ensures T.points T.reals T.ranges) ∙ c.if-nests.false) c.draw_unchecked.ensures

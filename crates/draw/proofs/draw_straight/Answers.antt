@@ -32,7 +32,7 @@ returns-then-draw_segment c =
     -- what `draw_segment` answered, and what it left of the first buffer
     let told : SegmentInto T d.edge (for_extent (resolve a.options) (edge_extent T d.edge)) c.in-Some.range a.buffers.now.first.now c.draw_segment.result c.draw_segment.new.chain =
     c.draw_segment.ensures T c.point-start.ensures c.point-end.ensures line (edge_extent T d.edge) in
-    straight T d.edge a.options a.buffers.now _ _ (sym d.own ∙ c.in-Some.is) line c.point-start.ensures c.point-end.ensures
+    straight d.mode T d.edge a.options a.buffers.now _ _ (sym d.own ∙ c.in-Some.is) line c.point-start.ensures c.point-end.ensures
     (record { first = refl; second = refl; first_room = c.draw_segment.auto.chain; second_room = c.clear_from.auto.a }) told c.if-draw_segment.true
     (c.stays_between.ensures c.if-stays_between.true) c.clear_from.ensures
 

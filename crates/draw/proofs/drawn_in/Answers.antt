@@ -24,7 +24,7 @@ repair_runaway-requires c =
       first_long = omega (arith, w.auto.chain, b.first_long);
       second_long = omega (arith, w.auto.scratch, b.second_long);
     } in
-    let k = counts (lent d.tables.now) d.edge p.options b after (record { first = refl; second = refl; first_room = w.auto.chain; second_room = w.auto.scratch }) w.ensures _ c.in_ok-count.was in
+    let k = counts d.mode (lent d.tables.now) d.edge p.options b after (record { first = refl; second = refl; first_room = w.auto.chain; second_room = w.auto.scratch }) w.ensures _ c.in_ok-count.was in
     (k.fits, k.alone, k.clear, ap in_first c.first_way-way.ensures ∙ first_in_first _)
 
 pub returns-in_err-count : goal.returns-in_err-count
@@ -34,12 +34,12 @@ returns-in_err-count c =
     let w = c.discretise_usable in
     let q = err_from_is_err_and c.from_residual.result c.from_residual.ensures.1 in
     rw (q.1, q.2)
-    (not_drawn (lent d.tables.now) d.edge p.options c.args.buffers.now _ (record { first = refl; second = refl; first_room = w.auto.chain; second_room = w.auto.scratch }) w.ensures _ c.in_err-count.was)
+    (not_drawn d.mode (lent d.tables.now) d.edge p.options c.args.buffers.now _ (record { first = refl; second = refl; first_room = w.auto.chain; second_room = w.auto.scratch }) w.ensures _ c.in_err-count.was)
 
 pub returns : goal.returns
 returns c =
     let p = c.args.plan.now in
     let d = p.drawing.now in
     let w = c.discretise_usable in
-    drawn_on (lent d.tables.now) d.edge p.options c.args.buffers.now _ (record { first = refl; second = refl; first_room = w.auto.chain; second_room = w.auto.scratch }) w.ensures
+    drawn_on d.mode (lent d.tables.now) d.edge p.options c.args.buffers.now _ (record { first = refl; second = refl; first_room = w.auto.chain; second_room = w.auto.scratch }) w.ensures
     _ c.in_ok-count.was _ (c.first_way-way.ensures ∙ ap first_way d.own) c.repair_runaway.ensures

@@ -2,6 +2,7 @@
 use Rattle.std.specs.Prelude.{true, false, ℕ, Err}
 use Rattle.math.specs.declared.Interval.{Interval}
 use Rattle.brep.specs.Tree.{CurveTree}
+use Rattle.options.specs.declared.Mode.{Mode}
 use Rattle.options.specs.declared.Resolved.{Resolved}
 use Rattle.curve_asks.specs.Asks.{asks_far}
 use Rattle.knots_thin.specs.Thin.{break_asks}
@@ -13,9 +14,9 @@ use Rattle.refusal.specs.Answer.{Answer}
 use Rattle.refusal.specs.declared.Refusal.TheVariants.{TooFar}
 
 -- sample_params before its segment floor, of a curve without a closed form: how many parameters there are in a room, or 8 or 11
-unfoldable pub range_counted : ℕ → CurveTree → Interval → Resolved → Answer ℕ
-range_counted room c range r =
-    elim (some_far (asks_far c) (break_asks c range.lo range.hi r.sag)) [
+unfoldable pub range_counted : ℕ → Mode → CurveTree → Interval → Resolved → Answer ℕ
+range_counted room mode c range r =
+    elim (some_far (asks_far c) (break_asks mode c range.lo range.hi r.sag)) [
       | true ↦ Err TooFar
-      | false ↦ counted (asks_far c) room 0 (bisecting (sampler c range r) range)
+      | false ↦ counted (asks_far c) room 0 (bisecting (sampler mode c range r) range)
     ]

@@ -6,4 +6,4 @@ use Rattle.edge_discretise.proofs.discretise.Goals as goal
 pub returns : goal.returns
 returns c =
     let p = c.args.plan.now in
-    unprobed (lent p.drawing.now.tables.now) p.drawing.now.edge p.options c.discretise_usable.ensures
+    unprobed p.drawing.now.mode (lent p.drawing.now.tables.now) p.drawing.now.edge p.options c.discretise_usable.ensures

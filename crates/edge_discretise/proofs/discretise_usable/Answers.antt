@@ -11,7 +11,7 @@ pub returns-in_default : goal.returns-in_default
 returns-in_default c =
     let a = c.args in
     let p = a.plan.now in
-    let z = into_chord (room_of (length a.chain.now) (length a.scratch.now)) (lent p.drawing.now.tables.now) p.drawing.now.edge a.probes_first p.options (length a.chain.now) _ p.drawing.now.own c.in_default.is refl c.chord.ensures in
+    let z = into_chord (room_of (length a.chain.now) (length a.scratch.now)) p.drawing.now.mode (lent p.drawing.now.tables.now) p.drawing.now.edge a.probes_first p.options (length a.chain.now) _ p.drawing.now.own c.in_default.is refl c.chord.ensures in
     record { drawn = z; cleared = c.clear_from.ensures }
 
 -- in the following, `l`: the part of scratch that is lent
@@ -50,7 +50,7 @@ returns c =
     let d = c.draw_range-drawn in
     record {
       drawn =
-          into_range (room_of (length a.chain.now) (length a.scratch.now)) (lent p.drawing.now.tables.now) p.drawing.now.edge a.probes_first p.options (length a.chain.now) _ p.drawing.now.own _ _ c.in-Some.is
+          into_range (room_of (length a.chain.now) (length a.scratch.now)) p.drawing.now.mode (lent p.drawing.now.tables.now) p.drawing.now.edge a.probes_first p.options (length a.chain.now) _ p.drawing.now.own _ _ c.in-Some.is
           (l.size ∙ n.ensures) (cleared_rest d.ensures.0 c.unwrap_or-kept.ensures d.auto.chain c.clear_from-2.ensures);
       cleared = cleared_whole n.result d.new.scratch a.scratch.now l.inside d.ensures.1 c.clear_from-3.ensures;
     }

@@ -25,10 +25,10 @@ pub returns-in_default : goal.returns-in_default
 returns-in_default c =
     let g = c.args.sampling.now in
     let T = lent g.drawing.now.tables.now in
-    let sampling = sampled_in (length c.args.scratch.now) (edge_curve T g.drawing.now.edge) g.range g.options in
+    let sampling = sampled_in (length c.args.scratch.now) g.drawing.now.mode (edge_curve T g.drawing.now.edge) g.range g.options in
     let p = c.sample_params.ensures.0 in
     let e = ap count_of c.in_default.is in
-    (leads_over T g.drawing.now.edge g.options g.range (length c.args.scratch.now) c.requires.2 (leads_none sampling _ _ _ p.0 e), none_listed _ sampling _ p.0 e p.1)
+    (leads_over g.drawing.now.mode T g.drawing.now.edge g.options g.range (length c.args.scratch.now) c.requires.2 (leads_none sampling _ _ _ p.0 e), none_listed _ sampling _ p.0 e p.1)
 
 -- in the following, `s`: scratch after sampling, which did not refuse
 pub slice_bounds-params-end : goal.slice_bounds-params-end
@@ -36,7 +36,7 @@ slice_bounds-params-end c =
     let g = c.args.sampling.now in
     let T = lent g.drawing.now.tables.now in
     let t = c.sample_params in
-    let s = sampling_some (length c.args.scratch.now) (edge_curve T g.drawing.now.edge) g.range g.options (count_of t.result) c.in-Some.sampled.count _ t.ensures.0 (ap count_of c.in-Some.is) in
+    let s = sampling_some (length c.args.scratch.now) g.drawing.now.mode (edge_curve T g.drawing.now.edge) g.range g.options (count_of t.result) c.in-Some.sampled.count _ t.ensures.0 (ap count_of c.in-Some.is) in
     part_room s
 
 pub slice_bounds-params-end-2 : goal.slice_bounds-params-end-2
@@ -44,7 +44,7 @@ slice_bounds-params-end-2 c =
     let g = c.args.sampling.now in
     let T = lent g.drawing.now.tables.now in
     let t = c.sample_params in
-    let s = sampling_some (length c.args.scratch.now) (edge_curve T g.drawing.now.edge) g.range g.options (count_of t.result) c.in-Some.sampled.count _ t.ensures.0 (ap count_of c.in-Some.is) in
+    let s = sampling_some (length c.args.scratch.now) g.drawing.now.mode (edge_curve T g.drawing.now.edge) g.range g.options (count_of t.result) c.in-Some.sampled.count _ t.ensures.0 (ap count_of c.in-Some.is) in
     sym (part_length s)
 
 pub place-requires : goal.place-requires
@@ -52,11 +52,11 @@ place-requires c =
     let g = c.args.sampling.now in
     let T = lent g.drawing.now.tables.now in
     let t = c.sample_params in
-    let s = sampling_some (length c.args.scratch.now) (edge_curve T g.drawing.now.edge) g.range g.options (count_of t.result) c.in-Some.sampled.count _ t.ensures.0 (ap count_of c.in-Some.is) in
+    let s = sampling_some (length c.args.scratch.now) g.drawing.now.mode (edge_curve T g.drawing.now.edge) g.range g.options (count_of t.result) c.in-Some.sampled.count _ t.ensures.0 (ap count_of c.in-Some.is) in
     let wide = width * length c.args.scratch.now in (
       omega (arith, s.two, part_length s),
       omega (arith, s.fits, part_length s, c.requires.1, whole_length wide t.new.chain c.args.chain.now t.auto.chain),
-      held T g.drawing.now.edge g.options g.range s _ _ (drop wide c.args.chain.now) (omega (arith, records_length c.args.scratch.now c.args.chain.now c.requires.1)) (ap (λ (q : Option Sampled). traced (known_of q) t.new.chain) (sym c.in-Some.is) ∙ t.ensures.1),
+      held g.drawing.now.mode T g.drawing.now.edge g.options g.range s _ _ (drop wide c.args.chain.now) (omega (arith, records_length c.args.scratch.now c.args.chain.now c.requires.1)) (ap (λ (q : Option Sampled). traced (known_of q) t.new.chain) (sym c.in-Some.is) ∙ t.ensures.1),
     )
 
 pub slice_bounds-used-end : goal.slice_bounds-used-end
@@ -64,7 +64,7 @@ slice_bounds-used-end c =
     let g = c.args.sampling.now in
     let T = lent g.drawing.now.tables.now in
     let t = c.sample_params in
-    let s = sampling_some (length c.args.scratch.now) (edge_curve T g.drawing.now.edge) g.range g.options (count_of t.result) c.in-Some.sampled.count _ t.ensures.0 (ap count_of c.in-Some.is) in
+    let s = sampling_some (length c.args.scratch.now) g.drawing.now.mode (edge_curve T g.drawing.now.edge) g.range g.options (count_of t.result) c.in-Some.sampled.count _ t.ensures.0 (ap count_of c.in-Some.is) in
     part_room s
 
 pub slice_bounds-used-end-2 : goal.slice_bounds-used-end-2
@@ -72,7 +72,7 @@ slice_bounds-used-end-2 c =
     let g = c.args.sampling.now in
     let T = lent g.drawing.now.tables.now in
     let t = c.sample_params in
-    let s = sampling_some (length c.args.scratch.now) (edge_curve T g.drawing.now.edge) g.range g.options (count_of t.result) c.in-Some.sampled.count _ t.ensures.0 (ap count_of c.in-Some.is) in
+    let s = sampling_some (length c.args.scratch.now) g.drawing.now.mode (edge_curve T g.drawing.now.edge) g.range g.options (count_of t.result) c.in-Some.sampled.count _ t.ensures.0 (ap count_of c.in-Some.is) in
     sym (part_length s)
 
 pub clear_from-requires : goal.clear_from-requires
@@ -80,7 +80,7 @@ clear_from-requires c =
     let g = c.args.sampling.now in
     let T = lent g.drawing.now.tables.now in
     let t = c.sample_params in
-    let s = sampling_some (length c.args.scratch.now) (edge_curve T g.drawing.now.edge) g.range g.options (count_of t.result) c.in-Some.sampled.count _ t.ensures.0 (ap count_of c.in-Some.is) in
+    let s = sampling_some (length c.args.scratch.now) g.drawing.now.mode (edge_curve T g.drawing.now.edge) g.range g.options (count_of t.result) c.in-Some.sampled.count _ t.ensures.0 (ap count_of c.in-Some.is) in
     omega (arith, part_length s)
 
 pub slice_bounds-placed-end : goal.slice_bounds-placed-end
@@ -88,30 +88,30 @@ slice_bounds-placed-end c =
     let g = c.args.sampling.now in
     let T = lent g.drawing.now.tables.now in
     let t = c.sample_params in
-    let s = sampling_some (length c.args.scratch.now) (edge_curve T g.drawing.now.edge) g.range g.options (count_of t.result) c.in-Some.sampled.count _ t.ensures.0 (ap count_of c.in-Some.is) in
+    let s = sampling_some (length c.args.scratch.now) g.drawing.now.mode (edge_curve T g.drawing.now.edge) g.range g.options (count_of t.result) c.in-Some.sampled.count _ t.ensures.0 (ap count_of c.in-Some.is) in
     let wide = width * length c.args.scratch.now in
     let long = whole_length wide t.new.chain c.args.chain.now t.auto.chain in
-    placed_room T g.drawing.now.edge g.options g.range s (t.new.chain ++ drop wide c.args.chain.now) _ (omega (arith, s.fits, c.requires.1, long)) c.place.ensures
+    placed_room g.drawing.now.mode T g.drawing.now.edge g.options g.range s (t.new.chain ++ drop wide c.args.chain.now) _ (omega (arith, s.fits, c.requires.1, long)) c.place.ensures
 
 pub slice_bounds-placed-end-2 : goal.slice_bounds-placed-end-2
 slice_bounds-placed-end-2 c =
     let g = c.args.sampling.now in
     let T = lent g.drawing.now.tables.now in
     let t = c.sample_params in
-    let s = sampling_some (length c.args.scratch.now) (edge_curve T g.drawing.now.edge) g.range g.options (count_of t.result) c.in-Some.sampled.count _ t.ensures.0 (ap count_of c.in-Some.is) in
+    let s = sampling_some (length c.args.scratch.now) g.drawing.now.mode (edge_curve T g.drawing.now.edge) g.range g.options (count_of t.result) c.in-Some.sampled.count _ t.ensures.0 (ap count_of c.in-Some.is) in
     let wide = width * length c.args.scratch.now in
     let long = whole_length wide t.new.chain c.args.chain.now t.auto.chain in
-    sym (length-take-le (width * c.in-Some.sampled.count) c.place.new.chain (placed_room T g.drawing.now.edge g.options g.range s (t.new.chain ++ drop wide c.args.chain.now) _ (omega (arith, s.fits, c.requires.1, long)) c.place.ensures))
+    sym (length-take-le (width * c.in-Some.sampled.count) c.place.new.chain (placed_room g.drawing.now.mode T g.drawing.now.edge g.options g.range s (t.new.chain ++ drop wide c.args.chain.now) _ (omega (arith, s.fits, c.requires.1, long)) c.place.ensures))
 
 pub finish-requires : goal.finish-requires
 finish-requires c =
     let g = c.args.sampling.now in
     let T = lent g.drawing.now.tables.now in
     let t = c.sample_params in
-    let s = sampling_some (length c.args.scratch.now) (edge_curve T g.drawing.now.edge) g.range g.options (count_of t.result) c.in-Some.sampled.count _ t.ensures.0 (ap count_of c.in-Some.is) in
+    let s = sampling_some (length c.args.scratch.now) g.drawing.now.mode (edge_curve T g.drawing.now.edge) g.range g.options (count_of t.result) c.in-Some.sampled.count _ t.ensures.0 (ap count_of c.in-Some.is) in
     let wide = width * length c.args.scratch.now in
     let long = whole_length wide t.new.chain c.args.chain.now t.auto.chain in
-    let r = placed_room T g.drawing.now.edge g.options g.range s (t.new.chain ++ drop wide c.args.chain.now) _ (omega (arith, s.fits, c.requires.1, long)) c.place.ensures in
+    let r = placed_room g.drawing.now.mode T g.drawing.now.edge g.options g.range s (t.new.chain ++ drop wide c.args.chain.now) _ (omega (arith, s.fits, c.requires.1, long)) c.place.ensures in
     let l = length-take-le (width * c.in-Some.sampled.count) c.place.new.chain r in
     (omega (arith, s.two, l), omega (arith, s.fits, c.requires.0, l))
 
@@ -120,9 +120,9 @@ returns c =
     let g = c.args.sampling.now in
     let T = lent g.drawing.now.tables.now in
     let t = c.sample_params in
-    let s = sampling_some (length c.args.scratch.now) (edge_curve T g.drawing.now.edge) g.range g.options (count_of t.result) c.in-Some.sampled.count _ t.ensures.0 (ap count_of c.in-Some.is) in
+    let s = sampling_some (length c.args.scratch.now) g.drawing.now.mode (edge_curve T g.drawing.now.edge) g.range g.options (count_of t.result) c.in-Some.sampled.count _ t.ensures.0 (ap count_of c.in-Some.is) in
     let wide = width * length c.args.scratch.now in
     let long = whole_length wide t.new.chain c.args.chain.now t.auto.chain in (
-      leads_some T g.drawing.now.edge g.options g.range s (t.new.chain ++ drop wide c.args.chain.now) _ (omega (arith, s.fits, c.requires.1, long)) c.place.ensures c.requires.2 _ _ _ c.finish.ensures,
+      leads_some g.drawing.now.mode T g.drawing.now.edge g.options g.range s (t.new.chain ++ drop wide c.args.chain.now) _ (omega (arith, s.fits, c.requires.1, long)) c.place.ensures c.requires.2 _ _ _ c.finish.ensures,
       cleared_used s c.clear_from.ensures,
     )

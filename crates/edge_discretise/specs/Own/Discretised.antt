@@ -4,6 +4,7 @@ use Rattle.base_lists.specs.Own.ListOf.{list_of}
 use Rattle.base_lists.specs.Room.{filled}
 use Rattle.brep.specs.declared.Edge.{Edge}
 use Rattle.brep.specs.Rows.{Tables}
+use Rattle.options.specs.declared.Mode.{Mode}
 use Rattle.options.specs.declared.Resolved.{Resolved}
 use Rattle.curve_asks.specs.Asks.{asks_far}
 use Rattle.edge_params.specs.Work.{Work, asking, within}
@@ -28,9 +29,9 @@ pub record ChainLeads (D : Answer (List Sample)) (answer : Answer ℕ) (chain : 
   pub holds : take (width * length (list_of D)) chain ≡ flat (list_of D)
 
 -- discretise, before which edge_extent's probes are asked for or not
-abbrev pub asked_discretised : Bool → Tables → Edge → Resolved → Work (List Sample)
-asked_discretised probes_first T e r =
-    asking (asks_far (edge_curve T e)) (asked_first probes_first (usable_range (edge_curve T e) e.range)) (discretised T e r)
+abbrev pub asked_discretised : Bool → Mode → Tables → Edge → Resolved → Work (List Sample)
+asked_discretised probes_first mode T e r =
+    asking (asks_far (edge_curve T e)) (asked_first probes_first (usable_range (edge_curve T e) e.range)) (discretised mode T e r)
 
 -- of a work D in the room of both buffers, with +0.0 in all of scratch
 pub record DiscretisedInto (D : Work (List Sample)) (chain scratch : List Float) (answer : Answer ℕ) (chain' scratch' : List Float) : Type 0 where

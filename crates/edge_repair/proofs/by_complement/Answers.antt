@@ -16,7 +16,7 @@ returns-then-not-span c =
     let plan = a.plan.now in
     let T = lent plan.drawing.now.tables.now in
     let e = plan.drawing.now.edge in
-    redrawn_is c.by_short_arc.ensures _ (complement_none T e plan.options (room_in a.buffers.now) a.p c.span.ensures (ap not c.if-not-span.true))
+    redrawn_is c.by_short_arc.ensures _ (complement_none T e plan.options (room_in a.buffers.now) plan.drawing.now.mode a.p c.span.ensures (ap not c.if-not-span.true))
 
 pub arc_escapes-requires : goal.arc_escapes-requires
 arc_escapes-requires c = chain_room (drawn_chain c.redraw.ensures _ c.in_ok-n.was)
@@ -29,7 +29,7 @@ returns-then-arc_escapes c =
     let e = plan.drawing.now.edge in
     let d = drawn_chain c.redraw.ensures _ c.in_ok-n.was in
     redrawn_is (redrawn_from c.by_short_arc-then-arc_escapes.ensures a.buffers.now c.redraw.ensures.same) _
-    (complement_escapes T e plan.options (room_in a.buffers.now) a.p c.span.ensures (ap not c.if-not-span.false) d.chain d.is
+    (complement_escapes T e plan.options (room_in a.buffers.now) plan.drawing.now.mode a.p c.span.ensures (ap not c.if-not-span.false) d.chain d.is
     (chain_escapes d plan.options _ _ _ _ refl c.arc_escapes.ensures c.if-arc_escapes.true))
 
 pub returns-in_err-n : goal.returns-in_err-n
@@ -40,7 +40,7 @@ returns-in_err-n c =
     let e = plan.drawing.now.edge in
     let p = err_from_is_err_and c.from_residual.result c.from_residual.ensures.1 in
     rw (p.1, p.2)
-    (redrawn_refused c.redraw.ensures _ _ _ c.in_err-n.was (complement_bind T e plan.options (room_in a.buffers.now) a.p c.span.ensures (ap not c.if-not-span.false)))
+    (redrawn_refused c.redraw.ensures _ _ _ c.in_err-n.was (complement_bind T e plan.options (room_in a.buffers.now) plan.drawing.now.mode a.p c.span.ensures (ap not c.if-not-span.false)))
 
 pub returns : goal.returns
 returns c =
@@ -51,5 +51,5 @@ returns c =
     let t = c.redraw.ensures in
     let d = drawn_chain t _ c.in_ok-n.was in
     redrawn_second (second_is (kept_second Complement _ _ refl (chain_floats_lem d)) _ (ap (by Complement) (chain_reads d))) _ a.buffers.now _ t.same refl t.same.second_room t.first_holds
-    (complement_stays T e plan.options (room_in a.buffers.now) a.p c.span.ensures (ap not c.if-not-span.false) d.chain d.is
+    (complement_stays T e plan.options (room_in a.buffers.now) plan.drawing.now.mode a.p c.span.ensures (ap not c.if-not-span.false) d.chain d.is
     (chain_escapes d plan.options _ _ _ _ refl c.arc_escapes.ensures c.if-arc_escapes.false))

@@ -15,8 +15,8 @@ returns-then-sweep_far c =
     let plan = a.plan.now in
     let T = lent plan.drawing.now.tables.now in
     let e = plan.drawing.now.edge in
-    redrawn_cleared (by_short_arc T e plan.options) a.buffers.now _ (record { first = refl; second = refl; first_room = c.clear_from.auto.a; second_room = c.clear_from-then-sweep_far.auto.a }) TooFar (omega arith) c.clear_from.ensures c.clear_from-then-sweep_far.ensures
-    (short_far T e plan.options (room_in a.buffers.now) c.natural_range-natural.ensures (c.sweep_far.ensures T.points T.reals) c.if-sweep_far.true)
+    redrawn_cleared (by_short_arc plan.drawing.now.mode T e plan.options) a.buffers.now _ (record { first = refl; second = refl; first_room = c.clear_from.auto.a; second_room = c.clear_from-then-sweep_far.auto.a }) TooFar (omega arith) c.clear_from.ensures c.clear_from-then-sweep_far.ensures
+    (short_far T e plan.options (room_in a.buffers.now) plan.drawing.now.mode c.natural_range-natural.ensures (c.sweep_far.ensures T.points T.reals) c.if-sweep_far.true)
 
 pub returns : goal.returns
 returns c =
@@ -24,5 +24,5 @@ returns c =
     let plan = a.plan.now in
     let T = lent plan.drawing.now.tables.now in
     let e = plan.drawing.now.edge in
-    redrawn_is c.try_short_arc.ensures (by_short_arc T e plan.options)
-    (short_tried T e plan.options (room_in a.buffers.now) c.natural_range-natural.ensures (c.sweep_far.ensures T.points T.reals) c.if-sweep_far.false)
+    redrawn_is c.try_short_arc.ensures (by_short_arc plan.drawing.now.mode T e plan.options)
+    (short_tried T e plan.options (room_in a.buffers.now) plan.drawing.now.mode c.natural_range-natural.ensures (c.sweep_far.ensures T.points T.reals) c.if-sweep_far.false)

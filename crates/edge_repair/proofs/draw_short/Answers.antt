@@ -21,7 +21,7 @@ returns-in_err-n c =
     let e = plan.drawing.now.edge in
     let p = err_from_is_err_and c.from_residual.result c.from_residual.ensures.1 in
     rw (p.1, p.2)
-    (redrawn_refused c.redraw.ensures _ _ _ c.in_err-n.was (short_bind T e plan.options (room_in a.buffers.now) c.requires.0 c.requires.1))
+    (redrawn_refused c.redraw.ensures _ _ _ c.in_err-n.was (short_bind T e plan.options (room_in a.buffers.now) plan.drawing.now.mode c.requires.0 c.requires.1))
 
 pub returns : goal.returns
 returns c =
@@ -34,4 +34,4 @@ returns c =
     redrawn_second
     (second_is c.arc_or_chord.ensures _ (arc_points T e plan.options _ ∙ ap (arc_or_chord T e plan.options) (chain_reads d)))
     _ a.buffers.now _ (then t.same (record { first = refl; second = refl; first_room = refl; second_room = c.arc_or_chord.auto.second })) refl t.same.second_room t.first_holds
-    (short_drawn T e plan.options (room_in a.buffers.now) c.requires.0 c.requires.1 d.chain d.is)
+    (short_drawn T e plan.options (room_in a.buffers.now) plan.drawing.now.mode c.requires.0 c.requires.1 d.chain d.is)

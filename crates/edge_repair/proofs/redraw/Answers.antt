@@ -11,4 +11,4 @@ pub returns : goal.returns
 returns c =
     let a = c.args in
     let d = c.with_range-drawing in
-    redrawn_chain (lent a.plan.now.drawing.now.tables.now) _ _ _ a.plan.now.options a.buffers.now _ (record { first = refl; second = refl; first_room = c.discretise.auto.scratch; second_room = c.discretise.auto.chain }) d.ensures.over d.ensures.of c.discretise.ensures
+    redrawn_chain a.plan.now.drawing.now.mode _ (lent a.plan.now.drawing.now.tables.now) _ _ _ a.plan.now.options a.buffers.now _ (record { first = refl; second = refl; first_room = c.discretise.auto.scratch; second_room = c.discretise.auto.chain }) d.ensures.in_mode d.ensures.over d.ensures.of c.discretise.ensures

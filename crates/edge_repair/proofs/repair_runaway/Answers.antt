@@ -12,18 +12,18 @@ returns-then-stays c =
     let a = c.args in
     let d = a.plan.now.drawing.now in
     kept_first _ a.drawn.way a.drawn.count a.buffers.now
-    (repaired_kept (lent d.tables.now) d.edge a.plan.now.options _ (by a.drawn.way (samples a.drawn.count a.buffers.now.first.now)) (sym c.stays.ensures ∙ c.if-stays.true)) c.requires.3 c.requires.1 c.requires.2
+    (repaired_kept (lent d.tables.now) d.edge a.plan.now.options _ d.mode (by a.drawn.way (samples a.drawn.count a.buffers.now.first.now)) (sym c.stays.ensures ∙ c.if-stays.true)) c.requires.3 c.requires.1 c.requires.2
 
 pub returns-in-Some : goal.returns-in-Some
 returns-in-Some c =
     let a = c.args in
     let d = a.plan.now.drawing.now in
     redrawn_as c.by_complement.ensures _
-    (repaired_complement (lent d.tables.now) d.edge a.plan.now.options _ (by a.drawn.way (samples a.drawn.count a.buffers.now.first.now)) (sym c.stays.ensures ∙ c.if-stays.false) c.in-Some.ensures _ refl)
+    (repaired_complement (lent d.tables.now) d.edge a.plan.now.options _ d.mode (by a.drawn.way (samples a.drawn.count a.buffers.now.first.now)) (sym c.stays.ensures ∙ c.if-stays.false) c.in-Some.ensures _ refl)
 
 pub returns-in-None : goal.returns-in-None
 returns-in-None c =
     let a = c.args in
     let d = a.plan.now.drawing.now in
     redrawn_as c.by_short_arc.ensures _
-    (repaired_short (lent d.tables.now) d.edge a.plan.now.options _ (by a.drawn.way (samples a.drawn.count a.buffers.now.first.now)) (sym c.stays.ensures ∙ c.if-stays.false) c.in-None.ensures refl)
+    (repaired_short (lent d.tables.now) d.edge a.plan.now.options _ d.mode (by a.drawn.way (samples a.drawn.count a.buffers.now.first.now)) (sym c.stays.ensures ∙ c.if-stays.false) c.in-None.ensures refl)

@@ -26,7 +26,7 @@ returns c =
     let w = c.span-span.ensures in
     let f = c.is_finite.ensures in
     redrawn_second c.runaway.ensures _ a.buffers.now _ (record { first = refl; second = refl; first_room = c.clear_from.auto.a; second_room = c.runaway.auto.second }) refl refl c.clear_from.ensures
-    (short_chord T e plan.options _
+    (short_chord T e plan.options _ plan.drawing.now.mode
     (elim c.if-is_finite.branch [
       | then-is_finite+then-span+else-span-2 v ↦ short_by T e n w f false v.short_range-short.ensures v.span.ensures v.if-is_finite.true v.if-span.true v.if-span-2.false
       | else-is_finite j ↦ elim j.else-is_finite.branch [

@@ -7,4 +7,4 @@ use Rattle.edge_sample.proofs.bisect_range.Goals as goal
 pub walk-requires : goal.walk-requires
 walk-requires c =
     let s = c.args.sampling.now in
-    no_breaks (sampled_curve s) s.range.lo s.range.hi s.options.sag (sym c.if-knot_count-eq0.true ∙ c.knot_count.ensures)
+    no_breaks s.drawing.now.mode (sampled_curve s) s.range.lo s.range.hi s.options.sag (sym c.if-knot_count-eq0.true ∙ c.knot_count.ensures)

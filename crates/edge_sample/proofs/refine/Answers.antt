@@ -23,7 +23,7 @@ returns-in_default c =
     let h = c.bisect_range.ensures.recorded in
     let e = ap (λ (w : Option (Unit {0})). count_if w c.bisect_range.new.to.len) c.in_default.is in (
       settled_back _ _ e h.listed room (refined_in room s g.range) refl (refined_refused s g.range _ h.listed e) _ (counts None false c.settle.ensures.0) c.settle.ensures.1 (grind arith),
-      refined_traced room (sampled_curve g) g.range g.options c.args.chain.now ((grind arith) ∙ h.records) (unknown None false c.settle.ensures.0 refl ∙ refused_short s g.range _ h.listed e),
+      refined_traced room g.drawing.now.mode (sampled_curve g) g.range g.options c.args.chain.now ((grind arith) ∙ h.records) (unknown None false c.settle.ensures.0 refl ∙ refused_short s g.range _ h.listed e),
     )
 
 pub overflow_sub-n : goal.overflow_sub-n
@@ -46,7 +46,7 @@ returns-then-n-floor c =
     let h = c.bisect_range.ensures.recorded in
     let e = ap (λ (w : Option (Unit {0})). count_if w c.bisect_range.new.to.len) c.in-Some.is in (
       settled _ _ refl c.evenly-even.ensures room (refined_in room s g.range) (length_back h.listed (grind arith)) (refined_few s g.range _ h.listed _ e c.if-n-floor.true) _ _ (counts c.evenly-even.result false c.settle-then-n-floor.ensures.0) c.settle-then-n-floor.ensures.1,
-      refined_traced room (sampled_curve g) g.range g.options c.args.chain.now ((grind arith) ∙ h.records) (unknown c.evenly-even.result false c.settle-then-n-floor.ensures.0 refl ∙ few_short s g.range _ h.listed _ e c.if-n-floor.true),
+      refined_traced room g.drawing.now.mode (sampled_curve g) g.range g.options c.args.chain.now ((grind arith) ∙ h.records) (unknown c.evenly-even.result false c.settle-then-n-floor.ensures.0 refl ∙ few_short s g.range _ h.listed _ e c.if-n-floor.true),
     )
 
 pub returns : goal.returns
@@ -59,5 +59,5 @@ returns c =
     let h = c.bisect_range.ensures.recorded in
     let e = ap (λ (w : Option (Unit {0})). count_if w c.bisect_range.new.to.len) c.in-Some.is in (
       settled_back _ _ e h.listed room (refined_in room s g.range) refl (refined_enough s g.range _ h.listed _ e c.if-n-floor.false) _ (counts (Some c.bisect_range.new.to.len) true c.settle-2.ensures.0) c.settle-2.ensures.1 (grind arith),
-      refined_traced room (sampled_curve g) g.range g.options c.args.chain.now ((grind arith) ∙ h.records) (ap known_of c.settle-2.ensures.0 ∙ enough_kept s g.range _ h.listed _ e c.if-n-floor.false),
+      refined_traced room g.drawing.now.mode (sampled_curve g) g.range g.options c.args.chain.now ((grind arith) ∙ h.records) (ap known_of c.settle-2.ensures.0 ∙ enough_kept s g.range _ h.listed _ e c.if-n-floor.false),
     )

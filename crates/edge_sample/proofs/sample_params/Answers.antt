@@ -22,8 +22,8 @@ returns-in_default c =
     let curve : CurveTree = sampled_curve s in
     let is = c.analytic_segments-form.ensures in
     let none = c.in_default.is in (
-      answered_as (count_of c.refine.result) _ _ _ refl (λ n. refined_in n (sampler_of s) s.range) (sampled_in (length c.args.out.now) curve s.range s.options) (no_form (length c.args.out.now) curve s.range s.options _ is none) c.refine.ensures.0,
-      c.refine.ensures.1 ∙ no_form_traced (length c.args.out.now) curve s.range s.options c.args.chain.now _ is none,
+      answered_as (count_of c.refine.result) _ _ _ refl (λ n. refined_in n (sampler_of s) s.range) (sampled_in (length c.args.out.now) s.drawing.now.mode curve s.range s.options) (no_form (length c.args.out.now) s.drawing.now.mode curve s.range s.options _ is none) c.refine.ensures.0,
+      c.refine.ensures.1 ∙ no_form_traced (length c.args.out.now) s.drawing.now.mode curve s.range s.options c.args.chain.now _ is none,
     )
 
 pub settle-requires : goal.settle-requires
@@ -34,8 +34,8 @@ returns-in_default-even c =
     let s = c.args.sampling.now in
     let curve : CurveTree = sampled_curve s in
     let e = c.in_default-even.is in (
-      settled _ _ refl c.evenly-even.ensures (length c.args.out.now) (sampled_in (length c.args.out.now) curve s.range s.options) refl (form_refused (length c.args.out.now) curve s.range s.options _ c.analytic_segments-form.ensures _ c.in-Some.is refl _ c.evenly-even.ensures e) _ _ (counts c.evenly-even.result false c.settle.ensures.0) c.settle.ensures.1,
-      ap (λ k. traced k c.args.chain.now) (unknown c.evenly-even.result false c.settle.ensures.0 refl) ∙ refused_traced (length c.args.out.now) curve s.range s.options _ c.analytic_segments-form.ensures _ c.in-Some.is refl _ c.evenly-even.ensures c.args.chain.now e,
+      settled _ _ refl c.evenly-even.ensures (length c.args.out.now) (sampled_in (length c.args.out.now) s.drawing.now.mode curve s.range s.options) refl (form_refused (length c.args.out.now) s.drawing.now.mode curve s.range s.options _ c.analytic_segments-form.ensures _ c.in-Some.is refl _ c.evenly-even.ensures e) _ _ (counts c.evenly-even.result false c.settle.ensures.0) c.settle.ensures.1,
+      ap (λ k. traced k c.args.chain.now) (unknown c.evenly-even.result false c.settle.ensures.0 refl) ∙ refused_traced (length c.args.out.now) s.drawing.now.mode curve s.range s.options _ c.analytic_segments-form.ensures _ c.in-Some.is refl _ c.evenly-even.ensures c.args.chain.now e,
     )
 
 -- the parameters that the check is lent are in the buffer
@@ -63,8 +63,8 @@ returns-then-meets c =
     let curve : CurveTree = sampled_curve s in
     let m = c.meets.ensures in
     let e = c.in-Some-even.is in (
-      settled _ _ e c.evenly-even.ensures (length c.args.out.now) (sampled_in (length c.args.out.now) curve s.range s.options) refl (form_meets (length c.args.out.now) curve s.range s.options _ c.analytic_segments-form.ensures _ c.in-Some.is refl _ c.evenly-even.ensures _ e _ m.0 c.if-meets.true) _ _ (counts (Some c.in-Some-even.m) true c.settle-then-meets.ensures.0) c.settle-then-meets.ensures.1,
-      ap (λ k. traced k c.meets.new.chain) (ap known_of c.settle-then-meets.ensures.0) ∙ meets_traced (length c.args.out.now) curve s.range s.options _ c.analytic_segments-form.ensures _ c.in-Some.is refl _ c.evenly-even.ensures _ e _ m.0 c.args.chain.now m.1 c.if-meets.true,
+      settled _ _ e c.evenly-even.ensures (length c.args.out.now) (sampled_in (length c.args.out.now) s.drawing.now.mode curve s.range s.options) refl (form_meets (length c.args.out.now) s.drawing.now.mode curve s.range s.options _ c.analytic_segments-form.ensures _ c.in-Some.is refl _ c.evenly-even.ensures _ e _ m.0 c.if-meets.true) _ _ (counts (Some c.in-Some-even.m) true c.settle-then-meets.ensures.0) c.settle-then-meets.ensures.1,
+      ap (λ k. traced k c.meets.new.chain) (ap known_of c.settle-then-meets.ensures.0) ∙ meets_traced (length c.args.out.now) s.drawing.now.mode curve s.range s.options _ c.analytic_segments-form.ensures _ c.in-Some.is refl _ c.evenly-even.ensures _ e _ m.0 c.args.chain.now m.1 c.if-meets.true,
     )
 
 pub refine-requires-2 : goal.refine-requires-2
@@ -78,6 +78,6 @@ returns c =
     let m = c.meets.ensures in
     let e = c.in-Some-even.is in
     let long = c.evenly-even.auto.out in (
-      answered_as (count_of c.refine-2.result) _ _ _ long (λ n. refined_in n (sampler_of s) s.range) (sampled_in (length c.args.out.now) curve s.range s.options) (form_misses (length c.args.out.now) curve s.range s.options _ c.analytic_segments-form.ensures _ c.in-Some.is refl _ c.evenly-even.ensures _ e _ m.0 c.if-meets.false) c.refine-2.ensures.0,
-      c.refine-2.ensures.1 ∙ misses_traced (length c.args.out.now) curve s.range s.options _ c.analytic_segments-form.ensures _ c.in-Some.is refl _ c.evenly-even.ensures _ e _ m.0 c.args.chain.now m.1 _ long c.if-meets.false,
+      answered_as (count_of c.refine-2.result) _ _ _ long (λ n. refined_in n (sampler_of s) s.range) (sampled_in (length c.args.out.now) s.drawing.now.mode curve s.range s.options) (form_misses (length c.args.out.now) s.drawing.now.mode curve s.range s.options _ c.analytic_segments-form.ensures _ c.in-Some.is refl _ c.evenly-even.ensures _ e _ m.0 c.if-meets.false) c.refine-2.ensures.0,
+      c.refine-2.ensures.1 ∙ misses_traced (length c.args.out.now) s.drawing.now.mode curve s.range s.options _ c.analytic_segments-form.ensures _ c.in-Some.is refl _ c.evenly-even.ensures _ e _ m.0 c.args.chain.now m.1 _ long c.if-meets.false,
     )

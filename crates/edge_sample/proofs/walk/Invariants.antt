@@ -4,4 +4,4 @@ use Rattle.edge_sample.proofs.Walking.{Walking}
 use Rattle.edge_sample.proofs.walk.Given as goal
 
 abbrev pub invariant-loop-i : goal.invariant-loop-i
-invariant-loop-i l = Walking (curve_of l.bisection.curve) l.range l.fn.sampling.options l.breaks l.initial.to l.to l.left l.i
+invariant-loop-i l = Walking l.fn.sampling.drawing.now.mode (curve_of l.bisection.curve) l.range l.fn.sampling.options l.breaks l.initial.to l.to l.left l.i

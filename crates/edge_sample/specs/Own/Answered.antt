@@ -5,6 +5,7 @@ use Rattle.std.specs.Option.{unwrap_or}
 use Rattle.base_lists.specs.Room.{filled}
 use Rattle.math.specs.declared.Interval.{Interval}
 use Rattle.brep.specs.Tree.{CurveTree}
+use Rattle.options.specs.declared.Mode.{Mode}
 use Rattle.options.specs.declared.Resolved.{Resolved}
 use Rattle.edge_params.specs.Own.Written.{said}
 use Rattle.edge_params.specs.Own.InRoom.{sample_params_in}
@@ -14,8 +15,8 @@ use Rattle.edge_sample.specs.Sample.{sampler}
 use Rattle.refusal.specs.Answer.{Answer, each}
 
 -- sample_params in a room, list by list
-unfoldable pub sampled_in : ℕ → CurveTree → Interval → Resolved → Answer (List Float)
-sampled_in room c range r = sample_params_in room (sampler c range r) range
+unfoldable pub sampled_in : ℕ → Mode → CurveTree → Interval → Resolved → Answer (List Float)
+sampled_in room mode c range r = sample_params_in room (sampler mode c range r) range
 
 -- the length of the list, or the refusal; in a buffer of so many floats the list, and +0.0 behind it
 abbrev pub SampledInto : ℕ → Answer (List Float) → Option ℕ → List Float → Type 0

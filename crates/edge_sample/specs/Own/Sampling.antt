@@ -5,4 +5,4 @@ use Rattle.edge_drawing.specs.Own.Drawing.{sampled_curve}
 use Rattle.edge_sample.specs.Sample.{sampler}
 
 abbrev pub sampler_of : Sampling → Sampler
-sampler_of sampling = sampler (sampled_curve sampling) sampling.range sampling.options
+sampler_of sampling = sampler sampling.drawing.now.mode (sampled_curve sampling) sampling.range sampling.options

@@ -4,6 +4,7 @@ use Rattle.base_lists.specs.Room.{filled}
 use Rattle.math.specs.declared.Interval.{Interval}
 use Rattle.brep.specs.declared.Edge.{Edge}
 use Rattle.brep.specs.Rows.{Tables}
+use Rattle.options.specs.declared.Mode.{Mode}
 use Rattle.options.specs.declared.Resolved.{Resolved}
 use Rattle.edge_params.specs.Work.{within}
 use Rattle.edge_params.specs.Params.{evenly}
@@ -12,8 +13,8 @@ use Rattle.draw_spec.specs.Edge.{placed, over_range}
 
 -- what `draw_segment` answers of an edge over a range, and what a chain buffer, which was `entry`, then holds
 pub record SegmentInto (T : Tables) (e : Edge) (r : Resolved) (range : Interval) (entry : List Float) (drawn : Bool) (exit : List Float) : Type 0 where
-  -- drawn: in any room for two, the edge's chain over the range is that of one even step
-  pub chain : drawn ≡ true → (room : ℕ) → 2 ≤ room → within room (over_range T e r range) ≡ Ok (placed T e (evenly range 1))
+  -- drawn: in either mode and in any room for two, the edge's chain over the range is that of one even step
+  pub chain : drawn ≡ true → (mode : Mode) (room : ℕ) → 2 ≤ room → within room (over_range mode T e r range) ≡ Ok (placed T e (evenly range 1))
   -- it stands in the buffer, with +0.0 behind it
   pub holds : drawn ≡ true → exit ≡ filled (length entry) (flat (placed T e (evenly range 1)))
   -- not drawn: the buffer is as it was

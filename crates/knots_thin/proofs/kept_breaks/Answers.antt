@@ -9,14 +9,14 @@ use Rattle.knots_thin.proofs.kept_breaks.Goals.{In_ok-n}
 pub returns-in_err-n : goal.returns-in_err-n
 returns-in_err-n c =
     let a = c.args in
-    let b = c.curve_breaks in
-    rw c.from_residual.ensures (none_kept a.out.now (tree (lent a.tables.now) a.row) a.range.lo a.range.hi b.result _ b.ensures.0 b.ensures.1 a.sag c.in_err-n.was)
+    let b = c.breaks_in in
+    rw c.from_residual.ensures (none_kept a.out.now a.mode (tree (lent a.tables.now) a.row) a.range.lo a.range.hi b.result _ b.ensures.0 b.ensures.1 a.sag c.in_err-n.was)
 
-breaks_found : (c : In_ok-n) → Found c.args.out.now (tree (lent c.args.tables.now) c.args.row) c.args.range.lo c.args.range.hi c.curve_breaks.new.out c.in_ok-n.n
+breaks_found : (c : In_ok-n) → Found c.args.out.now c.args.mode (tree (lent c.args.tables.now) c.args.row) c.args.range.lo c.args.range.hi c.breaks_in.new.out c.in_ok-n.n
 breaks_found c =
     let a = c.args in
-    let b = c.curve_breaks in
-    some_found a.out.now (tree (lent a.tables.now) a.row) a.range.lo a.range.hi b.result _ b.ensures.0 b.ensures.1 b.auto.out c.in_ok-n.n c.in_ok-n.was
+    let b = c.breaks_in in
+    some_found a.out.now a.mode (tree (lent a.tables.now) a.row) a.range.lo a.range.hi b.result _ b.ensures.0 b.ensures.1 b.auto.out c.in_ok-n.n c.in_ok-n.was
 
 pub slice_bounds-thin_breaks-end : goal.slice_bounds-thin_breaks-end
 slice_bounds-thin_breaks-end c = part_room (breaks_found (goal.at.slice_bounds-thin_breaks-end c).In_ok-n)

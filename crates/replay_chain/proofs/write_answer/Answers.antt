@@ -3,6 +3,6 @@ use Rattle.std.proofs.Common.{arith}
 use Rattle.draw_spec.specs.Draw.{room_of}
 use Rattle.replay_chain.proofs.write_answer.Goals as goal
 
-pub answer-written-requires : goal.answer-written-requires
+pub answer_in_mode-written-requires : goal.answer_in_mode-written-requires
 unfolding room_of
-answer-written-requires c = omega arith
+answer_in_mode-written-requires c = omega arith

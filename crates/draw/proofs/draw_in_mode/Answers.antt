@@ -1,11 +1,11 @@
--- `draw::draw` meets its contract. Assumes nothing.
+-- `draw::draw_in_mode` meets its contract. Assumes nothing.
 use Rattle.std.proofs.lemmas.Result.{err_from_is_err_and}
 use mathlib.Core.Path.{sym, ◌∙◌}
 use Rattle.brep.specs.Rows.{lent}
 use Rattle.causes.proofs.Checked.{causes_of, tables_formed}
 use Rattle.draw.proofs.Few.{knots_fit}
 use Rattle.draw.proofs.Laws.{binary, by_verdict, by_drawing, all_outcome}
-use Rattle.draw.proofs.draw.Goals as goal
+use Rattle.draw.proofs.draw_in_mode.Goals as goal
 
 pub new-requires : goal.new-requires
 new-requires c =
@@ -20,12 +20,12 @@ returns-in_err-check c =
     let T = lent a.tables.now in
     let p = err_from_is_err_and c.from_residual.result c.from_residual.ensures.1 in
     rw (p.1, p.2)
-    (all_outcome T a.edge a.options a.first.now a.second.now (binary T a.edge c.binary64.ensures) _ _ _ (by_verdict T a.edge a.options a.first.now a.second.now _ (sym c.check.ensures ∙ c.in_err-check.was)))
+    (all_outcome a.mode T a.edge a.options a.first.now a.second.now (binary T a.edge c.binary64.ensures) _ _ _ (by_verdict a.mode T a.edge a.options a.first.now a.second.now _ (sym c.check.ensures ∙ c.in_err-check.was)))
 
 pub returns : goal.returns
 returns c =
     let a = c.args in
     let T = lent a.tables.now in
-    all_outcome T a.edge a.options a.first.now a.second.now (binary T a.edge c.binary64.ensures) _ _ _
-    (by_drawing T a.edge a.options a.first.now a.second.now (sym c.check.ensures ∙ c.in_ok-check.was) _ _ _
-    (rw (c.new.ensures.over, c.new.ensures.of) at c.draw_unchecked.ensures))
+    all_outcome a.mode T a.edge a.options a.first.now a.second.now (binary T a.edge c.binary64.ensures) _ _ _
+    (by_drawing a.mode T a.edge a.options a.first.now a.second.now (sym c.check.ensures ∙ c.in_ok-check.was) _ _ _
+    (rw (c.new.ensures.over, c.new.ensures.of, c.new.ensures.in_mode) at c.draw_unchecked.ensures))
