@@ -344,15 +344,24 @@ fn complement() -> Case {
     d.case("repair: complement", e, options(4e-4, 480.0))
 }
 
-/// A trimmed parabola that runs away, and whose middle part joins the vertices.
-fn short_arc() -> Case {
+/// A trimmed parabola that runs away from its box, and whose middle part joins the vertices.
+fn short_arc(name: &'static str, (low, high): ([f64; 3], [f64; 3]), options: Options) -> Case {
     let mut d = Draft::new();
     let row = d.frame(PARABOLA, [0.0; 3], 5.0, 0.0);
     let base = d.tables.push_row(Row { kind: TRIMMED, first: row, count: 1, p: -4.0, q: 4.0 });
     let at = fixed::point_at(&d.tables, base);
     let (start, end) = (at(-0.5), at(0.5));
-    let e = d.edge_between(base, -4.0, 4.0, start, end, [-2.0, -6.0, -1.0], [4.0, 6.0, 1.0]);
-    d.case("repair: short arc", e, options(4e-4, 480.0))
+    let e = d.edge_between(base, -4.0, 4.0, start, end, low, high);
+    d.case(name, e, options)
+}
+
+/// The box of the short arc, and one about its first half.
+const AROUND: ([f64; 3], [f64; 3]) = ([-2.0, -6.0, -1.0], [4.0, 6.0, 1.0]);
+const AROUND_HALF: ([f64; 3], [f64; 3]) = ([0.25, -6.0, -1.0], [2.25, -2.0, 1.0]);
+
+/// 16,000 even steps, of which none is merged or thinned.
+fn fine() -> Options {
+    Options { deflection: 1e-9, relative: 0, segments: 16000, depth: 1, ..options(0.0, 480.0) }
 }
 
 /// The vertices lie off the curve.
@@ -808,7 +817,9 @@ fn cases() -> Vec<Case> {
         spiral("composite of 100 arcs, all drawn", 100),
         around_a_cut(),
         complement(),
-        short_arc(),
+        short_arc("repair: short arc", AROUND, options(4e-4, 480.0)),
+        short_arc("repair: short arc of 16,001 points", AROUND, fine()),
+        short_arc("repair: such an arc that leaves its box at the middle", AROUND_HALF, fine()),
         runaway(),
     ]
 }

@@ -278,6 +278,14 @@ MUTANTS = [
     ("src/batch.rs", '["ask", "chain"] => Some(Self { ask: Ask::Chain, ..self })', '["ask", "chain"] => Some(Self { ask: Ask::Chain, mode: Mode::Reference, ..self })'),
     ("src/batch.rs", '["ask", "both"] => Some(Self { ask: Ask::Both, ..self })', '["ask", "both"] => Some(Self { ask: Ask::Both, mode: Mode::Reference, ..self })'),
     ("src/batch.rs", "Some(Self { lengths: (floats(first)?, floats(second)?), ..self })", "Some(Self { lengths: (floats(first)?, floats(second)?), mode: Mode::Reference, ..self })"),
+    # the short arc's walk for the escape: without the first point, without the last, with every second one, the even or the odd, with the last
+    # alone, with the first alone
+    ("edge.rs", "if !escapes(&arc) &&", "if !arc.points[1..].iter().any(|p| (*p - centre).length() > limit) &&"),
+    ("edge.rs", "if !escapes(&arc) &&", "if !arc.points[..arc.points.len() - 1].iter().any(|p| (*p - centre).length() > limit) &&"),
+    ("edge.rs", "if !escapes(&arc) &&", "if !arc.points.iter().step_by(2).any(|p| (*p - centre).length() > limit) &&"),
+    ("edge.rs", "if !escapes(&arc) &&", "if !arc.points.iter().skip(1).step_by(2).any(|p| (*p - centre).length() > limit) &&"),
+    ("edge.rs", "if !escapes(&arc) &&", "if !arc.points.last().is_some_and(|p| (*p - centre).length() > limit) &&"),
+    ("edge.rs", "if !escapes(&arc) &&", "if !arc.points.first().is_some_and(|p| (*p - centre).length() > limit) &&"),
 ]
 # What the stored sheets cannot tell, and why: README.md. Four are beyond any sheet; with the others nothing observable changes.
 UNTOLD = [
@@ -286,6 +294,8 @@ UNTOLD = [
     ("src/causes.rs", "MOST_ROWS: usize = 4_096;", "MOST_ROWS: usize = 4_000;"),
     ("src/causes.rs", "MOST_SEGMENTS: usize = 4_096;", "MOST_SEGMENTS: usize = 4_000;"),
     ("edge.rs", "if !escapes(&arc) && reaches(start) && reaches(end)", "if !escapes(&arc)"),
+    ("edge.rs", "if !escapes(&arc) && reaches(start) && reaches(end)", "if !escapes(&arc) && reaches(start) && reaches(start)"),
+    ("edge.rs", "<= max(options.sag, edge.tolerance * 10.0)", "<= options.sag"),
     ("edge.rs", "reference.is_empty() || !(reference", "!(reference"),
     ("edge.rs", "max(edge.tolerance, 0.0) * MERGE_TOLERANCES", "edge.tolerance * MERGE_TOLERANCES"),
     ("edge.rs", "let deviation = if len > 1e-300", "let deviation = if len > 1e-200"),

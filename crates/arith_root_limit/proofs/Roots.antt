@@ -2,15 +2,15 @@
 use mathlib.Core.Path.{◌≡◌, refl, sym, subst}
 use mathlib.Core.Bool.{Bool, true, false}
 use lib.Dec.{T}
-use lib.Ieee.{Float, nan, binary64, of_bits, fits, lt, le}
+use lib.Ieee.{Float, nan, binary64, of_bits, fits, lt, le, mul}
 use lib.Ieee.Bits.{is_true}
 use lib.Ieee.Fits.{mul-fits}
 use Rattle.arith_order.proofs.Signed.{zero_f}
 use Rattle.arith_order.proofs.Laws.{refuted, number_left, number_right, le_trans, lt→le, lt→nle, le_lt_trans, lt_le_trans}
 use Rattle.arith.proofs.Cmp.{holds}
-use Rattle.arith.specs.Notation.{◌⊗◌, plus_zero}
+use Rattle.arith.specs.Notation.{◌⊗◌, bits, plus_zero}
 use Rattle.arith_root.specs.Root.{root_of}
-use Rattle.arith_root.proofs.Laws.{rooted, root_over, root_reflects}
+use Rattle.arith_root.proofs.Laws.{root_zero, rooted, root_over, root_reflects}
 use Rattle.arith_root.proofs.Squares.{square_low, root_under_square, root_over_square}
 use Rattle.arith_root.proofs.Apart.{apart}
 use Rattle.arith_root_limit.specs.Own.Limit.{cut_if, square_if, a_little_less, a_little_more, low_cut, high_cut, Stands}
@@ -69,6 +69,19 @@ module _ (k s : Float) (F : T (fits binary64 k)) (G : T (fits binary64 s)) where
       go true true e h = (refl, holds e, le_lt_trans zero_f (k ⊗ k) s (square_low k F (holds e)) h, root_over_square k s F G (holds e) h)
       go true false e h = absurd (number_left nan s (lt→le nan s h))
       go false b e h = absurd (number_left nan s (lt→le nan s h))
+
+-- a root is above zero where what stands under it is
+pub root_above_zero : (s : Float) → T (fits binary64 s) → lt plus_zero (root_of s) ≡ lt plus_zero s
+unfolding of_bits fits lt mul
+root_above_zero s F = go (lt plus_zero s) refl
+  where
+    -- its square is zero
+    tiny : Float
+    tiny = bits 0x0010000000000000
+
+    go : (b : Bool) → lt plus_zero s ≡ b → lt plus_zero (root_of s) ≡ b
+    go true e = let t = above_square tiny s tt F true (holds e) in is_true (lt plus_zero (root_of s)) (lt_le_trans plus_zero tiny (root_of s) tt t.3)
+    go false e = refuted (lt plus_zero (root_of s)) (λ (t : T (lt plus_zero (root_of s))). subst T e (root_reflects plus_zero s tt F (rw root_zero t)))
 
 -- a limit's cuts stand
 pub stands : (at : Float) → Stands at

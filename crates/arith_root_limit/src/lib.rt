@@ -74,6 +74,21 @@ impl Limit {
         }
         arith_root::root(s) <= self.at
     }
+
+    // Whether the low cut tells that no root of s is above the limit. `false` says nothing. Without a branch, for callers that have several
+    // such answers at once.
+    pub fn is_below_low_cut(self, s: f64) -> bool
+        ensures { result ≡ lt s (low_cut self) }
+    {
+        s < self.low
+    }
+
+    // Whether the high cut tells that the root of s is not within the limit. `false` says nothing.
+    pub fn is_above_high_cut(self, s: f64) -> bool
+        ensures { result ≡ lt (high_cut self) s }
+    {
+        self.high < s
+    }
 }
 
 // Whether the root of s is below that of t, mostly without either: a root does not fall where what stands under it rises, and it rises to

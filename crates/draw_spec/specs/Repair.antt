@@ -46,11 +46,14 @@ unfoldable pub escapes : Aabb → Resolved → List Sample → Bool
 escapes box r [] = false
 escapes box r (s ∷ l) = lt (escape_limit box r) (distance s.point (centre box)) || escapes box r l
 
--- reaches: some point lies within max(sag, tolerance * 10) of p
+-- how near a point reaches: options.sag.max(edge.tolerance * 10.0)
+abbrev pub reach_limit : Edge → Resolved → Float
+reach_limit e r = max_of r.sag (e.tolerance ⊗ ten)
+
+-- reaches: some point lies within the limit of p
 unfoldable pub reaches : Edge → Resolved → Vec3 → List Sample → Bool
 reaches e r p [] = false
-reaches e r p (s ∷ l) =
-    le (distance s.point p) (max_of r.sag (e.tolerance ⊗ ten)) || reaches e r p l
+reaches e r p (s ∷ l) = le (distance s.point p) (reach_limit e r) || reaches e r p l
 
 -- natural.at(i as f64 / steps as f64), with 512 steps
 abbrev pub sweep_at : Interval → ℕ → Float

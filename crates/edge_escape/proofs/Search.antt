@@ -1,26 +1,22 @@
--- What the tests of a chain's points, record by record, say of the chain. Assumes nothing.
-use Rattle.std.proofs.Common.{◌≡◌, refl, sym, ap, ◌∙◌, Bool, true, false, ◌||◌, ℕ, zero, suc, ◌+◌, ◌*◌, ◌/◌, ◌<◌, List, [], ◌∷◌, length, get_or, arith, add-zero, suc-add, add-suc}
+-- What the test of a chain's points, record by record, says of the chain. Assumes nothing.
+use Rattle.std.proofs.Common.{◌≡◌, refl, sym, ap, ◌∙◌, Bool, true, false, ◌||◌, ℕ, zero, suc, ◌+◌, ◌/◌, ◌<◌, List, [], ◌∷◌, length, arith, add-zero, suc-add, add-suc}
 use Rattle.std.proofs.Math.Bool.{or-false, or_assoc}
-use Rattle.std.proofs.Math.Nat.{mul_comm, zero-add}
-use Rattle.std.specs.Float.Ieee.{Float, nan, lt, le}
+use Rattle.std.proofs.Math.Nat.{zero-add}
+use Rattle.std.specs.Float.Ieee.{Float, lt}
 use Rattle.std.specs.Prelude.{Option, Some, None, IsTrue, IfSome, MatchBool}
 use Rattle.std.specs.Option.{option_map}
 use Rattle.std.specs.Iterator.Runs.{Run, AnyItemGives, AllItemsGive, CallKeepsClosure}
 use Rattle.std.proofs.lemmas.Bool.{true≢false}
 use denote.Param.Members.{Mut, Called}
-use Rattle.arith.specs.Notation.{◌⊗◌}
-use Rattle.arith.specs.Constants.{ten}
-use Rattle.arith.specs.Pick.{max_of}
 use Rattle.math.specs.declared.Vec3.{Vec3}
 use Rattle.math.specs.declared.Aabb.{Aabb}
 use Rattle.math.specs.Math.{distance, centre}
-use Rattle.brep.specs.declared.Edge.{Edge}
 use Rattle.options.specs.declared.Resolved.{Resolved}
 use Rattle.causes_bounds.specs.Some.{some_below}
 use Rattle.edge_record.specs.declared.Sample.{Sample}
 use Rattle.edge_record.specs.Own.Stored.{record_point}
-use Rattle.edge_record.specs.Chain.{width, sample_at, samples_from, samples}
-use Rattle.draw_spec.specs.Repair.{escape_limit, escapes, reaches}
+use Rattle.edge_record.specs.Chain.{width, samples_from, samples}
+use Rattle.draw_spec.specs.Repair.{escape_limit, escapes}
 use Rattle.edge_record.specs.Own.Records.{records_of}
 
 -- some point of a chain passes a test
@@ -28,12 +24,9 @@ abbrev some_of : (Vec3 → Bool) → List Sample → Bool
 some_of P [] = false
 some_of P (s ∷ l) = P s.point || some_of P l
 
--- the tests of `escapes` and `reaches`
+-- the test of `escapes`
 abbrev pub beyond : Float → Vec3 → Vec3 → Bool
 beyond limit centre p = lt limit (distance p centre)
-
-abbrev pub close : Float → Vec3 → Vec3 → Bool
-close limit q p = le (distance p q) limit
 
 -- ---- record by record
 module _ (P : Vec3 → Bool) (c : List Float) where
@@ -53,34 +46,15 @@ module _ (P : Vec3 → Bool) (c : List Float) where
       ∙ ap (λ k. some_of P (samples n c) || P (record_point c k)) (sym (zero-add n))
       ∙ sym (some_more 0 n)
 
--- a chunk's point is its record's
-pub chunk_point : (x c : List Float) (k : ℕ) → ((j : ℕ) (d : Float) → j < width → get_or x j d ≡ get_or c (k * width + j) d) → record_point x 0 ≡ record_point c k
-unfolding sample_at
-chunk_point x c k at =
-    let here : (j : ℕ) → j < width → get_or x j nan ≡ get_or c (width * k + j) nan = λ j l. at j nan l ∙ ap (λ i. get_or c (i + j) nan) (mul_comm k width) in
-    let first = here 0 (omega arith) in
-    rw (rw add-zero at first, here 1 (omega arith), here 2 (omega arith))
-
-abbrev near : Edge → Resolved → Float
-near e r = max_of r.sag (e.tolerance ⊗ ten)
-
 escapes_list : (box : Aabb) (r : Resolved) (l : List Sample) → some_of (beyond (escape_limit box r) (centre box)) l ≡ escapes box r l
 unfolding escapes
 escapes_list box r [] = refl
 escapes_list box r (s ∷ l) = ap (λ (b : Bool). beyond (escape_limit box r) (centre box) s.point || b) (escapes_list box r l)
 
-reaches_list : (e : Edge) (r : Resolved) (p : Vec3) (l : List Sample) → some_of (close (near e r) p) l ≡ reaches e r p l
-unfolding reaches
-reaches_list e r p [] = refl
-reaches_list e r p (s ∷ l) = ap (λ (b : Bool). close (near e r) p s.point || b) (reaches_list e r p l)
-
 -- the whole chain
 module _ (c : List Float) (r : Resolved) (limit : Float) (q : Vec3) where
   pub escapes_whole : (box : Aabb) → limit ≡ escape_limit box r → q ≡ centre box → some_below (length c / width) (λ k. beyond limit q (record_point c k)) ≡ escapes box r (records_of c)
   escapes_whole box e f = some_records (beyond limit q) c (length c / width) ∙ rw (e, f) (escapes_list box r (records_of c))
-
-  pub reaches_whole : (e : Edge) → limit ≡ near e r → some_below (length c / width) (λ k. close limit q (record_point c k)) ≡ reaches e r q (records_of c)
-  reaches_whole e f = some_records (close limit q) c (length c / width) ∙ rw f (reaches_list e r q (records_of c))
 
 -- ---- what `all` has answered over a run, whose item number k shows P of k
 module _ {S A F : Type 0} {steps : S → Option A → S → Type 0} (p : Run steps) {g : Mut F (A × Unit {0}) Bool} {f : F} (P : ℕ → Type 0) (n : ℕ) (d : A) where

@@ -1,17 +1,17 @@
 #![tactic(auto)]
-// The closures of repair_runaway: does a chain leave the reference box, does it reach a vertex, and which parameter is nearest to one.
+// Two closures of repair_runaway: does a chain leave the reference box, and which parameter is nearest to a vertex.
 ghost use Rattle.std.specs.Prelude.{◌≡◌, true, false, [], ◌∷◌, Float};
 ghost use Rattle.std.specs.Float.Ieee.{le};
 ghost use Rattle.arith.specs.Notation.{plus_zero};
 ghost use Rattle.arith_root.specs.Root.{root_of};
 ghost use Rattle.brep.specs.Rows.{lent};
 ghost use Rattle.brep.specs.Tree.{tree};
-ghost use Rattle.draw_spec.specs.Repair.{escape_limit, escapes, reaches, sweep_at, nearest};
+ghost use Rattle.draw_spec.specs.Repair.{escape_limit, escapes, sweep_at, nearest};
 ghost use Rattle.edge_escape.specs.Own.Best.{measured, nearer_of};
 ghost use Rattle.edge_record.specs.Own.Records.{records_of};
 
 use arith_root_limit::Limit;
-use brep::{Edge, LentTables};
+use brep::LentTables;
 use curve_prepared::PreparedCurve;
 use edge_record::WIDTH;
 use math::{Aabb, Interval, Vec3};
@@ -36,7 +36,7 @@ pub struct Ends {
 
 // Whether no point of the chain lies further from the box's centre than its diagonal, whose square is given, by the squares. `false` says
 // nothing. Stays: the Rust's closure holds centre and limit; here the limit's root is mostly spared, and a struct of box and options would be
-// made for each of the three calls.
+// made for each of the two calls.
 fn all_near(reference: Aabb, r: Resolved, square: f64, chain: &[f64]) -> bool
     requires { le (root_of square) (escape_limit reference r) ≡ true }
     ensures { result ≡ true → false ≡ escapes reference r (records_of chain.now) }
@@ -91,17 +91,6 @@ pub fn escapes(reference: Aabb, r: Resolved, chain: &[f64]) -> bool
     chain.chunks_exact(WIDTH).any(|record| {
         let p = edge_record::record_point(record, 0);
         limit.is_root_above(p.sub(centre).length_squared())
-    })
-}
-
-// Whether a point of the chain lies within max(sag, tolerance * 10) of p.
-pub fn reaches(edge: Edge, r: Resolved, p: Vec3, chain: &[f64]) -> bool
-    ensures { result ≡ reaches edge r p (records_of chain.now) }
-{
-    let limit = Limit::new(arith::max(r.sag, edge.tolerance * 10.0));
-    chain.chunks_exact(WIDTH).any(|record| {
-        let q = edge_record::record_point(record, 0);
-        limit.is_root_within(q.sub(p).length_squared())
     })
 }
 

@@ -1,3 +1,4 @@
+pub mod Chunks
 pub mod Laws
 pub mod Compact
 pub mod Shorter

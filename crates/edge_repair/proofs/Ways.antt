@@ -4,10 +4,12 @@ use mathlib.Core.Path.{◌≡◌, refl, sym, ap, ◌∙◌}
 use mathlib.Core.Bool.{Bool, true, false, cond, not, ◌||◌}
 use mathlib.Core.List.{List}
 use Prim.Native.Nat.{ℕ}
-use lib.Ieee.{Float, lt, le}
+use lib.Dec.{T}
+use lib.Ieee.{Float, binary64, fits, lt, le}
 use lib.Ieee.Scale.{finite}
 use Rattle.arith.specs.Notation.{plus_zero}
-use Rattle.math.specs.Math.{interval, span_of, is_empty, diagonal}
+use Rattle.arith_root_limit.proofs.Roots.{root_above_zero}
+use Rattle.math.specs.Math.{interval, span_of, is_empty, v_length_squared, v_length, box_size, diagonal}
 use Rattle.math.specs.declared.Interval.{Interval}
 use Rattle.math.specs.declared.Aabb.{Aabb}
 use Rattle.math.specs.declared.Vec3.{Vec3}
@@ -24,10 +26,18 @@ use Rattle.edge_record.specs.declared.Sample.{Sample}
 use Rattle.draw_spec.specs.declared.Way.TheVariants.{Complement, ShortArc}
 use Rattle.draw_spec.specs.Edge.{edge_curve, edge_start, edge_end, discretised}
 use Rattle.edge_drawing.specs.Range.{with_range}
-use Rattle.draw_spec.specs.Repair.{Got, by, reference, escapes, reaches, nearest, ordered_interval, runaway, serves, arc_or_chord, short_range, sweep, has_short_arc, short_arc_tried, by_short_arc, complement_or_short, complement_range, by_complement, by_period, stays, repaired}
+use Rattle.draw_spec.specs.Repair.{Got, by, reference, escapes, nearest, ordered_interval, runaway, serves, arc_or_chord, short_range, sweep, has_short_arc, short_arc_tried, by_short_arc, complement_or_short, complement_range, by_complement, by_period, stays, repaired}
 use Rattle.edge_place.specs.Own.Place.{of_points}
+use Rattle.edge_short_arc.specs.declared.ArcTest.{ArcTest}
+use Rattle.edge_short_arc.specs.Seen.{test_of, unseen, seen_after, served}
+use Rattle.edge_short_arc.proofs.Laws.{one_walk}
 use Rattle.refusal.specs.Answer.{Answer, bind}
 use Rattle.refusal.specs.declared.Refusal.TheVariants.{TooFar}
+
+-- ---- a diagonal is above zero where its square is
+pub diagonal_above_zero : (box : Aabb) (square : Float) → T (fits binary64 square) → square ≡ v_length_squared (box_size box) → lt plus_zero (diagonal box) ≡ lt plus_zero square
+unfolding v_length diagonal
+diagonal_above_zero box square F q = rw (sym q) (root_above_zero square F)
 
 -- ---- the short arc
 module _ (T : Tables) (e : Edge) where
@@ -172,23 +182,14 @@ module _ (T : Tables) (e : Edge) (r : Resolved) where
           go true = refl
           go false = refl
 
-      pub stays_outside : {d : Float} {out : Bool} → none ≡ false → d ≡ diagonal box → out ≡ escapes box r chain → out ≡ true → not (lt plus_zero d) ≡ stays T e r chain
-      stays_outside {d} h q o k = rw (empty_is false n h, escapes_is true o k, q, b) (go (lt plus_zero (diagonal (reference T e))))
+      pub stays_outside : (square : Float) {out : Bool} → none ≡ false → lt plus_zero (diagonal box) ≡ lt plus_zero square → out ≡ escapes box r chain → out ≡ true
+          → not (lt plus_zero square) ≡ stays T e r chain
+      stays_outside square h q o k = rw (empty_is false n h, escapes_is true o k, sym b, q) (go (lt plus_zero square))
         where
           go : (x : Bool) → not x ≡ (not x || not true)
           go true = refl
           go false = refl
 
-    module _ {out : Bool} (o : out ≡ escapes box r chain) where
-      pub arc_outside : out ≡ true → false ≡ serves T e r chain
-      arc_outside h = rw (escapes_is true o h)
-
-      module _ {start : Vec3} {first : Bool} (s : start ≡ edge_start T e) (f : first ≡ reaches e r start chain) (h : out ≡ false) where
-        start_is : reaches e r (edge_start T e) chain ≡ first
-        start_is = ap (λ (p : Vec3). reaches e r p chain) (sym s) ∙ sym f
-
-        pub arc_start : first ≡ false → first ≡ serves T e r chain
-        arc_start k = rw (escapes_is false o h, start_is, k)
-
-        pub arc_end : {end : Vec3} {last : Bool} → first ≡ true → end ≡ edge_end T e → last ≡ reaches e r end chain → last ≡ serves T e r chain
-        arc_end k t l = rw (escapes_is false o h, start_is, k) (l ∙ ap (λ (p : Vec3). reaches e r p chain) t)
+    -- what one walk over it has seen
+    pub arc_served : {start end : Vec3} {test : ArcTest} {yes : Bool} → start ≡ edge_start T e → end ≡ edge_end T e → test ≡ test_of box e r start end → yes ≡ served (seen_after test unseen chain) → yes ≡ serves T e r chain
+    arc_served s t q h = rw (h, q, b, s, t) (one_walk.whole T e r chain)

@@ -24,6 +24,7 @@ pub use buffers::Buffers;
 use draw_spec::{Drawn, Way};
 use edge_drawing::{Drawing, Plan};
 use edge_record::WIDTH;
+use edge_short_arc::ArcTest;
 use math::{Aabb, Interval, Vec3};
 use refusal::Refusal;
 
@@ -53,19 +54,15 @@ fn runaway(drawing: &Drawing<'_>, second: &mut [f64]) -> Result<Drawn, Refusal>
     })
 }
 
-// Whether an arc stays inside and reaches both vertices.
+// Whether an arc stays inside and reaches both vertices: one walk over it.
 fn serves(plan: &Plan<'_>, chain: &[f64]) -> bool
     ensures { result ≡ serves (of_points plan.now.drawing.now.tables.now.points.now) plan.now.drawing.now.edge plan.now.options (records_of chain.now) }
 {
     let points = plan.drawing.tables.points;
     let edge = plan.drawing.edge;
-    let r = plan.options;
-    if edge_escape::escapes(reference(points, edge), r, chain) {
-        return false;
-    }
     let start = brep::point(points, edge.start);
     let end = brep::point(points, edge.end);
-    edge_escape::reaches(edge, r, start, chain) && edge_escape::reaches(edge, r, end, chain)
+    ArcTest::new(reference(points, edge), edge, plan.options, start, end).serves(chain)
 }
 
 // The arc in the second buffer where it serves, else the chord. Stays: the buffer is lent whole, with the arc's count beside it, since the
@@ -203,9 +200,9 @@ fn stays(plan: &Plan<'_>, buffers: &Buffers<'_>, n: usize) -> bool
     if b.is_empty() {
         return true;
     }
-    // The diagonal costs a root, and is asked for only where something escapes.
+    // The diagonal is above zero where its square is, which costs no root.
     if edge_escape::escapes(b, plan.options, &buffers.first[..WIDTH * n]) {
-        return !(0.0 < b.diagonal());
+        return !(0.0 < b.size().length_squared());
     }
     true
 }

@@ -7,7 +7,8 @@ use Rattle.math.specs.Math.{v_length, v_length_squared, v_sub}
 use Rattle.edge_record.specs.Chain.{width}
 use Rattle.edge_record.specs.Own.Stored.{record_point}
 use Rattle.draw_spec.specs.Repair.{escape_limit}
-use Rattle.edge_escape.proofs.Search.{beyond, chunk_point, escapes_whole, all_of_run}
+use Rattle.edge_record.proofs.Chunks.{chunk_point}
+use Rattle.edge_escape.proofs.Search.{beyond, escapes_whole, all_of_run}
 use Rattle.edge_escape.proofs.all_near.Goals as goal
 
 pub returns : goal.returns

@@ -4,7 +4,8 @@ use Rattle.edge_record.specs.Chain.{width}
 use Rattle.edge_record.specs.Own.Stored.{record_point}
 use Rattle.causes_bounds.proofs.Laws.{some_of_run}
 use Rattle.math.specs.Math.{v_length}
-use Rattle.edge_escape.proofs.Search.{beyond, chunk_point, escapes_whole}
+use Rattle.edge_record.proofs.Chunks.{chunk_point}
+use Rattle.edge_escape.proofs.Search.{beyond, escapes_whole}
 use Rattle.edge_escape.proofs.escapes.Goals as goal
 
 pub returns-then-is_near : goal.returns-then-is_near
