@@ -4,6 +4,7 @@
 //!   compare SEED N          N generated sheets and N that are made for strict mode, each in buffers of several lengths, then
 //!                           with slices that no sheet can hold
 //!   compare sheets SEED N   prints these sheets as a batch that has each of them in both modes, for the C program
+//!   compare measures        answers what `oracle measure` reads, as it does, by the crate's measures
 use cornsunset as cs;
 use oracle::causes::cause;
 use oracle::random::Random;
@@ -19,6 +20,10 @@ const MARK: f64 = f64::from_bits(0x7ff4_dead_0000_beef);
 
 fn main() {
     let words: Vec<String> = std::env::args().skip(1).collect();
+    if words[0] == "measures" {
+        measures();
+        return;
+    }
     let number = |i: usize| words[i].parse::<u64>().expect("a number");
     if words[0] == "sheets" {
         print!("{}", batch(number(1), number(2)));
@@ -42,6 +47,27 @@ fn batch(seed: u64, n: u64) -> String {
     let some = all.iter().rev().step_by(10).cloned();
     let parts = all.iter().cloned().chain([strict]).chain(all.iter().cloned()).chain([reference]).chain(some);
     parts.collect::<Vec<String>>().join("====\n")
+}
+
+/// Parts that begin with a line `measure`, have lines of nine floats and end with a separator.
+fn measures() {
+    for line in std::io::stdin().lines().map(|line| line.expect("text")) {
+        match line.as_str() {
+            "measure" => {}
+            "====" => println!("{line}"),
+            _ => println!("{}", measured(&line)),
+        }
+    }
+}
+
+/// Distance and place for thinning, then for bisection, by their bits; those of any NaN are one's.
+fn measured(line: &str) -> String {
+    let bits = line.split(' ').map(|digits| u64::from_str_radix(digits, 16).expect("a float's bits"));
+    let floats: Vec<f64> = bits.map(f64::from_bits).collect();
+    let [a, b, p] = [0, 3, 6].map(|i| [floats[i], floats[i + 1], floats[i + 2]]);
+    let both = [cs::measure_for_thinning(a, b, p), cs::measure_for_bisection(a, b, p)];
+    let plain = |x: f64| if x.is_nan() { 0x7ff8_0000_0000_0000 } else { x.to_bits() };
+    both.map(|m| format!("{:016x} {:016x}", plain(m.distance), plain(m.place))).join(" ")
 }
 
 /// Compares all sheets in a mode, and says what was met.

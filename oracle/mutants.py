@@ -7,9 +7,9 @@ the oracle, and its answers to the same sheets are compared with the oracle's. W
 usage: oracle/mutants.py SEED N [NUMBER..] | stored [NUMBER..]
 
     oracle/mutants.py SEED N    N generated sheets and N of strict mode's in that mode, each asked for its chain and for both buffers;
-                                names some that tell
-    oracle/mutants.py stored    the batch that crates/replay_chain is replayed with; the exit status is 1 where one of MUTANTS
-                                goes unnoticed, or one of UNTOLD does not
+                                names some that tell. Of MEASURES: N generated lines
+    oracle/mutants.py stored    the batch that crates/replay_chain is replayed with, of MEASURES the parts of crates/replay_chord; the exit
+                                status is 1 where one of MUTANTS or MEASURES goes unnoticed, or one of UNTOLD does not
 """
 
 import pathlib
@@ -24,7 +24,7 @@ sys.path.insert(1, str(HERE.parent / "tools"))
 import command
 
 TARGET = HERE / "target"
-STORED = HERE.parent / "crates/replay_chain"
+CRATES = HERE.parent / "crates"
 SEPARATOR = b"====\n"
 # What generated sheets are asked for, with the floats of the buffers; and what makes them, with the settings before all.
 ASKED = [[b"ask chain\n", b"buffers 8192 8192\n"], [b"ask both\n", b"buffers 96 80\n"]]
@@ -303,6 +303,44 @@ UNTOLD = [
     ("eval/curve.rs", "asked(t);\n                frame.ref_dir", "frame.ref_dir"),
     ("edge.rs", "mode,\n            )?;\n            if !escapes(&alternative)", "Mode::Reference,\n            )?;\n            if !escapes(&alternative)"),
 ]
+# Of change 4: behind the others, whose numbers stay.
+MEASURES = [
+    ("src/measure.rs", "(p - a).dot(axis) / divisor).clamp(0.0, 1.0)", "(p - a).dot(axis) / divisor)"),
+    ("src/measure.rs", "clamp(0.0, 1.0)", "clamp(0.0, 2.0)"),
+    ("src/measure.rs", "clamp(0.0, 1.0)", "clamp(-1.0, 1.0)"),
+    ("src/measure.rs", "clamp(0.0, 1.0)", "max(0.0).min(1.0)"),
+    ("src/measure.rs", "clamp(0.0, 1.0);", "clamp(0.0, 1.0);\n    let place = if place.is_nan() { 0.0 } else { place };"),
+    ("src/measure.rs", "clamp(0.0, 1.0);", "clamp(0.0, 1.0) + 0.0;"),
+    ("src/measure.rs", "along(a, axis, p, len2)", "along(a, axis, p, axis.length() * axis.length())"),
+    ("src/measure.rs", "along(a, axis, p, len * len)", "along(a, axis, p, axis.length_squared())"),
+    ("src/measure.rs", "len2 > 0.0", "len2 >= 0.0"),
+    ("src/measure.rs", "len2 > 0.0", "len2 > 5e-324"),
+    ("src/measure.rs", "len2 > 0.0", "axis.length() > 1e-150"),
+    ("src/measure.rs", "len2 > 0.0", "axis != Vec3::ZERO"),
+    ("src/measure.rs", "len > 1e-300", "len > 1e-150"),
+    ("src/measure.rs", "len > 1e-300", "len > 1e-161"),
+    ("src/measure.rs", "len > 1e-300", "len >= 0.0"),
+    ("src/measure.rs", "len > 1e-300", "axis != Vec3::ZERO"),
+    ("src/measure.rs", "len > 1e-300", "!(len <= 1e-300)"),
+    ("src/measure.rs", "[(p - a).length(), 0.0]", "[(p - a).length(), 1.0]"),
+    ("src/measure.rs", "[(p - a).length(), 0.0]", "[(p - a).length(), -0.0]"),
+    ("src/measure.rs", "[(p - a).length(), 0.0]", "[0.0, 0.0]"),
+    ("src/measure.rs", "(p - (a + axis * place)).length()", "(p - (a + axis * place)).length_squared()"),
+    ("src/measure.rs", "(p - (a + axis * place)).length()", "(p - a - axis * place).length()"),
+    ("src/measure.rs", "(p - (a + axis * place)).length()", "(p - (a + axis * ((p - a).dot(axis) / divisor))).length()"),
+    ("src/measure.rs", "length(), place]", "length(), 1.0 - place]"),
+    ("src/measure.rs", "(p - a).dot(axis) / divisor", "(p - a).dot(axis * (1.0 / divisor))"),
+    ("src/measure.rs", "[thinning(a, b, p), bisection(a, b, p)]", "[bisection(a, b, p), thinning(a, b, p)]"),
+    ("src/measure.rs", "[thinning(a, b, p), bisection(a, b, p)]", "[thinning(a, b, p), thinning(a, b, p)]"),
+    ("src/measure.rs", "[thinning(a, b, p), bisection(a, b, p)]", "[bisection(a, b, p), bisection(a, b, p)]"),
+    ("src/measure.rs", "[thinning(a, b, p), bisection(a, b, p)]", "[thinning(b, a, p), bisection(b, a, p)]"),
+    ("src/measure.rs", "if x.is_nan() { 0x7ff8000000000000 } else { x.to_bits() }", "x.to_bits()"),
+    # the place told before the clamp, with the distance from the one behind it
+    ("src/measure.rs", "[(p - (a + axis * place)).length(), place]", "[(p - (a + axis * place)).length(), (p - a).dot(axis) / divisor]"),
+    ("src/measure.rs", "clamp(0.0, 1.0)", "clamp(0.0, 0.0)"),
+    ("src/measure.rs", "len > 1e-300", "len * len > 1e-300"),
+]
+MEASURED = len(MUTANTS + UNTOLD)
 
 
 def compiled(level, work, crate, kind, source, *extern):
@@ -313,10 +351,10 @@ def compiled(level, work, crate, kind, source, *extern):
     subprocess.run([*words, "--crate-type", kind, "--crate-name", crate, source], check=True)
 
 
-def answers(program, text):
+def answers(program, asked, text):
     """The answers of a program; one that panics or runs on answers nothing."""
     try:
-        run = subprocess.run([program, "batch"], input=text, capture_output=True, timeout=600)
+        run = subprocess.run([program, asked], input=text, capture_output=True, timeout=600)
     except subprocess.TimeoutExpired:
         return []
     return run.stdout.split(SEPARATOR) if run.returncode == 0 else []
@@ -337,23 +375,33 @@ def built(work, mutant, level):
     return work / "main"
 
 
-def batch(words):
-    """The text that mutants answer, the right answers, and a name for each part of it."""
-    if words[0] == "stored":
-        text, right = (STORED / "stdin").read_bytes(), (STORED / "stdout").read_bytes().split(SEPARATOR)
-        if answers(TARGET / "oracle", text) != right:
-            raise command.Stop("the stored answers are not the oracle's: run oracle/build and oracle/replay-chain first")
-        return text, right, [f"part {i}" for i in range(len(right))]
-    seed, count = words[:2]
+def stored(asked, crate, script):
+    """What is asked of mutants, the text that they answer, the right answers, and a name for each part of it."""
+    text, right = [(CRATES / crate / name).read_bytes() for name in ("stdin", "stdout")]
+    right = right.split(SEPARATOR)
+    if answers(TARGET / "oracle", asked, text) != right:
+        raise command.Stop(f"the stored answers are not the oracle's: run oracle/build and {script} first")
+    return asked, text, right, [f"part {i}" for i in range(len(right))]
+
+
+def lines(seed, count):
+    """The same of generated lines, each a part of its own."""
+    made = subprocess.run([TARGET / "oracle", "genmeasure", seed, count], capture_output=True, check=True).stdout
+    text = b"".join(b"measure\n" + line + SEPARATOR for line in made.splitlines(keepends=True))
+    return "measure", text, answers(TARGET / "oracle", "measure", text), [f"line {i}" for i in range(int(count))]
+
+
+def sheets(seed, count):
+    """The same of generated sheets."""
     parts, names = [], []
     for sort, (made, settings) in MADE.items():
-        sheets = subprocess.run([TARGET / "oracle", *made, seed, count], capture_output=True, check=True).stdout
+        some = subprocess.run([TARGET / "oracle", *made, seed, count], capture_output=True, check=True).stdout
         for asked in ASKED:
-            parts += [*settings, *asked, sheets]
+            parts += [*settings, *asked, some]
             names += ["setting"] * len(settings + asked)
             names += [f"{sort}{asked[0].split()[1].decode()} {i}" for i in range(int(count))]
     text = SEPARATOR.join(parts)
-    return text, answers(TARGET / "oracle", text), names
+    return "batch", text, answers(TARGET / "oracle", "batch", text), names
 
 
 def shortest(text, right, told):
@@ -362,28 +410,38 @@ def shortest(text, right, told):
     return sorted(told, key=lambda i: len(parts[i]) + len(right[i]))[:SHOWN]
 
 
+def batches(words, numbers):
+    """What is asked of the measures and of the other mutants, as far as their numbers are among these."""
+    of_measures = {number >= MEASURED for number in numbers}
+    if words == ["stored"]:
+        made = {True: ("measure", "replay_chord", "oracle/replay-chord"), False: ("batch", "replay_chain", "oracle/replay-chain")}
+        return {which: stored(*made[which]) for which in of_measures}
+    return {which: (lines if which else sheets)(*words) for which in of_measures}
+
+
 def main():
-    words, every = command.words(__doc__), MUTANTS + UNTOLD
-    stored = words[:1] == ["stored"]
-    which = words[1:] if stored else words[2:]
-    if not all(word.isdecimal() for word in words[stored:]) or len(words) < 2 - stored or any(int(n) >= len(every) for n in which):
+    words, every = command.words(__doc__), MUTANTS + UNTOLD + MEASURES
+    is_stored = words[:1] == ["stored"]
+    how, which = (words[:1], words[1:]) if is_stored else (words[:2], words[2:])
+    if not all(word.isdecimal() for word in words[is_stored:]) or len(words) < 2 - is_stored or any(int(n) >= len(every) for n in which):
         command.wrong_words(__doc__)
     command.must_be_there((TARGET / "oracle", "oracle/build"), (TARGET / "oracle.d/road", "oracle/build"))
     command.must_be_installed("rustc")
-    text, right, names = batch(words)
     numbers = [int(word) for word in which] or range(len(every))
+    asked_of = batches(how, numbers)
     unnoticed = []
     for number in numbers:
         file, old, new = every[number]
+        asked, text, right, names = asked_of[number >= MEASURED]
         with tempfile.TemporaryDirectory(dir=TARGET) as work:
-            got = answers(built(pathlib.Path(work), every[number], 0 if stored else 1), text)
+            got = answers(built(pathlib.Path(work), every[number], 0 if is_stored else 1), asked, text)
         told = [i for i, (a, b) in enumerate(zip(right, got)) if a != b] if got else range(len(right))
         if not told:
             unnoticed.append(number)
         some = ", ".join(names[i] for i in shortest(text, right, told))
         print(f"{number:3} told by {len(told)} of {len(right)}: {file}: {old!r} -> {new!r}: {some}", flush=True)
     print(f"{len(numbers)} mutants, {len(unnoticed)} unnoticed: {unnoticed}")
-    return stored and unnoticed != [number for number in numbers if number >= len(MUTANTS)]
+    return is_stored and unnoticed != [number for number in numbers if len(MUTANTS) <= number < MEASURED]
 
 
 if __name__ == "__main__":

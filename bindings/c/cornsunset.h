@@ -282,6 +282,30 @@ size_t cs_start(const double *chain, size_t chain_len, bool forward);
 /* A step from *at: 1, the point that it passed as x y z t, and *at behind it; or 0 where none is left, with nothing changed. */
 uint32_t cs_step(const double *chain, size_t chain_len, bool forward, size_t *at, double point[CS_WIDTH]);
 
+/* ---- measuring: how far a point p lies from the chord from a to b, and from which place on the chord that is measured, by the
+ * numbers that drawing itself works with, bit for bit. Each of a, b and p is x y z, and a chain's point may be lent as it is:
+ * chain + CS_WIDTH * i.
+ *
+ * The place on the chord is that of the foot of the perpendicular, held to the chord: it counts from 0 at a to 1 at b, and is +0.0
+ * where the chord has no length. The foot is a[i] + (b[i] - a[i]) * place for i from 0 to 2, each step rounded by itself (-ffp-contract=off,
+ * where the compiler would fuse two of them), and the distance is from there to p; from a, where the chord has no length.
+ *
+ * Any floats may be handed. Where none is NaN or beyond 1e150 in magnitude, place and distance are finite; else they may be NaN, and
+ * the distance infinite. A place that is a number lies in 0..1; it may be -0.0.
+ *
+ * Who wants the very numbers of a drawing hands over what it measured: breaks and spans are measured on the curve, in the order of
+ * its parameters, while a chain's ends are the vertices, and it may run against its curve; a polyline's points are measured on the
+ * chain. */
+
+/* As thinning measures a composite's breaks and a polyline's points: the chord has a length where its square, x x + y y + z z of
+ * b - a, is above zero, and the place is worked out by dividing by that square. Returns the distance and stores the place. */
+double cs_flat_measure_for_thinning(const double a[3], const double b[3], const double p[3], double *place);
+
+/* As bisection measures a span's sag, from the curve's points at the span's ends, in the order of their parameters, to p, that at
+ * its middle parameter: the chord has a length where the root of that square is above 1e-300, and the divisor is the root times
+ * itself, so that last bits may differ from those for thinning. */
+double cs_flat_measure_for_bisection(const double a[3], const double b[3], const double p[3], double *place);
+
 /* ---- drawing and checking */
 
 /* A pointer for the library, with as many elements: that of a slice of length 0 may be NULL. */
@@ -371,6 +395,26 @@ static inline cs_options cs_options_fine(void) {
     cs_options o;
     cs_flat_fine(&o.deflection, &o.angle.radians, &o.relative, &o.segments, &o.depth, &o.scale);
     return o;
+}
+
+/* What is measured of a point and a chord. */
+typedef struct {
+    double distance; /* from the chord to the point */
+    double place;    /* on the chord, where that was measured from: 0 to 1 */
+} cs_measured;
+
+/* As cs_flat_measure_for_thinning. */
+static inline cs_measured cs_measure_for_thinning(const double a[3], const double b[3], const double p[3]) {
+    cs_measured m;
+    m.distance = cs_flat_measure_for_thinning(a, b, p, &m.place);
+    return m;
+}
+
+/* As cs_flat_measure_for_bisection. */
+static inline cs_measured cs_measure_for_bisection(const double a[3], const double b[3], const double p[3]) {
+    cs_measured m;
+    m.distance = cs_flat_measure_for_bisection(a, b, p, &m.place);
+    return m;
 }
 
 #ifdef __cplusplus

@@ -1,5 +1,5 @@
 /* What no sheet can hold: tables above their size, slices that are not whole rows or are NULL, short buffers; and tables that
- * are checked once or never accepted, NaN parameters, modes, walks, presets and angles. */
+ * are checked once or never accepted, NaN parameters, modes, walks, measures, presets and angles. */
 #include "cornsunset.h"
 #include <math.h>
 #include <stdio.h>
@@ -384,6 +384,134 @@ static void walks(void) {
     at = 0, EXPECT(cs_step(chain, 3, true, &at, p) == 0);
 }
 
+static bool is_measured(cs_measured m, double distance, double place) {
+    return memcmp(&m.distance, &distance, 8) == 0 && memcmp(&m.place, &place, 8) == 0;
+}
+
+/* That both measures are these two numbers, by their bits. */
+static bool measures(const double *a, const double *b, const double *p, double distance, double place) {
+    return is_measured(cs_measure_for_thinning(a, b, p), distance, place) &&
+           is_measured(cs_measure_for_bisection(a, b, p), distance, place);
+}
+
+static const double ORIGIN[3] = {0, 0, 0};
+
+static void measured(void) {
+    /* A chain's points, beside the chord, beyond its ends and at them. */
+    const double chain[] = {0, 0, 0, 0.5, 2, 3, 0, 0.75, 8, 0, 0, 1, -3, 4, 0, 2, 11, 0, 4, 3};
+    const double *a = chain, *p = chain + CS_WIDTH, *b = p + CS_WIDTH, *before = b + CS_WIDTH, *behind = before + CS_WIDTH;
+    EXPECT(measures(a, b, p, 3, 0.25) && measures(b, a, p, 3, 0.75));
+    EXPECT(measures(a, b, before, 5, 0.0) && measures(b, a, before, 5, 1));
+    EXPECT(measures(a, b, behind, 5, 1) && measures(b, a, behind, 5, 0.0));
+    EXPECT(measures(a, b, a, 0, 0.0) && measures(a, b, b, 0, 1));
+    /* At the start of a chord that falls in each coordinate the place is -0.0. */
+    const double falling[] = {-1, -2, -2};
+    EXPECT(measures(ORIGIN, falling, ORIGIN, 0, -0.0) && measures(ORIGIN, falling, falling, 0, 1));
+    /* Without a length: the same point, zeros of other signs, and squares that vanish. */
+    const double none[][3] = {{0, 0, 0}, {-0.0, 0, -0.0}, {-0.0, -0.0, -0.0}, {1e-170, 0, 0}}, low[] = {0, -3, -4};
+    for (size_t i = 0; i < 4; i++) EXPECT(measures(ORIGIN, none[i], low, 5, 0.0) && measures(none[i], ORIGIN, low, 5, 0.0));
+    EXPECT(measures(b, b, a, 8, 0.0) && measures(low, low, low, 0, 0.0));
+    /* The two differ in their last bits. */
+    const double far[] = {1, 0, 2}, beside[] = {1, 1, 1};
+    EXPECT(is_measured(cs_measure_for_thinning(ORIGIN, far, beside), 1.0954451150103324, 0.6));
+    EXPECT(is_measured(cs_measure_for_bisection(ORIGIN, far, beside), 1.0954451150103321, 0.5999999999999999));
+    /* Nothing but the place is stored. */
+    double stored[] = {-7, -7, -7};
+    EXPECT(cs_flat_measure_for_thinning(ORIGIN, far, beside, stored + 1) == 1.0954451150103324 && stored[1] == 0.6);
+    EXPECT(cs_flat_measure_for_bisection(ORIGIN, far, beside, stored + 1) < 1.0954451150103324 && stored[1] < 0.6);
+    EXPECT(stored[0] == -7 && stored[2] == -7);
+}
+
+static uint64_t next_bits(void) {
+    static uint64_t bits = 2026;
+    bits ^= bits << 13, bits ^= bits >> 7, bits ^= bits << 17;
+    return bits;
+}
+
+/* Of a measure of any floats: the place is NaN, or in 0..1. */
+static bool is_any(cs_measured m) { return isnan(m.place) || (m.place >= 0 && m.place <= 1); }
+
+/* Of one of floats whose squares neither overflow nor are NaN: both are numbers. */
+static bool is_number(cs_measured m) { return is_any(m) && isfinite(m.place) && isfinite(m.distance) && m.distance >= 0; }
+
+static void any_measured(void) {
+    double v[9];
+    for (int n = 0; n < 8000; n++) {
+        for (int i = 0; i < 9; i++) {
+            const uint64_t bits = next_bits();
+            memcpy(v + i, &bits, 8);
+        }
+        EXPECT(is_any(cs_measure_for_thinning(v, v + 3, v + 6)) && is_any(cs_measure_for_bisection(v, v + 3, v + 6)));
+        /* Of one magnitude, but for some binades. */
+        const int power = (int)(next_bits() % 800) - 400, more = n % 2 == 0 ? 1 : 60;
+        for (int i = 0; i < 9; i++) v[i] = ldexp((double)(int64_t)next_bits(), power - 63 + (int)(next_bits() % more));
+        EXPECT(is_number(cs_measure_for_thinning(v, v + 3, v + 6)) && is_number(cs_measure_for_bisection(v, v + 3, v + 6)));
+    }
+    /* NaN passes; a chord that has NaN has no length. */
+    const double endless[] = {INFINITY, 0, 0}, lost[] = {NAN, 0, 0}, beside[] = {0, 3, 4};
+    EXPECT(isnan(cs_measure_for_thinning(ORIGIN, endless, beside).place));
+    EXPECT(isnan(cs_measure_for_bisection(ORIGIN, endless, beside).place));
+    EXPECT(isnan(cs_measure_for_thinning(ORIGIN, beside, lost).place));
+    EXPECT(isnan(cs_measure_for_bisection(ORIGIN, beside, lost).place));
+    EXPECT(measures(ORIGIN, lost, beside, 5, 0.0));
+    /* Each coordinate NaN, infinite or the largest. */
+    const double odd[] = {NAN, INFINITY, -INFINITY, 1.7976931348623157e308};
+    for (int n = 0; n < 36; n++) {
+        for (int i = 0; i < 9; i++) v[i] = i == n / 4 ? odd[n % 4] : i;
+        EXPECT(is_any(cs_measure_for_thinning(v, v + 3, v + 6)) && is_any(cs_measure_for_bisection(v, v + 3, v + 6)));
+    }
+}
+
+/* How many points the chain has at this deflection and angle, where a span is halved once at most. */
+static size_t points_at(double deflection, double radians, cs_tables t, cs_edge e) {
+    const cs_options o = {.deflection = deflection, .angle = {radians}, .segments = 1, .depth = 1};
+    EXPECT(draw(t, e, o, 400, 401) == CS_DRAWN && way == CS_AS_DRAWN);
+    return count;
+}
+
+static const double HALF_TURN = 3.141592653589793;
+
+/* Drawing works with these numbers: a parabola is halved where its sag is above the deflection, be it by the last bit. The number
+ * for thinning is greater on the one parabola, and less on the other. */
+static void halved(void) {
+    const uint32_t row[] = {CS_KIND_PARABOLA, 0, 3};
+    const double sizes[] = {1, 0}, his[] = {3, 3.5};
+    for (size_t i = 0; i < 2; i++) {
+        const double hi = his[i], p[] = {0, 0, 0, 0, 0, 1, 1, 0, 0, hi * hi, 2 * hi, 0}, middle[] = {hi * hi / 4, hi, 0};
+        const cs_tables t = {.points = p, .points_len = 12, .curves = row, .curves_len = 3, .reals = sizes, .reals_len = 2};
+        const cs_edge e = {.start = 0, .end = 3, .sense = 1, .hi = hi, .low = 0, .high = 3};
+        const double sag = cs_measure_for_bisection(p, p + 9, middle).distance;
+        const double other = cs_measure_for_thinning(p, p + 9, middle).distance;
+        EXPECT(i == 0 ? sag < other : sag > other);
+        EXPECT(points_at(sag, HALF_TURN, t, e) == 2 && points_at(nextafter(sag, 0), HALF_TURN, t, e) == 3);
+    }
+}
+
+/* Where two lines meet is a break that is dropped at the deflection. By bisection's number, which is less, it would not be kept. */
+static void thinned_breaks(void) {
+    const double p[] = {0, 0, 0, 3, 1, 0, -1, 3, 0, 2, 4, 0}, zeros[] = {0, 0, 0, 0, 0, 0}, own[] = {0, 1, 0, 1};
+    const uint32_t rows[] = {CS_KIND_LINE, 0, 2, CS_KIND_LINE, 1, 2, CS_KIND_COMPOSITE, 0, 2}, segments[] = {0, 1, 1, 1};
+    const cs_tables t = {p, 12, rows, 9, zeros, 6, segments, 4, own, 4};
+    const cs_edge e = {.curve = 2, .start = 0, .end = 3, .sense = 1, .hi = 2, .low = 0, .high = 3};
+    const double bend = cs_measure_for_thinning(p, p + 9, p + 3).distance, below = nextafter(bend, 0);
+    EXPECT(cs_measure_for_bisection(p, p + 9, p + 3).distance <= below);
+    EXPECT(points_at(bend, HALF_TURN, t, e) == 2 && points_at(below, HALF_TURN, t, e) == 3);
+}
+
+/* A polyline up to halfway down its second leg, which is halved for its turn: its middle, before the corner, is dropped at a hundredth
+ * of the deflection. */
+static void thinned_points(void) {
+    const double p[] = {0, 0, 0, 4, 1.25, 0, 8, 0, 0, 6, 0.625, 0}, zeros[] = {0, 0}, middle[] = {3, 0.9375, 0};
+    const uint32_t row[] = {CS_KIND_POLYLINE, 0, 3};
+    const cs_tables t = {.points = p, .points_len = 12, .curves = row, .curves_len = 3, .reals = zeros, .reals_len = 2};
+    const cs_edge e = {.start = 0, .end = 3, .sense = 1, .hi = 1.5, .low = 0, .high = 3};
+    const double height = cs_measure_for_thinning(p, p + 9, middle).distance, deflection = height / 0.01;
+    EXPECT(cs_measure_for_bisection(p, p + 9, middle).distance < height);
+    EXPECT(deflection * 0.01 == height && nextafter(deflection, 0) * 0.01 == nextafter(height, 0));
+    EXPECT(points_at(deflection, 0.5, t, e) == 2 && points_at(nextafter(deflection, 0), 0.5, t, e) == 3);
+    EXPECT(memcmp(first + CS_WIDTH, middle, sizeof middle) == 0);
+}
+
 static bool is_preset(cs_options o, double deflection, double degrees) {
     return o.deflection == deflection && o.angle.radians == degrees * 0.017453292519943295 && o.relative == 1 && o.segments == 1 &&
            o.depth == 12 && o.scale == 0;
@@ -428,6 +556,11 @@ int main(void) {
     joints();
     wide_range();
     walks();
+    measured();
+    any_measured();
+    halved();
+    thinned_breaks();
+    thinned_points();
     angles();
     for (uint32_t n = 1; n <= 11; n++) EXPECT((strcmp(cs_sentence(n), cs_sentence(99)) != 0) == (n != 10));
     if (wrong == 0) puts("C: all as expected");

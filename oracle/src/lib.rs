@@ -13,8 +13,10 @@ pub mod exact;
 #[cfg(marked)]
 pub mod forms;
 pub mod gen_arith;
+pub mod gen_measure;
 pub mod generate;
 pub mod inspect;
+pub mod measure;
 #[cfg(marked)]
 pub mod modes;
 pub mod random;

@@ -1,14 +1,16 @@
 //! The commands of the oracle. README.md says what each reads and prints.
 
 use oracle::batch::{SEPARATOR, Settings, answers, split};
-use oracle::{Mode, arith, check, gen_arith, generate, inspect, sheet, strict, timing};
+use oracle::{
+    Mode, arith, check, gen_arith, gen_measure, generate, inspect, measure, sheet, strict, timing,
+};
 use std::io::{BufWriter, Read, Result, Write};
 use std::process::ExitCode;
 
 const USAGE: &str =
     "usage: oracle chain [FIRST SECOND] | batch [FIRST SECOND] | gen [--strict] SEED N [START]
               | coverage [--strict] SEED N | check SEED N | time FILE
-              | arith | genarith SEED | eval | resolve";
+              | arith | genarith SEED | measure | genmeasure SEED N | eval | resolve";
 
 fn main() -> ExitCode {
     let arguments: Vec<String> = std::env::args().skip(1).collect();
@@ -54,6 +56,8 @@ fn run(words: &[&str], out: &mut impl Write) -> Option<Result<()>> {
         ["genarith", seed] => Some(
             gen_arith::lines(number(seed)?).iter().try_for_each(|line| writeln!(out, "{line}")),
         ),
+        ["measure"] => Some(measures(out)),
+        ["genmeasure", seed, count] => Some(measure_lines(out, number(seed)?, number(count)?)),
         ["eval"] => Some(eval(out)),
         ["resolve"] => Some(resolve(out)),
         _ => None,
@@ -155,6 +159,14 @@ fn arithmetic(out: &mut impl Write) -> Result<()> {
     let text = String::from_utf8_lossy(&bytes);
     let mut lines = text.strip_suffix('\n').unwrap_or(&text).split('\n');
     lines.try_for_each(|line| writeln!(out, "{}", arith::answer(line)))
+}
+
+fn measures(out: &mut impl Write) -> Result<()> {
+    write!(out, "{}", measure::answers(&input()?))
+}
+
+fn measure_lines(out: &mut impl Write, seed: u64, count: u64) -> Result<()> {
+    (0..count).try_for_each(|index| writeln!(out, "{}", gen_measure::line(seed, index)))
 }
 
 /// A sheet, the separator, then a line for each parameter.

@@ -1,11 +1,12 @@
 //! What no sheet can hold: tables above their size, slices that are not whole rows, other buffers. And the settings of a batch,
-//! the fixed steps beside Rust's own functions, where evaluation refuses, and what strict mode changes.
+//! the fixed steps beside Rust's own functions, where evaluation refuses, what strict mode changes, and the two measures.
 
 use crate::batch::{Settings, answers};
 use crate::causes::cause;
 use crate::draw::{Drawn, draw, draw_chain, draw_in, reference, resolved, solid};
 use crate::generate::contents;
-use crate::sheet::{Sheet, write};
+use crate::measure::{Measured, answers as measures, bisection, thinning};
+use crate::sheet::{Sheet, hex, write};
 use crate::strict;
 use crate::tables::{
     COMPOSITE, Edge, HYPERBOLA, LINE, Options, OwnedTables, PARABOLA, POLYLINE, Row, Segment,
@@ -14,6 +15,7 @@ use crate::tables::{
 use road::asks::farthest;
 use road::edge::{Way, discretise_all};
 use road::knots::curve_breaks;
+use road::math::Vec3;
 use road::mode::Mode;
 use road::steps::{cosh, exp, sinh};
 
@@ -469,5 +471,151 @@ fn what_is_no_setting_is_a_text_that_is_no_sheet() {
         "mode strict reference\n",
     ] {
         assert_eq!(batch(text), "refusal\n10\n", "{text}");
+    }
+}
+
+/// What both measures answer of a chord and a point.
+fn both(a: [f64; 3], b: [f64; 3], p: [f64; 3]) -> [Measured; 2] {
+    let [a, b, p] = [a, b, p].map(|point| Vec3::from_slice(&point));
+    [thinning(a, b, p), bisection(a, b, p)]
+}
+
+/// Both measures answer this to the bit.
+fn agree(a: [f64; 3], b: [f64; 3], p: [f64; 3], distance: f64, place: f64) {
+    for measured in both(a, b, p) {
+        assert_eq!(hex(&measured), hex(&[distance, place]), "{a:?} {b:?} {p:?}");
+    }
+}
+
+#[test]
+fn the_place_on_a_chord_without_length_is_zero() {
+    agree([0.0; 3], [0.0; 3], [2.0, 3.0, 6.0], 7.0, 0.0);
+    agree([0.0; 3], [-0.0; 3], [-2.0, -3.0, -6.0], 7.0, 0.0);
+    agree([-0.0; 3], [0.0; 3], [-0.0; 3], 0.0, 0.0);
+    agree([-1.5; 3], [-1.5; 3], [-1.5; 3], 0.0, 0.0);
+    // so much less than a length that it is none, and what is no number
+    agree([5e-324; 3], [-1e-300; 3], [0.0, 0.0, -1.0], 1.0, 0.0);
+    let [thinned, bisected] = both([f64::NAN; 3], [1.0; 3], [0.0; 3]);
+    assert!(thinned[0].is_nan() && bisected[0].is_nan());
+    assert_eq!(hex(&[thinned[1], bisected[1]]), hex(&[0.0, 0.0]));
+}
+
+#[test]
+fn the_place_stays_between_the_ends() {
+    let (a, b) = ([1.0, 0.0, 0.0], [3.0, 0.0, 0.0]);
+    agree(a, b, [2.5, -2.0, 0.0], 2.0, 0.75);
+    agree(a, b, b, 0.0, 1.0);
+    agree(a, b, [6.0, 4.0, 0.0], 5.0, 1.0);
+    agree(a, b, [-2.0, 4.0, 0.0], 5.0, 0.0);
+    agree(a, b, [f64::INFINITY, 0.0, 0.0], f64::INFINITY, 1.0);
+    agree(a, b, [f64::NEG_INFINITY, 0.0, 0.0], f64::INFINITY, 0.0);
+}
+
+#[test]
+fn the_place_at_the_start_of_a_falling_chord_is_minus_zero() {
+    agree([1.0; 3], [0.5; 3], [1.0; 3], 0.0, -0.0);
+    agree([1e9; 3], [-1e9; 3], [1e9; 3], 0.0, -0.0);
+    agree([1.0; 3], [0.5, 0.5, 1.0], [1.0; 3], 0.0, 0.0);
+}
+
+#[test]
+fn a_place_that_is_no_number_passes() {
+    for p in [[f64::NAN, 0.0, 0.0], [f64::INFINITY, f64::NEG_INFINITY, 0.0]] {
+        let measured = both([0.0; 3], [1.0; 3], p).concat();
+        assert!(measured.iter().all(|x| x.is_nan()), "{measured:?}");
+    }
+}
+
+/// The square of the root of 2 is above 2.
+#[test]
+fn the_two_places_may_differ() {
+    let [thinned, bisected] = both([0.0; 3], [1.0, 1.0, 0.0], [1.0, 0.0, 0.0]);
+    assert_eq!(hex(&thinned), "3fe6a09e667f3bcd 3fe0000000000000");
+    assert_eq!(hex(&bisected), "3fe6a09e667f3bcd 3fdffffffffffffe");
+}
+
+/// No length lies between zero and 2.2e-162, the root of the least float: 1e-300 stands for zero.
+#[test]
+fn a_chord_has_length_where_its_square_is_not_zero() {
+    let along_x = |x: f64| both([0.0; 3], [x, 0.0, 0.0], [1.0, 0.0, 0.0]);
+    let half = 2.0_f64.powi(-538); // its square is a quarter of the least float, that of √2 times it half
+    for (x, place) in [
+        (1e-300, 0.0),
+        (half, 0.0),
+        (half * std::f64::consts::SQRT_2.next_down(), 0.0),
+        (half * std::f64::consts::SQRT_2, 1.0),
+        (2.0 * half, 1.0),
+        (1e-160, 1.0),
+        (1e-150, 1.0),
+    ] {
+        for measured in along_x(x) {
+            assert_eq!(hex(&measured), hex(&[1.0, place]), "{x:e}");
+        }
+    }
+    // Each of the three squares is zero.
+    agree([0.0; 3], [1.3e-162; 3], [1.0, 0.0, 0.0], 1.0, 0.0);
+}
+
+fn measured(text: &str) -> String {
+    measures(text.as_bytes())
+}
+
+#[test]
+fn a_digest_takes_each_distance_and_place() {
+    let mixed = |digest: u64, x: f64| {
+        (digest.rotate_left(5) ^ x.to_bits()).wrapping_mul(0x517cc1b727220a95)
+    };
+    let line = |measured: [f64; 4]| {
+        let digest = measured.into_iter().fold(0, mixed);
+        format!("{digest:016x} {digest:016x}\n")
+    };
+    let points = hex(&[0.0; 3]) + "\n" + &hex(&[2.0, 0.0, 0.0]) + "\n";
+    let lines =
+        [[0.0, 0.0, 2.0, 0.0], [0.0, 0.0, 0.0, 1.0], [0.0, 1.0, 0.0, 0.0], [2.0, 0.0, 0.0, 0.0]];
+    let answer = lines.map(line).concat() + "====\n";
+    assert_eq!(measured(&format!("every\n{points}====\n")), answer);
+}
+
+#[test]
+fn any_nan_is_measured_as_one() {
+    let nans = |bits: u64| {
+        let point = hex(&[f64::from_bits(bits); 3]);
+        measured(&format!(
+            "every\n{point}\n{}\n====\nmeasure\n{point} {point} {point}\n====\n",
+            hex(&[1.0; 3])
+        ))
+    };
+    let answer = nans(0x7ff8000000000000);
+    assert!(
+        answer
+            .ends_with(&format!("{}\n====\n", ["7ff8000000000000 0000000000000000"; 2].join(" ")))
+    );
+    assert_eq!(nans(0xfff8000000000000), answer);
+    assert_eq!(nans(0x7ff0000000000001), answer);
+}
+
+#[test]
+fn parts_that_ask_for_no_measure() {
+    let points = |count: usize| format!("every\n{}====\n", (hex(&[1.0; 3]) + "\n").repeat(count));
+    assert_eq!(measured(&points(0)), "====\n");
+    assert_eq!(measured(&points(64)).lines().count(), 64 * 64 + 1);
+    assert_eq!(measured(&points(65)), "?\n====\n");
+    let (point, line) = (hex(&[1.0; 3]), hex(&[1.0; 9]));
+    for (part, answer) in [
+        ("measure\n".to_string(), ""),
+        (format!("measure\n{line}\n"), &(hex(&[0.0; 4]) + "\n")),
+        (format!("measure\n{line}"), "?\n"),
+        (format!("measure\n{line} \n"), "?\n"),
+        (format!("measure\n{line}\r\n"), "?\n"),
+        (format!("measure\n{point}\n\n"), "?\n?\n"),
+        (format!("every\n{point}"), "?\n"),
+        (format!("every\n{point}\n{line}\n"), "?\n"),
+        (format!("every\n{point}\n\n"), "?\n"),
+        ("every".to_string(), "?\n"),
+        ("every \n".to_string(), "?\n"),
+        (String::new(), "?\n"),
+    ] {
+        assert_eq!(measured(&format!("{part}====\n")), format!("{answer}====\n"), "{part}");
+        assert_eq!(measured(&part), "", "{part}");
     }
 }

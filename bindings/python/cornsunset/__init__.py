@@ -27,6 +27,8 @@ Who has such tables already lends them as arrays or lists to Tables, and these t
     draw, draw_over         answer a Chain, or raise a Refusal
     Chain, Point, Walk      a sequence of points with x, y, z, t; .length() is what a cutter runs; .forwards(), .backwards()
     Way                     the way in which a chain was got
+    measure_for_thinning,   how far a point lies from a chord, and from which place on it that is measured, as drawing has it:
+    measure_for_bisection   each answers a Measured, with a distance and a place
     Refusal, PartError      why an edge was turned away, and why a curve could not be added: each has a class of its own
 
 A TypeError or an OverflowError says that something is no number of the sort that is asked for; a bare number where an Angle
@@ -36,7 +38,7 @@ Everything may be called from any thread. Where memory is the caller's, other th
 run. A thread that draws should have 256 KB of stack or more; Python gives megabytes unless told otherwise.
 
 What a later version may add: members of Kind, Mode and Way, classes of Refusal and PartError, fields of Options that mean
-nothing new where they are not given, floats to a Point and with them to WIDTH.
+nothing new where they are not given, fields of Measured, floats to a Point and with them to WIDTH.
 """
 from ._answer import (
     Endless,
@@ -55,6 +57,7 @@ from ._answer import (
 from ._chain import Chain, Point, Walk
 from ._frame import NoDirection, NoSize, Parallel, PartError
 from ._library import MOST_POINTS, VERSION, WIDTH
+from ._measure import Measured, measure_for_bisection, measure_for_thinning
 from ._options import Angle, Mode, Options
 from ._part import Part, PointNumber, PointRun, Row, Segment
 from ._tables import Checked, Edge, Kind, Tables, check, check_tables, draw, draw_over
@@ -72,6 +75,7 @@ __all__ = [
     "Endless",
     "IllFormed",
     "Kind",
+    "Measured",
     "Missing",
     "Mode",
     "NoDirection",
@@ -100,6 +104,8 @@ __all__ = [
     "check_tables",
     "draw",
     "draw_over",
+    "measure_for_bisection",
+    "measure_for_thinning",
 ]
 
 # Their names, as messages and help have them, are this module's.

@@ -23,6 +23,7 @@ BUFFERS = [c_void_p, c_size_t] * 2
 ANSWER = [POINTER(c_uint32), POINTER(c_size_t)]
 PRESET = [POINTER(kind) for kind in OPTIONS]
 WALK = [c_void_p, c_size_t, c_bool]
+MEASURE = [POINTER(c_double)] * 4
 
 # Each function's answer, and what it takes.
 FUNCTIONS = {
@@ -37,6 +38,8 @@ FUNCTIONS = {
     "cs_flat_fine": (None, PRESET),
     "cs_start": (c_size_t, WALK),
     "cs_step": (c_uint32, WALK + [POINTER(c_size_t), POINTER(c_double)]),
+    "cs_flat_measure_for_thinning": (c_double, MEASURE),
+    "cs_flat_measure_for_bisection": (c_double, MEASURE),
     "cs_degrees": (c_double, [c_double]),
     "cs_is_clamped": (c_bool, [c_double]),
 }

@@ -75,6 +75,12 @@ class Header(unittest.TestCase):
             declared[name] = TYPES[answer], [argument(text) for text in arguments.split(",")]
         self.assertEqual(declared, _library.FUNCTIONS)
 
+    def test_what_is_measured(self):
+        fields = re.search(r"typedef struct \{([^}]*)\} cs_measured;", CODE).group(1)
+        self.assertEqual(re.findall(r"double (\w+);", fields), list(cs.Measured.__dataclass_fields__))
+        measures = re.findall(r"^static inline cs_measured cs_(\w+)\(", CODE, re.M)
+        self.assertEqual(sorted(measures), [name for name in cs.__all__ if name.startswith("measure_")])
+
 
 class Loading(unittest.TestCase):
     def test_a_library_of_another_version_is_not_taken(self):

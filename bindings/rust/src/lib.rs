@@ -22,12 +22,16 @@
 //! [`draw_over`]. What draws by a name that ends in `_in_mode`, as [`draw_in_mode`], takes a [`Mode`]; all else draws in the
 //! reference's.
 //!
-//! What a later version may add: members of [`Kind`], [`Mode`], [`Refusal`], [`Way`] and [`PartError`], floats to a [`Point`]
-//! and with them to [`WIDTH`].
+//! [`measure_for_thinning`] and [`measure_for_bisection`] say how far a point lies from a chord, and from which place on the
+//! chord that is measured, by the numbers that drawing itself works with.
+//!
+//! What a later version may add: members of [`Kind`], [`Mode`], [`Refusal`], [`Way`] and [`PartError`], fields of [`Measured`],
+//! floats to a [`Point`] and with them to [`WIDTH`].
 
 mod answer;
 mod chain;
 mod frame;
+mod measure;
 mod numbered;
 mod options;
 mod part;
@@ -36,6 +40,7 @@ mod tables;
 
 pub use answer::{Refusal, Way};
 pub use chain::{Chain, OwnedChain, Point, Walk, MOST_POINTS, WIDTH};
+pub use measure::{measure_for_bisection, measure_for_thinning, Measured};
 pub use options::{Angle, Mode, Options};
 pub use part::{CheckedPart, Parameter, Part, PartError, PointNumber, PointRun, Row, Segment};
 pub use tables::{check, check_tables, draw, draw_in_mode, draw_over, draw_over_in_mode, Checked, Edge, Kind, Tables};

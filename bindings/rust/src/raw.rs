@@ -57,6 +57,20 @@ macro_rules! presets {
 
 presets!(cs_flat_default, cs_flat_draft, cs_flat_fine);
 
+/// A function that measures a point from a chord's two ends and itself: it returns the distance and stores the place.
+pub type Measure = unsafe extern "C" fn(&[f64; 3], &[f64; 3], &[f64; 3], &mut f64) -> f64;
+
+/// Declares such functions.
+macro_rules! measures {
+    ($($name:ident),*) => {
+        unsafe extern "C" {
+            $(pub fn $name(a: &[f64; 3], b: &[f64; 3], p: &[f64; 3], place: &mut f64) -> f64;)*
+        }
+    };
+}
+
+measures!(cs_flat_measure_for_thinning, cs_flat_measure_for_bisection);
+
 unsafe extern "C" {
     pub fn cs_flat_check_tables(
         points: *const f64,

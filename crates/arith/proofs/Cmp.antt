@@ -31,6 +31,19 @@ finite_number nan h = h
 finite_number (inf s) h = tt
 finite_number (fin s m e) h = tt
 
+-- a number is what is no NaN
+pub number_not_nan : (x : Float) → T (number x) → is_nan x ≡ false
+unfolding is_nan
+number_not_nan nan h = absurd h
+number_not_nan (inf s) h = refl
+number_not_nan (fin s m e) h = refl
+
+pub not_nan_number : (x : Float) → is_nan x ≡ false → T (number x)
+unfolding is_nan
+not_nan_number nan h = never h
+not_nan_number (inf s) h = tt
+not_nan_number (fin s m e) h = tt
+
 -- ---- `x != x` is the test for a NaN
 pub ne_self : (x : Float) → ne x x ≡ is_nan x
 unfolding ne is_nan

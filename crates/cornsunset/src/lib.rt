@@ -1,9 +1,10 @@
 #![tactic(auto)]
-// Drawing, walking, presets and angles under C names, over numbers and slices alone. A slice is a pointer and a length, an
+// Drawing, walking, measuring, presets and angles under C names, over numbers and slices alone. A slice is a pointer and a length, an
 // out value a pointer. No function has a requires: nothing that another language hands over is outside a contract.
 ghost use Rattle.std.specs.Prelude.{◌≡◌, Ok};
-ghost use Rattle.brep.specs.Rows.{given};
+ghost use Rattle.brep.specs.Rows.{given, point_of};
 ghost use Rattle.causes.specs.Causes.{verdict, tables_verdict};
+ghost use Rattle.math_chord.specs.Measured.{measured_for_thinning, measured_for_bisection};
 ghost use Rattle.options.specs.declared.Mode.TheVariants.{Reference};
 ghost use Rattle.options.specs.Options.{radians as inRadians, degrees, is_clamped, default_options, draft_options, fine_options};
 ghost use Rattle.edge_walker.specs.Walk.{start_of, stepped};
@@ -12,6 +13,7 @@ ghost use Rattle.cornsunset.specs.Numbered.{NumberedOutcome, NumberedOver};
 
 use brep::LentTables;
 use draw_spec::Drawn;
+use math_chord::Measured;
 use options::{Angle, Options};
 use refusal::Refusal;
 
@@ -291,6 +293,50 @@ pub extern "C" fn cs_step(
     let step = s.step;
     *point = ffi_numbers::point_after(*point, step);
     ffi_numbers::has_passed(step)
+}
+
+// Hands out what was measured.
+fn hand_measured(measured: Measured, place: &mut f64) -> f64
+    ensures { record { distance = result; place = place.new } ≡ measured }
+{
+    *place = measured.place;
+    measured.distance
+}
+
+// How far point p is from the chord from a to b as breaks and points are thinned, and the place on the chord that this is measured from.
+#[unsafe(no_mangle)]
+pub extern "C" fn cs_flat_measure_for_thinning(
+    a: &[f64; 3],
+    b: &[f64; 3],
+    p: &[f64; 3],
+    place: &mut f64,
+) -> f64
+    ensures { record { distance = result; place = place.new } ≡ measured_for_thinning (point_of a.now 0) (point_of b.now 0) (point_of p.now 0) }
+{
+    let measured = math_chord::measure_for_thinning(
+        brep::point(a, 0),
+        brep::point(b, 0),
+        brep::point(p, 0),
+    );
+    hand_measured(measured, place)
+}
+
+// And as a span from a to b is bisected.
+#[unsafe(no_mangle)]
+pub extern "C" fn cs_flat_measure_for_bisection(
+    a: &[f64; 3],
+    b: &[f64; 3],
+    p: &[f64; 3],
+    place: &mut f64,
+) -> f64
+    ensures { record { distance = result; place = place.new } ≡ measured_for_bisection (point_of a.now 0) (point_of b.now 0) (point_of p.now 0) }
+{
+    let measured = math_chord::measure_for_bisection(
+        brep::point(a, 0),
+        brep::point(b, 0),
+        brep::point(p, 0),
+    );
+    hand_measured(measured, place)
 }
 
 // Hands out the six numbers of options, the angle in radians.

@@ -106,7 +106,7 @@ never_returns : (T : Tables) (e : Edge) (r : Resolved) (params : List Float) →
 never_returns T e r params u s t = record { usable = u; comes_to = s; never = (thins _ _ _ _).never.0 t }
 
 pub hold : examples.ExamplesHold
-unfolding knots-sort-merge.before knots-sort-merge.merged_runs knots-sort-sort.inserted knots-sort-sort.sorted arith-floor.floor_of arith-root-root.isqrt arith-root-root.near_root arith-root-root.root_units arith-root-root.root_of arith-trig-trig.quarter arith-trig-trig.horner_steps arith-trig-trig.sin_kernel arith-trig-trig.cos_kernel arith-trig-trig.sin_by arith-trig-trig.cos_by arith-trig-trig.sin_of arith-trig-trig.cos_of arith_trig-ownsincos.sin_cos_of arith-trig-trig.halved arith-trig-trig.summed arith-trig-trig.arc_of arith-trig-trig.angle_of arith-trig-trig.acos_by arith-trig-trig.acos_of math-math.v_add math-math.v_sub math-math.v_scale math-math.v_dot math-math.v_cross math-math.v_length math-math.try_normalized math-math.angle_between math-math.v_lerp math-math.v_min math-math.v_max math-math.v_finite math-math.y_dir math-math.is_empty math-math.add_point math-math.box_size math-math.centre math-math.diagonal math-math.span_of math-math.at brep-rows.point_of brep-rows.frame_of brep-rows.segment_of brep-rows.kind_of brep-rows.curve_of brep-tree.run brep-tree.segments brep-tree.grown brep-tree.below brep-tree.tree options-options.is_clamped options-options.resolved_sag options-options.resolved_model options-options.resolved_relative options-options.resolve options-options.sag_for options-options.for_extent options-options.angle_step options-options.segments_for_arc causes-bounds-bounds.within causes-bounds-bounds.beyond causes-bounds-bounds.finite_beyond causes-bounds-bounds.edge_beyond causes-bounds-bounds.options_beyond causes-bounds-bounds.unbounded causes-bounds-some.some_below causes-form-forms.broken causes-form-forms.uneven causes-form-forms.wrong_count causes-form-forms.spare_p causes-form-forms.spare_q causes-form-forms.unused_set causes-form-forms.malformed causes-form-forms.malformed_row causes-form-forms.malformed_segment causes-form-forms.ill_formed causes-causes.oversize causes-nesting-nest.high_segment causes-nesting-nest.not_lower causes-nesting-nest.unordered_row causes-nesting-nest.deep_row causes-causes.missing causes-causes.verdict curve-eval.run_length curve-eval.natural_range curve-eval.closes curve-eval.is_closed curve-eval.every_span curve-eval.period curve-eval.polyline_parameter curve-eval.polyline_point curve-eval.own_parameter curve-eval.axes_point curve-eval.parabola_point curve-eval.is_sampled curve-eval.point_at curve-eval.segment_point curve-tangent-derivative.polyline_derivative curve-tangent-derivative.signed_span curve-tangent-derivative.ellipse_derivative curve-tangent-derivative.parabola_derivative math-chord-chord.foot_of math-chord-chord.chord_offset math-chord-chord.span_offset math-chord-chord.span_distance math-chord-chord.bisection_offset math-chord-chord.bisection_distance knots-inside-breaks.retained_knots knots-inside-breaks.apart knots-inside-breaks.deduped knots-inside-breaks.inside_upward knots-inside-breaks.inside_of knots-knots.segment_knots knots-knots.curve_knots knots-knots.curve_breaks knots-breaks-breaks.wholes knots-breaks-breaks.segments_under knots-breaks-breaks.breaks_in knots-inside-breaks.passing_upward knots-inside-breaks.passing_knots knots-knots.worst_of_three knots-knots.deviation knots-inside-thinned.thinned_from knots-inside-thinned.thin_breaks knots-thin-thin.thin_asks knots-thin-thin.thinning_asks edge-params-params.subdividing edge-params-params.forming edge-params-params.steps edge-params-work.joining edge-params-work.some_far edge-params-work.asking edge-params-work.overflows edge-params-params.breaks_along edge-params-params.unless_hi edge-params-params.walking edge-params-params.bisecting edge-params-params.floored edge-params-params.refined edge-params-params.sample_params edge-range-usable.own_range edge-range-usable.clamped_to_domain edge-range-usable.within_domain edge-range-usable.usable_range edge-range-usable.is_open_conic edge-range-usable.has_no_domain edge-range-usable.ellipse_radius edge-range-usable.analytic_segments edge-subdivide-bisect.end_at edge-subdivide-bisect.sag_of edge-subdivide-bisect.tangent_turn edge-subdivide-bisect.is_within edge-subdivide-bisect.within_budget edge-subdivide-ownsplit.split_of edge-sample-sample.miss_of edge-sample-sample.worst_miss edge-sample-sample.sampler edge-sample-sample.sampled edge-record-chain.flat edge-record-chain.sample_at edge-record-chain.samples_from edge-record-chain.last_of edge-merge-merge.merge_floor edge-merge-merge.spaced edge-merge-merge.with_end edge-merge-merge.merged edge-thin-span-span.worst_from edge-thin-span-span.worst_of edge-thin-span-span.directions edge-thin-span-span.span_turn edge-thin-span-span.decision edge-thin-mark-spans.kept_in edge-thin-mark-spans.flagged edge-thin-thin.flag_count edge-thin-thin.evens edge-thin-thin.restored edge-thin-thin.retained_by edge-thin-thin.thinned draw-spec-draw.local_options draw-spec-draw.first_way draw-spec-draw.probes draw-spec-draw.referenced draw-spec-draw.room_of draw-spec-draw.drawn draw-spec-edge.probed draw-spec-edge.extent_box draw-spec-edge.edge_extent draw-spec-edge.located draw-spec-edge.degenerate_ends draw-spec-edge.is_reversed draw-spec-edge.oriented draw-spec-edge.last_pinned draw-spec-edge.pinned draw-spec-edge.thinned_if draw-spec-edge.at_least_two draw-spec-edge.placed draw-spec-edge.finished draw-spec-edge.discretised draw-spec-repair.escapes draw-spec-repair.by_period draw-spec-repair.repaired ieee.add ieee.sub ieee.mul ieee.div ieee.rem ieee.neg ieee.lt ieee.le ieee.eq ieee.ne ieee.is_nan ieee.to_unsigned ieee.of_bits ieee.of_int ieee.round examples.ExampleHolds causes-nesting-nest.nesting causes-nesting-nest.deepest curve-tangent-derivative.derivative_at curve-tangent-derivative.segment_derivative curve-asks-asks.asks_far brep-kind.kind_numbered
+unfolding knots-sort-merge.before knots-sort-merge.merged_runs knots-sort-sort.inserted knots-sort-sort.sorted arith-floor.floor_of arith-root-root.isqrt arith-root-root.near_root arith-root-root.root_units arith-root-root.root_of arith-trig-trig.quarter arith-trig-trig.horner_steps arith-trig-trig.sin_kernel arith-trig-trig.cos_kernel arith-trig-trig.sin_by arith-trig-trig.cos_by arith-trig-trig.sin_of arith-trig-trig.cos_of arith_trig-ownsincos.sin_cos_of arith-trig-trig.halved arith-trig-trig.summed arith-trig-trig.arc_of arith-trig-trig.angle_of arith-trig-trig.acos_by arith-trig-trig.acos_of math-math.v_add math-math.v_sub math-math.v_scale math-math.v_dot math-math.v_cross math-math.v_length math-math.try_normalized math-math.angle_between math-math.v_lerp math-math.v_min math-math.v_max math-math.v_finite math-math.y_dir math-math.is_empty math-math.add_point math-math.box_size math-math.centre math-math.diagonal math-math.span_of math-math.at brep-rows.point_of brep-rows.frame_of brep-rows.segment_of brep-rows.kind_of brep-rows.curve_of brep-tree.run brep-tree.segments brep-tree.grown brep-tree.below brep-tree.tree options-options.is_clamped options-options.resolved_sag options-options.resolved_model options-options.resolved_relative options-options.resolve options-options.sag_for options-options.for_extent options-options.angle_step options-options.segments_for_arc causes-bounds-bounds.within causes-bounds-bounds.beyond causes-bounds-bounds.finite_beyond causes-bounds-bounds.edge_beyond causes-bounds-bounds.options_beyond causes-bounds-bounds.unbounded causes-bounds-some.some_below causes-form-forms.broken causes-form-forms.uneven causes-form-forms.wrong_count causes-form-forms.spare_p causes-form-forms.spare_q causes-form-forms.unused_set causes-form-forms.malformed causes-form-forms.malformed_row causes-form-forms.malformed_segment causes-form-forms.ill_formed causes-causes.oversize causes-nesting-nest.high_segment causes-nesting-nest.not_lower causes-nesting-nest.unordered_row causes-nesting-nest.deep_row causes-causes.missing causes-causes.verdict curve-eval.run_length curve-eval.natural_range curve-eval.closes curve-eval.is_closed curve-eval.every_span curve-eval.period curve-eval.polyline_parameter curve-eval.polyline_point curve-eval.own_parameter curve-eval.axes_point curve-eval.parabola_point curve-eval.is_sampled curve-eval.point_at curve-eval.segment_point curve-tangent-derivative.polyline_derivative curve-tangent-derivative.signed_span curve-tangent-derivative.ellipse_derivative curve-tangent-derivative.parabola_derivative math-chord-chord.chord_place math-chord-chord.chord_offset math-chord-chord.span_offset math-chord-chord.span_distance math-chord-chord.bisection_offset math-chord-chord.bisection_distance knots-inside-breaks.retained_knots knots-inside-breaks.apart knots-inside-breaks.deduped knots-inside-breaks.inside_upward knots-inside-breaks.inside_of knots-knots.segment_knots knots-knots.curve_knots knots-knots.curve_breaks knots-breaks-breaks.wholes knots-breaks-breaks.segments_under knots-breaks-breaks.breaks_in knots-inside-breaks.passing_upward knots-inside-breaks.passing_knots knots-knots.worst_of_three knots-knots.deviation knots-inside-thinned.thinned_from knots-inside-thinned.thin_breaks knots-thin-thin.thin_asks knots-thin-thin.thinning_asks edge-params-params.subdividing edge-params-params.forming edge-params-params.steps edge-params-work.joining edge-params-work.some_far edge-params-work.asking edge-params-work.overflows edge-params-params.breaks_along edge-params-params.unless_hi edge-params-params.walking edge-params-params.bisecting edge-params-params.floored edge-params-params.refined edge-params-params.sample_params edge-range-usable.own_range edge-range-usable.clamped_to_domain edge-range-usable.within_domain edge-range-usable.usable_range edge-range-usable.is_open_conic edge-range-usable.has_no_domain edge-range-usable.ellipse_radius edge-range-usable.analytic_segments edge-subdivide-bisect.end_at edge-subdivide-bisect.sag_of edge-subdivide-bisect.tangent_turn edge-subdivide-bisect.is_within edge-subdivide-bisect.within_budget edge-subdivide-ownsplit.split_of edge-sample-sample.miss_of edge-sample-sample.worst_miss edge-sample-sample.sampler edge-sample-sample.sampled edge-record-chain.flat edge-record-chain.sample_at edge-record-chain.samples_from edge-record-chain.last_of edge-merge-merge.merge_floor edge-merge-merge.spaced edge-merge-merge.with_end edge-merge-merge.merged edge-thin-span-span.worst_from edge-thin-span-span.worst_of edge-thin-span-span.directions edge-thin-span-span.span_turn edge-thin-span-span.decision edge-thin-mark-spans.kept_in edge-thin-mark-spans.flagged edge-thin-thin.flag_count edge-thin-thin.evens edge-thin-thin.restored edge-thin-thin.retained_by edge-thin-thin.thinned draw-spec-draw.local_options draw-spec-draw.first_way draw-spec-draw.probes draw-spec-draw.referenced draw-spec-draw.room_of draw-spec-draw.drawn draw-spec-edge.probed draw-spec-edge.extent_box draw-spec-edge.edge_extent draw-spec-edge.located draw-spec-edge.degenerate_ends draw-spec-edge.is_reversed draw-spec-edge.oriented draw-spec-edge.last_pinned draw-spec-edge.pinned draw-spec-edge.thinned_if draw-spec-edge.at_least_two draw-spec-edge.placed draw-spec-edge.finished draw-spec-edge.discretised draw-spec-repair.escapes draw-spec-repair.by_period draw-spec-repair.repaired ieee.add ieee.sub ieee.mul ieee.div ieee.rem ieee.neg ieee.lt ieee.le ieee.eq ieee.ne ieee.is_nan ieee.to_unsigned ieee.of_bits ieee.of_int ieee.round examples.ExampleHolds causes-nesting-nest.nesting causes-nesting-nest.deepest curve-tangent-derivative.derivative_at curve-tangent-derivative.segment_derivative curve-asks-asks.asks_far brep-kind.kind_numbered
 hold =
     more refl (more refl (more refl
     (more (draws_chain _ _ _ refl) (more (draws_chain _ _ _ refl) (more (draws_chain _ _ _ refl)

@@ -2,13 +2,13 @@
 use mathlib.Core.Path.{◌≡◌, refl, sym, subst}
 use mathlib.Core.Bool.{Bool, true, false, cond, ◌||◌}
 use lib.Dec.{T}
-use lib.Ieee.{Float, nan, inf, fin, binary64, fits, lt, le, is_nan, of_bits}
+use lib.Ieee.{Float, binary64, fits, lt, le, of_bits}
 use lib.Ieee.Bits.{is_true}
 use Rattle.arith_order.proofs.Signed.{zero_f}
 use Rattle.arith_order.proofs.Laws.{number, le_refl, le_trans, le_lt_trans, lt→le, number_right, nlt→le}
 use Rattle.arith.specs.Notation.{plus_zero}
 use Rattle.arith.specs.Pick.{max_of}
-use Rattle.arith.proofs.Cmp.{holds, fails}
+use Rattle.arith.proofs.Cmp.{holds, fails, number_not_nan}
 use Rattle.arith_root.specs.Root.{root_of}
 use Rattle.arith_root.proofs.Laws.{root_monotone}
 use Rattle.arith_root_limit.proofs.Roots.{root_not_below}
@@ -41,19 +41,13 @@ same_test x y limit a =
     both false true f g = absurd (g tt)
     both false false f g = refl
 
-not_nan : (m : Float) → T (number m) → is_nan m ≡ false
-unfolding is_nan
-not_nan nan h = absurd h
-not_nan (inf s) h = refl
-not_nan (fin s m e) h = refl
-
 module _ (w m s : Float) (h : Worst w m) (F : T (fits binary64 s)) where
   real : T (number m)
   real = number_right (root_of w) m h.alike.below
 
   -- where the square is above the worst, so is its root, or they are alike
   taken : T (lt w s) → Worst s (max_of m (root_of s))
-  taken k = record { format = F; low = le_trans zero_f w s h.low (lt→le w s k); alike = rw (not_nan m real) (go (lt m (root_of s)) refl) }
+  taken k = record { format = F; low = le_trans zero_f w s h.low (lt→le w s k); alike = rw (number_not_nan m real) (go (lt m (root_of s)) refl) }
     where
       up : T (le (root_of w) (root_of s))
       up = root_monotone w s h.format F h.low (lt→le w s k)
@@ -67,7 +61,7 @@ module _ (w m s : Float) (h : Worst w m) (F : T (fits binary64 s)) where
 
   -- and where it is not, neither is its root
   left : lt w s ≡ false → Worst w (max_of m (root_of s))
-  left k = record { format = h.format; low = h.low; alike = rw (not_nan m real) (go (lt m (root_of s)) refl) }
+  left k = record { format = h.format; low = h.low; alike = rw (number_not_nan m real) (go (lt m (root_of s)) refl) }
     where
       go : (b : Bool) → lt m (root_of s) ≡ b → Alike (root_of w) (cond (b || false) (root_of s) m)
       go true e = absurd (subst T (root_not_below w s h.format F k) (le_lt_trans (root_of w) m (root_of s) h.alike.below (holds e)))

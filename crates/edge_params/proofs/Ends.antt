@@ -73,7 +73,7 @@ size_parts k x m =
     }
 
 -- what is (p - n) / c rounded lies within 2 ^ k where (p - n) / c does
-parts_size : (k : ℕ) (z : Float) (p n c : ℕ) → k ≤ 1023 → Rounds binary64 z p n c → 0 < c
+pub parts_size : (k : ℕ) (z : Float) (p n c : ℕ) → k ≤ 1023 → Rounds binary64 z p n c → 0 < c
     → p ≤ 2 ^ k * c + n → n ≤ 2 ^ k * c + p → Size k z
 parts_size k z p n c h r C u v = (
   above binary64 (big k true) z p n c (big_fits k true h) tt r C (simp (one-mul, mul-one, zero-mul, zero-add) (omega arith)),

@@ -11,11 +11,11 @@ use Rattle.arith.specs.Pick.{clamp_of}
 use Rattle.arith_root.specs.Root.{root_of}
 use Rattle.arith_trig.specs.Trig.{acos_of}
 use Rattle.math_chord.specs.declared.Chord.{Chord}
-use Rattle.math_chord.specs.Chord.{bisection_distance}
-use Rattle.math_chord.specs.Own.Made.{bisection_chord}
-use Rattle.math_chord.proofs.Made.{offset_from, bisection_from}
+use Rattle.math_chord.specs.declared.Foot.{Foot}
+use Rattle.math_chord.specs.Own.Made.{bisection_chord, chord_foot}
+use Rattle.math_chord.proofs.Made.{bisection_from}
 use Rattle.math.specs.declared.Vec3.{Vec3}
-use Rattle.math.specs.Math.{v_dot, v_length, v_length_squared, angle_between}
+use Rattle.math.specs.Math.{v_dot, angle_between}
 use Rattle.brep.specs.Tree.{CurveTree}
 use Rattle.curve.specs.Eval.{point_at}
 use Rattle.curve_tangent.specs.Derivative.{tangent_at}
@@ -31,10 +31,10 @@ use Rattle.edge_subdivide.specs.Own.Split.{split_of}
 use Rattle.edge_subdivide.specs.Bisect.{end_at, sag_of, tangent_turn, is_within, within_budget}
 
 -- ---- the sag, by its square: what is_within works out and compares
-pub sag_within : (pa pb pm offset : Vec3) (s sag limit : Float) {c : Chord} → c ≡ bisection_chord pa pb → offset ≡ offset_from c pm → s ≡ v_length_squared offset → limit ≡ sag
-    → le (root_of s) limit ≡ le (sag_of pa pb pm) sag
-unfolding sag_of bisection_distance v_length
-sag_within pa pb pm offset s sag limit C O S E = rw (S, O, bisection_from pa pb C pm, E)
+pub sag_within : (pa pb pm : Vec3) (sag limit : Float) {c : Chord} {foot : Foot} → c ≡ bisection_chord pa pb → foot ≡ chord_foot c pm → limit ≡ sag
+    → le (root_of foot.squared) limit ≡ le (sag_of pa pb pm) sag
+unfolding sag_of
+sag_within pa pb pm sag limit C F E = rw (F, bisection_from pa pb C pm, E)
 
 -- ---- the turn, by the branches that the code takes
 straight : acos_of one ≡ plus_zero

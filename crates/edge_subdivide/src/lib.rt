@@ -70,8 +70,8 @@ fn is_within(limits: &Limits, a: End, b: End, pm: Vec3) -> bool
     if limits.turn.is_over(cosine) {
         return false;
     }
-    let offset = Chord::for_bisection(a.point, b.point).offset(pm);
-    if limits.sag.is_root_within(offset.length_squared()) {
+    let foot = Chord::for_bisection(a.point, b.point).foot(pm);
+    if limits.sag.is_root_within(foot.squared) {
         return limits.turn.is_within(cosine);
     }
     false

@@ -9,7 +9,7 @@ use Rattle.arith.specs.Constants.{nearest_float, hundredth}
 use Rattle.arith_root.specs.Root.{root_of}
 use Rattle.arith_trig.specs.Trig.{halved, summed, arc_of, angle_of, acos_by, acos_of}
 use Rattle.math.specs.Math.{vec, v_add, v_sub, v_scale, v_dot, v_length, try_normalized, angle_between}
-use Rattle.math_chord.specs.Chord.{foot_of, chord_offset, span_offset, span_distance}
+use Rattle.math_chord.specs.Chord.{chord_place, chord_offset, span_offset, span_distance}
 use Rattle.edge_record.specs.declared.Sample.{Sample}
 use Rattle.edge_record.specs.Chain.{last_of}
 use Rattle.edge_thin_span.specs.Span.{worst_from, worst_of, directions, span_turn, decision}
@@ -49,5 +49,5 @@ far =
 -- the corner stays; the middle one of a row goes, unless the segment floor asks for it; the last is refused
 pub examples : thinned tolerance angle 2 corner ∷ thinned tolerance angle 2 row ∷ thinned tolerance angle 3 row ∷ thinned tolerance angle 2 far ∷ []
     ≡ Ok corner ∷ Ok (at plus_zero plus_zero plus_zero ∷ at two plus_zero two ∷ []) ∷ Ok row ∷ Err Endless ∷ []
-unfolding thinned retained_by restored flag_count evens flagged kept_in decision span_turn worst_of worst_from directions angle_between span_distance span_offset chord_offset foot_of try_normalized v_add v_sub v_scale v_dot v_length last_of acos_of acos_by angle_of arc_of summed halved root_of add sub mul div neg lt le eq is_nan of_bits of_int round
+unfolding thinned retained_by restored flag_count evens flagged kept_in decision span_turn worst_of worst_from directions angle_between span_distance span_offset chord_offset chord_place try_normalized v_add v_sub v_scale v_dot v_length last_of acos_of acos_by angle_of arc_of summed halved root_of add sub mul div neg lt le eq is_nan of_bits of_int round
 examples = refl

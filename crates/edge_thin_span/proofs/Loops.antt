@@ -11,13 +11,13 @@ use lib.Ieee.{Float, lt, of_bits}
 use Rattle.arith.specs.Notation.{plus_zero}
 use Rattle.arith_root.specs.Root.{root_of}
 use Rattle.math.specs.declared.Vec3.{Vec3}
-use Rattle.math.specs.Math.{v_sub, v_length_squared, v_length, try_normalized}
+use Rattle.math.specs.Math.{v_sub, v_length_squared, try_normalized}
 use Rattle.edge_record.specs.Chain.{last_of}
 use Rattle.edge_record.proofs.Shorter.{last_snoc}
 use Rattle.math_chord.specs.declared.Chord.{Chord}
 use Rattle.math_chord.specs.Chord.{span_distance}
-use Rattle.math_chord.specs.Own.Made.{thinning_chord}
-use Rattle.math_chord.proofs.Made.{offset_from, distance_from}
+use Rattle.math_chord.specs.Own.Made.{thinning_chord, chord_foot}
+use Rattle.math_chord.proofs.Made.{distance_from}
 use Rattle.edge_thin_span.specs.declared.Worst.{Worst}
 use Rattle.edge_thin_span.specs.Span.{worse, worst_from, joined, directions, first_in, last_in}
 
@@ -34,11 +34,10 @@ module _ (points : ℕ → Vec3) (pa pb : Vec3) (b : ℕ) where
   abbrev pub worst_onward : Float → ℕ → ℕ → Worst
   worst_onward far at i = worst_from points pa (v_sub pb pa) (b - i) i (worst_is far at)
 
-  module _ {c : Chord} (ec : c ≡ thinning_chord pa pb) (far : Float) (at i : ℕ) (h : i < b) {d2 : Float} {p v : Vec3} {below : Bool} (ep : p ≡ points i) (ev : v ≡ offset_from c p) (ed : d2 ≡ v_length_squared v) (et : below ≡ lt far (root_of d2)) where
-    -- the root of an offset's square is the distance
+  module _ {c : Chord} (ec : c ≡ thinning_chord pa pb) (far : Float) (at i : ℕ) (h : i < b) {d2 : Float} {p : Vec3} {below : Bool} (ep : p ≡ points i) (ed : d2 ≡ (chord_foot c p).squared) (et : below ≡ lt far (root_of d2)) where
+    -- the root of a foot's square is the distance
     rooted : root_of d2 ≡ span_distance pa (v_sub pb pa) (v_length_squared (v_sub pb pa)) (points i)
-    unfolding v_length
-    rooted = rw (ed, ev, ep) (distance_from pa pb ec (points i))
+    rooted = rw (ed, ep) (distance_from pa pb ec (points i))
 
     one_more : worst_onward far at i ≡ worst_from points pa (v_sub pb pa) (b - (i + 1)) (i + 1) (worse (worst_is far at) (root_of d2) i)
     unfolding worst_from

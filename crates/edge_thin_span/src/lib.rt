@@ -58,7 +58,7 @@ impl Span<'_> {
         let mut at = self.a;
         for i in self.a + 1..self.b {
             let p = edge_record::record_point(self.chain, i);
-            let d2 = chord.offset(p).length_squared();
+            let d2 = chord.foot(p).squared;
             if arith_root_limit::is_below(far2, d2) {
                 far2 = d2;
                 at = i;

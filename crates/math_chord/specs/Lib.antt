@@ -1,2 +1,3 @@
 pub mod Chord
+pub mod Measured
 pub mod Own

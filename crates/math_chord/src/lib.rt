@@ -1,16 +1,17 @@
 #![tactic(auto)]
-// The distance of a point to a chord.
-ghost use Rattle.std.specs.Prelude.{◌≡◌};
-ghost use Rattle.math.specs.Math.{v_length};
-ghost use Rattle.math_chord.specs.Chord.{foot_of, chord_offset};
-ghost use Rattle.math_chord.specs.Own.Made.{thinning_chord, bisection_chord};
+// The distance of a point to a chord, and the place on the chord that it is measured from.
+ghost use Rattle.std.specs.Prelude.{◌≡◌, Some};
+ghost use Rattle.arith_root.specs.Root.{root_of};
+ghost use Rattle.math_chord.specs.Chord.{chord_place};
+ghost use Rattle.math_chord.specs.Measured.{measured_for_thinning, measured_for_bisection};
+ghost use Rattle.math_chord.specs.Own.Made.{thinning_chord, bisection_chord, chord_foot};
 
 use math::{Interval, Vec3};
 
 // A chord that is not longer than this has no length for bisection.
 const SHORTEST_CHORD: f64 = 1e-300;
 
-// A chord, for the distances of many points to it: where it starts, from there to its end, and what the foot's part is divided by; none is for
+// A chord, for the distances of many points to it: where it starts, from there to its end, and what a place on it is divided by; none is for
 // a chord that has no length.
 #[derive(Clone, Copy)]
 pub struct Chord {
@@ -19,10 +20,43 @@ pub struct Chord {
     pub divisor: Option<f64>,
 }
 
-// The foot of the perpendicular from p, as a part of the chord.
-#[tactic(auto, unfolding(crate::specs::Chord::foot_of))]
-fn foot(from: Vec3, axis: Vec3, divisor: f64, p: Vec3) -> f64
-    ensures { result ≡ foot_of from axis divisor p }
+// What a chord's leaf answers of a point: how far it is from the chord, squared, and the place on the chord that this is measured from, 0.0 at
+// the chord's start and 1.0 at its end. Squared, since two of the three that ask for it compare squares.
+#[derive(Clone, Copy)]
+pub struct Foot {
+    pub squared: f64,
+    pub place: f64,
+}
+
+// The same with the distance itself.
+#[derive(Clone, Copy)]
+pub struct Measured {
+    pub distance: f64,
+    pub place: f64,
+}
+
+impl Foot {
+    // How far the point is from the chord.
+    pub fn distance(self) -> f64
+        ensures { result ≡ root_of self.squared }
+    {
+        arith_root::root(self.squared)
+    }
+
+    // The distance, with the place.
+    fn measured(self) -> Measured
+        ensures { result ≡ record { distance = root_of self.squared; place = self.place } }
+    {
+        Measured {
+            distance: self.distance(),
+            place: self.place,
+        }
+    }
+}
+
+// The place of the perpendicular's foot from p, on a chord that has a length.
+fn place_on(from: Vec3, axis: Vec3, divisor: f64, p: Vec3) -> f64
+    ensures { result ≡ chord_place from axis (Some divisor) p }
 {
     arith::clamp(
         p.sub(from).dot(axis) / divisor,
@@ -34,7 +68,6 @@ fn foot(from: Vec3, axis: Vec3, divisor: f64, p: Vec3) -> f64
 impl Chord {
     // For thinning, a chord has a length where its square is above zero. Stays: beside `for_bisection`, which tests another number, and divides by
     // the square of a root, whose bits differ.
-    #[tactic(auto, unfolding(crate::specs::Own::Made::thinning_chord))]
     pub fn for_thinning(pa: Vec3, pb: Vec3) -> Chord
         ensures { result ≡ thinning_chord pa pb }
     {
@@ -48,7 +81,6 @@ impl Chord {
     }
 
     // For bisection, where it is longer than `SHORTEST_CHORD`.
-    #[tactic(auto, unfolding(crate::specs::Own::Made::bisection_chord))]
     pub fn for_bisection(pa: Vec3, pb: Vec3) -> Chord
         ensures { result ≡ bisection_chord pa pb }
     {
@@ -61,24 +93,38 @@ impl Chord {
         }
     }
 
-    // The leaf: from the chord to p.
-    #[tactic(auto, unfolding(crate::specs::Chord::chord_offset))]
-    pub fn offset(&self, p: Vec3) -> Vec3
-        ensures { result ≡ chord_offset self.now.from self.now.axis self.now.divisor p }
+    // The leaf: p's foot on the chord.
+    pub fn foot(&self, p: Vec3) -> Foot
+        ensures { result ≡ chord_foot self.now p }
     {
         match self.divisor {
-            Some(divisor) => p.sub(
-                self.from
-                    .add(self.axis.scale(foot(self.from, self.axis, divisor, p))),
-            ),
-            None => p.sub(self.from),
+            Some(divisor) => {
+                let place = place_on(self.from, self.axis, divisor, p);
+                let nearest = self.from.add(self.axis.scale(place));
+                Foot {
+                    squared: p.sub(nearest).length_squared(),
+                    place,
+                }
+            }
+            None => Foot {
+                squared: p.sub(self.from).length_squared(),
+                place: 0.0,
+            },
         }
     }
+}
 
-    // How far p is from the chord.
-    pub fn distance(&self, p: Vec3) -> f64
-        ensures { result ≡ v_length (chord_offset self.now.from self.now.axis self.now.divisor p) }
-    {
-        self.offset(p).length()
-    }
+// How far point p is from the chord from a to b, and the place that this is measured from, for a drawing that marks both: as drawing measures
+// where breaks and points are thinned.
+pub fn measure_for_thinning(a: Vec3, b: Vec3, p: Vec3) -> Measured
+    ensures { result ≡ measured_for_thinning a b p }
+{
+    Chord::for_thinning(a, b).foot(p).measured()
+}
+
+// And as it measures the span from a to b where it bisects.
+pub fn measure_for_bisection(a: Vec3, b: Vec3, p: Vec3) -> Measured
+    ensures { result ≡ measured_for_bisection a b p }
+{
+    Chord::for_bisection(a, b).foot(p).measured()
 }

@@ -15,7 +15,7 @@ pub returns-then-is_root_within : goal.returns-then-is_root_within
 returns-then-is_root_within c =
     let a = c.args in
     let r = a.limits.now.options in
-    let s = sag_within a.a.point a.b.point a.pm _ _ r.sag a.limits.now.sag c.for_bisection.ensures c.offset-offset.ensures c.length_squared.ensures a.limits.now.own_sag in
+    let s = sag_within a.a.point a.b.point a.pm r.sag a.limits.now.sag c.for_bisection.ensures c.foot-foot.ensures a.limits.now.own_sag in
     c.is_within.ensures ∙ ap (le _) a.limits.now.own_turn ∙ ap (λ (x : Float). le x r.angle) c.turn_cosine-cosine.ensures
     ∙ near_enough r a.a a.b a.pm (sym s ∙ sym c.is_root_within.ensures ∙ c.if-is_root_within.true)
 
@@ -23,5 +23,5 @@ pub returns : goal.returns
 returns c =
     let a = c.args in
     let r = a.limits.now.options in
-    let s = sag_within a.a.point a.b.point a.pm _ _ r.sag a.limits.now.sag c.for_bisection.ensures c.offset-offset.ensures c.length_squared.ensures a.limits.now.own_sag in
+    let s = sag_within a.a.point a.b.point a.pm r.sag a.limits.now.sag c.for_bisection.ensures c.foot-foot.ensures a.limits.now.own_sag in
     too_far r a.a a.b a.pm (sym s ∙ sym c.is_root_within.ensures ∙ c.if-is_root_within.false)

@@ -1,5 +1,6 @@
 -- `worst` meets its contract.
-use Rattle.std.proofs.Common.{◌∙◌, arith}
+use Rattle.std.proofs.Common.{ap, ◌∙◌, arith}
+use Rattle.math_chord.specs.declared.Foot.{Foot}
 use Rattle.edge_record.specs.Own.Stored.{record_point}
 use Rattle.edge_thin_span.specs.Span.{worst_of}
 use Rattle.edge_thin_span.proofs.Loops.{root_none, worst_new, worst_old, worst_end}
@@ -16,12 +17,11 @@ loop-i-preserved c =
     let l = c.loop-i in
     let e = rw (c.record_point-pa.ensures, c.record_point-pb.ensures) at c.for_thinning-chord.ensures in
     let p = c.record_point-p.ensures in
-    let v = c.offset.ensures in
-    let d = c.length_squared-d2.ensures in
+    let d = ap (λ (f : Foot). f.squared) c.foot-d2.ensures in
     let t = c.is_below.ensures in
     elim c.if-is_below.branch [
-      | then-is_below w ↦ rw (w.far2-is, w.at-is) (worst_new (record_point s.chain.now) _ _ s.b e _ l.at l.i (omega arith) p v d t w.if-is_below.true ∙ l.invariant)
-      | else-is_below w ↦ rw (w.far2-is, w.at-is) (worst_old (record_point s.chain.now) _ _ s.b e _ l.at l.i (omega arith) p v d t w.if-is_below.false ∙ l.invariant)
+      | then-is_below w ↦ rw (w.far2-is, w.at-is) (worst_new (record_point s.chain.now) _ _ s.b e _ l.at l.i (omega arith) p d t w.if-is_below.true ∙ l.invariant)
+      | else-is_below w ↦ rw (w.far2-is, w.at-is) (worst_old (record_point s.chain.now) _ _ s.b e _ l.at l.i (omega arith) p d t w.if-is_below.false ∙ l.invariant)
     ]
 
 pub returns : goal.returns

@@ -1,0 +1,4 @@
+pub mod Drawn
+pub mod Place
+pub mod Sizes
+pub mod Numbers
