@@ -1,15 +1,20 @@
-//! Draws through the Rust crate, where the tables are accepted also over them, and by the oracle, in both modes, and compares
-//! the answer and every float of both buffers bit for bit.
+//! Draws and writes through the Rust crate, where the tables are accepted also over them, and by the oracle, in both modes, and
+//! compares the answer and every float of both buffers, or every byte of the one, bit for bit.
 //!
 //!   compare SEED N          N generated sheets and N that are made for strict mode, each in buffers of several lengths, then
 //!                           with slices that no sheet can hold
 //!   compare sheets SEED N   prints these sheets as a batch that has each of them in both modes, for the C program
 //!   compare measures        answers what `oracle measure` reads, as it does, by the crate's measures
+//!   compare writes SEED N   N sheets that are made for the writer, each written into buffers of several lengths, then with slices
+//!                           that no sheet can hold; and those in sheets/, which are written as they are
+//!   compare sheets-to-write SEED N
+//!                           prints these N sheets as a batch that has each of them written into several buffers, for the C program
 use cornsunset as cs;
 use oracle::causes::cause;
 use oracle::random::Random;
-use oracle::sheet::{write, Sheet, LENT};
-use oracle::{draw_in, generate, strict, Drawn, Edge, Mode, Options, Tables};
+use oracle::sheet::{read, write, Sheet, LENT};
+use oracle::write::write as write_sheet;
+use oracle::{draw_in, gen_write, generate, strict, Drawn, Edge, Mode, Options, Tables, Written};
 use std::collections::BTreeMap;
 
 /// Floats in the shortest buffer that gives the most room.
@@ -20,17 +25,13 @@ const MARK: f64 = f64::from_bits(0x7ff4_dead_0000_beef);
 
 fn main() {
     let words: Vec<String> = std::env::args().skip(1).collect();
-    if words[0] == "measures" {
-        measures();
-        return;
-    }
     let number = |i: usize| words[i].parse::<u64>().expect("a number");
-    if words[0] == "sheets" {
-        print!("{}", batch(number(1), number(2)));
-        return;
-    }
-    for mode in [Mode::Reference, Mode::Strict] {
-        run(mode, number(0), number(1));
+    match words[0].as_str() {
+        "measures" => measures(),
+        "sheets" => print!("{}", batch(number(1), number(2))),
+        "writes" => writes(number(1), number(2)),
+        "sheets-to-write" => print!("{}", batch_to_write(number(1), number(2))),
+        _ => [Mode::Reference, Mode::Strict].into_iter().for_each(|mode| run(mode, number(0), number(1))),
     }
 }
 
@@ -68,6 +69,99 @@ fn measured(line: &str) -> String {
     let both = [cs::measure_for_thinning(a, b, p), cs::measure_for_bisection(a, b, p)];
     let plain = |x: f64| if x.is_nan() { 0x7ff8_0000_0000_0000 } else { x.to_bits() };
     both.map(|m| format!("{:016x} {:016x}", plain(m.distance), plain(m.place))).join(" ")
+}
+
+/// The sheets of a seed that are made for the writer, but for those that are none.
+fn to_write(seed: u64, n: u64) -> impl Iterator<Item = Sheet> {
+    (0..n).filter_map(move |index| read(&gen_write::bytes(seed, index)))
+}
+
+/// All of them in the largest buffer of a sheet, then each in buffers of about its own length, and some in others; then one drawn.
+fn batch_to_write(seed: u64, n: u64) -> String {
+    let all: Vec<String> = to_write(seed, n).map(|sheet| write(&sheet)).collect();
+    let ask = |size: usize| format!("ask write {size}\n");
+    let own = all.iter().flat_map(|text| [ask(text.len()), text.clone(), ask(text.len() - 1), text.clone()]);
+    let other = [0, 1, 700, 65_535, 131_072].map(|size| {
+        let some = all.iter().step_by(10).cloned();
+        [ask(size)].into_iter().chain(some).collect::<Vec<String>>()
+    });
+    let parts = [ask(65_536)].into_iter().chain(all.iter().cloned()).chain(own).chain(other.into_iter().flatten());
+    let drawn = ["ask chain\n".to_string(), all[0].clone()];
+    parts.chain(drawn).collect::<Vec<String>>().join("====\n")
+}
+
+/// Writes all of them both ways, and says what was met.
+fn writes(seed: u64, n: u64) {
+    let (mut seen, mut count) = (BTreeMap::new(), 0);
+    for (mut sheet, index) in to_write(seed, n).zip(0..) {
+        let mut random = Random::new(seed ^ 0x7772_6974, index);
+        let length = write(&sheet).len();
+        let other = random.below(2 * length);
+        for size in [length, length - 1, length + 1, other, 0, 65_535, 65_536, 65_537, 131_072] {
+            compare_written(&mut seen, &sheet, size);
+        }
+        for _ in 0..2 {
+            mangle(&mut random, &mut sheet);
+            compare_written(&mut seen, &sheet, length + random.below(400));
+            compare_written(&mut seen, &sheet, 131_072);
+        }
+        count += 1;
+    }
+    let answers: u64 = seen.values().sum();
+    println!("written: {count} sheets, {answers} texts and refusals alike, {} stored sheets", stored());
+    for (answer, times) in &seen {
+        println!("  {answer}: {times}");
+    }
+}
+
+/// What no writing leaves, so that a byte left alone shows.
+const UNWRITTEN: u8 = 0x55;
+
+/// Writes a sheet's tables, edge and options both ways into a buffer of so many bytes.
+fn compare_written(seen: &mut BTreeMap<String, u64>, sheet: &Sheet, size: usize) {
+    let (tables, edge, options) = (sheet.tables.lent(), &sheet.edge, &sheet.options);
+    let (mut out, mut our_out) = (vec![UNWRITTEN; size], vec![UNWRITTEN; size]);
+    let expected = match write_sheet(&tables, edge, options, &mut out) {
+        Written::Refused(number) => Err(number),
+        Written::Text(count) => Ok(count),
+    };
+    let (tables, edge, options) = (ours(&tables), our_edge(edge), our_options(options));
+    let got = cs::write_sheet(&tables, &edge, &options, &mut our_out).map_err(cs::Refusal::number);
+    assert_eq!(got, expected, "a buffer of {size}:\n{sheet:?}");
+    assert!(out == our_out, "other bytes, a buffer of {size}:\n{sheet:?}");
+    let answer = expected.map_or_else(|number| format!("refusal {number}"), |_| "a text".to_string());
+    *seen.entry(answer).or_default() += 1;
+    // The text of its own is the same, and what is read from it is written again as it is.
+    if let Ok(count) = expected {
+        assert_eq!(tables.write_sheet(&edge, &options).as_deref(), Ok(&out[..count]), "{sheet:?}");
+        let again = read(&out[..count]).expect("a sheet");
+        assert_eq!(our_text(&again).as_deref(), Ok(&out[..count]), "{sheet:?}");
+    }
+}
+
+fn our_text(sheet: &Sheet) -> Result<Vec<u8>, cs::Refusal> {
+    ours(&sheet.tables.lent()).write_sheet(&our_edge(&sheet.edge), &our_options(&sheet.options))
+}
+
+/// How many sheets there are in sheets/ that are written, each as it is; the others have a cause.
+fn stored() -> usize {
+    let files = std::fs::read_dir("sheets").expect("sheets").map(|file| file.expect("a file").path());
+    let sheets = files.filter(|path| path.extension().is_some_and(|kind| kind == "sheet"));
+    let texts = sheets.map(|path| std::fs::read(path).expect("a text"));
+    let written = texts.filter(|text| {
+        read(text).is_some_and(|sheet| match our_text(&sheet) {
+            Ok(own) => {
+                assert!(own == *text, "{}", String::from_utf8_lossy(text));
+                true
+            }
+            Err(refusal) => {
+                let number = cause(&sheet.tables.lent(), &sheet.edge, &sheet.options, LENT, LENT);
+                assert_eq!(Some(refusal.number()), number);
+                false
+            }
+        })
+    });
+    written.count()
 }
 
 /// Compares all sheets in a mode, and says what was met.

@@ -7,9 +7,10 @@ the oracle, and its answers to the same sheets are compared with the oracle's. W
 usage: oracle/mutants.py SEED N [NUMBER..] | stored [NUMBER..]
 
     oracle/mutants.py SEED N    N generated sheets and N of strict mode's in that mode, each asked for its chain and for both buffers;
-                                names some that tell. Of MEASURES: N generated lines
+                                names some that tell. Of MEASURES: N generated lines; of WRITERS: N of the writer's own sheets
     oracle/mutants.py stored    the batch that crates/replay_chain is replayed with, of MEASURES the parts of crates/replay_chord; the exit
-                                status is 1 where one of MUTANTS or MEASURES goes unnoticed, or one of UNTOLD does not
+                                status is 1 where one of MUTANTS, MEASURES or WRITERS goes unnoticed, or one of UNTOLD or UNWRITTEN
+                                does not
 """
 
 import pathlib
@@ -22,6 +23,7 @@ sys.dont_write_bytecode = True
 HERE = pathlib.Path(__file__).resolve().parent
 sys.path.insert(1, str(HERE.parent / "tools"))
 import command
+from write_sheets import asked as asked_to_write
 
 TARGET = HERE / "target"
 CRATES = HERE.parent / "crates"
@@ -340,6 +342,99 @@ MEASURES = [
     ("src/measure.rs", "clamp(0.0, 1.0)", "clamp(0.0, 0.0)"),
     ("src/measure.rs", "len > 1e-300", "len * len > 1e-300"),
 ]
+# Of change 5, behind those.
+WRITERS = [
+    # what is made alike
+    ("src/write.rs", "matches!(kind, CIRCLE | ELLIPSE | PARABOLA | TRIMMED | HYPERBOLA)", "true"),
+    ("src/write.rs", "matches!(kind, ELLIPSE | TRIMMED | HYPERBOLA)", "true"),
+    ("src/write.rs", "CIRCLE | ELLIPSE | PARABOLA | TRIMMED | HYPERBOLA)", "CIRCLE | ELLIPSE | PARABOLA | TRIMMED | HYPERBOLA | 1)"),
+    ("src/write.rs", "CIRCLE | ELLIPSE | PARABOLA | TRIMMED | HYPERBOLA)", "CIRCLE | ELLIPSE | PARABOLA | TRIMMED | HYPERBOLA | 5)"),
+    ("src/write.rs", "CIRCLE | ELLIPSE | PARABOLA | TRIMMED | HYPERBOLA)", "CIRCLE | ELLIPSE | PARABOLA | TRIMMED | HYPERBOLA | 7)"),
+    ("src/write.rs", "(kind, ELLIPSE | TRIMMED | HYPERBOLA)", "(kind, ELLIPSE | TRIMMED | HYPERBOLA | 1)"),
+    ("src/write.rs", "(kind, ELLIPSE | TRIMMED | HYPERBOLA)", "(kind, ELLIPSE | TRIMMED | HYPERBOLA | CIRCLE)"),
+    ("src/write.rs", "(kind, ELLIPSE | TRIMMED | HYPERBOLA)", "(kind, ELLIPSE | TRIMMED | HYPERBOLA | PARABOLA)"),
+    ("src/write.rs", "(kind, ELLIPSE | TRIMMED | HYPERBOLA)", "(kind, ELLIPSE | TRIMMED | HYPERBOLA | 5)"),
+    ("src/write.rs", "(kind, ELLIPSE | TRIMMED | HYPERBOLA)", "(kind, ELLIPSE | TRIMMED | HYPERBOLA | 7)"),
+    ("src/write.rs", "(kind, ELLIPSE | TRIMMED | HYPERBOLA)", "(kind, TRIMMED | HYPERBOLA)"),
+    ("src/write.rs", "(kind, ELLIPSE | TRIMMED | HYPERBOLA)", "(kind, ELLIPSE | HYPERBOLA)"),
+    ("src/write.rs", "(kind, ELLIPSE | TRIMMED | HYPERBOLA)", "(kind, ELLIPSE | TRIMMED)"),
+    ("src/write.rs", "CIRCLE | ELLIPSE | PARABOLA | TRIMMED | HYPERBOLA)", "ELLIPSE | PARABOLA | TRIMMED | HYPERBOLA)"),
+    ("src/write.rs", "CIRCLE | ELLIPSE | PARABOLA | TRIMMED | HYPERBOLA)", "CIRCLE | PARABOLA | TRIMMED | HYPERBOLA)"),
+    ("src/write.rs", "CIRCLE | ELLIPSE | PARABOLA | TRIMMED | HYPERBOLA)", "CIRCLE | ELLIPSE | TRIMMED | HYPERBOLA)"),
+    ("src/write.rs", "CIRCLE | ELLIPSE | PARABOLA | TRIMMED | HYPERBOLA)", "CIRCLE | ELLIPSE | PARABOLA | HYPERBOLA)"),
+    ("src/write.rs", "CIRCLE | ELLIPSE | PARABOLA | TRIMMED | HYPERBOLA)", "CIRCLE | ELLIPSE | PARABOLA | TRIMMED)"),
+    ("src/write.rs", "Row { p, q, ..row }", "Row { p: p + 0.0, q, ..row }"),
+    ("src/write.rs", "Row { p, q, ..row }", "Row { p, q: q + 0.0, ..row }"),
+    ("src/write.rs", "Row { p, q, ..row }", "row"),
+    ("src/write.rs", "{ row.p } else { 0.0 }", "{ row.p } else { -0.0 }"),
+    ("src/write.rs", "{ row.q } else { 0.0 }", "{ row.q } else { -0.0 }"),
+    ("src/write.rs", "lo: one_nan(edge.lo)", "lo: edge.lo"),
+    ("src/write.rs", "hi: one_nan(edge.hi)", "hi: edge.hi"),
+    ("src/write.rs", "scale: one_nan(options.scale)", "scale: options.scale"),
+    ("src/write.rs", "if x.is_nan() { 0x7ff8000000000000 }", "if x.is_nan() { 0x7ff8000000000000 | x.to_bits() & 1 << 63 }"),
+    ("src/write.rs", "if x.is_nan() { 0x7ff8000000000000 }", "if x.is_nan() { x.to_bits() | 1 << 51 }"),
+    ("src/write.rs", "if x.is_nan() { 0x7ff8000000000000 }", "if !x.is_finite() { 0x7ff8000000000000 }"),
+    ("src/write.rs", "if x.is_nan() { 0x7ff8000000000000 }", "if x.is_nan() { 0xfff8000000000000 }"),
+    # other floats, which keep their bits, and whole numbers
+    ("src/write.rs", "else { x.to_bits() }", "else { (x + 0.0).to_bits() }"),
+    ("src/write.rs", "points: tables.points.to_vec()", "points: tables.points.iter().map(|x| x + 0.0).collect()"),
+    ("src/write.rs", "points: tables.points.to_vec()", "points: tables.points.iter().map(|x| if x.is_subnormal() { 0.0 } else { *x }).collect()"),
+    ("src/write.rs", "ranges: tables.ranges.to_vec()", "ranges: tables.ranges.iter().map(|x| x + 0.0).collect()"),
+    ("src/write.rs", "..*edge }", "tolerance: edge.tolerance + 0.0, ..*edge }"),
+    ("src/write.rs", "..*edge }", "sense: 1, ..*edge }"),
+    ("src/write.rs", "..*edge }", "low: edge.high, high: edge.low, ..*edge }"),
+    ("src/write.rs", "..*options }", "deflection: options.deflection + 0.0, ..*options }"),
+    ("src/write.rs", "..*options }", "angle: options.angle.to_degrees(), ..*options }"),
+    ("src/write.rs", "..*options }", "angle: options.angle.clamp(1e-4, 3.141592653589793), ..*options }"),
+    ("src/write.rs", "..*options }", "segments: options.segments as u32 as u64, ..*options }"),
+    ("src/write.rs", "..*options }", "segments: options.segments.max(1), ..*options }"),
+    ("src/write.rs", "..*options }", "segments: options.segments.min(i64::MAX as u64), ..*options }"),
+    ("src/write.rs", "..*options }", "depth: options.depth.min(24), ..*options }"),
+    ("src/write.rs", "scale: one_nan(options.scale)", "scale: if options.scale > 0.0 { options.scale } else { 0.0 }"),
+    # the eighth kind
+    ("src/sheet.rs", "let word = KIND_WORDS[row.kind as usize - 1];", 'let word = if row.kind == 8 { "parabola" } else { KIND_WORDS[row.kind as usize - 1] };'),
+    ("src/write.rs", "    let text = sheet::write(", "    if tables.rows().any(|row| row.kind == HYPERBOLA) {\n        return Written::Refused(3);\n    }\n    let text = sheet::write("),
+    # what the buffer holds
+    ("src/write.rs", "    out.fill(0);\n", "    out[..text.len().min(size)].fill(0);\n"),
+    ("src/write.rs", "    out.fill(0);\n", "    if let Some(rest) = out.get_mut(text.len() + 1..) { rest.fill(0); }\n"),
+    ("src/write.rs", "    out.fill(0);\n", "    out[..size.max(1) - 1].fill(0);\n"),
+    ("src/write.rs", "    out.fill(0);\n", "    out[..size.min(MOST_BYTES)].fill(0);\n"),
+    ("src/write.rs", "    out.fill(0);\n", "    if text.len() <= size { out.fill(0); }\n"),
+    ("src/write.rs", "        return Written::Refused(12);", "        out[..size.min(text.len())].copy_from_slice(&text.as_bytes()[..size.min(text.len())]);\n        return Written::Refused(12);"),
+    ("src/write.rs", "        return Written::Refused(12);", "        out.fill(0x55);\n        return Written::Refused(12);"),
+    ("src/write.rs", "        return Written::Refused(number);", "        out.fill(0);\n        return Written::Refused(number);"),
+    ("src/write.rs", "        return Written::Refused(number);", "        if let Some(byte) = out.first_mut() { *byte = 0; }\n        return Written::Refused(number);"),
+    # where 12 begins, and what comes before it
+    ("src/write.rs", "text.len() > size.min(MOST_BYTES)", "text.len() >= size.min(MOST_BYTES)"),
+    ("src/write.rs", "text.len() > size.min(MOST_BYTES)", "text.len() >= size || text.len() > MOST_BYTES"),
+    ("src/write.rs", "text.len() > size.min(MOST_BYTES)", "text.len() > size || text.len() >= MOST_BYTES"),
+    ("src/write.rs", "text.len() > size.min(MOST_BYTES)", "text.len() > size.min(MOST_BYTES) || size > MOST_BYTES"),
+    ("src/write.rs", "Written::Refused(12)", "Written::Refused(7)"),
+    ("src/write.rs", "Written::Refused(12)", "Written::Refused(10)"),
+    # 12 before 6, or before all: the text of a refused sheet is as long as that of one that passes
+    ("src/write.rs", "return Written::Refused(number);", "let long = sheet::write(&tidy(tables, edge, options)).len() > out.len();\n        return Written::Refused(if number == 6 && long { 12 } else { number });"),
+    ("src/write.rs", "return Written::Refused(number);", "let long = sheet::write(&tidy(tables, edge, options)).len() > out.len();\n        return Written::Refused(if long { 12 } else { number });"),
+    # unused numbers made plain before they are looked at
+    ("src/write.rs", "cause_of_contents(tables, edge, options)", "cause_of_contents(&tidy(tables, edge, options).tables.lent(), edge, options)"),
+    # what is not looked for: 7, a mode, and what drawing refuses
+    ("src/write.rs", "cause_of_contents(tables, edge, options)", "crate::causes::cause(tables, edge, options, out.len() / 8, 8)"),
+    ("src/write.rs", "    out.fill(0);\n", "    out.fill(0);\n    let room = crate::draw::room(65_536, 65_536);\n    if let Err(number) = crate::draw::draw_chain(tables, edge, options, road::mode::Mode::Reference, room) {\n        return Written::Refused(number);\n    }\n"),
+    # the batch's words
+    ("src/batch.rs", "ask: Ask::Write(bytes(size)?)", "ask: Ask::Write(bytes(size)?), lengths: (8192, 8192)"),
+    ("src/batch.rs", "MOST_WRITTEN: u64 = 131_072;", "MOST_WRITTEN: u64 = 131_073;"),
+    ("src/batch.rs", "MOST_WRITTEN: u64 = 131_072;", "MOST_WRITTEN: u64 = 131_071;"),
+    ("src/batch.rs", '["ask", "write", size] =>', '["ask", "write", size, ..] =>'),
+    ("src/batch.rs", '["ask", "page", size] =>', '["ask", "page", size, ..] =>'),
+    ("src/batch.rs", "ask: Ask::Page(bytes(size)?)", "ask: Ask::Page(bytes(size)?), mode: Mode::Reference"),
+    ("src/write.rs", "LINE_BYTES: usize = 64;", "LINE_BYTES: usize = 65;"),
+    ("src/write.rs", 'return "refusal 10\\n".to_string();', 'return format!("refusal 10\\n{}\\n", "55".repeat(size));'),
+]
+# What no sheet tells of them, since no sheet has a longer text: src/tests.rs writes tables that have.
+UNWRITTEN = [
+    ("src/write.rs", "text.len() > size.min(MOST_BYTES)", "text.len() > size.min(MOST_BYTES + 1)"),
+    ("src/write.rs", "text.len() > size.min(MOST_BYTES)", "text.len() > size"),
+]
+WRITING = len(MUTANTS + UNTOLD + MEASURES)
 MEASURED = len(MUTANTS + UNTOLD)
 
 
@@ -410,17 +505,38 @@ def shortest(text, right, told):
     return sorted(told, key=lambda i: len(parts[i]) + len(right[i]))[:SHOWN]
 
 
+def pages(seed, count):
+    """The same of generated sheets that are written."""
+    parts, names = [], []
+    some = subprocess.run([TARGET / "oracle", "gen", "--write", seed, count], capture_output=True, check=True).stdout
+    for number, one in enumerate(some.split(SEPARATOR)):
+        parts += [asked_to_write(number, len(one)).encode(), one]
+        names += ["setting", f"write {number}"]
+    text = SEPARATOR.join(parts)
+    return "batch", text, answers(TARGET / "oracle", "batch", text), names
+
+
+# What tells the mutants of a sort: made of a seed, and stored.
+TOLD_BY = {
+    "road": (sheets, ("batch", "replay_chain", "oracle/replay-chain")),
+    "measure": (lines, ("measure", "replay_chord", "oracle/replay-chord")),
+    "writer": (pages, ("batch", "replay_chain", "oracle/replay-chain")),
+}
+
+
+def sort_of(number):
+    return "road" if number < MEASURED else "measure" if number < WRITING else "writer"
+
+
 def batches(words, numbers):
-    """What is asked of the measures and of the other mutants, as far as their numbers are among these."""
-    of_measures = {number >= MEASURED for number in numbers}
-    if words == ["stored"]:
-        made = {True: ("measure", "replay_chord", "oracle/replay-chord"), False: ("batch", "replay_chain", "oracle/replay-chain")}
-        return {which: stored(*made[which]) for which in of_measures}
-    return {which: (lines if which else sheets)(*words) for which in of_measures}
+    """What is asked of each sort of the mutants with these numbers."""
+    sorts = {sort_of(number) for number in numbers}
+    return {sort: stored(*TOLD_BY[sort][1]) if words == ["stored"] else TOLD_BY[sort][0](*words) for sort in sorts}
 
 
 def main():
-    words, every = command.words(__doc__), MUTANTS + UNTOLD + MEASURES
+    words, every = command.words(__doc__), MUTANTS + UNTOLD + MEASURES + WRITERS + UNWRITTEN
+    untold = [*range(len(MUTANTS), MEASURED), *range(len(every) - len(UNWRITTEN), len(every))]
     is_stored = words[:1] == ["stored"]
     how, which = (words[:1], words[1:]) if is_stored else (words[:2], words[2:])
     if not all(word.isdecimal() for word in words[is_stored:]) or len(words) < 2 - is_stored or any(int(n) >= len(every) for n in which):
@@ -432,7 +548,7 @@ def main():
     unnoticed = []
     for number in numbers:
         file, old, new = every[number]
-        asked, text, right, names = asked_of[number >= MEASURED]
+        asked, text, right, names = asked_of[sort_of(number)]
         with tempfile.TemporaryDirectory(dir=TARGET) as work:
             got = answers(built(pathlib.Path(work), every[number], 0 if is_stored else 1), asked, text)
         told = [i for i, (a, b) in enumerate(zip(right, got)) if a != b] if got else range(len(right))
@@ -441,7 +557,7 @@ def main():
         some = ", ".join(names[i] for i in shortest(text, right, told))
         print(f"{number:3} told by {len(told)} of {len(right)}: {file}: {old!r} -> {new!r}: {some}", flush=True)
     print(f"{len(numbers)} mutants, {len(unnoticed)} unnoticed: {unnoticed}")
-    return is_stored and unnoticed != [number for number in numbers if len(MUTANTS) <= number < MEASURED]
+    return is_stored and unnoticed != [number for number in numbers if number in untold]
 
 
 if __name__ == "__main__":

@@ -1,10 +1,10 @@
-"""Parts `sheet` for crates/replay, a sheet each, and its refusal where the oracle answers with one of 1 to 6 or 10, else its own
-text. Those stored are the ones of sheets/; some written here, at the ends of what the layout and the checks allow, and with
-composites that share runs; and some of `oracle gen 1 2000`, of each cause and of each kind and nesting."""
+"""Parts `sheet` for crates/replay, a sheet each, and what the oracle answers to it under `ask write 65536`: the text that stands for what
+it holds, or its refusal, one of 1 to 6 or 10. Those stored are the sheets of sheets/; some written here, at the ends of what the layout
+and the checks allow, and with composites that share runs; and some of `oracle gen 1 2000`, of each cause and of each kind and nesting."""
 import collections
 import math
 
-from replay_common import HERE, INF, LEAST, MOST, SEPARATOR, Random, ask, floats, hexes
+from replay_common import HERE, INF, LEAST, MOST, SEPARATOR, Random, ask, hexes
 
 CAUSES = ["2", "3", "4", "5", "6", "10"]
 KINDS = ["line", "circle", "ellipse", "parabola", "polyline", "trimmed", "composite", "hyperbola"]
@@ -229,13 +229,8 @@ def shared(random):
 
 
 def answers(texts):
-    """The refusals of causes 1 to 6 and 10; else the text, its scale, where that is NaN, by the bits of one NaN."""
-    for text, answer in zip(texts, ask(["batch"], SEPARATOR.join(texts)).split(SEPARATOR), strict=True):
-        if answer in [f"refusal\n{cause}\n" for cause in ["1", *CAUSES]]:
-            yield answer
-        else:
-            scale = text[-17:-1]
-            yield text[:-17] + (NANS[0] if math.isnan(*floats([scale])) else scale) + "\n"
+    """The texts as they are written into a buffer that none of them is too long for, or their refusals."""
+    return ask(["batch"], SEPARATOR.join(["ask write 65536\n", *texts])).split(SEPARATOR)[1:]
 
 
 def sort_of(answer):
@@ -279,7 +274,7 @@ def generated(seed, count):
 
 def answered(texts):
     """The texts with their answers, and a line that counts them."""
-    said = list(answers(texts))
+    said = answers(texts)
     met = collections.Counter(map(sort_of, said))
     kinds = collections.Counter(x for answer in said if sort_of(answer) == "passes" for x in kind_and_nesting(answer))
     print(f"{len(texts)} sheets: {dict(met)}; of those that pass, the edge's kind and nesting: {dict(kinds)}")

@@ -12,6 +12,8 @@ import struct
 import sys
 
 ROOT = pathlib.Path(__file__).resolve().parent.parent
+# The Python module's folder, in the repository and in an archive.
+MODULES = "bindings/python", "python"
 MOST_BYTES = 65_536
 KINDS = ("line", "circle", "ellipse", "parabola", "polyline", "trimmed", "composite", "hyperbola")
 ROUND = ("circle", "ellipse")
@@ -438,6 +440,19 @@ def put(text):
         if isinstance(error, BrokenPipeError):
             sys.exit(2)
         raise Unusable(f"standard output: {error.strerror}") from None
+
+
+def library(name, wanted):
+    """The library's Python module, which has this name. Where it is missing or older, what is wanted of it is told."""
+    folders = [str(ROOT / folder) for folder in MODULES]
+    sys.path[1:1] = [folder for folder in folders if folder not in sys.path]
+    try:
+        import cornsunset
+    except (ImportError, AttributeError) as error:  # the latter where the library lacks a function of the module's
+        raise Unusable(f"{wanted}: {error}") from None
+    if not hasattr(cornsunset, name):
+        raise Unusable(f"{wanted}: there is no {name} in the module ({cornsunset.__file__})")
+    return cornsunset
 
 
 # Refusals

@@ -1,6 +1,7 @@
 /* Reads sheets parted by lines ====, draws each in buffers of FIRST and SECOND doubles, and prints the answers as the oracle
  * does. A part that is the line `mode strict` or `mode reference` sets the mode for the sheets behind it, and its answer is empty.
- * It takes the sheets' layout for granted, and stops where a buffer holds what it should not. */
+ * So is that of the line `ask write BYTES`: the sheets behind it are not drawn but written, into a buffer of so many bytes, up to the
+ * line `ask chain`. It takes the sheets' layout for granted, and stops where a buffer holds what it should not. */
 #include "cornsunset.h"
 #include <inttypes.h>
 #include <stdio.h>
@@ -16,6 +17,9 @@ static cs_tables tables = {points, 0, curves, 0, reals, 0, parts, 0, ranges, 0};
 static cs_edge edge;
 static cs_options options;
 static cs_mode mode;
+static bool writing;
+static size_t bytes;
+static uint8_t page[2 * CS_MOST_SHEET_BYTES];
 
 static void demand(bool holds, const char *what) {
     if (!holds) {
@@ -108,9 +112,36 @@ static bool is_mode(void) {
     return to_strict || to_reference;
 }
 
+/* Whether it says what to do with sheets, which is then done. */
+static bool is_ask(void) {
+    const bool to_write = sscanf(line, "ask write %zu", &bytes) == 1, to_draw = strcmp(line, "ask chain\n") == 0;
+    if (to_write || to_draw) writing = to_write;
+    demand(bytes <= sizeof page, "131,072 bytes at most");
+    return to_write || to_draw;
+}
+
 static bool all(const double *from, const double *to, uint64_t bits) {
     while (from < to && bits_of(*from) == bits) from++;
     return from == to;
+}
+
+/* Whether the page's bytes from this one on are all that, up to its end. */
+static bool rest_is(size_t from, uint8_t byte) {
+    while (from < bytes && page[from] == byte) from++;
+    return from == bytes;
+}
+
+static void write_sheet(void) {
+    const uint8_t mark = 0x55;
+    memset(page, mark, bytes);
+    size_t count = 99;
+    const uint32_t refusal = cs_write_sheet(&tables, &edge, &options, page, bytes, &count);
+    const bool early = refusal != CS_DONE && refusal != CS_TOO_LONG;
+    demand(cs_check(&tables, &edge, &options) == (early ? refusal : CS_DONE), "check and write differ");
+    demand(refusal == CS_DONE ? count <= bytes : count == 0, "bytes of a sheet");
+    demand(rest_is(count, early ? mark : 0), "bytes behind a sheet");
+    if (refusal != CS_DONE) printf("refusal\n%" PRIu32 "\n", refusal);
+    fwrite(page, 1, count, stdout);
 }
 
 static void answer(double *first, size_t m, double *second, size_t n) {
@@ -149,9 +180,13 @@ int main(int argc, char **argv) {
     double *first = malloc((m + 1) * sizeof *first), *second = malloc((n + 1) * sizeof *second);
     demand(first && second, "no memory");
     while (next_line()) {
-        if (!is_mode()) {
+        if (!is_mode() && !is_ask()) {
             read_sheet();
-            answer(first, m, second, n);
+            if (writing) {
+                write_sheet();
+            } else {
+                answer(first, m, second, n);
+            }
         }
         if (next_line()) fputs(line, stdout);
     }

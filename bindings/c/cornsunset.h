@@ -165,6 +165,7 @@ enum { CS_X = 0, CS_Y = 1, CS_Z = 2, CS_T = 3 };
 
 enum {
     CS_DRAWN = 0,        /* no refusal */
+    CS_DONE = 0,         /* the same where nothing is drawn: what was checked is accepted, a sheet is written */
     CS_OVERSIZE = 1,     /* a table is above its size: 65,536 points, 4,096 curve rows, 4,096 segments */
     CS_UNBOUNDED = 2,    /* a float is not finite, or above 1e9 in magnitude (the edge's lo and hi and the options' scale may be
                           * NaN or infinite) */
@@ -178,7 +179,8 @@ enum {
     CS_NO_ROOM = 8,      /* a list of parameters is longer than the chain buffers have room for, or than 16,384 */
     CS_ENDLESS = 9,      /* thinning would split a span without end, since no point of it is at a distance above zero from its
                           * chord */
-    CS_TOO_FAR = 11      /* a hyperbola would be asked for a parameter beyond 100 in magnitude */
+    CS_TOO_FAR = 11,     /* a hyperbola would be asked for a parameter beyond 100 in magnitude */
+    CS_TOO_LONG = 12     /* the sheet's text would be longer than the buffer for it, or than 65,536 bytes */
 };
 
 enum {
@@ -209,13 +211,14 @@ static inline const char *cs_sentence(uint32_t refusal) {
     case CS_ENDLESS:
         return "Thinning would split a span without end, since no point of it is at a distance above zero from its chord.";
     case CS_TOO_FAR: return "A hyperbola would be asked for a parameter beyond 100 in magnitude.";
+    case CS_TOO_LONG: return "The sheet's text would be longer than the buffer for it, or than 65,536 bytes.";
     default: return "There is no such refusal.";
     }
 }
 
-/* ---- the library's own functions, over plain numbers: cs_draw, cs_draw_over, both in a mode, cs_check and cs_check_tables below
- * hand them the fields of the structs in order. Hand these here no NULL, not even with a length of 0; those below put a pointer
- * for it */
+/* ---- the library's own functions, over plain numbers: cs_draw, cs_draw_over, both in a mode, cs_check, cs_check_tables and
+ * cs_write_sheet below hand them the fields of the structs in order. Hand these here no NULL, not even with a length of 0; those
+ * below put a pointer for it */
 
 /* Draws an edge into the two chain buffers: 0, or the number of the refusal that applies, the lowest from 1 to 7, else 8, 9 or 11
  * as drawing meets it. *way is the way in which the chain was got (0 for a refusal) and *count how many points it has (0).
@@ -236,14 +239,14 @@ uint32_t cs_flat_draw_in_mode(
     double deflection, double radians, uint32_t relative, uint64_t segments, uint32_t depth, double scale, cs_mode mode,
     double *first, size_t first_len, double *second, size_t second_len, uint32_t *way, size_t *count);
 
-/* The lowest of the refusals 1 to 6 that applies, or 0. The mode changes none of them. */
+/* The lowest of the refusals 1 to 6 that applies, or 0 (CS_DONE). The mode changes none of them. */
 uint32_t cs_flat_check(
     const double *points, size_t points_len, const uint32_t *curves, size_t curves_len, const double *reals, size_t reals_len,
     const uint32_t *parts, size_t parts_len, const double *ranges, size_t ranges_len,
     uint32_t curve, uint32_t start, uint32_t end, uint32_t sense, double lo, double hi, double tolerance, uint32_t low, uint32_t high,
     double deflection, double radians, uint32_t relative, uint64_t segments, uint32_t depth, double scale);
 
-/* The lowest of the refusals 1 to 5 that the tables alone have, or 0. */
+/* The lowest of the refusals 1 to 5 that the tables alone have, or 0 (CS_DONE). */
 uint32_t cs_flat_check_tables(
     const double *points, size_t points_len, const uint32_t *curves, size_t curves_len, const double *reals, size_t reals_len,
     const uint32_t *parts, size_t parts_len, const double *ranges, size_t ranges_len);
@@ -273,6 +276,29 @@ uint32_t cs_flat_draw_over_in_mode(
 void cs_flat_default(double *deflection, double *radians, uint32_t *relative, uint64_t *segments, uint32_t *depth, double *scale);
 void cs_flat_draft(double *deflection, double *radians, uint32_t *relative, uint64_t *segments, uint32_t *depth, double *scale);
 void cs_flat_fine(double *deflection, double *radians, uint32_t *relative, uint64_t *segments, uint32_t *depth, double *scale);
+
+/* ---- writing a sheet: the text that holds tables, edge and options, and that the program chain reads (sheets/README.md). The mode
+ * is no part of it */
+
+/* The most bytes of a sheet. */
+#define CS_MOST_SHEET_BYTES 65536
+
+/* Writes the one sheet that stands for accepted tables, edge and options to the start of out: 0 (CS_DONE), which means that it is
+ * written, or the number of the refusal that applies, the lowest from 1 to 6, else 12 where the text would have more than out_len bytes
+ * or than CS_MOST_SHEET_BYTES. *count is how many bytes the text has, out_len at most (0 for a refusal); no zero ends it, but every other
+ * byte of out is then 0. Refusals 1 to 6 leave out as it was; 12 leaves it all 0.
+ *
+ * Two things are made alike: a p or q that its kind does not use, a zero of either sign, is written as +0.0, and every NaN as
+ * 7ff8000000000000. Nothing else is lost: all other floats are written by their bits, a -0.0 that is used too. So writing what is read
+ * from the sheet gives the same bytes, and other tables, edges and options give them only where they differ in these two alone. The sign
+ * and the payload of a NaN in lo or hi are in a chord's parameters: edges that differ in them alone have one sheet, though their chords
+ * differ in these bits. Nothing is drawn, and so it is not looked at whether drawing would be refused with 8, 9 or 11. */
+uint32_t cs_flat_write_sheet(
+    const double *points, size_t points_len, const uint32_t *curves, size_t curves_len, const double *reals, size_t reals_len,
+    const uint32_t *parts, size_t parts_len, const double *ranges, size_t ranges_len,
+    uint32_t curve, uint32_t start, uint32_t end, uint32_t sense, double lo, double hi, double tolerance, uint32_t low, uint32_t high,
+    double deflection, double radians, uint32_t relative, uint64_t segments, uint32_t depth, double scale,
+    uint8_t *out, size_t out_len, size_t *count);
 
 /* ---- walking a chain; chain_len counts doubles, and only whole points are walked. Where it is 0 the chain is not looked at */
 
@@ -306,7 +332,7 @@ double cs_flat_measure_for_thinning(const double a[3], const double b[3], const 
  * itself, so that last bits may differ from those for thinning. */
 double cs_flat_measure_for_bisection(const double a[3], const double b[3], const double p[3], double *place);
 
-/* ---- drawing and checking */
+/* ---- drawing, checking and writing */
 
 /* A pointer for the library, with as many elements: that of a slice of length 0 may be NULL. */
 static inline const double *cs_held_doubles(const double *p, size_t len) {
@@ -367,6 +393,13 @@ static inline uint32_t cs_draw_over_in_mode(const cs_tables *t, const cs_edge *e
     double none = 0;
     return cs_flat_draw_over_in_mode(CS_TABLES(t), CS_EDGE(e), CS_OPTIONS(o), mode, CS_BUFFER(first, first_len, &none),
                                      CS_BUFFER(second, second_len, &none), way, count);
+}
+
+/* Writes the one sheet that stands for tables, edge and options: as cs_flat_write_sheet. */
+static inline uint32_t cs_write_sheet(const cs_tables *t, const cs_edge *e, const cs_options *o, uint8_t *out, size_t out_len,
+                                      size_t *count) {
+    uint8_t none = 0;
+    return cs_flat_write_sheet(CS_TABLES(t), CS_EDGE(e), CS_OPTIONS(o), CS_BUFFER(out, out_len, &none), count);
 }
 
 #undef CS_DOUBLES

@@ -1,5 +1,5 @@
 /* What no sheet can hold: tables above their size, slices that are not whole rows or are NULL, short buffers; and tables that
- * are checked once or never accepted, NaN parameters, modes, walks, measures, presets and angles. */
+ * are checked once or never accepted, NaN parameters, modes, walks, measures, presets and angles; and sheets that are written. */
 #include "cornsunset.h"
 #include <math.h>
 #include <stdio.h>
@@ -55,7 +55,7 @@ static uint32_t draw(cs_tables t, cs_edge e, cs_options o, size_t m, size_t n) {
 
 /* The same over tables that were accepted, and that all is as by cs_draw. */
 static uint32_t draw_over(cs_tables t, cs_edge e, cs_options o, size_t m, size_t n) {
-    EXPECT(cs_check_tables(&t) == CS_DRAWN);
+    EXPECT(cs_check_tables(&t) == CS_DONE);
     for (size_t i = 0; i < LENGTH; i++) third[i] = fourth[i] = -7;
     uint32_t its_way = 99;
     size_t its_count = 99;
@@ -67,7 +67,7 @@ static uint32_t draw_over(cs_tables t, cs_edge e, cs_options o, size_t m, size_t
 
 /* The same in a mode; over the tables all is as by cs_draw_in_mode, and in the reference's mode as by cs_draw. */
 static uint32_t draw_in_mode(cs_tables t, cs_edge e, cs_options o, cs_mode mode, size_t m, size_t n) {
-    EXPECT(cs_check_tables(&t) == CS_DRAWN);
+    EXPECT(cs_check_tables(&t) == CS_DONE);
     for (size_t i = 0; i < LENGTH; i++) third[i] = fourth[i] = -7;
     uint32_t its_way = 99;
     size_t its_count = 99;
@@ -127,9 +127,9 @@ static void nulls(void) {
     const cs_tables none = {0};
     cs_tables t = LINE;
     t.parts = NULL, t.ranges = NULL;
-    EXPECT(cs_check_tables(&t) == CS_DRAWN && cs_check(&t, &EDGE, &OPTIONS) == CS_DRAWN);
+    EXPECT(cs_check_tables(&t) == CS_DONE && cs_check(&t, &EDGE, &OPTIONS) == CS_DONE);
     EXPECT(draw_over(t, EDGE, OPTIONS, 400, 401) == CS_DRAWN && way == CS_AS_DRAWN && count == 5);
-    EXPECT(cs_check_tables(&none) == CS_DRAWN && cs_check(&none, &EDGE, &OPTIONS) == CS_MISSING);
+    EXPECT(cs_check_tables(&none) == CS_DONE && cs_check(&none, &EDGE, &OPTIONS) == CS_MISSING);
     EXPECT(draw_over(none, EDGE, OPTIONS, 400, 401) == CS_MISSING);
     t.reals = NULL, t.reals_len = 0, EXPECT(refusal_of(t) == CS_ILL_FORMED);
     t = LINE, t.curves = NULL, t.curves_len = 0, EXPECT(refusal_of(t) == CS_ILL_FORMED);
@@ -255,7 +255,7 @@ static void hyperbolas(void) {
     e = near, e.lo = NAN, EXPECT(draw_over(t, e, OPTIONS, 2 * CS_WIDTH, 401) == CS_TOO_FAR);
     e = near, e.lo = 1.5, EXPECT(draw_over(t, e, OPTIONS, 400, 401) == CS_TOO_FAR);
     e = near, e.high = 2, e.hi = 5, EXPECT(draw_over(t, e, OPTIONS, 400, 401) == CS_TOO_FAR);
-    EXPECT(cs_check(&t, &e, &OPTIONS) == CS_DRAWN);
+    EXPECT(cs_check(&t, &e, &OPTIONS) == CS_DONE);
 }
 
 /* A frame, two vertices, and a point near the first: a parabola of focal distance 2, a hyperbola, trims of the two, a line. */
@@ -512,6 +512,176 @@ static void thinned_points(void) {
     EXPECT(memcmp(first + CS_WIDTH, middle, sizeof middle) == 0);
 }
 
+/* The line as a sheet: that of sheets/example.sheet, byte for byte. */
+static const char SHEET[] = "x y z\n"
+                            "0000000000000000 0000000000000000 0000000000000000\n"
+                            "4000000000000000 0000000000000000 0000000000000000\n"
+                            "4024000000000000 0000000000000000 0000000000000000\n\n"
+                            "kind first count p q\n"
+                            "line 0 2 0000000000000000 0000000000000000\n\n"
+                            "curve lo hi sense\n\n"
+                            "curve start end sense lo hi tolerance low high\n"
+                            "0 0 2 1 0000000000000000 4014000000000000 0000000000000000 0 2\n\n"
+                            "deflection angle relative segments depth scale\n"
+                            "3ff0000000000000 3ff0000000000000 0 1 12 0000000000000000\n";
+enum { SHEET_BYTES = sizeof SHEET - 1, PAGE = 2 * CS_MOST_SHEET_BYTES };
+static const cs_options ONE = {.deflection = 1, .angle = {1}, .segments = 1, .depth = 12};
+static uint8_t page[PAGE + 8];
+static size_t bytes;
+
+static bool all_bytes(const uint8_t *from, size_t n, uint8_t value) {
+    size_t i = 0;
+    while (i < n && from[i] == value) i++;
+    return i == n;
+}
+
+/* The refusal, and that the bytes are left as they should be. */
+static uint32_t write_sheet(cs_tables t, cs_edge e, cs_options o, size_t size) {
+    memset(page, 0x55, sizeof page);
+    bytes = 99;
+    const uint32_t refusal = cs_write_sheet(&t, &e, &o, page, size, &bytes);
+    const bool early = refusal != CS_DONE && refusal < CS_TOO_LONG;
+    EXPECT(refusal == CS_DONE ? bytes <= size : bytes == 0);
+    EXPECT(all_bytes(page + bytes, size - bytes, early ? 0x55 : 0) && all_bytes(page + size, sizeof page - size, 0x55));
+    EXPECT(refusal <= CS_MISSING || refusal == CS_TOO_LONG);
+    EXPECT(cs_check(&t, &e, &o) == (early ? refusal : CS_DONE));
+    return refusal;
+}
+
+static bool is_sheet(const char *text) { return bytes == strlen(text) && memcmp(page, text, bytes) == 0; }
+
+/* The line's sheet with another text in the place of this one. */
+static bool is_sheet_with(const char *old, const char *other) {
+    static char text[2 * sizeof SHEET];
+    const char *at = strstr(SHEET, old);
+    snprintf(text, sizeof text, "%.*s%s%s", (int)(at - SHEET), SHEET, other, at + strlen(old));
+    return is_sheet(text);
+}
+
+static void written(void) {
+    EXPECT(write_sheet(LINE, EDGE, ONE, CS_MOST_SHEET_BYTES) == CS_DONE && is_sheet(SHEET));
+    EXPECT(write_sheet(LINE, EDGE, ONE, SHEET_BYTES) == CS_DONE && is_sheet(SHEET));
+    EXPECT(write_sheet(LINE, EDGE, ONE, SHEET_BYTES - 1) == CS_TOO_LONG);
+    EXPECT(write_sheet(LINE, EDGE, ONE, SHEET_BYTES + 1) == CS_DONE && is_sheet(SHEET));
+    EXPECT(write_sheet(LINE, EDGE, ONE, PAGE) == CS_DONE && is_sheet(SHEET));
+    EXPECT(write_sheet(LINE, EDGE, ONE, 1) == CS_TOO_LONG && write_sheet(LINE, EDGE, ONE, 0) == CS_TOO_LONG);
+    EXPECT(cs_write_sheet(&LINE, &EDGE, &ONE, NULL, 0, &bytes) == CS_TOO_LONG && bytes == 0);
+    cs_tables t = LINE;
+    t.parts = NULL, t.ranges = NULL, EXPECT(write_sheet(t, EDGE, ONE, PAGE) == CS_DONE && is_sheet(SHEET));
+    cs_options o = ONE;
+    o.segments = UINT64_MAX, o.depth = UINT32_MAX, EXPECT(write_sheet(LINE, EDGE, o, PAGE) == CS_DONE);
+    EXPECT(is_sheet_with("0 1 12", "0 18446744073709551615 4294967295"));
+}
+
+/* A segment, and floats that are written by their bits: zeros of either sign, infinities, the smallest, and the largest that pass. */
+static void bits_of_floats(void) {
+    const uint32_t segment[] = {0, 1};
+    const double range[] = {-0.0, 5e-324};
+    cs_tables t = LINE;
+    t.parts = segment, t.parts_len = 2, t.ranges = range, t.ranges_len = 2;
+    EXPECT(write_sheet(t, EDGE, ONE, PAGE) == CS_DONE);
+    EXPECT(is_sheet_with("hi sense\n\n", "hi sense\n0 8000000000000000 0000000000000001 1\n\n"));
+    cs_edge e = EDGE;
+    e.lo = -0.0, e.hi = -INFINITY, e.tolerance = -0.0, EXPECT(write_sheet(LINE, e, ONE, PAGE) == CS_DONE);
+    EXPECT(is_sheet_with("0000000000000000 4014000000000000 0000000000000000", "8000000000000000 fff0000000000000 8000000000000000"));
+    cs_options o = ONE;
+    o.deflection = -0.0, o.angle.radians = -1e9, o.scale = INFINITY, EXPECT(write_sheet(LINE, EDGE, o, PAGE) == CS_DONE);
+    EXPECT(is_sheet_with("3ff0000000000000 3ff0000000000000 0 1 12 0000000000000000",
+                         "8000000000000000 c1cdcd6500000000 0 1 12 7ff0000000000000"));
+    points[3] = -0.0, EXPECT(write_sheet(LINE, EDGE, ONE, PAGE) == CS_DONE), points[3] = 2;
+    EXPECT(is_sheet_with("4000000000000000", "8000000000000000"));
+}
+
+/* Every NaN is written as one. */
+static void nans_written(void) {
+    const uint64_t nans[] = {0x7ff8000000000000, 0xfff8000000000000, 0x7ff80000deadbeef, 0x7ff0000000000001, 0xffffffffffffffff};
+    for (size_t i = 0; i < sizeof nans / sizeof nans[0]; i++) {
+        double nan;
+        memcpy(&nan, nans + i, 8);
+        cs_edge e = EDGE;
+        cs_options o = ONE;
+        e.lo = nan, EXPECT(write_sheet(LINE, e, ONE, PAGE) == CS_DONE);
+        EXPECT(is_sheet_with("1 0000000000000000 4014", "1 7ff8000000000000 4014"));
+        e = EDGE, e.hi = nan, EXPECT(write_sheet(LINE, e, ONE, PAGE) == CS_DONE);
+        EXPECT(is_sheet_with("4014000000000000", "7ff8000000000000"));
+        o.scale = nan, EXPECT(write_sheet(LINE, EDGE, o, PAGE) == CS_DONE);
+        EXPECT(is_sheet_with("12 0000000000000000", "12 7ff8000000000000"));
+    }
+}
+
+/* A row of each kind over the line: -0.0 stays where p or q is used, and is written as +0.0 where it is not. */
+static void zeros_written(void) {
+    const char *const rows[] = {"line 0 2 0000000000000000 0000000000000000\n",      "circle 0 3 8000000000000000 0000000000000000\n",
+                                "ellipse 0 3 8000000000000000 8000000000000000\n",   "parabola 0 3 8000000000000000 0000000000000000\n",
+                                "polyline 0 0 0000000000000000 0000000000000000\n",  "trimmed 0 1 8000000000000000 8000000000000000\n",
+                                "composite 0 0 0000000000000000 0000000000000000\n", "hyperbola 0 3 8000000000000000 8000000000000000\n"};
+    const uint32_t counts[] = {2, 3, 3, 3, 0, 1, 0, 3};
+    const double zeros[] = {-0.0, -0.0, -0.0, -0.0}, others[] = {0, 0, 0, 0};
+    for (uint32_t kind = CS_KIND_LINE; kind <= CS_KIND_HYPERBOLA; kind++) {
+        const uint32_t both[] = {CS_KIND_LINE, 0, 2, kind, 0, counts[kind - 1]};
+        char text[256];
+        cs_tables t = {points, 9, both, 6, zeros, 4, NULL, 0, NULL, 0};
+        snprintf(text, sizeof text, "%s%s", rows[0], rows[kind - 1]);
+        EXPECT(write_sheet(t, EDGE, ONE, PAGE) == CS_DONE && is_sheet_with(rows[0], text));
+        t.reals = others, EXPECT(write_sheet(t, EDGE, ONE, PAGE) == CS_DONE);
+        EXPECT(is_sheet_with(rows[0], text) == (strchr(text, '8') == NULL));
+    }
+}
+
+/* The line with so many more points, segments and digits that its sheet has so many bytes. */
+static uint32_t write_long(size_t length, size_t size) {
+    enum { POINT_BYTES = 51, SEGMENT_BYTES = 38, DIGITS = 19 };
+    static const uint32_t segments[2 * POINT_BYTES];
+    static const double unset[2 * POINT_BYTES];
+    cs_tables t = LINE;
+    cs_options o = ONE;
+    t.parts = segments, t.ranges = unset;
+    size_t more = length - SHEET_BYTES;
+    for (; more % POINT_BYTES > DIGITS; more -= SEGMENT_BYTES) t.parts_len += 2, t.ranges_len += 2;
+    t.points_len += 3 * (more / POINT_BYTES);
+    for (size_t i = more % POINT_BYTES; i > 0; i--) o.segments *= 10;
+    return write_sheet(t, EDGE, o, size);
+}
+
+static void long_sheets(void) {
+    const size_t most = CS_MOST_SHEET_BYTES;
+    for (size_t length = most - 60; length <= most; length++) EXPECT(write_long(length, length) == CS_DONE && bytes == length);
+    EXPECT(write_long(most - 1, most) == CS_DONE && bytes == most - 1);
+    EXPECT(write_long(most, PAGE) == CS_DONE && bytes == most && page[most - 1] == '\n');
+    EXPECT(write_long(most, most - 1) == CS_TOO_LONG);
+    EXPECT(write_long(most + 1, most) == CS_TOO_LONG && write_long(most + 1, PAGE) == CS_TOO_LONG);
+    cs_tables t = LINE;
+    t.points_len = POINTS, EXPECT(write_sheet(t, EDGE, ONE, PAGE) == CS_TOO_LONG);
+}
+
+/* 1 to 6 come before 12, whatever the buffer, and leave it as it was. */
+static void unwritten(void) {
+    const uint32_t nine[] = {1, 0, 2, 6, 0, 1, 6, 1, 1, 6, 2, 1, 6, 3, 1, 6, 4, 1, 6, 5, 1, 6, 6, 1, 6, 7, 1, 6, 8, 1}, itself[] = {6, 0, 1};
+    const size_t sizes[] = {PAGE, CS_MOST_SHEET_BYTES, SHEET_BYTES, 1, 0};
+    for (size_t i = 0; i < sizeof sizes / sizeof sizes[0]; i++) {
+        const size_t size = sizes[i];
+        cs_tables t = LINE;
+        cs_edge e = EDGE;
+        cs_options o = ONE;
+        t.points_len = POINTS + 1, EXPECT(write_sheet(t, EDGE, ONE, size) == CS_OVERSIZE);
+        e.tolerance = NAN, EXPECT(write_sheet(LINE, e, ONE, size) == CS_UNBOUNDED);
+        o.relative = 2, EXPECT(write_sheet(LINE, EDGE, o, size) == CS_ILL_FORMED);
+        t = LINE, t.points_len = 8, EXPECT(write_sheet(t, EDGE, ONE, size) == CS_ILL_FORMED);
+        t = LINE, t.curves = itself, EXPECT(write_sheet(t, EDGE, ONE, size) == CS_UNORDERED);
+        t.curves = nine, t.curves_len = 30, t.reals_len = 20, EXPECT(write_sheet(t, EDGE, ONE, size) == CS_TOO_DEEP);
+        t.curves_len = 27, t.reals_len = 18, EXPECT(write_sheet(t, EDGE, ONE, size) == (size > 1000 ? CS_DONE : CS_TOO_LONG));
+        t = LINE, t.points_len = POINTS, e = EDGE, e.high = CS_MOST_TABLE_POINTS;
+        EXPECT(write_sheet(t, e, ONE, size) == CS_MISSING);
+    }
+    /* What drawing refuses is written: a hyperbola without a range, and more segments than there is room for. */
+    const uint32_t row[] = {CS_KIND_HYPERBOLA, 0, 3};
+    cs_tables t = LINE;
+    cs_edge e = EDGE;
+    cs_options o = ONE;
+    t.curves = row, e.lo = NAN, o.segments = UINT64_MAX;
+    EXPECT(draw(t, e, o, 400, 401) >= CS_NO_ROOM && write_sheet(t, e, o, PAGE) == CS_DONE);
+}
+
 static bool is_preset(cs_options o, double deflection, double degrees) {
     return o.deflection == deflection && o.angle.radians == degrees * 0.017453292519943295 && o.relative == 1 && o.segments == 1 &&
            o.depth == 12 && o.scale == 0;
@@ -535,7 +705,7 @@ static void numbers(void) {
     for (uint32_t n = 0; n <= 9; n++) EXPECT(refusals[n] == n);
     for (uint32_t n = 0; n <= 5; n++) EXPECT(ways[n] == n);
     for (uint32_t n = 1; n <= 8; n++) EXPECT(kinds[n - 1] == n);
-    EXPECT(CS_TOO_FAR == 11);
+    EXPECT(CS_DONE == 0 && CS_TOO_FAR == 11 && CS_TOO_LONG == 12);
     EXPECT(CS_REFERENCE == false && CS_STRICT == true && sizeof(cs_mode) == sizeof(bool));
     char version[16];
     snprintf(version, sizeof version, "%d.%d.%d", CS_VERSION_NUMBER / 10000, CS_VERSION_NUMBER / 100 % 100, CS_VERSION_NUMBER % 100);
@@ -561,8 +731,14 @@ int main(void) {
     halved();
     thinned_breaks();
     thinned_points();
+    written();
+    bits_of_floats();
+    nans_written();
+    zeros_written();
+    long_sheets();
+    unwritten();
     angles();
-    for (uint32_t n = 1; n <= 11; n++) EXPECT((strcmp(cs_sentence(n), cs_sentence(99)) != 0) == (n != 10));
+    for (uint32_t n = 1; n <= 12; n++) EXPECT((strcmp(cs_sentence(n), cs_sentence(99)) != 0) == (n != 10));
     if (wrong == 0) puts("C: all as expected");
     return wrong != 0;
 }

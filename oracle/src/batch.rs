@@ -1,6 +1,6 @@
 //! A batch: sheets, and settings for the sheets behind them, parted by separators.
 
-use crate::sheet;
+use crate::{sheet, write};
 use road::mode::Mode;
 
 /// What parts a batch, and its answers. No sheet holds an equals sign.
@@ -9,14 +9,21 @@ pub const SEPARATOR: &[u8] = b"====\n";
 /// The most floats that a setting may give a chain buffer: 16,384 points.
 const MOST_FLOATS: u64 = 65_536;
 
+/// The most bytes that a setting may give the buffer that a sheet is written into.
+const MOST_WRITTEN: u64 = 131_072;
+
 /// What is told of a sheet.
 #[derive(Debug, Clone, Copy, PartialEq, Eq)]
 enum Ask {
     Chain,
     Both,
+    /// The sheet as it is written into a buffer of so many bytes.
+    Write(usize),
+    /// That buffer, whole.
+    Page(usize),
 }
 
-/// How sheets are answered: the floats of both chain buffers, what is told, and the mode.
+/// How sheets are answered: the floats of both chain buffers, what is told, and the mode. Writing looks at what is told alone.
 #[derive(Debug, Clone, Copy, PartialEq, Eq)]
 pub struct Settings {
     lengths: (usize, usize),
@@ -36,6 +43,8 @@ impl Settings {
         match line.split(' ').collect::<Vec<_>>()[..] {
             ["ask", "chain"] => Some(Self { ask: Ask::Chain, ..self }),
             ["ask", "both"] => Some(Self { ask: Ask::Both, ..self }),
+            ["ask", "write", size] => Some(Self { ask: Ask::Write(bytes(size)?), ..self }),
+            ["ask", "page", size] => Some(Self { ask: Ask::Page(bytes(size)?), ..self }),
             ["mode", "reference"] => Some(Self { mode: Mode::Reference, ..self }),
             ["mode", "strict"] => Some(Self { mode: Mode::Strict, ..self }),
             ["buffers", first, second] => {
@@ -49,12 +58,18 @@ impl Settings {
         match self.ask {
             Ask::Chain => sheet::answer(sheet, self.lengths, self.mode),
             Ask::Both => sheet::whole_answer(sheet, self.lengths, self.mode),
+            Ask::Write(size) => write::answer(sheet, size),
+            Ask::Page(size) => write::page(sheet, size),
         }
     }
 }
 
 fn floats(word: &str) -> Option<usize> {
     sheet::whole(word).filter(|n| *n <= MOST_FLOATS).map(|n| n as usize)
+}
+
+fn bytes(word: &str) -> Option<usize> {
+    sheet::whole(word).filter(|n| *n <= MOST_WRITTEN).map(|n| n as usize)
 }
 
 /// The parts of a batch, each ended by the next separator or the batch's end.

@@ -20,6 +20,12 @@ pub fn cause(
     first: usize,
     second: usize,
 ) -> Option<u32> {
+    let short = first < LEAST_BUFFER || second < LEAST_BUFFER;
+    cause_of_contents(tables, edge, options).or(short.then_some(7))
+}
+
+/// The lowest of 1 to 6 that applies, if any: those that look at no buffer.
+pub fn cause_of_contents(tables: &Tables, edge: &Edge, options: &Options) -> Option<u32> {
     if above_size(tables) {
         Some(1)
     } else if float_out_of_bounds(tables, edge, options) {
@@ -32,8 +38,6 @@ pub fn cause(
         Some(5)
     } else if edge_outside(tables, edge) {
         Some(6)
-    } else if first < LEAST_BUFFER || second < LEAST_BUFFER {
-        Some(7)
     } else {
         None
     }

@@ -31,14 +31,19 @@ fn set_any(random: &mut Random, floats: &mut [f64], value: f64) {
 /// A p or q that its row uses takes the value, one that it does not use a zero of either sign.
 fn set_used_real(random: &mut Random, sheet: &mut Sheet, value: f64) {
     let row = random.below(sheet.tables.lent().row_count());
-    let (uses_p, uses_q) = match sheet.tables.lent().row(row).kind {
-        2 | 4 => (true, false),
-        3 | 6 | 8 => (true, true),
-        _ => (false, false),
-    };
+    let (uses_p, uses_q) = used(sheet.tables.lent().row(row).kind);
     let zero = if random.percent(50) { -0.0 } else { 0.0 };
     let (place, used) = random.pick(&[(0, uses_p), (1, uses_q)]);
     sheet.tables.reals[2 * row + place] = if used { value } else { zero };
+}
+
+/// Whether a row of this kind uses its p, and its q.
+pub fn used(kind: u32) -> (bool, bool) {
+    match kind {
+        2 | 4 => (true, false),
+        3 | 6 | 8 => (true, true),
+        _ => (false, false),
+    }
 }
 
 /// Breaks a rule of causes 2 to 6 in some sheets, seldom two.
@@ -155,7 +160,7 @@ fn leave_table(random: &mut Random, sheet: &mut Sheet) {
 }
 
 /// Sheets from this size on are not filled up.
-const LARGE: usize = 32_768;
+pub const LARGE: usize = 32_768;
 
 /// Breaks the layout of some sheets, or fills them up to the most bytes that pass.
 pub fn text(random: &mut Random, text: Vec<u8>) -> Vec<u8> {
@@ -232,7 +237,7 @@ fn break_field(random: &mut Random, text: Vec<u8>) -> Vec<u8> {
 }
 
 /// The sheet with unused points and rows, so that it has exactly this many bytes.
-fn filled(text: Vec<u8>, bytes: usize) -> Vec<u8> {
+pub fn filled(text: Vec<u8>, bytes: usize) -> Vec<u8> {
     const POINT: &str = "0000000000000000 0000000000000000 0000000000000000\n";
     // Seventeen rows of 47 to 50 bytes take up whatever whole points leave over.
     const ROWS: usize = 17;

@@ -14,6 +14,7 @@ pub mod exact;
 pub mod forms;
 pub mod gen_arith;
 pub mod gen_measure;
+pub mod gen_write;
 pub mod generate;
 pub mod inspect;
 pub mod measure;
@@ -27,9 +28,11 @@ pub mod tables;
 #[cfg(test)]
 mod tests;
 pub mod timing;
+pub mod write;
 
 pub use draw::{Drawn, draw, draw_chain, draw_in};
 pub use road::edge::Way;
 pub use road::mode::Mode;
 pub use sheet::Sheet;
 pub use tables::{Edge, Options, OwnedTables, Tables};
+pub use write::Written;

@@ -2,13 +2,14 @@
 
 use oracle::batch::{SEPARATOR, Settings, answers, split};
 use oracle::{
-    Mode, arith, check, gen_arith, gen_measure, generate, inspect, measure, sheet, strict, timing,
+    Mode, arith, check, gen_arith, gen_measure, gen_write, generate, inspect, measure, sheet,
+    strict, timing,
 };
 use std::io::{BufWriter, Read, Result, Write};
 use std::process::ExitCode;
 
 const USAGE: &str =
-    "usage: oracle chain [FIRST SECOND] | batch [FIRST SECOND] | gen [--strict] SEED N [START]
+    "usage: oracle chain [FIRST SECOND] | batch [FIRST SECOND] | gen [--strict | --write] SEED N [START]
               | coverage [--strict] SEED N | check SEED N | time FILE
               | arith | genarith SEED | measure | genmeasure SEED N | eval | resolve";
 
@@ -36,6 +37,9 @@ fn run(words: &[&str], out: &mut impl Write) -> Option<Result<()>> {
         ["batch", lengths @ ..] => Some(batch(out, buffers(lengths)?)),
         ["gen", "--strict", seed, count, start @ ..] => {
             Some(sheets(out, strict::bytes, number(seed)?, number(count)?, first(start)?))
+        }
+        ["gen", "--write", seed, count, start @ ..] => {
+            Some(sheets(out, gen_write::bytes, number(seed)?, number(count)?, first(start)?))
         }
         ["gen", seed, count, start @ ..] => {
             Some(sheets(out, generate::bytes, number(seed)?, number(count)?, first(start)?))

@@ -1,4 +1,4 @@
-//! The sheet: its strict reader (cause 10), its writer, and the listing of an answer.
+//! The sheet: its strict reader (cause 10), its text, and the listing of an answer.
 
 use crate::draw::{Drawn, WIDTH, draw_in, in_first};
 use crate::tables::{Edge, KIND_WORDS, Options, OwnedTables, Row, Segment};
@@ -6,7 +6,8 @@ use road::edge::Way;
 use road::mode::Mode;
 use std::fmt::Write;
 
-const MOST_BYTES: usize = 65_536;
+/// Bytes of the longest sheet.
+pub const MOST_BYTES: usize = 65_536;
 /// Floats that each of the program's two buffers holds: 2,048 points.
 pub const LENT: usize = 2_048 * WIDTH;
 
@@ -143,7 +144,7 @@ fn whole32(field: &str) -> Option<u32> {
     whole(field)?.try_into().ok()
 }
 
-/// The sheet that stands for tables, edge and options of any content (an unknown kind has no word).
+/// The text of tables, edge and options of any content (an unknown kind has no word), each float by the bits that it has.
 pub fn write(sheet: &Sheet) -> String {
     let tables = sheet.tables.lent();
     let mut text = format!("{POINT_NAMES}\n");

@@ -1,17 +1,19 @@
 //! What no sheet can hold: tables above their size, slices that are not whole rows, other buffers. And the settings of a batch,
-//! the fixed steps beside Rust's own functions, where evaluation refuses, what strict mode changes, and the two measures.
+//! the fixed steps beside Rust's own functions, where evaluation refuses, what strict mode changes, the two measures, and the writer.
 
 use crate::batch::{Settings, answers};
 use crate::causes::cause;
 use crate::draw::{Drawn, draw, draw_chain, draw_in, reference, resolved, solid};
+use crate::gen_write;
 use crate::generate::contents;
 use crate::measure::{Measured, answers as measures, bisection, thinning};
-use crate::sheet::{Sheet, hex, write};
+use crate::sheet::{Sheet, hex, read, write};
 use crate::strict;
 use crate::tables::{
-    COMPOSITE, Edge, HYPERBOLA, LINE, Options, OwnedTables, PARABOLA, POLYLINE, Row, Segment,
-    TRIMMED,
+    CIRCLE, COMPOSITE, ELLIPSE, Edge, HYPERBOLA, LINE, Options, OwnedTables, PARABOLA, POLYLINE,
+    Row, Segment, TRIMMED,
 };
+use crate::write::{Written, write as write_into};
 use road::asks::farthest;
 use road::edge::{Way, discretise_all};
 use road::knots::curve_breaks;
@@ -186,23 +188,25 @@ fn a_lost_open_conic_is_the_chord_of_its_vertices_in_strict_mode() {
     }
 }
 
+/// What makes each of causes 1 to 6 the first that applies to such a sheet.
+const SPOILT: [(u32, fn(&mut Sheet)); 6] = [
+    (1, |s| s.tables.points.resize(3 * 65_537, 0.0)),
+    (2, |s| s.edge.hi = 1e10),
+    (3, |s| s.tables.curves[2] = 2),
+    (4, |s| {
+        s.tables.push_row(Row { kind: TRIMMED, first: 1, count: 1, p: 0.0, q: 1.0 });
+    }),
+    (5, |s| {
+        (0..9).for_each(|first| {
+            s.tables.push_row(Row { kind: TRIMMED, first, count: 1, p: 0.0, q: 1.0 });
+        })
+    }),
+    (6, |s| s.edge.high = 7),
+];
+
 #[test]
 fn causes_1_to_7_come_before_a_strict_chord() {
-    let spoil: [(u32, fn(&mut Sheet)); 6] = [
-        (1, |s| s.tables.points.resize(3 * 65_537, 0.0)),
-        (2, |s| s.edge.hi = 1e10),
-        (3, |s| s.tables.curves[2] = 2),
-        (4, |s| {
-            s.tables.push_row(Row { kind: TRIMMED, first: 1, count: 1, p: 0.0, q: 1.0 });
-        }),
-        (5, |s| {
-            (0..9).for_each(|first| {
-                s.tables.push_row(Row { kind: TRIMMED, first, count: 1, p: 0.0, q: 1.0 });
-            })
-        }),
-        (6, |s| s.edge.high = 7),
-    ];
-    for (number, spoil) in spoil {
+    for (number, spoil) in SPOILT {
         let mut sheet = lost(HYPERBOLA, f64::NAN, 0.0);
         spoil(&mut sheet);
         let mut buffers = [vec![7.0; 8], vec![7.0; 8]];
@@ -469,6 +473,20 @@ fn what_is_no_setting_is_a_text_that_is_no_sheet() {
         "mode Strict\n",
         "mode default\n",
         "mode strict reference\n",
+        "ask write\n",
+        "ask page\n",
+        "ask write 8",
+        "ask page 8 \n",
+        "ask write  8\n",
+        "ask write 8 8\n",
+        "ask write 08\n",
+        "ask write +8\n",
+        "ask page -1\n",
+        "ask page 8\n\n",
+        "ask write 131073\n",
+        "ask page 131073\n",
+        "ask write 18446744073709551624\n",
+        "ask sheet 8\n",
     ] {
         assert_eq!(batch(text), "refusal\n10\n", "{text}");
     }
@@ -618,4 +636,311 @@ fn parts_that_ask_for_no_measure() {
         assert_eq!(measured(&format!("{part}====\n")), format!("{answer}====\n"), "{part}");
         assert_eq!(measured(&part), "", "{part}");
     }
+}
+
+/// A quiet NaN and a signalling one, both with a payload, one with a sign.
+const NANS: [f64; 2] = [f64::from_bits(0xfff80000deadbeef), f64::from_bits(0x7ff0000000000001)];
+
+/// A small sheet whose unused numbers, and some others, are zeros below zero.
+fn written_by_hand() -> Sheet {
+    let mut tables = OwnedTables::default();
+    for p in [[0.0, -0.0, 2.0], [1.0, 0.0, 0.0], [-1e9, 5e-324, 0.5]] {
+        tables.push_point(p);
+    }
+    tables.push_row(Row { kind: LINE, first: 0, count: 2, p: -0.0, q: -0.0 });
+    tables.push_row(Row { kind: CIRCLE, first: 0, count: 3, p: -0.0, q: -0.0 });
+    tables.push_row(Row { kind: HYPERBOLA, first: 0, count: 3, p: 2.0, q: -0.0 });
+    tables.push_segment(Segment { curve: 1, lo: -0.0, hi: 1.5, sense: 0 });
+    let edge = Edge { end: 1, lo: NANS[0], hi: f64::INFINITY, tolerance: -0.0, low: 1, ..EDGE };
+    let options = Options {
+        deflection: 0.5,
+        angle: -0.0,
+        relative: 1,
+        segments: u64::MAX,
+        depth: u32::MAX,
+        scale: NANS[1],
+    };
+    Sheet { tables, edge, options }
+}
+
+/// Written down from the layout.
+const BY_HAND: &str = "x y z
+0000000000000000 8000000000000000 4000000000000000
+3ff0000000000000 0000000000000000 0000000000000000
+c1cdcd6500000000 0000000000000001 3fe0000000000000
+
+kind first count p q
+line 0 2 0000000000000000 0000000000000000
+circle 0 3 8000000000000000 0000000000000000
+hyperbola 0 3 4000000000000000 8000000000000000
+
+curve lo hi sense
+1 8000000000000000 3ff8000000000000 0
+
+curve start end sense lo hi tolerance low high
+0 0 1 1 7ff8000000000000 7ff0000000000000 8000000000000000 1 2
+
+deflection angle relative segments depth scale
+3fe0000000000000 8000000000000000 1 18446744073709551615 4294967295 7ff8000000000000
+";
+
+/// What is answered in a buffer of so many bytes that holds 0x55 throughout, and the buffer then.
+fn written_in(sheet: &Sheet, size: usize) -> (Written, Vec<u8>) {
+    let mut out = vec![0x55; size];
+    (write_into(&sheet.tables.lent(), &sheet.edge, &sheet.options, &mut out), out)
+}
+
+/// The text that stands for a sheet, in a buffer that it just fills.
+fn text_of(sheet: &Sheet) -> String {
+    let (written, out) = written_in(sheet, write(sheet).len());
+    assert_eq!(written, Written::Text(out.len()));
+    String::from_utf8(out).unwrap()
+}
+
+#[test]
+fn a_sheet_is_written_byte_for_byte() {
+    assert_eq!(text_of(&written_by_hand()), BY_HAND);
+}
+
+#[test]
+fn an_unused_number_becomes_plus_zero_and_a_used_one_stays() {
+    let (used, unused) = ("8000000000000000", "0000000000000000");
+    let kinds = [
+        (LINE, "line 0 2", unused, unused),
+        (CIRCLE, "circle 0 3", used, unused),
+        (ELLIPSE, "ellipse 0 3", used, used),
+        (PARABOLA, "parabola 0 3", used, unused),
+        (POLYLINE, "polyline 0 3", unused, unused),
+        (TRIMMED, "trimmed 0 1", used, used),
+        (COMPOSITE, "composite 0 1", unused, unused),
+        (HYPERBOLA, "hyperbola 0 3", used, used),
+    ];
+    for (kind, words, p, q) in kinds {
+        let mut sheet = Sheet { tables: composite(1, 0.0), edge: EDGE, options: OPTIONS };
+        let [first, count] = [1, 2].map(|i| words.split(' ').nth(i).unwrap().parse().unwrap());
+        sheet.tables.push_row(Row { kind, first, count, p: -0.0, q: -0.0 });
+        let line = format!("\n{words} {p} {q}\n\ncurve lo hi sense\n");
+        assert!(text_of(&sheet).contains(&line), "{words}");
+    }
+}
+
+#[test]
+fn every_nan_is_written_as_one() {
+    for nan in [NANS[0], NANS[1], -f64::NAN, f64::from_bits(u64::MAX)] {
+        for place in 0..3 {
+            let mut sheet = Sheet { tables: line(), edge: EDGE, options: OPTIONS };
+            let Sheet { edge, options, .. } = &mut sheet;
+            *[&mut edge.lo, &mut edge.hi, &mut options.scale][place] = nan;
+            let text = write(&sheet).replace(&hex(&[nan]), "7ff8000000000000");
+            assert_eq!(text_of(&sheet), text);
+        }
+    }
+}
+
+#[test]
+fn a_text_fills_its_buffer_or_has_zeros_behind_it() {
+    let (sheet, size) = (written_by_hand(), BY_HAND.len());
+    for more in [0, 1, 2, 100, 65_536, 131_072 - size] {
+        let (written, out) = written_in(&sheet, size + more);
+        assert_eq!(written, Written::Text(size));
+        assert_eq!(out, [BY_HAND.as_bytes(), &vec![0; more]].concat());
+    }
+    for less in [1, 2, size - 1, size] {
+        let (written, out) = written_in(&sheet, size - less);
+        assert_eq!(written, Written::Refused(12));
+        assert_eq!(out, vec![0; size - less]);
+    }
+}
+
+#[test]
+fn causes_1_to_6_come_before_12_and_leave_the_buffer() {
+    for (number, spoil) in SPOILT {
+        let mut sheet = lost(HYPERBOLA, f64::NAN, 0.0);
+        spoil(&mut sheet);
+        for size in [0, 1, 500, 131_072] {
+            assert_eq!(written_in(&sheet, size), (Written::Refused(number), vec![0x55; size]));
+        }
+    }
+}
+
+/// 7, 8, 9 and 11 are not looked for: nothing is drawn.
+#[test]
+fn an_edge_that_cannot_be_drawn_is_written() {
+    let sheet = lost(HYPERBOLA, f64::NAN, 0.0);
+    let mut none = [vec![], vec![]];
+    assert_eq!(drawn_in(&sheet, Mode::Reference, &mut none), Drawn::Refused(7));
+    let mut buffers = [vec![7.0; 8], vec![7.0; 8]];
+    assert_eq!(drawn_in(&sheet, Mode::Reference, &mut buffers), Drawn::Refused(11));
+    assert_eq!(text_of(&sheet), write(&sheet));
+}
+
+/// The scope's line in tables whose text has so many bytes: points, polylines without a point, and numbers of the length that is left.
+fn of_length(bytes: usize) -> Sheet {
+    const POINT: usize = 51;
+    const ROW: usize = 47;
+    let mut sheet = Sheet { tables: line(), edge: EDGE, options: Options { depth: 1, ..OPTIONS } };
+    let missing = |sheet: &Sheet| bytes - write(sheet).len();
+    while missing(&sheet) % POINT > 28 {
+        sheet.tables.push_row(Row { kind: POLYLINE, first: 0, count: 0, p: 0.0, q: -0.0 });
+        assert!(missing(&sheet) > ROW);
+    }
+    (0..missing(&sheet) / POINT).for_each(|_| {
+        sheet.tables.push_point([1.0, -0.0, 3.0]);
+    });
+    let spare = missing(&sheet) as u32;
+    sheet.options.segments = 10u64.pow(spare.min(19));
+    sheet.options.depth = 10u32.pow(spare - spare.min(19));
+    assert_eq!(missing(&sheet), 0);
+    sheet
+}
+
+#[test]
+fn no_text_is_longer_than_a_sheet() {
+    let most = of_length(65_536);
+    for size in [65_536, 65_537, 131_072] {
+        let (written, out) = written_in(&most, size);
+        assert_eq!(written, Written::Text(65_536));
+        assert!(read(&out[..65_536]).is_some() && out[65_536..].iter().all(|byte| *byte == 0));
+    }
+    assert_eq!(written_in(&most, 65_535), (Written::Refused(12), vec![0; 65_535]));
+    for bytes in [65_537, 65_538, 70_000, 131_072] {
+        for size in [0, 65_536, 65_537, 131_072] {
+            assert_eq!(written_in(&of_length(bytes), size), (Written::Refused(12), vec![0; size]));
+        }
+    }
+    let mut sheet = Sheet { tables: line(), edge: EDGE, options: OPTIONS };
+    sheet.tables.points.resize(3 * 65_536, 1.0);
+    assert_eq!(written_in(&sheet, 131_072), (Written::Refused(12), vec![0; 131_072]));
+}
+
+/// Bits, but for what is made alike: an unused p or q, which cause 3 lets be a zero alone, and NaNs.
+fn alike(sheet: &Sheet, other: &Sheet) -> bool {
+    let same = |a: f64, b: f64| a.to_bits() == b.to_bits() || a.is_nan() && b.is_nan();
+    let all =
+        |a: &[f64], b: &[f64]| a.len() == b.len() && a.iter().zip(b).all(|(a, b)| same(*a, *b));
+    let numbers = |s: &Sheet| {
+        let (e, o) = (&s.edge, &s.options);
+        let edge = [e.curve, e.start, e.end, e.sense, e.low, e.high];
+        (s.tables.curves.clone(), s.tables.parts.clone(), edge, o.relative, o.segments, o.depth)
+    };
+    let floats = |s: &Sheet| {
+        let (e, o) = (&s.edge, &s.options);
+        [e.lo, e.hi, e.tolerance, o.deflection, o.angle, o.scale]
+    };
+    let reals = |s: &Sheet| {
+        let plain = |kind: u32, i: usize, x: f64| match (kind, i) {
+            (LINE | POLYLINE | COMPOSITE, _) | (CIRCLE | PARABOLA, 1) => 0.0,
+            _ => x,
+        };
+        let rows = s.tables.lent().rows();
+        rows.flat_map(|row| [plain(row.kind, 0, row.p), plain(row.kind, 1, row.q)])
+            .collect::<Vec<_>>()
+    };
+    numbers(sheet) == numbers(other)
+        && all(&floats(sheet), &floats(other))
+        && all(&reals(sheet), &reals(other))
+        && all(&sheet.tables.points, &other.tables.points)
+        && all(&sheet.tables.ranges, &other.tables.ranges)
+}
+
+/// The reader on a text finds the same tables, but for what is made alike, and they are written as that text.
+#[test]
+fn a_written_sheet_reads_back_and_is_written_again() {
+    let (mut met, mut changed) = ([0; 13], 0);
+    for index in 0..3000 {
+        let Some(sheet) = read(&gen_write::bytes(14, index)) else {
+            continue;
+        };
+        let plain = write(&sheet);
+        let number = match written_in(&sheet, plain.len()) {
+            (Written::Refused(number), _) => number as usize,
+            (Written::Text(_), out) => {
+                let back = read(&out).expect("a written sheet");
+                assert!(alike(&sheet, &back), "{plain}");
+                assert_eq!(text_of(&back).into_bytes(), out);
+                assert_eq!(write(&back).into_bytes(), out);
+                changed += usize::from(out != plain.as_bytes());
+                0
+            }
+        };
+        met[number] += 1;
+    }
+    assert!(met[0] > 2000 && changed > 2000 && met[2..7].iter().all(|n| *n > 5), "{met:?}");
+    assert_eq!(met[7..], [0; 6]);
+}
+
+#[test]
+fn a_batch_tells_a_sheet_as_it_is_written() {
+    let sheet = write(&written_by_hand());
+    let size = sheet.len();
+    let (exact, short) = (format!("ask write {size}\n"), format!("ask write {}\n", size - 1));
+    let upwards = sheet.replace("line 0 2 8", "trimmed 0 1 8");
+    let parts = [
+        // the buffers of chains and the mode play no part
+        "buffers 0 0\n",
+        "mode strict\n",
+        &exact,
+        &sheet,
+        BY_HAND,
+        &upwards,
+        "",
+        &short,
+        &sheet,
+        &upwards,
+        "ask write 0\n",
+        &sheet,
+        "ask write 131072\n",
+        &sheet,
+        "ask chain\n",
+        &sheet,
+    ];
+    let answers = [
+        "",
+        "",
+        "",
+        BY_HAND,
+        BY_HAND,
+        "refusal\n4\n",
+        "refusal\n10\n",
+        "",
+        "refusal\n12\n",
+        "refusal\n4\n",
+        "",
+        "refusal\n12\n",
+        "",
+        BY_HAND,
+        "",
+        "refusal\n7\n",
+    ];
+    assert_eq!(batch(&parts.join("====\n")), answers.join("====\n"));
+}
+
+/// Every byte of a buffer, 64 to a line.
+#[test]
+fn a_batch_tells_the_buffer_as_a_page() {
+    let sheet = write(&written_by_hand());
+    let page = |told: &str, buffer: &[u8]| {
+        let lines = buffer
+            .chunks(64)
+            .map(|line| line.iter().map(|byte| format!("{byte:02x}")).collect::<String>() + "\n");
+        format!("{told}\n{}", lines.collect::<String>())
+    };
+    let asked = |size: usize, sheet: &str| {
+        batch(&format!("ask page {size}\n====\n{sheet}")).split_off("====\n".len())
+    };
+    let size = sheet.len();
+    let told = format!("bytes {size}");
+    assert_eq!(asked(size, &sheet), page(&told, BY_HAND.as_bytes()));
+    for more in [1, 64, 65_536] {
+        let buffer = [BY_HAND.as_bytes(), &vec![0; more]].concat();
+        assert_eq!(asked(size + more, &sheet), page(&told, &buffer));
+    }
+    for small in [0, 1, 63, 64, 65, 128, size - 1] {
+        assert_eq!(asked(small, &sheet), page("refusal 12", &vec![0; small]));
+        let wrong = sheet.replace("curve lo hi sense\n1 ", "curve lo hi sense\n3 ");
+        assert_eq!(asked(small, &wrong), page("refusal 3", &vec![0x55; small]));
+    }
+    assert_eq!(asked(0, &sheet), "refusal 12\n");
+    assert_eq!(asked(65, &sheet), format!("refusal 12\n{}\n00\n", "00".repeat(64)));
+    assert_eq!(asked(65, &sheet[1..]), "refusal 10\n");
 }

@@ -27,6 +27,7 @@ Who has such tables already lends them as arrays or lists to Tables, and these t
     draw, draw_over         answer a Chain, or raise a Refusal
     Chain, Point, Walk      a sequence of points with x, y, z, t; .length() is what a cutter runs; .forwards(), .backwards()
     Way                     the way in which a chain was got
+    write_sheet             the one sheet that stands for tables, edge and options: the text that the program chain reads
     measure_for_thinning,   how far a point lies from a chord, and from which place on it that is measured, as drawing has it:
     measure_for_bisection   each answers a Measured, with a distance and a place
     Refusal, PartError      why an edge was turned away, and why a curve could not be added: each has a class of its own
@@ -50,22 +51,24 @@ from ._answer import (
     ShortBuffer,
     TooDeep,
     TooFar,
+    TooLong,
     Unbounded,
     Unordered,
     Way,
 )
 from ._chain import Chain, Point, Walk
 from ._frame import NoDirection, NoSize, Parallel, PartError
-from ._library import MOST_POINTS, VERSION, WIDTH
+from ._library import MOST_POINTS, MOST_SHEET_BYTES, VERSION, WIDTH
 from ._measure import Measured, measure_for_bisection, measure_for_thinning
 from ._options import Angle, Mode, Options
 from ._part import Part, PointNumber, PointRun, Row, Segment
-from ._tables import Checked, Edge, Kind, Tables, check, check_tables, draw, draw_over
+from ._tables import Checked, Edge, Kind, Tables, check, check_tables, draw, draw_over, write_sheet
 
 __version__ = VERSION
 
 __all__ = [
     "MOST_POINTS",
+    "MOST_SHEET_BYTES",
     "VERSION",
     "WIDTH",
     "Angle",
@@ -96,6 +99,7 @@ __all__ = [
     "Tables",
     "TooDeep",
     "TooFar",
+    "TooLong",
     "Unbounded",
     "Unordered",
     "Walk",
@@ -106,6 +110,7 @@ __all__ = [
     "draw_over",
     "measure_for_bisection",
     "measure_for_thinning",
+    "write_sheet",
 ]
 
 # Their names, as messages and help have them, are this module's.

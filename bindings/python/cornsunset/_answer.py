@@ -6,7 +6,8 @@ class Refusal(Exception):
     """Why an edge was turned away. Each has a class of its own, with its number, which is the same in C and Rust, and a
     message.
 
-    1 to 7 leave both buffers as they were, 8, 9 and 11 leave them all +0.0. 10 is a sheet's, and no drawing answers it.
+    1 to 7 leave both buffers as they were, 8, 9 and 11 leave them all +0.0. 10 is a sheet's, and no drawing answers it; 12 is the
+    answer of write_sheet alone.
 
     >>> import cornsunset
     >>> Refusal.from_number(8)
@@ -94,7 +95,12 @@ class TooFar(Refusal):
     message = "a hyperbola would be asked for a parameter beyond 100 in magnitude"
 
 
-Refusal.ALL = (Oversize, Unbounded, IllFormed, Unordered, TooDeep, Missing, ShortBuffer, NoRoom, Endless, TooFar)
+class TooLong(Refusal):
+    number = 12
+    message = "the sheet's text would be longer than the buffer for it, or than 65,536 bytes"
+
+
+Refusal.ALL = (Oversize, Unbounded, IllFormed, Unordered, TooDeep, Missing, ShortBuffer, NoRoom, Endless, TooFar, TooLong)
 
 
 def accept(number):

@@ -9,6 +9,7 @@ VERSION = "0.2.0"
 FIELDS = ("x", "y", "z", "t")
 WIDTH = len(FIELDS)
 MOST_POINTS = 16_384
+MOST_SHEET_BYTES = 65_536
 
 FOLDER = Path(__file__).resolve().parent
 # Beside the module, where `build FOLDER` puts it; or in the repository.
@@ -20,6 +21,7 @@ EDGE = [c_uint32] * 4 + [c_double] * 3 + [c_uint32] * 2
 OPTIONS = [c_double, c_double, c_uint32, c_uint64, c_uint32, c_double]
 MODE = [c_bool]
 BUFFERS = [c_void_p, c_size_t] * 2
+TEXT = [c_void_p, c_size_t, POINTER(c_size_t)]
 ANSWER = [POINTER(c_uint32), POINTER(c_size_t)]
 PRESET = [POINTER(kind) for kind in OPTIONS]
 WALK = [c_void_p, c_size_t, c_bool]
@@ -33,6 +35,7 @@ FUNCTIONS = {
     "cs_flat_draw_over_in_mode": (c_uint32, TABLES + EDGE + OPTIONS + MODE + BUFFERS + ANSWER),
     "cs_flat_check": (c_uint32, TABLES + EDGE + OPTIONS),
     "cs_flat_check_tables": (c_uint32, TABLES),
+    "cs_flat_write_sheet": (c_uint32, TABLES + EDGE + OPTIONS + TEXT),
     "cs_flat_default": (None, PRESET),
     "cs_flat_draft": (None, PRESET),
     "cs_flat_fine": (None, PRESET),

@@ -9,6 +9,7 @@ from ctypes import addressof, c_char, c_double
 Sort = namedtuple("Sort", "code codes size said")
 FLOATS = Sort("d", "d", 8, "floats")
 NUMBERS = Sort("I", "IL", 4, "whole numbers of 32 bits")
+BYTES = Sort("B", "B", 1, "bytes")
 
 assert array("d").itemsize == 8 and array("I").itemsize == 4
 
@@ -134,14 +135,15 @@ def listed(value, view, width, name):
     return [x for row in items for x in row]
 
 
-def written(value, width, name):
-    """The caller's own memory, for writing floats into it."""
+def written(sort, value, width, name):
+    """The caller's own memory, for writing into it."""
     view = exported(value)
-    if view is None or not has(FLOATS, view) or view.readonly:
-        raise TypeError(f"{name} is an array of floats that can be written, as array('d'), not of type {type(value).__name__}")
+    if view is None or not has(sort, view) or view.readonly:
+        wanted = f"an array of {sort.said} that can be written, as array('{sort.code}')"
+        raise TypeError(f"{name} is {wanted}, not of type {type(value).__name__}")
     if not view.c_contiguous:
-        raise ValueError(f"{name} has gaps between its floats")
-    memory = Memory(flat(FLOATS, view, width, name))
-    if memory.address % FLOATS.size:
-        raise ValueError(f"{name} does not lie at a multiple of {FLOATS.size} bytes")
+        raise ValueError(f"{name} has gaps between its {sort.said}")
+    memory = Memory(flat(sort, view, width, name))
+    if memory.address % sort.size:
+        raise ValueError(f"{name} does not lie at a multiple of {sort.size} bytes")
     return memory

@@ -5,8 +5,8 @@ from dataclasses import dataclass
 
 from ._answer import NoRoom, Way, accept
 from ._chain import Chain
-from ._library import MOST_POINTS, WIDTH, library, parallel
-from ._memory import FLOATS, NUMBERS, Memory, lent, of_type, real, whole, written
+from ._library import MOST_POINTS, MOST_SHEET_BYTES, WIDTH, library, parallel
+from ._memory import BYTES, FLOATS, NUMBERS, Memory, lent, of_type, real, whole, written
 from ._options import Mode, Options
 
 
@@ -217,6 +217,10 @@ class Checked:
         """Draws an edge, as draw_over does without buffers. Threads draw side by side."""
         return draw_over(self, edge, options, mode=mode)
 
+    def write_sheet(self, edge: Edge, options: Options) -> bytes:
+        """The one sheet that stands for the tables, an edge and options, as write_sheet has it."""
+        return write_sheet(self._tables, edge, options)
+
     def __reduce__(self):
         # Checked anew: whoever stored it may have changed it.
         return check_tables, (self._tables,)
@@ -244,6 +248,64 @@ def draw_over(
     return _draw(call, _asked_in_mode(tables, edge, options, mode), tables, first, second)
 
 
+def write_sheet(tables: Tables, edge: Edge, options: Options, out=None) -> "bytes | memoryview":
+    """Writes the one sheet that stands for tables, edge and options (sheets/README.md) and returns its text, or raises its refusal.
+    The mode is no part of a sheet.
+
+    Two things are made alike: a p or q that its kind does not use, a zero of either sign, is written as +0.0, and every NaN as
+    7ff8000000000000. Nothing else is lost: all other floats are written by their bits, a -0.0 that is used too. So writing what is read
+    from the sheet gives the same bytes, and other tables, edges and options give them only where they differ in these two alone. The
+    sign and the payload of a NaN in lo or hi are in a chord's parameters: edges that differ in them alone have one sheet, though their
+    chords differ in these bits.
+
+    Without a buffer the text is returned as bytes. With one, a bytearray or an array('B'), it is written to the buffer's start, and what is
+    returned is the part that holds it, a memoryview: until it is released or gone, a bytearray or an array cannot be resized, which is a
+    BufferError. Every other byte of the buffer is 0 afterwards.
+
+    It is refused with the lowest of 1 to 6 that applies, as check has it, which leaves the buffer as it was; else with 12, TooLong, where
+    the text would be longer than the buffer or than MOST_SHEET_BYTES, which leaves all of it 0. Nothing is drawn: whether drawing would be
+    refused with 8, 9 or 11 is not looked at.
+
+    >>> from cornsunset import Angle
+    >>> line = Tables(points=[0, 0, 0, 2, 0, 0, 10, 0, 0], curves=[Kind.LINE, 0, 2], reals=[-0.0, 0.0])
+    >>> edge = Edge(curve=0, start=0, end=2, lo=0, hi=5, low=0, high=2)
+    >>> options = Options(deflection=1, angle=Angle.radians(1), relative=0)
+    >>> print(write_sheet(line, edge, options).decode(), end="")
+    x y z
+    0000000000000000 0000000000000000 0000000000000000
+    4000000000000000 0000000000000000 0000000000000000
+    4024000000000000 0000000000000000 0000000000000000
+    <BLANKLINE>
+    kind first count p q
+    line 0 2 0000000000000000 0000000000000000
+    <BLANKLINE>
+    curve lo hi sense
+    <BLANKLINE>
+    curve start end sense lo hi tolerance low high
+    0 0 2 1 0000000000000000 4014000000000000 0000000000000000 0 2
+    <BLANKLINE>
+    deflection angle relative segments depth scale
+    3ff0000000000000 3ff0000000000000 0 1 12 0000000000000000
+    >>> buffer = bytearray(1000)
+    >>> len(write_sheet(line, edge, options, buffer)), buffer[-1]
+    (460, 0)
+    """
+    refusal, text = _text(_asked(tables, edge, options), tables, out)
+    # Raised here, where nothing holds the buffer any more: who catches it may resize it.
+    accept(refusal)
+    return bytes(text) if out is None else text
+
+
+def _text(asked, tables, out):
+    """A refusal's number, or 0 and the part of the buffer that holds the sheet."""
+    buffer = Memory.own(BYTES, bytes(MOST_SHEET_BYTES)) if out is None else written(BYTES, out, 1, "out")
+    if any(memory.overlaps(buffer) for memory in tables._memory):
+        raise ValueError("the buffer overlaps the tables")
+    count = c_size_t()
+    refusal = library.cs_flat_write_sheet(*asked, buffer.address, buffer.length, byref(count))
+    return refusal, None if refusal else buffer.view[: count.value]
+
+
 def _asked(tables, edge, options):
     """What every function over an edge takes first."""
     of_type(Tables, tables, "tables"), of_type(Edge, edge, "edge"), of_type(Options, options, "options")
@@ -268,7 +330,7 @@ def _draw(call, asked, tables, first, second):
 
 def _buffers(tables, first, second):
     """The caller's buffers. What is written overlaps nothing else, as the library takes for granted."""
-    lent_first, lent_second = written(first, WIDTH, "first"), written(second, WIDTH, "second")
+    lent_first, lent_second = written(FLOATS, first, WIDTH, "first"), written(FLOATS, second, WIDTH, "second")
     if lent_first.overlaps(lent_second):
         raise ValueError("the buffers overlap")
     if any(memory.overlaps(buffer) for memory in tables._memory for buffer in (lent_first, lent_second)):

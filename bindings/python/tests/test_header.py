@@ -7,7 +7,7 @@ import subprocess
 import sys
 import tempfile
 import unittest
-from ctypes import POINTER, c_bool, c_double, c_size_t, c_uint32, c_uint64, c_void_p
+from ctypes import POINTER, c_bool, c_double, c_size_t, c_uint8, c_uint32, c_uint64, c_void_p
 from pathlib import Path
 
 import cornsunset as cs
@@ -19,6 +19,7 @@ HEADER = (ROOT / "bindings/c/cornsunset.h").read_text()
 CODE = re.sub(r"/\*.*?\*/", "", HEADER, flags=re.S)
 CC = (os.environ.get("CC") or "cc").split()
 TYPES = {
+    "uint8_t": c_uint8,
     "uint32_t": c_uint32,
     "uint64_t": c_uint64,
     "size_t": c_size_t,
@@ -39,13 +40,14 @@ def argument(text):
     kind, name = re.fullmatch(r"(?:const )?(\w+) (\*?\w+(?:\[\w+\])?)", text.strip()).groups()
     if not (name.startswith("*") or name.endswith("]")):
         return TYPES[kind]
-    lent = name.lstrip("*") in "points curves reals parts ranges first second chain".split()
+    lent = name.lstrip("*") in "points curves reals parts ranges first second out chain".split()
     return c_void_p if lent else POINTER(TYPES[kind])
 
 
 class Header(unittest.TestCase):
     def test_version_and_limits(self):
-        for name, value in (("VERSION", f'"{cs.VERSION}"'), ("WIDTH", cs.WIDTH), ("MOST_POINTS", cs.MOST_POINTS)):
+        limits = {name: getattr(cs, name) for name in ("WIDTH", "MOST_POINTS", "MOST_SHEET_BYTES")}
+        for name, value in {"VERSION": f'"{cs.VERSION}"', **limits}.items():
             self.assertIn(f"#define CS_{name} {value}\n", HEADER)
         self.assertEqual(cs.__version__, cs.VERSION)
         places = dict(re.findall(r"\bCS_([XYZTM]) = (\d)", CODE))
@@ -59,7 +61,8 @@ class Header(unittest.TestCase):
         self.assertEqual(enums["KIND_LINE"], {f"KIND_{kind.name}": kind.value for kind in cs.Kind})
         self.assertEqual(enums["REFERENCE"], {mode.name: mode.value for mode in cs.Mode})
         self.assertEqual(enums["NO_CHAIN"], {"NO_CHAIN": 0, **{way.name: way.value for way in cs.Way}})
-        self.assertEqual(enums["DRAWN"], {"DRAWN": 0, **{header_name(kind.__name__): kind.number for kind in cs.Refusal.ALL}})
+        refusals = {header_name(kind.__name__): kind.number for kind in cs.Refusal.ALL}
+        self.assertEqual(enums["DRAWN"], {"DRAWN": 0, "DONE": 0, **refusals})
 
     def test_sentences(self):
         body = HEADER[HEADER.index("cs_sentence(") :].partition("\n}\n")[0]

@@ -84,6 +84,9 @@ class Lot(random.Random):
         for chain in filter(None, chains):
             there, back = ([bits((p.x, p.y, p.z, p.t)) for p in walk] for walk in (chain.forwards(), chain.backwards()))
             test.assertEqual((b"".join(there), there[::-1]), (bytes(chain.floats), back))
+        out = self.choice(((), (bytearray(self.randrange(1_000)),), (self.anything(),)))
+        text = self.attempt(cs.write_sheet, tables, *records, *out)
+        test.assertEqual(text is None or bytes(text[:6]), text is None or b"x y z\n")
         self.builds(test)
         return sum(chain is not None for chain in chains)
 

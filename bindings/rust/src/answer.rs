@@ -5,7 +5,7 @@ use std::fmt;
 
 numbered! {
     /// Why an edge was turned away. 1 to 7 leave both buffers as they were, 8, 9 and 11 leave them all +0.0. 10 is a
-    /// sheet's, and no drawing answers it.
+    /// sheet's, and no drawing answers it; 12 is the answer of [`write_sheet`](crate::write_sheet) alone.
     ///
     /// ```
     /// use cornsunset::Refusal;
@@ -21,7 +21,7 @@ numbered! {
     /// fn is_of_tables(refusal: Refusal) -> bool {
     ///     match refusal {
     ///         Oversize | Unbounded | IllFormed | Unordered | TooDeep => true,
-    ///         Missing | ShortBuffer | NoRoom | Endless | TooFar => false,
+    ///         Missing | ShortBuffer | NoRoom | Endless | TooFar | TooLong => false,
     ///     }
     /// }
     /// ```
@@ -49,6 +49,8 @@ numbered! {
         Endless = 9,
         /// A hyperbola would be asked for a parameter beyond 100 in magnitude.
         TooFar = 11,
+        /// The sheet's text would be longer than the buffer for it, or than 65,536 bytes.
+        TooLong = 12,
     }
 }
 
@@ -58,8 +60,9 @@ impl Refusal {
         if number == 0 {
             return Ok(());
         }
-        Err(Refusal::from_number(number)
-            .unwrap_or_else(|| unreachable!("refusals are proved to be 1 to 9 or 11, not {number}")))
+        Err(Refusal::from_number(number).unwrap_or_else(|| {
+            unreachable!("a refusal is proved to be 1 to 9 or 11, in writing 1 to 6 or 12, not {number}")
+        }))
     }
 }
 
@@ -88,6 +91,7 @@ impl fmt::Display for Refusal {
                  chord"
             }
             Refusal::TooFar => "a hyperbola would be asked for a parameter beyond 100 in magnitude",
+            Refusal::TooLong => "the sheet's text would be longer than the buffer for it, or than 65,536 bytes",
         })
     }
 }

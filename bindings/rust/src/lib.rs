@@ -25,6 +25,8 @@
 //! [`measure_for_thinning`] and [`measure_for_bisection`] say how far a point lies from a chord, and from which place on the
 //! chord that is measured, by the numbers that drawing itself works with.
 //!
+//! [`write_sheet`] writes the one sheet that stands for tables, edge and options: the text that the program `chain` reads.
+//!
 //! What a later version may add: members of [`Kind`], [`Mode`], [`Refusal`], [`Way`] and [`PartError`], fields of [`Measured`],
 //! floats to a [`Point`] and with them to [`WIDTH`].
 
@@ -36,6 +38,7 @@ mod numbered;
 mod options;
 mod part;
 mod raw;
+mod sheet;
 mod tables;
 
 pub use answer::{Refusal, Way};
@@ -43,6 +46,7 @@ pub use chain::{Chain, OwnedChain, Point, Walk, MOST_POINTS, WIDTH};
 pub use measure::{measure_for_bisection, measure_for_thinning, Measured};
 pub use options::{Angle, Mode, Options};
 pub use part::{CheckedPart, Parameter, Part, PartError, PointNumber, PointRun, Row, Segment};
+pub use sheet::{write_sheet, MOST_SHEET_BYTES};
 pub use tables::{check, check_tables, draw, draw_in_mode, draw_over, draw_over_in_mode, Checked, Edge, Kind, Tables};
 
 /// The version of this crate, and of the header for C.

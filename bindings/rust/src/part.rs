@@ -450,6 +450,23 @@ impl CheckedPart {
         self.checked().draw_in_mode(edge, options, mode)
     }
 
+    /// The one sheet that stands for the part's tables, one of its edges and options, as [`Tables::write_sheet`] writes it.
+    ///
+    /// ```
+    /// # use cornsunset::{Angle, Options, Part};
+    /// # let mut part = Part::new([-1.0, -1.0, 0.0], [1.0, 1.0, 0.0]);
+    /// # let circle = part.circle([0.0; 3], [0.0, 0.0, 1.0], [1.0, 0.0, 0.0], 1.0)?;
+    /// # let vertex = part.point([1.0, 0.0, 0.0]);
+    /// # let hole = part.edge(circle, vertex, vertex, Angle::ZERO..Angle::FULL_TURN);
+    /// let part = part.check()?;
+    /// let sheet = String::from_utf8(part.write_sheet(&hole, &Options::default())?)?;
+    /// assert!(sheet.contains("\ncircle 2 3 3ff0000000000000 0000000000000000\n"));
+    /// # Ok::<(), Box<dyn std::error::Error>>(())
+    /// ```
+    pub fn write_sheet(&self, edge: &Edge, options: &Options) -> Result<Vec<u8>, Refusal> {
+        self.checked().write_sheet(edge, options)
+    }
+
     /// The checked tables, for [`draw_over`](crate::draw_over) with buffers that the caller keeps.
     pub fn checked(&self) -> Checked<'_> {
         Checked::again(self.part.tables())

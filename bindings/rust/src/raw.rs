@@ -31,6 +31,7 @@ pub(crate) use call;
 
 edge_functions! {
     cs_flat_check();
+    cs_flat_write_sheet(out: *mut u8, out_len: usize, count: &mut usize);
     cs_flat_draw(first: *mut f64, first_len: usize, second: *mut f64, second_len: usize, way: &mut u32, count: &mut usize);
     cs_flat_draw_over(first: *mut f64, first_len: usize, second: *mut f64, second_len: usize, way: &mut u32, count: &mut usize);
     cs_flat_draw_in_mode(

@@ -1,7 +1,7 @@
 //! The safe API by itself: refusals, buffers, tables that are checked once, NaN parameters, walks, angles and presets.
 use cornsunset::{
     check, check_tables, draw, draw_over, Angle, Edge, Kind, Mode, Options, Point, Refusal, Tables, Walk, Way,
-    MOST_POINTS, VERSION, WIDTH,
+    MOST_POINTS, MOST_SHEET_BYTES, VERSION, WIDTH,
 };
 use std::fmt::Debug;
 
@@ -256,6 +256,7 @@ fn the_header_has_the_same_version_and_limits() {
         format!("#define CS_VERSION \"{VERSION}\""),
         format!("#define CS_WIDTH {WIDTH}"),
         format!("#define CS_MOST_POINTS {MOST_POINTS}"),
+        format!("#define CS_MOST_SHEET_BYTES {MOST_SHEET_BYTES}"),
     ];
     for wanted in lines {
         assert!(header().any(|line| line == wanted), "{wanted}");
@@ -283,10 +284,11 @@ fn kinds_modes_refusals_and_ways_have_the_numbers_of_the_header() {
     are_in_the_header("CS", Mode::ALL, Mode::number, 0);
     are_in_the_header("CS", Refusal::ALL, Refusal::number, 1);
     are_in_the_header("CS", Way::ALL, Way::number, 1);
-    assert_eq!((Kind::ALL.len(), Mode::ALL.len(), Refusal::ALL.len(), Way::ALL.len()), (8, 2, 10, 5));
+    assert_eq!((Kind::ALL.len(), Mode::ALL.len(), Refusal::ALL.len(), Way::ALL.len()), (8, 2, 11, 5));
     assert_eq!((Mode::from_number(0), Mode::from_number(2)), (Some(Mode::Reference), None));
     assert_eq!((Refusal::from_number(9), Refusal::from_number(10)), (Some(Refusal::Endless), None));
     assert_eq!((Refusal::from_number(11), Kind::from_number(8)), (Some(Refusal::TooFar), Some(Kind::Hyperbola)));
+    assert_eq!((Refusal::from_number(12), Refusal::from_number(13)), (Some(Refusal::TooLong), None));
     assert_eq!((Refusal::from_number(0), Way::from_number(6), Kind::from_number(0)), (None, None, None));
 }
 

@@ -40,15 +40,17 @@ fn wrong_count(kind: Kind, count: u32) -> bool
     }
 }
 
+// Whether rows of this kind have no p.
 #[tactic(auto, unfolding(crate::specs::Forms::spare_p))]
-fn spare_p(kind: Kind) -> bool
+pub fn spare_p(kind: Kind) -> bool
     ensures { result ≡ spare_p kind }
 {
     matches!(kind, Kind::Line | Kind::Polyline | Kind::Composite)
 }
 
+// Whether they have no q.
 #[tactic(auto, unfolding(crate::specs::Forms::spare_q))]
-fn spare_q(kind: Kind) -> bool
+pub fn spare_q(kind: Kind) -> bool
     ensures { result ≡ spare_q kind }
 {
     !matches!(kind, Kind::Ellipse | Kind::Trimmed | Kind::Hyperbola)

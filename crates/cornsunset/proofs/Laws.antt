@@ -23,13 +23,16 @@ use Rattle.draw_spec.specs.Draw.{room_of, drawn, answer_of, Outcome}
 use Rattle.draw.specs.Over.{drawn_over, Over}
 use Rattle.draw.proofs.Over.{Answerable, drawn_answerable, over_answerable}
 use Rattle.ffi_numbers.specs.declared.Codes.{Codes}
-use Rattle.ffi_numbers.specs.Numbers.{cause_of, number_of, codes_of}
-use Rattle.cornsunset.specs.Numbered.{Numbered, NumberedAnswer, NumberedOutcome, NumberedOver}
+use Rattle.ffi_numbers.specs.Numbers.{cause_of, number_of, codes_of, text_codes}
+use Rattle.cornsunset.specs.Numbered.{Numbered, NumberedAnswer, NumberedOutcome, NumberedOver, NumberedBytes, NumberedText}
+use Rattle.sheet_writer.specs.Answer.{written_text}
+use Rattle.sheet_writer.proofs.Laws.{Told, told}
+use Rattle.sheet_writer.specs.Written.{Written}
 use Rattle.draw_spec.specs.declared.Drawn.{Drawn}
-use Rattle.refusal.specs.Answer.{Answer}
+use Rattle.refusal.specs.Answer.{Answer, each}
 use Rattle.refusal.specs.Refusal.{number_of as refusal_number}
 use Rattle.refusal.specs.declared.Refusal.{Refusal}
-use Rattle.refusal.specs.declared.Refusal.TheVariants.{Oversize, Unbounded, IllFormed, Unordered, TooDeep, Missing, ShortBuffer, NoRoom, Endless, NoSheet, TooFar}
+use Rattle.refusal.specs.declared.Refusal.TheVariants.{Oversize, Unbounded, IllFormed, Unordered, TooDeep, Missing, ShortBuffer, NoRoom, Endless, NoSheet, TooFar, TooLong}
 
 -- ways are numbered from 1 to 5
 way_numbers : (w : Way) → (1 ≤ number_of w) × (number_of w ≤ 5)
@@ -58,6 +61,7 @@ not_sheet NoRoom h e = omega arith
 not_sheet Endless h e = omega arith
 not_sheet NoSheet h e = h refl
 not_sheet TooFar h e = omega arith
+not_sheet TooLong h e = omega arith
 
 -- what a caller may rely on, of an answer's numbers
 relied : (first second : ℕ) (d : Answer Got) → Answerable first second d → let c = codes_of (answer_of d) in Numbered first second c.refusal c.way c.count
@@ -111,3 +115,16 @@ by_causes false false false false false v p q = p
 pub accepted : (T : Tables) (r : ℕ) → r ≡ cause_of (tables_verdict T) → r ≡ 0 → tables_verdict T ≡ Ok tt
 unfolding tables_verdict
 accepted T r p q = by_causes (oversize T) (unbounded_tables T.points T.reals T.ranges) (ill_formed_tables T) (unordered T) (too_deep T) (tables_verdict T) refl (sym p ∙ q)
+
+-- what a caller may rely on of writing, of an answer's numbers
+bytes_relied : (out : ℕ) (r : Answer (List ℕ)) → Told out r → let c = text_codes (each length r) in NumberedBytes out c.0 c.1
+unfolding text_codes
+bytes_relied out (Err n) h = inl (h, refl)
+bytes_relied out (Ok text) h = inr (refl, h)
+
+-- what writing a sheet returns and stores, where the edge and the options are those of the numbers
+pub by_written : {T : Tables} {e f : Edge} {o q : Options} {before after : List ℕ} {answer : Answer ℕ} {codes : ℕ × ℕ} → f ≡ e → q ≡ o → Written T f q before answer after
+    → codes ≡ text_codes answer → NumberedText T e o before codes.0 codes.1 after
+by_written {T} {f = f} {q = q} {before = before} x y w c =
+    let p = c ∙ ap text_codes w.answer_is in
+    rw (sym x, sym y) (record { answer = p; numbered = rw p (bytes_relied (length before) (written_text T f q (length before)) (told T f q (length before))); writes = rw w.answer_is at w })

@@ -1,5 +1,5 @@
 #![tactic(auto)]
-// Drawing, walking, measuring, presets and angles under C names, over numbers and slices alone. A slice is a pointer and a length, an
+// Drawing, walking, measuring, writing, presets and angles under C names, over numbers and slices alone. A slice is a pointer and a length, an
 // out value a pointer. No function has a requires: nothing that another language hands over is outside a contract.
 ghost use Rattle.std.specs.Prelude.{◌≡◌, Ok};
 ghost use Rattle.brep.specs.Rows.{given, point_of};
@@ -9,7 +9,7 @@ ghost use Rattle.options.specs.declared.Mode.TheVariants.{Reference};
 ghost use Rattle.options.specs.Options.{radians as inRadians, degrees, is_clamped, default_options, draft_options, fine_options};
 ghost use Rattle.edge_walker.specs.Walk.{start_of, stepped};
 ghost use Rattle.ffi_numbers.specs.Numbers.{edge_of, options_of, mode_of, cause_of, codes_of, passed, point_after};
-ghost use Rattle.cornsunset.specs.Numbered.{NumberedOutcome, NumberedOver};
+ghost use Rattle.cornsunset.specs.Numbered.{NumberedOutcome, NumberedOver, NumberedText};
 
 use brep::LentTables;
 use draw_spec::Drawn;
@@ -244,6 +244,48 @@ pub extern "C" fn cs_flat_check(
     let e = ffi_numbers::edge_of(curve, start, end, sense, lo, hi, tolerance, low, high);
     let o = ffi_numbers::options_of(deflection, radians, relative, segments, depth, scale);
     ffi_numbers::cause_of(causes::check(&tables, e, o))
+}
+
+// Writes the sheet of tables, an edge and options: 0 and how many bytes it has, or the refusal's number and 0.
+#[unsafe(no_mangle)]
+pub extern "C" fn cs_flat_write_sheet(
+    points: &[f64],
+    curves: &[u32],
+    reals: &[f64],
+    parts: &[u32],
+    ranges: &[f64],
+    curve: u32,
+    start: u32,
+    end: u32,
+    sense: u32,
+    lo: f64,
+    hi: f64,
+    tolerance: f64,
+    low: u32,
+    high: u32,
+    deflection: f64,
+    radians: f64,
+    relative: u32,
+    segments: u64,
+    depth: u32,
+    scale: f64,
+    out: &mut [u8],
+    count: &mut usize,
+) -> u32
+    ensures { NumberedText (given points curves reals parts ranges) (edge_of curve start end sense lo hi tolerance low high) (options_of deflection radians relative segments depth scale) out.old result count.new out.new }
+{
+    let tables = LentTables {
+        points,
+        curves,
+        reals,
+        parts,
+        ranges,
+    };
+    let e = ffi_numbers::edge_of(curve, start, end, sense, lo, hi, tolerance, low, high);
+    let o = ffi_numbers::options_of(deflection, radians, relative, segments, depth, scale);
+    let (refusal, bytes) = ffi_numbers::text_codes(sheet_writer::write_sheet(&tables, e, o, out));
+    *count = bytes;
+    refusal
 }
 
 // The lowest of the causes 1 to 5 that the tables alone have, or 0.

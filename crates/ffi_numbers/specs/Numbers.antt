@@ -62,6 +62,11 @@ unfoldable pub codes_of : Answer Drawn → Codes
 codes_of (Err cause) = record { refusal = refusal_number cause; way = 0; count = 0 }
 codes_of (Ok chain) = record { refusal = 0; way = number_of chain.way; count = chain.count }
 
+-- the two numbers of a text that was written: the refusal's, 0 for a text; how many bytes it has
+unfoldable pub text_codes : Answer ℕ → ℕ × ℕ
+text_codes (Err cause) = (refusal_number cause, 0)
+text_codes (Ok bytes) = (0, bytes)
+
 -- 1 for a step that passed a point, else 0
 unfoldable pub passed : Option Sample → ℕ
 passed (Some p) = 1

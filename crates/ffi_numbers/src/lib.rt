@@ -1,7 +1,7 @@
 #![tactic(auto)]
 // Edges, options and answers as the plain numbers that C hands over and takes back.
 ghost use Rattle.std.specs.Prelude.{◌≡◌};
-ghost use Rattle.ffi_numbers.specs.Numbers.{edge_of, options_of, mode_of, cause_of, number_of, codes_of, passed, point_after};
+ghost use Rattle.ffi_numbers.specs.Numbers.{edge_of, options_of, mode_of, cause_of, number_of, codes_of, text_codes, passed, point_after};
 
 use brep::Edge;
 use draw_spec::{Drawn, Way};
@@ -116,6 +116,17 @@ pub fn codes_of(drawn: Result<Drawn, Refusal>) -> Codes
             way: number_of(chain.way),
             count: chain.count,
         },
+    }
+}
+
+// The two numbers of a text that was written: 0 and how many bytes it has, or the refusal's number and 0.
+#[tactic(auto, unfolding(crate::specs::Numbers::text_codes))]
+pub fn text_codes(written: Result<usize, Refusal>) -> (u32, usize)
+    ensures { result ≡ text_codes written }
+{
+    match written {
+        Err(cause) => (cause.number(), 0),
+        Ok(bytes) => (0, bytes),
     }
 }
 

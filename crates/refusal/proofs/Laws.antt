@@ -9,7 +9,7 @@ use denote.Enum.Declared.{declared, tag_of}
 use Rattle.refusal.specs.contracts.Refusal.{enum}
 use Rattle.refusal.specs.contracts.RefusalOrd.TheImpl.{ghosts}
 use Rattle.refusal.specs.declared.Refusal.{Refusal}
-use Rattle.refusal.specs.declared.Refusal.TheVariants.{Oversize, Unbounded, IllFormed, Unordered, TooDeep, Missing, ShortBuffer, NoRoom, Endless, NoSheet, TooFar}
+use Rattle.refusal.specs.declared.Refusal.TheVariants.{Oversize, Unbounded, IllFormed, Unordered, TooDeep, Missing, ShortBuffer, NoRoom, Endless, NoSheet, TooFar, TooLong}
 use Rattle.refusal.specs.Refusal.{number_of}
 
 -- a cause stands in the source at its number
@@ -25,6 +25,7 @@ in_place NoRoom = refl
 in_place Endless = refl
 in_place NoSheet = refl
 in_place TooFar = refl
+in_place TooLong = refl
 
 -- causes compare as their numbers do
 pub cmp-number_of : (a b : Refusal) → ghosts.cmp a b ≡ nat_cmp (number_of a) (number_of b)

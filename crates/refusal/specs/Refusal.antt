@@ -1,7 +1,7 @@
 -- The numbers of the causes for which an edge, or a sheet, is turned away. Definitions only.
 use Rattle.std.specs.Prelude.{ℕ}
 use Rattle.refusal.specs.declared.Refusal.{Refusal}
-use Rattle.refusal.specs.declared.Refusal.TheVariants.{Oversize, Unbounded, IllFormed, Unordered, TooDeep, Missing, ShortBuffer, NoRoom, Endless, NoSheet, TooFar}
+use Rattle.refusal.specs.declared.Refusal.TheVariants.{Oversize, Unbounded, IllFormed, Unordered, TooDeep, Missing, ShortBuffer, NoRoom, Endless, NoSheet, TooFar, TooLong}
 
 -- the number of each cause
 abbrev pub number_of : Refusal → ℕ
@@ -16,3 +16,4 @@ number_of NoRoom = 8
 number_of Endless = 9
 number_of NoSheet = 10
 number_of TooFar = 11
+number_of TooLong = 12

@@ -31,6 +31,8 @@ pub enum Refusal {
     NoSheet,
     // 11: a hyperbola's parameter that is too far.
     TooFar,
+    // 12: a sheet's text longer than the lent buffer, or than a sheet may be.
+    TooLong,
 }
 
 impl Refusal {
@@ -51,6 +53,7 @@ impl Refusal {
             Refusal::Endless => 9,
             Refusal::NoSheet => 10,
             Refusal::TooFar => 11,
+            Refusal::TooLong => 12,
         }
     }
 }
@@ -89,6 +92,9 @@ impl fmt::Display for Refusal {
             }
             Refusal::NoSheet => "the text is no sheet (sheets/README.md)",
             Refusal::TooFar => "a hyperbola would be asked for a parameter beyond 100 in magnitude",
+            Refusal::TooLong => {
+                "the sheet's text would be longer than the buffer for it, or than 65,536 bytes"
+            }
         })
     }
 }

@@ -9,24 +9,22 @@
 // COUNT`, the sag for the extent, and there the step of the radius and the segments of the arc; and for each angle by `RADIANS
 // CLAMPED`, 1 where resolving changes the radians, else 0. Malformed options end their part.
 //
-// sheet: a sheet. Answered by its refusal, or by the sheet again: the layout's text of the five tables, the edge and the options
-// as they were read.
+// sheet: a sheet. Answered by its refusal, or by the text that the writer gives for what was read.
 //
 // curve: a sheet, then the word `parameters` and a newline, then a line for each parameter, at least one. Answered by the sheet's
 // refusal, or by the edge's curve, the breaks within its usable range and those that are kept; then by the point, the derivative
 // and the tangent at each parameter.
 //
-// Floats are 16 lowercase hex digits of their bits. Every NaN is written as 7ff8000000000000, but for an edge's lo and hi. `?`
-// answers a malformed line.
+// Floats are 16 lowercase hex digits of their bits. Every NaN is written as 7ff8000000000000. `?` answers a malformed line.
 ghost use Rattle.std.specs.Prelude.{◌≤◌};
 
-use brep::{Edge, Kind, LentTables};
+use brep::{Edge, LentTables};
 use math::{Interval, Vec3};
 use options::{Angle, Mode, Options, Resolved};
 use refusal::Refusal;
 use replay_text::{Parts, Waiting};
 use sheet::{Sheet, SheetTables};
-use sheet_layout::Column::{Float, Long, Word};
+use sheet_layout::Column::Float;
 
 // A part has at most so many bytes; what is more is left out.
 const SIZE: usize = 81920;
@@ -51,12 +49,8 @@ enum Request {
 enum Cell {
     // A float by its bits, a NaN by those of one that an operation makes.
     Float(f64),
-    // A float's own bits.
-    Bits(u64),
     // In decimal.
     Whole(u64),
-    // A curve's kind by its word.
-    Kind(Kind),
 }
 
 // Lines read.
@@ -89,31 +83,11 @@ fn put_flag(b: bool, out: &mut Waiting) {
     out.put_word(if b { b"1\n" } else { b"0\n" });
 }
 
-// A kind's word. Stays: sheet_layout has the same eight in a list, of which an index would ask that a kind's number lie in it, and a match asks
-// nothing.
-fn word_of(kind: Kind) -> &'static [u8] {
-    match kind {
-        Kind::Line => b"line",
-        Kind::Circle => b"circle",
-        Kind::Ellipse => b"ellipse",
-        Kind::Parabola => b"parabola",
-        Kind::Polyline => b"polyline",
-        Kind::Trimmed => b"trimmed",
-        Kind::Composite => b"composite",
-        Kind::Hyperbola => b"hyperbola",
-    }
-}
-
 // A number, then the byte `end`.
 fn put_cell(cell: Cell, end: u8, out: &mut Waiting) {
     match cell {
         Cell::Float(x) => out.put_float(x, end),
-        Cell::Bits(v) => out.put_hex(v, end),
         Cell::Whole(v) => out.put_decimal(v, end),
-        Cell::Kind(kind) => {
-            out.put_word(word_of(kind));
-            out.put_byte(end);
-        }
     }
 }
 
@@ -207,7 +181,7 @@ fn preset(text: &[u8]) -> Option<Options> {
 
 // The options of a line that has them as a sheet's last.
 fn written(text: &[u8]) -> Option<Options> {
-    let (numbers, _) = sheet_layout::line(text, &[Float, Float, Word, Long, Word, Float])?;
+    let (numbers, _) = sheet_layout::line(text, &sheet_layout::OPTION_COLUMNS)?;
     Some(sheet::options_from(sheet_row::raw_options_of(&numbers)))
 }
 
@@ -287,90 +261,13 @@ fn put_options(text: &[u8], out: &mut Waiting) {
 
 // Sheets, written again.
 
-fn put_points(points: &[f64], out: &mut Waiting) {
-    out.put_word(b"x y z\n");
-    for point in points.chunks_exact(3) {
-        put_floats(b"", point, out);
-    }
-}
-
-// A sheet that was read has no number but a kind's for a kind.
-fn put_curves(curves: &[u32], reals: &[f64], out: &mut Waiting) {
-    out.put_word(b"\nkind first count p q\n");
-    let reals = reals.as_chunks::<2>().0;
-    for ([kind, first, count], [p, q]) in curves.as_chunks::<3>().0.iter().zip(reals) {
-        let Some(kind) = Kind::of(*kind) else {
-            return put_malformed(out);
-        };
-        put_row(
-            &[
-                Cell::Kind(kind),
-                Cell::Whole(u64::from(*first)),
-                Cell::Whole(u64::from(*count)),
-                Cell::Float(*p),
-                Cell::Float(*q),
-            ],
-            out,
-        );
-    }
-}
-
-fn put_segments(parts: &[u32], ranges: &[f64], out: &mut Waiting) {
-    out.put_word(b"\ncurve lo hi sense\n");
-    let ranges = ranges.as_chunks::<2>().0;
-    for ([curve, sense], [lo, hi]) in parts.as_chunks::<2>().0.iter().zip(ranges) {
-        put_row(
-            &[
-                Cell::Whole(u64::from(*curve)),
-                Cell::Float(*lo),
-                Cell::Float(*hi),
-                Cell::Whole(u64::from(*sense)),
-            ],
-            out,
-        );
-    }
-}
-
-// The edge, lo and hi by their own bits.
-fn put_ends(edge: Edge, lo: u64, hi: u64, out: &mut Waiting) {
-    out.put_word(b"\ncurve start end sense lo hi tolerance low high\n");
-    put_row(
-        &[
-            Cell::Whole(u64::from(edge.curve)),
-            Cell::Whole(u64::from(edge.start)),
-            Cell::Whole(u64::from(edge.end)),
-            Cell::Whole(u64::from(edge.sense)),
-            Cell::Bits(lo),
-            Cell::Bits(hi),
-            Cell::Float(edge.tolerance),
-            Cell::Whole(u64::from(edge.low)),
-            Cell::Whole(u64::from(edge.high)),
-        ],
-        out,
-    );
-}
-
-fn put_own_options(options: Options, out: &mut Waiting) {
-    out.put_word(b"\ndeflection angle relative segments depth scale\n");
-    put_row(
-        &[
-            Cell::Float(options.deflection),
-            Cell::Float(options.angle.to_radians()),
-            Cell::Whole(u64::from(options.relative)),
-            Cell::Whole(options.segments),
-            Cell::Whole(u64::from(options.depth)),
-            Cell::Float(options.scale),
-        ],
-        out,
-    );
-}
-
+// The text of a sheet that was read, or its refusal.
 fn put_again(tables: &LentTables<'_>, sheet: &Sheet, out: &mut Waiting) {
-    put_points(tables.points, out);
-    put_curves(tables.curves, tables.reals, out);
-    put_segments(tables.parts, tables.ranges, out);
-    put_ends(sheet.edge, sheet.lo, sheet.hi, out);
-    put_own_options(sheet.options, out);
+    let mut text = [0u8; sheet_layout::SIZE];
+    match sheet_writer::write_sheet(tables, sheet.edge, sheet.options, &mut text) {
+        Ok(count) => out.put_word(&text[..count]),
+        Err(cause) => put_refusal(cause, out),
+    }
 }
 
 // Curves.
@@ -461,11 +358,11 @@ fn put_parameters(tables: &LentTables<'_>, row: u32, lines: &[u8], out: &mut Wai
 
 // The answer to a sheet that was read: with lines of parameters its curve, with none the sheet again.
 fn put_read(tables: &LentTables<'_>, sheet: &Sheet, lines: &[u8], out: &mut Waiting) {
-    if let Err(cause) = causes::check(tables, sheet.edge, sheet.options) {
-        return put_refusal(cause, out);
-    }
     if lines.is_empty() {
         return put_again(tables, sheet, out);
+    }
+    if let Err(cause) = causes::check(tables, sheet.edge, sheet.options) {
+        return put_refusal(cause, out);
     }
     put_curve(tables, sheet.edge.curve, out);
     put_edge(tables, sheet.edge, sheet.options, out);

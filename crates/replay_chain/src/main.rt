@@ -6,7 +6,9 @@
 //   mode strict            edges are drawn in strict mode
 //   mode reference         and in the one that is equal to the Rust, as before the first such part
 //   ask both               the answer is the whole of what `draw` answers, with every float of both buffers
-ghost use Rattle.std.specs.Prelude.{◌+◌, ◌*◌, ◌≤◌, length};
+//   ask write BYTES        the answer is the text of the sheet's tables, edge and options, in a buffer of so many bytes, at most 131,072
+//   ask page BYTES         the answer is the whole of what the writer answers, with every byte of that buffer
+ghost use Rattle.std.specs.Prelude.{◌+◌, ◌*◌, ◌≤◌, length, IfOk};
 ghost use Rattle.edge_record.specs.Chain.{width, most};
 ghost use Rattle.text_listing.specs.Listing.{line_bytes, refusal_bytes};
 
@@ -38,13 +40,31 @@ const BEFORE: f64 = 85.33333333333333;
 // The bits of a NaN that an operation makes.
 const QUIET: u64 = 0x7FF8000000000000;
 
-// How sheets are answered: the floats of both chain buffers, the mode, and whether the whole answer is asked for.
+// The most bytes of a buffer that a sheet is written into: twice as many as a sheet has.
+const PAGE: usize = 2 * sheet_layout::SIZE;
+
+// What each of these bytes is before, so that one that is left as it was shows.
+const BLANK: u8 = 0x55;
+
+// How many bytes of it stand on a line.
+const ROW: usize = 64;
+
+// What is told of a sheet: its listing; the whole of what `draw` answers; the text that is written into so many bytes, or all of them.
+#[derive(Clone, Copy)]
+enum Ask {
+    Chain,
+    Both,
+    Write(usize),
+    Page(usize),
+}
+
+// How sheets are answered: the floats of both chain buffers, the mode, and what is told.
 #[derive(Clone, Copy)]
 struct Settings {
     first: usize,
     second: usize,
     mode: Mode,
-    both: bool,
+    ask: Ask,
 }
 
 // The settings with the sizes that a part sets, if it is a line that does.
@@ -62,17 +82,39 @@ fn with_sizes(text: &[u8], settings: Settings) -> Option<Settings> {
     })
 }
 
+// The bytes of a buffer that a sheet is written into.
+fn bytes(text: &[u8]) -> Option<usize> {
+    let ([bytes, ..], rest) = sheet_layout::line(text, &[Word])?;
+    if !rest.is_empty() || (PAGE as u64) < bytes {
+        return None;
+    }
+    Some(bytes as usize)
+}
+
+// What a part asks for that names so many bytes, if it is such a line.
+fn with_bytes(text: &[u8]) -> Option<Ask> {
+    if let Some(rest) = text.strip_prefix(b"ask write ") {
+        return Some(Ask::Write(bytes(rest)?));
+    }
+    let rest = text.strip_prefix(b"ask page ")?;
+    Some(Ask::Page(bytes(rest)?))
+}
+
+// What a part asks for.
+fn asked(text: &[u8]) -> Option<Ask> {
+    match text {
+        b"ask both\n" => Some(Ask::Both),
+        b"ask chain\n" => Some(Ask::Chain),
+        _ => with_bytes(text),
+    }
+}
+
 // The settings behind a part that changes them; none for a sheet.
 fn set(text: &[u8], settings: Settings) -> Option<Settings> {
+    if let Some(ask) = asked(text) {
+        return Some(Settings { ask, ..settings });
+    }
     match text {
-        b"ask both\n" => Some(Settings {
-            both: true,
-            ..settings
-        }),
-        b"ask chain\n" => Some(Settings {
-            both: false,
-            ..settings
-        }),
         b"mode strict\n" => Some(Settings {
             mode: Mode::Strict,
             ..settings
@@ -162,29 +204,84 @@ fn put_both(text: &[u8], mode: Mode, first: &mut [f64], second: &mut [f64], out:
     }
 }
 
-// Writes the answer to a sheet, drawn in these buffers. Stays: which answer is asked for is a line of the input, and the answers share no text.
+// The sheet that a text stands for, written into a buffer: how many bytes.
+fn write_again(text: &[u8], page: &mut [u8]) -> Result<usize, Refusal>
+    ensures { IfOk result (λ count. count ≤ length page.new) }
+{
+    page.fill(BLANK);
+    let mut tables = SheetTables::new();
+    let sheet = tables.read(text)?;
+    sheet_writer::write_sheet(&tables.rows(&sheet), sheet.edge, sheet.options, page)
+}
+
+// The text that was written, or the refusal as the program tells it.
+fn write_text(to: Stdout, text: &[u8], page: &mut [u8], out: &mut Waiting) {
+    match write_again(text, page) {
+        Ok(count) => {
+            let _ = to.write_all(&page[..count]);
+        }
+        Err(cause) => {
+            out.put_word(b"refusal\n");
+            out.put_decimal(u64::from(cause.number()), b'\n');
+        }
+    }
+}
+
+// Bytes on one line, each by two hex digits.
+fn put_bytes(bytes: &[u8], out: &mut Waiting) {
+    for b in bytes {
+        out.put_byte(text_format::char_of(b / 16));
+        out.put_byte(text_format::char_of(b % 16));
+    }
+    out.put_byte(b'\n');
+}
+
+// The answer of writing and every byte of the buffer: what a text leaves out. For a text that is no sheet there is no buffer.
+fn put_page(text: &[u8], page: &mut [u8], out: &mut Waiting) {
+    match write_again(text, page) {
+        Ok(count) => {
+            out.put_word(b"bytes ");
+            out.put_decimal(count as u64, b'\n');
+        }
+        Err(cause) => {
+            put_refusal(cause, out);
+            if cause == Refusal::NoSheet {
+                return;
+            }
+        }
+    }
+    for row in page.chunks(ROW) {
+        put_bytes(row, out);
+    }
+}
+
+// Writes the answer to a sheet, drawn or written in these buffers. Stays: which answer is asked for is a line of the input, and the answers share
+// no text.
 fn write_answer(
     to: Stdout,
     text: &[u8],
     first: &mut [f64],
     second: &mut [f64],
     out: &mut [u8],
-    mode: Mode,
-    both: bool,
+    settings: Settings,
 )
     requires { refusal_bytes + line_bytes * most ≤ length out.old }
 {
-    if both {
-        let mut waiting = Waiting::new(to);
-        put_both(text, mode, first, second, &mut waiting);
-        waiting.flush();
-        return;
+    let mode = settings.mode;
+    let mut waiting = Waiting::new(to);
+    match settings.ask {
+        Ask::Chain => {
+            let written = chain_answer::answer_in_mode(text, mode, first, second, out);
+            let _ = to.write_all(&out[..written]);
+        }
+        Ask::Both => put_both(text, mode, first, second, &mut waiting),
+        Ask::Write(bytes) => write_text(to, text, &mut out[..bytes.min(PAGE)], &mut waiting),
+        Ask::Page(bytes) => put_page(text, &mut out[..bytes.min(PAGE)], &mut waiting),
     }
-    let written = chain_answer::answer_in_mode(text, mode, first, second, out);
-    let _ = to.write_all(&out[..written]);
+    waiting.flush();
 }
 
-// Writes the answer to a sheet, drawn in the first floats of both buffers.
+// Writes the answer to a sheet, with the first floats of both buffers.
 fn write_sheet(
     to: Stdout,
     text: &[u8],
@@ -197,15 +294,7 @@ fn write_sheet(
 {
     let n = settings.first.min(FLOATS);
     let m = settings.second.min(FLOATS);
-    write_answer(
-        to,
-        text,
-        &mut first[..n],
-        &mut second[..m],
-        out,
-        settings.mode,
-        settings.both,
-    );
+    write_answer(to, text, &mut first[..n], &mut second[..m], out, settings);
 }
 
 // All of the input, part by part; its end ends the last. The loop counts its turns, up to a number that no run reaches, since
@@ -220,7 +309,7 @@ fn main(rt: HostRuntime) {
         first: chain_answer::FLOATS,
         second: chain_answer::FLOATS,
         mode: Mode::Reference,
-        both: false,
+        ask: Ask::Chain,
     };
     for _ in 0..u64::MAX {
         let ended = parts.read_part();

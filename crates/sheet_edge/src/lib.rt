@@ -9,7 +9,6 @@ ghost use Rattle.sheet_row.specs.Rows.{raw_edge_of, raw_options_of};
 ghost use Rattle.sheet_edge.specs.Own.Answers.{single_of, parsed_as, raw_ends_of};
 
 use sheet_layout::Column;
-use sheet_layout::Column::{Float, Long, Word};
 use sheet_row::{RawEdge, RawOptions};
 
 // A line of names, then one line of values.
@@ -26,11 +25,7 @@ fn single<'a>(text: &'a [u8], names: &[u8], columns: &[Column]) -> Option<([u64;
 fn edge(text: &[u8]) -> Option<(RawEdge, &[u8])>
     ensures { as_read result ≡ parsed_as raw_edge_of ((single edge_columns).read text.now) }
 {
-    let (row, rest) = single(
-        text,
-        b"curve start end sense lo hi tolerance low high\n",
-        &[Word, Word, Word, Word, Float, Float, Float, Word, Word],
-    )?;
+    let (row, rest) = single(text, sheet_layout::EDGE_NAMES, &sheet_layout::EDGE_COLUMNS)?;
     Some((sheet_row::raw_edge_of(&row), rest))
 }
 
@@ -40,8 +35,8 @@ fn options(text: &[u8]) -> Option<(RawOptions, &[u8])>
 {
     let (row, rest) = single(
         text,
-        b"deflection angle relative segments depth scale\n",
-        &[Float, Float, Word, Long, Word, Float],
+        sheet_layout::OPTION_NAMES,
+        &sheet_layout::OPTION_COLUMNS,
     )?;
     Some((sheet_row::raw_options_of(&row), rest))
 }

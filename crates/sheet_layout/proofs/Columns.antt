@@ -34,7 +34,7 @@ pub shape_law : (shape : List Column) → Lawful (line (shape_of shape))
 shape_law shape = line_law (shape_of shape) (shape_good shape)
 
 -- ---- the byte behind a cell
-end_byte_map : {A B : Type 0} (f : A → B) (l : List A) → end_byte (map f l) ≡ end_byte l
+pub end_byte_map : {A B : Type 0} (f : A → B) (l : List A) → end_byte (map f l) ≡ end_byte l
 unfolding end_byte
 end_byte_map f [] = refl
 end_byte_map f (a ∷ l) = refl

@@ -1,6 +1,7 @@
 #![tactic(auto)]
-// The leaves of the sheet's reader: a kind's word, a cell, and a line. The layout itself is specs/Layout.antt.
-ghost use Rattle.std.specs.Prelude.{◌≡◌, ◌≤◌, length};
+// The layout's names, columns and words, and the leaves of the sheet's reader: a kind's word, a cell, and a line. The layout itself is
+// specs/Layout.antt.
+ghost use Rattle.std.specs.Prelude.{◌≡◌, [], ◌-◌, ◌≤◌, length, map, get_or};
 ghost use Rattle.text_format.specs.Format.{one_of};
 ghost use Rattle.text_format.specs.Table.{cell, line};
 ghost use Rattle.text_format.specs.Own.Answers.{as_read};
@@ -30,12 +31,35 @@ pub enum Column {
     Kind,
 }
 
-// A kind's word, for its number. Stays: the tables hold kinds by number, since C lends them so.
+use Column::{Float, Kind, Long, Word};
+
+// The five blocks, for the reader and the writer: the line of each one's names, and its columns.
+pub const POINT_NAMES: &[u8] = b"x y z\n";
+
+pub const POINT_COLUMNS: [Column; 3] = [Float, Float, Float];
+
+pub const CURVE_NAMES: &[u8] = b"kind first count p q\n";
+
+pub const CURVE_COLUMNS: [Column; 5] = [Kind, Word, Word, Float, Float];
+
+pub const SEGMENT_NAMES: &[u8] = b"curve lo hi sense\n";
+
+pub const SEGMENT_COLUMNS: [Column; 4] = [Word, Float, Float, Word];
+
+pub const EDGE_NAMES: &[u8] = b"curve start end sense lo hi tolerance low high\n";
+
+pub const EDGE_COLUMNS: [Column; 9] = [Word, Word, Word, Word, Float, Float, Float, Word, Word];
+
+pub const OPTION_NAMES: &[u8] = b"deflection angle relative segments depth scale\n";
+
+pub const OPTION_COLUMNS: [Column; 6] = [Float, Float, Word, Long, Word, Float];
+
+// The kinds' words, in the order of their numbers.
 #[tactic(auto, unfolding(crate::specs::Layout::kinds, text_format::specs::Bytes::bytes))]
-fn kind(s: &[u8]) -> Option<(u64, &[u8])>
-    ensures { as_read result ≡ (one_of kinds).read s.now }
+fn kinds() -> [&'static [u8]; 8]
+    ensures { map (λ w. w.now) result ≡ kinds }
 {
-    let words: [&[u8]; 8] = [
+    [
         b"line",
         b"circle",
         b"ellipse",
@@ -44,8 +68,24 @@ fn kind(s: &[u8]) -> Option<(u64, &[u8])>
         b"trimmed",
         b"composite",
         b"hyperbola",
-    ];
-    one_of(s, &words)
+    ]
+}
+
+// A kind's word, for its number. Stays: the tables hold kinds by number, since C lends them so.
+fn kind(s: &[u8]) -> Option<(u64, &[u8])>
+    ensures { as_read result ≡ (one_of kinds).read s.now }
+{
+    one_of(s, &kinds())
+}
+
+// The word of a kind's number; a number below 1 has the first, one above 8 none.
+pub fn kind_word(number: u64) -> &'static [u8]
+    ensures { result.now ≡ get_or kinds (number - 1) [] }
+{
+    match kinds().get(number.saturating_sub(1) as usize) {
+        Some(word) => word,
+        None => b"",
+    }
 }
 
 // A cell of a line: a value, and the byte behind it.

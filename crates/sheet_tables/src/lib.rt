@@ -16,7 +16,6 @@ ghost use Rattle.sheet_tables.specs.Own.Room.{Roomy};
 ghost use Rattle.sheet_tables.specs.Own.Answers.{table_of, numbers_of};
 
 use sheet_layout::Column;
-use sheet_layout::Column::{Float, Kind, Word};
 use std::marker::Model;
 
 // What is left of a sheet's text: its bytes, no more than a sheet may have.
@@ -139,7 +138,11 @@ pub fn points<'a>(text: SheetText<'a>, floats: &mut [f64]) -> Option<(usize, She
         wholes: &mut [],
         floats,
     };
-    lists.put_table(text, b"x y z\n", &[Float, Float, Float])
+    lists.put_table(
+        text,
+        sheet_layout::POINT_NAMES,
+        &sheet_layout::POINT_COLUMNS,
+    )
 }
 
 // The curves' block: kind first count, and p q. Stays: whole numbers and floats in two lists, as C lends them.
@@ -157,8 +160,8 @@ pub fn curves<'a>(
     let mut lists = Lists { wholes, floats };
     lists.put_table(
         text,
-        b"kind first count p q\n",
-        &[Kind, Word, Word, Float, Float],
+        sheet_layout::CURVE_NAMES,
+        &sheet_layout::CURVE_COLUMNS,
     )
 }
 
@@ -175,5 +178,9 @@ pub fn segments<'a>(
     ensures floats { floats.new ≡ padded (length floats.old) (of_bits binary64 0) (numbers_of (flattened (floats_of (fields segment_columns))) ((table segment_columns).read text.entry)) }
 {
     let mut lists = Lists { wholes, floats };
-    lists.put_table(text, b"curve lo hi sense\n", &[Word, Float, Float, Word])
+    lists.put_table(
+        text,
+        sheet_layout::SEGMENT_NAMES,
+        &sheet_layout::SEGMENT_COLUMNS,
+    )
 }

@@ -3,12 +3,13 @@
 ghost use Rattle.std.specs.Prelude.{◌≡◌, ◌+◌, ◌*◌, ◌/◌, ◌<◌, ◌≤◌, length};
 ghost use Rattle.edge_record.specs.Own.Records.{records_of};
 ghost use Rattle.edge_record.specs.Chain.{width, samples};
+ghost use Rattle.text_writer.specs.Own.Writer.{HasRoom, Writes};
 ghost use Rattle.text_listing.specs.Listing.{heading_bytes, line_bytes, refusal_bytes, bits_or, row_of, own_of, line_of, listing, refusal, Put};
-ghost use Rattle.text_listing.specs.Own.Writer.{HasRoom, Writes};
 
 use edge_record::Sample;
 use std::num::{f64_from_bits_with_nan, f64_to_bits_with_nan};
 use text_digits::DECIMAL;
+use text_writer::Writer;
 
 // How many bytes a float has in a listing: sixteen digits, and the byte behind them.
 pub const FLOAT_BYTES: usize = text_digits::HEX;
@@ -32,41 +33,16 @@ fn bits_or(own: u64, x: f64) -> u64
     }
 }
 
-// A lent buffer, and how many of its bytes were written. Stays: lent, since memory is fixed, so that the count is kept beside it.
-#[derive(Drop)]
-struct Writer<'a> {
-    out: &'a mut [u8],
-    at: usize,
-}
-
-impl<'a> Writer<'a> {
-    fn new(out: &'a mut [u8]) -> Writer<'a>
-        ensures same_reference { result.out.ghost_name ≡ out.entry.ghost_name }
-        ensures none { (result.at ≡ 0) × (result.out.now ≡ out.old) }
-    {
-        Writer { out, at: 0 }
-    }
-
-    // The bytes of a text.
-    fn put(&mut self, text: &[u8])
-        requires { HasRoom (length text.now) self.old }
-        ensures { Writes text.now self.old self.new }
-    {
-        self.out[self.at..self.at + text.len()].copy_from_slice(text);
-        self.at += text.len();
-    }
-
-    // The line of a sample whose parameter, if it is NaN, was copied from the bits `own`.
-    #[tactic(auto, using(crate::proofs::Lines::field_length))]
-    fn put_sample(&mut self, s: Sample, own: u64)
-        requires { HasRoom line_bytes self.old }
-        ensures { Writes (line_of (row_of own s)) self.old self.new }
-    {
-        self.put(&text_digits::hex(f64_to_bits_with_nan(s.point.x), b' '));
-        self.put(&text_digits::hex(f64_to_bits_with_nan(s.point.y), b' '));
-        self.put(&text_digits::hex(f64_to_bits_with_nan(s.point.z), b' '));
-        self.put(&text_digits::hex(bits_or(own, s.param), b'\n'));
-    }
+// The line of a sample whose parameter, if it is NaN, was copied from the bits `own`.
+#[tactic(auto, using(crate::proofs::Lines::field_length))]
+fn put_sample(s: Sample, own: u64, to: &mut Writer<'_>)
+    requires { HasRoom line_bytes to.old }
+    ensures { Writes (line_of (row_of own s)) to.old to.new }
+{
+    to.put(&text_digits::hex(f64_to_bits_with_nan(s.point.x), b' '));
+    to.put(&text_digits::hex(f64_to_bits_with_nan(s.point.y), b' '));
+    to.put(&text_digits::hex(f64_to_bits_with_nan(s.point.z), b' '));
+    to.put(&text_digits::hex(bits_or(own, s.param), b'\n'));
 }
 
 // The bits that a NaN parameter of sample i of n was copied from.
@@ -94,9 +70,13 @@ pub fn write_chain(chain: &[f64], first: u64, last: u64, out: &mut [u8]) -> usiz
     let mut to = Writer::new(out);
     to.put(b"x y z t\n");
     for i in 0..n {
-        to.put_sample(edge_record::sample_at(chain, i), own_of(first, last, n, i));
+        put_sample(
+            edge_record::sample_at(chain, i),
+            own_of(first, last, n, i),
+            &mut to,
+        );
     }
-    to.at
+    to.count()
 }
 
 // The listing of a refusal, at the buffer's start; answers how many bytes it has, as `write_chain`. Stays: a number, since the
@@ -108,5 +88,5 @@ pub fn write_refusal(cause: u32, out: &mut [u8]) -> usize
     let mut to = Writer::new(out);
     to.put(b"refusal\n");
     to.put(text_digits::decimal(u64::from(cause), b'\n', &mut [0; DECIMAL]));
-    to.at
+    to.count()
 }

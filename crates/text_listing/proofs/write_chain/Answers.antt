@@ -2,7 +2,8 @@
 use Rattle.std.proofs.Common.{◌≡◌, ap, ◌/◌, length, arith}
 use Rattle.edge_record.specs.Chain.{width}
 use Rattle.text_format.specs.Bytes.{bytes}
-use Rattle.text_listing.proofs.Written.{written_none, written_then, written_all}
+use Rattle.text_writer.proofs.Written.{written_none, written_then}
+use Rattle.text_listing.proofs.Written.{written_all}
 use Rattle.text_listing.proofs.Lines.{lines_none, lines_length, lines_more, listing_is, names_are}
 use Rattle.text_listing.proofs.write_chain.Goals as goal
 
@@ -28,5 +29,5 @@ returns c =
     let all = written_then c.put.ensures l.invariant in
     let same = all.same in
     let long = lines_length c.args.first c.args.last n c.args.chain.now 0 n in
-    rw (listing_is, ← names_are)
+    rw (listing_is, ← names_are, c.count.ensures)
     (written_all (rw i at all) c.new-to.ensures.none (omega (arith, long, c.requires)) (grind arith))

@@ -1,5 +1,5 @@
 -- `text_listing::write_chain` meets its contract: so many lines were written. Assumes nothing.
-use Rattle.text_listing.specs.Own.Writer.{Writes}
+use Rattle.text_writer.specs.Own.Writer.{Writes}
 use Rattle.text_listing.proofs.Lines.{lines_from}
 use Rattle.text_listing.proofs.write_chain.Given as goal
 

@@ -3,7 +3,8 @@ use Rattle.std.proofs.Common.{ap, ◌∙◌, [], ◌∷◌, ◌++◌, length, ar
 use Rattle.text_format.specs.Bytes.{bytes}
 use Rattle.text_format.specs.Format.{decimal}
 use Rattle.text_listing.specs.Listing.{refusal}
-use Rattle.text_listing.proofs.Written.{written_then, written_all}
+use Rattle.text_writer.proofs.Written.{written_then}
+use Rattle.text_listing.proofs.Written.{written_all}
 use Rattle.text_listing.proofs.Laws.{refusal_length}
 use Rattle.text_listing.proofs.write_refusal.Goals as goal
 
@@ -21,4 +22,4 @@ returns c =
     let e = c.decimal.ensures ∙ ap (λ n. decimal n ++ 10 ∷ []) c.from.ensures in
     let all = written_then c.put.ensures (rw e at c.put-2.ensures) in
     let same = all.same in
-    written_all all c.new-to.ensures.none (omega (arith, few, c.requires)) (grind arith)
+    rw c.count.ensures (written_all all c.new-to.ensures.none (omega (arith, few, c.requires)) (grind arith))

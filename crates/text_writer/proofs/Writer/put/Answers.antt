@@ -1,8 +1,8 @@
--- `text_listing::Writer::put` meets its contract. Assumes nothing.
+-- `text_writer::Writer::put` meets its contract. Assumes nothing.
 use Rattle.std.proofs.Common.{refl, ap, ◌∙◌, length, arith}
 use Rattle.std.proofs.Math.Seq.{length-sets}
-use Rattle.text_listing.proofs.Written.{part_written}
-use Rattle.text_listing.proofs.Writer.put.Goals as goal
+use Rattle.text_writer.proofs.Written.{part_written}
+use Rattle.text_writer.proofs.Writer.put.Goals as goal
 
 pub returns : goal.returns
 returns c =

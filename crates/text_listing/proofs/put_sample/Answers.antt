@@ -1,7 +1,7 @@
--- `text_listing::Writer::put_sample` meets its contract. Assumes nothing.
-use Rattle.text_listing.proofs.Written.{written_then}
+-- `text_listing::put_sample` meets its contract. Assumes nothing.
+use Rattle.text_writer.proofs.Written.{written_then}
 use Rattle.text_listing.proofs.Lines.{own_none, line_is}
-use Rattle.text_listing.proofs.Writer.put_sample.Goals as goal
+use Rattle.text_listing.proofs.put_sample.Goals as goal
 
 pub returns : goal.returns
 returns c =

@@ -1,0 +1,4 @@
+pub mod Answer
+pub mod ReadBack
+pub mod Written
+pub mod Own
