@@ -26,7 +26,8 @@ use Rattle.curve_point.specs.Point as curves
 use Rattle.curve_tangent.specs.Derivative as derivatives
 use Rattle.curve_prepared.specs.declared.Prepared.{Prepared}
 use Rattle.curve_prepared.specs.declared.Prepared.TheVariants.{Line, Round, Parabola, Other}
-use Rattle.curve_prepared.specs.Own.Prepared.{prepared_of, line_only, is_plain, plain_point}
+use Rattle.curve_prepared.specs.Own.Prepared.{prepared_of, line_only, is_plain, plain_point, prepared_point, prepared_derivative}
+use Rattle.curve_prepared.proofs.EveryCurve.{own_point, own_derivative}
 
 -- an F that looks through trims is of a curve that was prepared as a line what it is of that line
 pub through_line : {A : Type 0} (F : CurveTree → A) → ((b : CurveTree) (i : Interval) → F (trimmed b i) ≡ F b) → (c : CurveTree) {o d : Vec3} → prepared_of c ≡ Line o d → F c ≡ F (analytic (line o d))
@@ -40,22 +41,16 @@ through_line F h (polyline ps) e = cc
 through_line F h (trimmed base range) e = h base range ∙ through_line F h base e
 through_line F h (composite ss) e = cc
 
--- the points of a curve prepared that needs no tables are the curve's own
-own_points : (c : CurveTree) (t : Float) → is_plain (prepared_of c) ≡ true → plain_point (prepared_of c) t ≡ curves.point_at c t
-unfolding plain_point prepared_of is_plain curves.point_at
-own_points (analytic (line o d)) t h = refl
-own_points (analytic (circle f r)) t h = refl
-own_points (analytic (ellipse f a b)) t h = refl
-own_points (analytic (parabola f d)) t h = refl
-own_points (analytic (hyperbola f a b)) t h = absurd (false≢true h)
-own_points (polyline ps) t h = absurd (false≢true h)
-own_points (trimmed base range) t h = own_points base t h
-own_points (composite ss) t h = absurd (false≢true h)
+-- a curve prepared that needs no tables has its points without them
+pub plain_is : (r : Prepared) (c : CurveTree) (t : Float) → is_plain r ≡ true → plain_point r t ≡ prepared_point r c t
+unfolding is_plain plain_point prepared_point
+plain_is (Line o d) c t h = refl
+plain_is (Round o x y a b) c t h = refl
+plain_is (Parabola o x y d) c t h = refl
+plain_is (Other closed) c t h = absurd (false≢true h)
 
 pub plain_point_lem : (c : CurveTree) (t : Float) {prepared : Prepared} → prepared_of c ≡ prepared → is_plain prepared ≡ true → {p : Vec3} → p ≡ plain_point prepared t → p ≡ curves.point_at c t
-plain_point_lem c t {prepared} R h {p} P =
-    let plain : is_plain (prepared_of c) ≡ true = rw R h in
-    P ∙ ap (λ x. plain_point x t) (sym R) ∙ own_points c t plain
+plain_point_lem c t {prepared} R h P = own_point c t (sym R) (P ∙ plain_is prepared c t h)
 
 -- every variant but the last is plain
 pub no_other : (r : Prepared) → ((closed : Bool) → r ≡ Other closed → ⊥) → is_plain r ≡ true
@@ -68,30 +63,16 @@ no_other (Other closed) h = absurd (h closed refl)
 -- the derivative of a curve that was prepared as one of the plain variants
 module _ (t : Float) where
   pub line_slope : (c : CurveTree) {o d : Vec3} → prepared_of c ≡ Line o d → d ≡ derivatives.derivative_at c t
-  unfolding derivatives.derivative_at
-  line_slope c e = sym (through_line (λ k. derivatives.derivative_at k t) (λ b i. refl) c e)
+  unfolding prepared_derivative
+  line_slope c e = own_derivative c t (sym e) refl
 
   pub round_slope : (c : CurveTree) {o x y : Vec3} {a b : Float} → prepared_of c ≡ Round o x y a b → derivatives.ellipse_derivative x y a b (cos_of t) (sin_of t) ≡ derivatives.derivative_at c t
-  unfolding prepared_of derivatives.derivative_at
-  round_slope (analytic (line p q)) e = cc
-  round_slope (analytic (circle f r)) e = cc
-  round_slope (analytic (ellipse f a b)) e = cc
-  round_slope (analytic (parabola f a)) e = cc
-  round_slope (analytic (hyperbola f a b)) e = cc
-  round_slope (polyline ps) e = cc
-  round_slope (trimmed base range) e = round_slope base e
-  round_slope (composite ss) e = cc
+  unfolding prepared_derivative
+  round_slope c e = own_derivative c t (sym e) refl
 
   pub parabola_slope : (c : CurveTree) {o x y : Vec3} {d : Float} → prepared_of c ≡ Parabola o x y d → derivatives.parabola_derivative x y d t ≡ derivatives.derivative_at c t
-  unfolding prepared_of derivatives.derivative_at
-  parabola_slope (analytic (line p q)) e = cc
-  parabola_slope (analytic (circle f r)) e = cc
-  parabola_slope (analytic (ellipse f a b)) e = cc
-  parabola_slope (analytic (parabola f a)) e = cc
-  parabola_slope (analytic (hyperbola f a b)) e = cc
-  parabola_slope (polyline ps) e = cc
-  parabola_slope (trimmed base range) e = parabola_slope base e
-  parabola_slope (composite ss) e = cc
+  unfolding prepared_derivative
+  parabola_slope c e = own_derivative c t (sym e) refl
 
 -- a row that was left to be looked up, by the row under its trims
 module _ (T : Tables) (row : ℕ) {r : ℕ} (u : r ≡ under T.curves row) where

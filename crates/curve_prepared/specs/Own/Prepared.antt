@@ -11,8 +11,8 @@ use Rattle.math.specs.Math.{vec, v_add, v_scale, y_dir}
 use Rattle.brep.specs.Rows.{frame_of}
 use Rattle.brep.specs.Tree.{CurveTree, analytic, line, circle, ellipse, parabola, hyperbola, polyline, trimmed, composite}
 use Rattle.curve_parameter.specs.Run.{closes}
-use Rattle.curve_point.specs.Point.{axes_point, parabola_point}
-use Rattle.curve_tangent.specs.Derivative.{hyperbola_derivative}
+use Rattle.curve_point.specs.Point.{axes_point, parabola_point, point_at}
+use Rattle.curve_tangent.specs.Derivative.{ellipse_derivative, parabola_derivative, hyperbola_derivative, derivative_at}
 use Rattle.curve_prepared.specs.declared.Prepared.{Prepared}
 use Rattle.curve_prepared.specs.declared.Prepared.TheVariants.{Line, Round, Parabola, Other}
 
@@ -61,3 +61,17 @@ plain_point (Line origin direction) t = v_add origin (v_scale direction t)
 plain_point (Round origin x y major minor) t = axes_point origin x y major minor (cos_of t) (sin_of t)
 plain_point (Parabola origin x y focal) t = parabola_point origin x y focal t
 plain_point (Other closed) t = vec plus_zero plus_zero plus_zero
+
+-- the point at t of a curve that was prepared
+unfoldable pub prepared_point : Prepared → CurveTree → Float → Vec3
+prepared_point (Line origin direction) c t = v_add origin (v_scale direction t)
+prepared_point (Round origin x y major minor) c t = axes_point origin x y major minor (cos_of t) (sin_of t)
+prepared_point (Parabola origin x y focal) c t = parabola_point origin x y focal t
+prepared_point (Other closed) c t = point_at c t
+
+-- the derivative at t of a curve that was prepared
+unfoldable pub prepared_derivative : Prepared → CurveTree → Float → Vec3
+prepared_derivative (Line origin direction) c t = direction
+prepared_derivative (Round origin x y major minor) c t = ellipse_derivative x y major minor (cos_of t) (sin_of t)
+prepared_derivative (Parabola origin x y focal) c t = parabola_derivative x y focal t
+prepared_derivative (Other closed) c t = derivative_at c t
