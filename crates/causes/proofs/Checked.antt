@@ -158,7 +158,7 @@ module _ (t : Tables) where
   pub sizes_at : oversize t ≡ false → (point_count t ≤ most_points) × (curve_count t ≤ most_rows) × (segment_count t ≤ most_segments)
   sizes_at h = let k = sizes t h in (omega arith, omega arith, omega arith)
 
-  -- where the tables alone are accepted, they are or_parts above their sizes nor ill-formed
+  -- where the tables alone are accepted, they are neither above their sizes nor ill-formed
   pub tables_of_lem : tables_verdict t ≡ Ok tt → (oversize t ≡ false) × (ill_formed_tables t ≡ false)
   unfolding tables_verdict
   tables_of_lem h =
