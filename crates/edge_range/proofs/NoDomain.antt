@@ -35,7 +35,8 @@ module _ (T : Tables) (row : ℕ) {kind : ℕ} (k : kind ≡ row_kind T row) whe
         | kinds.Composite ↦ λ e. refl
         | kinds.Hyperbola ↦ λ e. absurd (n (k ∙ e))
       ])
-      refl ∙ at_row is_open_conic T row refl refl
+      refl
+      ∙ at_row is_open_conic T row refl refl
 
   module _ (range : Interval) {mode : Mode} (s : mode ≡ Strict) where
     by_strict : {b : Bool} → b ≡ is_open_conic (tree T row) → b && is_no_range range ≡ has_no_domain mode (tree T row) range
