@@ -13,7 +13,7 @@ use Rattle.arith_root.specs.Root.{root_of}
 use Rattle.arith_root.proofs.Laws.{root_zero, rooted, root_over, root_reflects}
 use Rattle.arith_root.proofs.Squares.{square_low, root_under_square, root_over_square}
 use Rattle.arith_root.proofs.Apart.{apart}
-use Rattle.arith_root_limit.specs.Own.Limit.{cut_if, square_if, a_little_less, a_little_more, low_cut, high_cut, Stands}
+use Rattle.arith_root_limit.specs.Own.Limit.{cut_if, square_if, a_little_more, just_less, just_more, low_cut, high_cut, Stands}
 
 -- a test of a root, and of what it is
 pub root_at_most : {d e : Float} (limit : Float) → d ≡ e → le d limit ≡ true → le e limit ≡ true
@@ -88,12 +88,12 @@ pub stands : (at : Float) → Stands at
 unfolding low_cut high_cut
 stands at = record {
   low_stands = λ (s : Float) (G : T (fits binary64 s)) (z : le plus_zero s ≡ true) (h : lt s (low_cut at) ≡ true).
-      let k = at ⊗ a_little_less in
-      let t = below_square k s (mul-fits binary64 at a_little_less) G (le k at) (zero_low s z) (holds h) in
+      let k = at ⊗ just_less in
+      let t = below_square k s (mul-fits binary64 at just_less) G (le k at) (zero_low s z) (holds h) in
       is_true (le (root_of s) at) (le_trans (root_of s) k at t.1 (holds t.0));
   high_stands = λ (s : Float) (G : T (fits binary64 s)) (h : lt (high_cut at) s ≡ true).
-      let k = at ⊗ a_little_more in
-      let t = above_square k s (mul-fits binary64 at a_little_more) G (lt at k) (holds h) in
+      let k = at ⊗ just_more in
+      let t = above_square k s (mul-fits binary64 at just_more) G (lt at k) (holds h) in
       is_true (lt at (root_of s)) (lt_le_trans at k (root_of s) (holds t.0) t.3);
 }
 

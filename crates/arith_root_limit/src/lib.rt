@@ -12,7 +12,10 @@ use std::marker::Model;
 // A millionth more: what is above zero, and times this is below another number, has a smaller root than that.
 pub const A_LITTLE_MORE: f64 = 1.000001;
 
-const A_LITTLE_LESS: f64 = 0.999999;
+// The float below 1 and the float above it: what a limit's cuts are the squares of, so that few roots are taken between them.
+const JUST_LESS: f64 = 0.9999999999999999;
+
+const JUST_MORE: f64 = 1.0000000000000002;
 
 // A limit for roots, for many comparisons with it. What is below the low cut has a root within the limit, and what is above the high one
 // has a root above it.
@@ -42,8 +45,8 @@ impl Limit {
     pub fn new(at: f64) -> Limit
         ensures { result ≡ at }
     {
-        let less = at * A_LITTLE_LESS;
-        let more = at * A_LITTLE_MORE;
+        let less = at * JUST_LESS;
+        let more = at * JUST_MORE;
         let low = square_if(less <= at, less);
         let high = square_if(at < more, more);
         Limit { at, low, high }

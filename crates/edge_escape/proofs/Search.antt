@@ -8,6 +8,15 @@ use Rattle.std.specs.Option.{option_map}
 use Rattle.std.specs.Iterator.Runs.{Run, AnyItemGives, AllItemsGive, CallKeepsClosure}
 use Rattle.std.proofs.lemmas.Bool.{true≢false}
 use denote.Param.Members.{Mut, Called}
+use lib.Dec.{T}
+use lib.Ieee.{nan, binary64, fits, le}
+use lib.Ieee.Fits.{mul-fits}
+use Rattle.arith_order.proofs.Laws.{number_right}
+use Rattle.arith.proofs.Cmp.{holds}
+use Rattle.arith.specs.Notation.{◌⊗◌}
+use Rattle.arith_root.specs.Root.{root_of}
+use Rattle.arith_root_limit.specs.Own.Limit.{cut_if}
+use Rattle.arith_root_limit.proofs.Roots.{not_above}
 use Rattle.math.specs.declared.Vec3.{Vec3}
 use Rattle.math.specs.declared.Aabb.{Aabb}
 use Rattle.math.specs.Math.{distance, centre}
@@ -27,6 +36,14 @@ some_of P (s ∷ l) = P s.point || some_of P l
 -- the test of `escapes`
 abbrev pub beyond : Float → Vec3 → Vec3 → Bool
 beyond limit centre p = lt limit (distance p centre)
+
+-- a cut that is the limit's own square, where that serves: what is not above it has no root above the limit
+pub spared : (s at : Float) {cut : Float} → T (fits binary64 s) → cut ≡ cut_if (le (root_of (at ⊗ at)) at) (at ⊗ at) → le s cut ≡ true → false ≡ lt at (root_of s)
+spared s at {cut} F e h = go (le (root_of (at ⊗ at)) at) refl (rw (← e) h)
+  where
+    go : (b : Bool) → le (root_of (at ⊗ at)) at ≡ b → le s (cut_if b (at ⊗ at)) ≡ true → false ≡ lt at (root_of s)
+    go true t k = not_above s (at ⊗ at) at F (mul-fits binary64 at at) t k
+    go false t k = absurd (number_right s nan (holds k))
 
 -- ---- record by record
 module _ (P : Vec3 → Bool) (c : List Float) where

@@ -1,9 +1,10 @@
 #![tactic(auto)]
 // Two closures of repair_runaway: does a chain leave the reference box, and which parameter is nearest to a vertex.
 ghost use Rattle.std.specs.Prelude.{◌≡◌, true, false, [], ◌∷◌, Float};
-ghost use Rattle.std.specs.Float.Ieee.{le};
-ghost use Rattle.arith.specs.Notation.{plus_zero};
+ghost use Rattle.std.specs.Float.Ieee.{lt, le};
+ghost use Rattle.arith.specs.Notation.{◌⊗◌, plus_zero};
 ghost use Rattle.arith_root.specs.Root.{root_of};
+ghost use Rattle.arith_root_limit.specs.Own.Limit.{cut_if};
 ghost use Rattle.brep.specs.Rows.{lent};
 ghost use Rattle.brep.specs.Tree.{tree};
 ghost use Rattle.draw_spec.specs.Repair.{escape_limit, escapes, sweep_at, nearest};
@@ -78,6 +79,17 @@ pub fn are_near(reference: Aabb, p: Vec3, q: Vec3) -> bool
     false
 }
 
+// Whether the root of s is above the limit. Up to a cut that is the limit's own square no root is taken, so that a chain just inside the limit
+// takes none.
+fn is_beyond(s: f64, limit: Limit, cut: f64) -> bool
+    ensures { cut ≡ cut_if (le (root_of (limit ⊗ limit)) limit) (limit ⊗ limit) → result ≡ lt limit (root_of s) }
+{
+    if s <= cut {
+        return false;
+    }
+    limit.is_root_above(s)
+}
+
 // Whether a point of the chain lies further from the box's centre than its diagonal and 16 sags.
 pub fn escapes(reference: Aabb, r: Resolved, chain: &[f64]) -> bool
     ensures { result ≡ escapes reference r (records_of chain.now) }
@@ -86,11 +98,14 @@ pub fn escapes(reference: Aabb, r: Resolved, chain: &[f64]) -> bool
     if is_near(reference, r, chain) {
         return false;
     }
-    let limit = Limit::new(reference.diagonal() + r.sag * 16.0);
+    let at = reference.diagonal() + r.sag * 16.0;
+    let square = at * at;
+    let cut = arith_root_limit::cut_if(arith_root::root(square) <= at, square);
+    let limit = Limit::new(at);
     let centre = reference.centre();
     chain.chunks_exact(WIDTH).any(|record| {
         let p = edge_record::record_point(record, 0);
-        limit.is_root_above(p.sub(centre).length_squared())
+        is_beyond(p.sub(centre).length_squared(), limit, cut)
     })
 }
 

@@ -13,9 +13,13 @@ cut_if serves x = cond serves x nan
 abbrev pub a_little_more : Float
 a_little_more = bits 0x3FF000010C6F7A0B
 
--- 0.999999
-abbrev pub a_little_less : Float
-a_little_less = bits 0x3FEFFFFDE7210BE9
+-- the float below 1
+abbrev pub just_less : Float
+just_less = bits 0x3FEFFFFFFFFFFFFF
+
+-- the float above 1
+abbrev pub just_more : Float
+just_more = bits 0x3FF0000000000001
 
 -- the square of a number above zero as a cut, where it serves
 abbrev pub square_if : Bool → Float → Float
@@ -23,10 +27,10 @@ square_if serves x = cut_if (lt plus_zero x) (cut_if serves (x ⊗ x))
 
 -- the cuts of a limit, the squares of numbers that stand on their sides of it
 unfoldable pub low_cut : Float → Float
-low_cut at = square_if (le (at ⊗ a_little_less) at) (at ⊗ a_little_less)
+low_cut at = square_if (le (at ⊗ just_less) at) (at ⊗ just_less)
 
 unfoldable pub high_cut : Float → Float
-high_cut at = square_if (lt at (at ⊗ a_little_more)) (at ⊗ a_little_more)
+high_cut at = square_if (lt at (at ⊗ just_more)) (at ⊗ just_more)
 
 -- what is below the low cut has a root within the limit, and what is above the high one has a root above it
 pub record Stands (at : Float) : Type 0 where
