@@ -1,4 +1,4 @@
--- The loops of `merge`: what is placed, then what is left, is the whole. Assumes nothing.
+-- The loops of `merge` and `copy`: what is placed, then what is left, is the whole. Assumes nothing.
 use mathlib.Core.Path.{◌≡◌, refl, sym, ap, ◌∙◌}
 use mathlib.Core.Bool.{Bool, true, false, cond}
 use mathlib.Core.List.{List, [], ◌∷◌, ◌++◌}
@@ -6,7 +6,7 @@ use Prim.Native.Nat.{ℕ, ◌+◌, ◌≤◌, ◌<◌}
 use native.Mathlib.Numerals.{add-one}
 use native.Mathlib.Omega.{arith}
 use lib.ListN.{length, get_or, take, drop, set, length-set, take-append-drop, drop_of_length-le}
-use lib.Seq.{take-suc-set, drop-set-lt, drop-cons, append_snoc}
+use lib.Seq.{take-suc-set, take-suc, take-length, drop-set-lt, drop-cons, append_snoc}
 use lib.Ieee.{Float, nan, lt}
 use Rattle.knots_sort.specs.Own.Merge.{before, merged_runs}
 
@@ -99,3 +99,15 @@ merging_done l b a next to i s h =
     ∙ ap (λ (m : ℕ). take to a ++ drop m a) (sym e)
     ∙ ap (λ (t : List Float). take to a ++ merged_runs t (drop next a)) (sym n)
     ∙ s.whole
+
+-- ---- the loop of `copy`: the first i of `to` are those of `from`
+module _ (from to : List Float) (i : ℕ) (same_length : length from ≡ length to) (same : take i to ≡ take i from) where
+  pub copying_next : i < length from → take (i + 1) (set to i (get_or from i nan)) ≡ take (i + 1) from
+  copying_next h =
+      ap (λ (n : ℕ). take n (set to i (get_or from i nan))) (add-one i)
+      ∙ take-suc-set to i (get_or from i nan) (omega arith)
+      ∙ ap (λ (t : List Float). t ++ (get_or from i nan ∷ [])) same
+      ∙ sym (take-suc from i nan h) ∙ ap (λ (n : ℕ). take n from) (sym (add-one i))
+
+  pub copying_done : i ≡ length from → to ≡ from
+  copying_done e = sym (take-length to) ∙ ap (λ (n : ℕ). take n to) (sym same_length ∙ sym e) ∙ same ∙ ap (λ (n : ℕ). take n from) e ∙ take-length from

@@ -31,6 +31,16 @@ fn merge(left: &[f64], a: &mut [f64])
     }
 }
 
+// Copies from to to, float by float: a slice's `copy_from_slice` would need C's `memmove`, and the library needs nothing but C's `memset`.
+fn copy(from: &[f64], to: &mut [f64])
+    requires { length from.now ≡ length to.old }
+    ensures { to.new ≡ from.now }
+{
+    for (i, x) in from.iter().enumerate() {
+        to[i] = *x;
+    }
+}
+
 // Merges the first m of a, and the others, both in order. Halves that stand in order are not moved. Stays: one slice and a place in it, since what
 // is merged is written over both halves.
 fn join(a: &mut [f64], scratch: &mut [f64], m: usize)
@@ -39,7 +49,7 @@ fn join(a: &mut [f64], scratch: &mut [f64], m: usize)
 {
     if a[m] < a[m - 1] {
         let left = &mut scratch[..m];
-        left.copy_from_slice(&a[..m]);
+        copy(&a[..m], left);
         merge(left, a);
     }
 }
