@@ -7,7 +7,7 @@ ghost use Rattle.brep.specs.Rows.{most_rows, most_segments, lent};
 ghost use Rattle.causes_nesting.specs.Own.RowsCause.{rows_cause};
 ghost use Rattle.causes_nesting.specs.Own.Depths.{Seen, segments_seen, depth_below, TellsRun, one_deeper, row_depth, RunFits, passed, IsStart, Known, cause_with};
 
-use brep::{Kind, LentTables};
+use brep::{Kind, LentTables, Run};
 use refusal::Refusal;
 
 // Of the numbers for depths, 0 to 8 are nestings, this stands for every deeper one, and the next for a reference that is not to a
@@ -166,6 +166,17 @@ fn one_deeper(depth: u8) -> u8
     if depth < TOO_DEEP { depth + 1 } else { depth }
 }
 
+// Of a run. Of one without segments nothing is asked: on the way down to those it would be parted into blocks all the same.
+fn run_depth<D: Depths>(depths: &mut D, run: Run) -> u8
+    requires { run.first + run.count ≤ segments_seen (D.seen depths.old) }
+    ensures { TellsRun (D.seen depths.old) (D.seen depths.new) run.first (run.first + run.count) result }
+{
+    if run.count == 0 {
+        return 0;
+    }
+    depths.of_run(run.first, run.first + run.count)
+}
+
 // Of a row, by the rows below it.
 #[tactic(auto, unfolding(crate::specs::Own::Depths::depth_as))]
 fn row_depth<D: Depths>(depths: &mut D, curves: &[u32], row: u32) -> u8
@@ -176,7 +187,7 @@ fn row_depth<D: Depths>(depths: &mut D, curves: &[u32], row: u32) -> u8
     let run = brep::run_at(curves, row);
     match brep::kind_at(curves, row) {
         Some(Kind::Trimmed) => one_deeper(depths.of_row(run.first)),
-        Some(Kind::Composite) => one_deeper(depths.of_run(run.first, run.first + run.count)),
+        Some(Kind::Composite) => one_deeper(run_depth(depths, run)),
         _ => 0,
     }
 }
