@@ -11,7 +11,6 @@ use lib.Ieee.{Float, binary64, fits, of_bits, le}
 use borrow.Author.Tests.{lt-ltb, le-ltb, le-leb, lt-leb}
 use Rattle.base_lists.specs.Own.ListOf.{list_of}
 use Rattle.base_lists.specs.Room.{filled}
-use Rattle.base_lists.proofs.Filled.{filled_length}
 use Rattle.arith.specs.Notation.{plus_zero}
 use Rattle.math.specs.declared.Vec3.{Vec3}
 use Rattle.math.specs.declared.Interval.{Interval}
@@ -37,7 +36,7 @@ use Rattle.edge_range.specs.Usable.{usable_range, is_open_conic, has_no_domain}
 use Rattle.edge_record.specs.declared.Sample.{Sample}
 use Rattle.edge_record.specs.Own.Stored.{counted_of}
 use Rattle.edge_record.specs.Chain.{width, shortest, flat, samples}
-use Rattle.edge_record.proofs.Laws.{length_flat, reads}
+use Rattle.edge_record.proofs.Laws.{reads}
 use Rattle.edge_merge.specs.Merge.{merge_floor}
 use Rattle.draw_spec.specs.declared.Way.{Way}
 use Rattle.draw_spec.specs.declared.Way.TheVariants.{AsDrawn}
@@ -265,7 +264,7 @@ unfolding draw.answer_of first_after second_after
 early n first second d h q = record { answered = rw q; first_holds = rw (q, le-leb (number_of n) 7 h); second_holds = rw (q, le-leb (number_of n) 7 h) }
 
 module _ (mode : Mode) (t : Tables) (e : Edge) (o : Options) (first second : List Float) where
-  -- draw_unchecked
+  -- draw_in_buffers and draw_unchecked
   pub too_short_lem : too_short (length first) (length second) ≡ true → DrawnInto (in_buffers mode t e o (length first) (length second)) first second (Err ShortBuffer) first second
   too_short_lem h = early ShortBuffer first second _ (omega arith) (rw h)
 
@@ -285,7 +284,7 @@ module _ (mode : Mode) (t : Tables) (e : Edge) (o : Options) (first second : Lis
   pub all_outcome : Binary t e → (answer : Answer Drawn) (f s : List Float) → DrawnInto (drawn mode t e o (length first) (length second)) first second answer f s → Outcome mode t e o first second answer f s
   all_outcome b answer f s d = outcome mode t e o first second answer f s d.answered d.first_holds d.second_holds b
 
--- ---- the lengths that draw_unchecked looks at
+-- ---- the lengths that draw_in_buffers looks at
 pub first_short : (a b : ℕ) → a < shortest → too_short a b ≡ true
 first_short a b h = ap (λ (x : Bool). x || ltb b shortest) (lt-ltb a shortest h)
 

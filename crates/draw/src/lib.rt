@@ -1,10 +1,13 @@
 #![tactic(auto)]
 // Drawing an edge: THE entry point. Whoever calls it, with tables, edge, options and buffers of any content, gets a chain
 // or one of the numbered refusals.
-ghost use Rattle.std.specs.Prelude.{◌≡◌, length, T};
+ghost use Rattle.std.specs.Prelude.{◌≡◌, ◌≤◌, length, T};
 ghost use Rattle.std.specs.Float.{binary64};
 ghost use Rattle.std.specs.Float.Ieee.{fits};
 ghost use Rattle.brep.specs.Rows.{lent};
+ghost use Rattle.brep.specs.Tree.{tree};
+ghost use Rattle.knots_sort.specs.Own.Sortable.{most_knots};
+ghost use Rattle.knots.specs.Knots.{curve_knots};
 ghost use Rattle.edge_params.specs.Work.{done, within};
 ghost use Rattle.draw_spec.specs.Draw.{first_way, local_options, drawn_probed, lost_chord, in_buffers, Outcome};
 ghost use Rattle.options.specs.declared.Mode.TheVariants.{Reference};
@@ -129,21 +132,16 @@ fn drawn_in(plan: &Plan<'_>, buffers: &mut Buffers<'_>) -> Result<Drawn, Refusal
     edge_repair::repair_runaway(plan, Drawn { way, count }, buffers)
 }
 
-// Draws an edge over tables of any content, of which nothing is looked at but that its curve has no more knots than can be sorted. Stays: options
-// and two buffers of any length are what a caller lends; that either has room, which `Buffers` keeps, is looked at here.
+// Draws an edge into buffers that have room, over tables of any content, of which nothing is looked at but that its curve has no more knots
+// than can be sorted.
 fn draw_unchecked(
     drawing: &Drawing<'_>,
     options: Options,
-    first: &mut [f64],
-    second: &mut [f64],
+    buffers: &mut Buffers<'_>,
 ) -> Result<Drawn, Refusal>
-    ensures { DrawnInto (in_buffers drawing.now.mode (lent drawing.now.tables.now) drawing.now.edge options (length first.old) (length second.old)) first.old second.old result first.new second.new }
+    ensures { DrawnIn (in_buffers drawing.now.mode (lent drawing.now.tables.now) drawing.now.edge options (length buffers.old.first.now) (length buffers.old.second.now)) buffers.old result buffers.new }
 {
-    if first.len() < edge_record::SHORTEST || second.len() < edge_record::SHORTEST {
-        return Err(Refusal::ShortBuffer);
-    }
-    let mut buffers = Buffers { first, second };
-    if draw_straight(drawing, options, &mut buffers) {
+    if draw_straight(drawing, options, buffers) {
         return Ok(Drawn {
             way: Way::AsDrawn,
             count: 2,
@@ -152,32 +150,54 @@ fn draw_unchecked(
     let curves = drawing.tables.curves;
     let edge = drawing.edge;
     if edge_range::has_no_domain(curves, edge.curve, edge.range, drawing.mode) {
-        return draw_lost(drawing, &mut buffers);
+        return draw_lost(drawing, buffers);
     }
     let plan = Plan {
         drawing,
         options: local_options(drawing, options),
     };
-    drawn_in(&plan, &mut buffers)
+    drawn_in(&plan, buffers)
 }
 
-// Draws an edge over tables of any content, to a depth that is bounded. Evaluation calls itself once for each composite inside a
-// composite, and only the tables' whole verdict says how many these can be: where there is one they are gone through after all.
-// Where there is none, no evaluation is deeper than a composite and a segment of it. (Trims are followed in a loop.)
-fn draw_bounded(
-    drawing: &Drawing<'_>,
+// The same into buffers of any length: that either has room, which `Buffers` keeps, is looked at before the edge's usable range is worked
+// out. Stays: tables, edge, options, mode and two buffers are what a caller lends, here and in draw_bounded.
+fn draw_in_buffers(
+    tables: &LentTables<'_>,
+    edge: Edge,
     options: Options,
+    mode: Mode,
     first: &mut [f64],
     second: &mut [f64],
 ) -> Result<Drawn, Refusal>
-    ensures { DrawnInto (drawn_bounded drawing.now.mode (lent drawing.now.tables.now) drawing.now.edge options (length first.old) (length second.old)) first.old second.old result first.new second.new }
+    requires { length (curve_knots (tree (lent tables.now) edge.curve)) ≤ most_knots }
+    ensures { DrawnInto (in_buffers mode (lent tables.now) edge options (length first.old) (length second.old)) first.old second.old result first.new second.new }
 {
-    let tables = drawing.tables;
-    let edge = drawing.edge;
-    if curve_nests::nests(tables.curves, tables.parts, edge.curve) {
-        return draw_in_mode(tables, edge, options, drawing.mode, first, second);
+    if first.len() < edge_record::SHORTEST || second.len() < edge_record::SHORTEST {
+        return Err(Refusal::ShortBuffer);
     }
-    draw_unchecked(drawing, options, first, second)
+    let drawing = Drawing::new(tables, edge, mode);
+    let mut buffers = Buffers { first, second };
+    draw_unchecked(&drawing, options, &mut buffers)
+}
+
+// The same to a depth that is bounded. Evaluation calls itself once for each composite inside a composite, and only the tables' whole verdict
+// says how many these can be: where there is one they are gone through after all. Where there is none, no evaluation is deeper than a
+// composite and a segment of it. (Trims are followed in a loop.)
+fn draw_bounded(
+    tables: &LentTables<'_>,
+    edge: Edge,
+    options: Options,
+    mode: Mode,
+    first: &mut [f64],
+    second: &mut [f64],
+) -> Result<Drawn, Refusal>
+    requires { length (curve_knots (tree (lent tables.now) edge.curve)) ≤ most_knots }
+    ensures { DrawnInto (drawn_bounded mode (lent tables.now) edge options (length first.old) (length second.old)) first.old second.old result first.new second.new }
+{
+    if curve_nests::nests(tables.curves, tables.parts, edge.curve) {
+        return draw_in_mode(tables, edge, options, mode, first, second);
+    }
+    draw_in_buffers(tables, edge, options, mode, first, second)
 }
 
 // Draws an edge in a mode, over tables that `causes::check_tables` has accepted, for many edges over the same tables: of the tables only
@@ -203,12 +223,11 @@ pub fn draw_over_in_mode(
     if knots_sort::MOST_KNOTS < knots {
         return Err(Refusal::IllFormed);
     }
-    let drawing = Drawing::new(tables, edge, mode);
     if knots == 0 {
         // It has no segments, so that nothing nests.
-        return draw_unchecked(&drawing, options, first, second);
+        return draw_in_buffers(tables, edge, options, mode, first, second);
     }
-    draw_bounded(&drawing, options, first, second)
+    draw_bounded(tables, edge, options, mode, first, second)
 }
 
 // The same in the mode that is equal to the Rust.
@@ -237,7 +256,7 @@ pub fn draw_in_mode(
 {
     binary64(tables.reals, tables.ranges, edge.range);
     causes::check(tables, edge, options)?;
-    draw_unchecked(&Drawing::new(tables, edge, mode), options, first, second)
+    draw_in_buffers(tables, edge, options, mode, first, second)
 }
 
 // The same in the mode that is equal to the Rust.

@@ -7,8 +7,8 @@ use Rattle.draw.proofs.Few.{knots_fit}
 use Rattle.draw.proofs.Laws.{binary, by_verdict, by_drawing, all_outcome}
 use Rattle.draw.proofs.draw_in_mode.Goals as goal
 
-pub new-requires : goal.new-requires
-new-requires c =
+pub draw_in_buffers-requires : goal.draw_in_buffers-requires
+draw_in_buffers-requires c =
     let a = c.args in
     let T = lent a.tables.now in
     let k = causes_of T a.edge a.options (sym c.check.ensures ∙ c.in_ok-check.was) in
@@ -28,4 +28,4 @@ returns c =
     let T = lent a.tables.now in
     all_outcome a.mode T a.edge a.options a.first.now a.second.now (binary T a.edge c.binary64.ensures) _ _ _
     (by_drawing a.mode T a.edge a.options a.first.now a.second.now (sym c.check.ensures ∙ c.in_ok-check.was) _ _ _
-    (rw (c.new.ensures.over, c.new.ensures.of, c.new.ensures.in_mode) at c.draw_unchecked.ensures))
+    c.draw_in_buffers.ensures)

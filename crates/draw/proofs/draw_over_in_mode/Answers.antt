@@ -28,22 +28,21 @@ returns-then-knots-gt-MOST_KNOTS c =
     let T = lent a.tables.now in
     over_run a.mode T a.edge a.options (binary T a.edge c.binary64.ensures) a.first.now a.second.now (sym c.oversize.ensures ∙ c.if-oversize.false) (sym c.check_over.ensures ∙ c.in_ok-check_over.was) (omega (arith, c.if-knots-gt-MOST_KNOTS.true, c.knot_count-knots.ensures))
 
-pub new-drawing-requires : goal.new-drawing-requires
-new-drawing-requires c = omega (arith, c.if-knots-gt-MOST_KNOTS.false, c.knot_count-knots.ensures)
+pub draw_in_buffers-requires : goal.draw_in_buffers-requires
+draw_in_buffers-requires c = omega (arith, c.if-knots-gt-MOST_KNOTS.false, c.knot_count-knots.ensures)
 
 pub returns-then-knots-eq0 : goal.returns-then-knots-eq0
 returns-then-knots-eq0 c =
     let a = c.args in
     let T = lent a.tables.now in
-    let d = c.new-drawing.ensures in
     over_drawn a.mode T a.edge a.options (binary T a.edge c.binary64.ensures) a.first.now a.second.now (sym c.oversize.ensures ∙ c.if-oversize.false) (sym c.check_over.ensures ∙ c.in_ok-check_over.was) (omega (arith, c.if-knots-gt-MOST_KNOTS.false, c.knot_count-knots.ensures)) _ _ _
-    (bounded_flat a.mode T a.edge a.options a.first.now a.second.now _ _ _ (flat_curve (tree T a.edge.curve) (omega (arith, c.if-knots-eq0.true, c.knot_count-knots.ensures)))
-    (rw (d.over, d.of, d.in_mode) at c.draw_unchecked.ensures))
+    (bounded_flat a.mode T a.edge a.options a.first.now a.second.now _ _ _ (flat_curve (tree T a.edge.curve) (omega (arith, c.if-knots-eq0.true, c.knot_count-knots.ensures))) c.draw_in_buffers.ensures)
+
+pub draw_bounded-requires : goal.draw_bounded-requires
+draw_bounded-requires c = omega (arith, c.if-knots-gt-MOST_KNOTS.false, c.knot_count-knots.ensures)
 
 pub returns : goal.returns
 returns c =
     let a = c.args in
     let T = lent a.tables.now in
-    let d = c.new-drawing.ensures in
-    over_drawn a.mode T a.edge a.options (binary T a.edge c.binary64.ensures) a.first.now a.second.now (sym c.oversize.ensures ∙ c.if-oversize.false) (sym c.check_over.ensures ∙ c.in_ok-check_over.was) (omega (arith, c.if-knots-gt-MOST_KNOTS.false, c.knot_count-knots.ensures)) _ _ _
-    (rw (d.over, d.of, d.in_mode) at c.draw_bounded.ensures)
+    over_drawn a.mode T a.edge a.options (binary T a.edge c.binary64.ensures) a.first.now a.second.now (sym c.oversize.ensures ∙ c.if-oversize.false) (sym c.check_over.ensures ∙ c.in_ok-check_over.was) (omega (arith, c.if-knots-gt-MOST_KNOTS.false, c.knot_count-knots.ensures)) _ _ _ c.draw_bounded.ensures
