@@ -161,6 +161,7 @@ fn draw_unchecked(
 
 // The same into buffers of any length: that either has room, which `Buffers` keeps, is looked at before the edge's usable range is worked
 // out. Stays: tables, edge, options, mode and two buffers are what a caller lends, here and in draw_bounded.
+#[inline(always)]
 fn draw_in_buffers(
     tables: &LentTables<'_>,
     edge: Edge,
