@@ -31,7 +31,8 @@ fn merge(left: &[f64], a: &mut [f64])
     }
 }
 
-// Copies from to to, float by float: a slice's `copy_from_slice` would need C's `memmove`, and the library needs nothing but C's `memset`.
+// Copies from to to, float by float. Stays: a slice's `copy_from_slice` would need C's `memmove`, and the library needs nothing but C's
+// `memset`.
 fn copy(from: &[f64], to: &mut [f64])
     requires { length from.now ≡ length to.old }
     ensures { to.new ≡ from.now }
